@@ -1,4 +1,4 @@
--- Adding entries to a graph, all or none.
+-- Adding of entries to a graph. Either all are added or none.
 use Rattle.std.specs.Prelude.{◌≡◌, ◌≢◌, ◌⊎◌, ◌↔◌, ℕ, ◌+◌, ◌<◌, ◌≤◌, Bool, true, false, List, [], ◌∷◌, ◌++◌, length}
 use Rattle.std.specs.Prelude.{Contains, IsTrue, None, Result, Ok, Err}
 use Rattle.gname.specs.declared.formats.Format.{Format}
@@ -11,8 +11,8 @@ use Rattle.gobject.specs.declared.node.Entry.{Entry}
 use Rattle.gobject.specs.Objects.{node_at, entry_of, IsShaped, IsTagShaped, max_parents}
 use Rattle.gdag.specs.Graphs.{History, IsNode, HasIdsOf, HasParent, max_nodes}
 
--- one entry comes in: its ids are of the graph's format, its node has its shape, and it was there with that node or
--- comes at the end; one that is new comes in only where there is room for it
+-- a valid entry is inserted: a new entry is appended if there is room, and an entry that the graph already contains
+-- changes nothing
 pub record ComesIn {A : Type 0} (format : Format) (old : List (Entry A)) (entry : Entry A)
     (new : List (Entry A)) : Type 0 where
   pub ids : HasIdsOf format entry
@@ -21,25 +21,25 @@ pub record ComesIn {A : Type 0} (format : Format) (old : List (Entry A)) (entry 
       (IsNode old entry.id entry.node × (new ≡ old)) ⊎ ((node_at old entry.id ≡ None) × (new ≡ old ++ entry ∷ []))
   pub room : node_at old entry.id ≡ None → length old < max_nodes
 
--- the entries come in, one after the other
+-- all entries are inserted, one after the other
 abbrev pub Inserts : {A : Type 0} → Format → List (Entry A) → List (Entry A) → List (Entry A) → Type 0
 Inserts format old [] new = new ≡ old
 Inserts {A} format old (entry ∷ entries) new =
     (next : List (Entry A)) × ComesIn format old entry next × Inserts format next entries new
 
--- why a node has not its shape; too many parents come first
+-- the fault of a malformed node; too many parents take precedence over a malformed tag
 abbrev pub IsMisshapen : {A : Type 0} → Node A → GraphFault → Type 0
 IsMisshapen node TooManyParents = max_parents < length node.parents
 IsMisshapen node TagShape = (length node.parents ≤ max_parents) × ¬ (IsTagShaped node)
 IsMisshapen node _ = ⊥
 
--- an entry's ids and its node's shape are those of a graph's
+-- the ids of an entry have the graph's format, and its node is well-shaped
 pub record IsFit {A : Type 0} (format : Format) (entry : Entry A) : Type 0 where
   pub ids : HasIdsOf format entry
   pub shaped : IsShaped entry.node
 
--- why an entry can't come in: an id of another format; then its node's shape; then another node under its id; then,
--- where its id is new, that there is no room for it, or out of memory
+-- the reason to refuse an entry, checked in this order: `OtherFormat`, a malformed node, `Conflict`, `TooMany`,
+-- `Memory`
 abbrev pub IsCause : {A : Type 0} → Format → List (Entry A) → Entry A → GraphFault → Type 0
 IsCause format g entry (OtherFormat id) = (id ≡ entry.id) × ¬ (HasIdsOf format entry)
 IsCause format g entry TooManyParents = HasIdsOf format entry × IsMisshapen entry.node TooManyParents
@@ -49,7 +49,7 @@ IsCause {A} format g entry (Conflict id) =
 IsCause format g entry TooMany = IsFit format entry × (node_at g entry.id ≡ None) × (length g ≡ max_nodes)
 IsCause format g entry Memory = IsFit format entry × (node_at g entry.id ≡ None) × (length g < max_nodes)
 
--- entries are refused: those of a front come in, and the next one can't
+-- a list of entries is refused: all entries before some entry fit, and that entry is refused
 pub record IsRefused {A : Type 0} (format : Format) (old entries : List (Entry A)) (fault : GraphFault) : Type 0 where
   pub front : List (Entry A)
   pub entry : Entry A
@@ -59,40 +59,42 @@ pub record IsRefused {A : Type 0} (format : Format) (old entries : List (Entry A
   pub comes : Inserts format old front so_far
   pub cause : IsCause format so_far entry fault
 
--- an entry may come in: its id is new and there is room, or it is there with its node
+-- a valid entry fits: it is new and there is room (`true`), or the graph already contains it (`false`)
 abbrev pub Admits : {A : Type 0} → Format → List (Entry A) → Entry A → Bool → Type 0
 Admits format g entry true = IsFit format entry × (node_at g entry.id ≡ None) × (length g < max_nodes)
 Admits format g entry false = IsFit format entry × IsNode g entry.id entry.node
 
--- what adding an entry answers: whether its id is new, and it came in; or a fault, and nothing changed
+-- the outcome of adding one entry: it is inserted, and the result tells whether its id was new; or a fault, with the
+-- graph unchanged
 abbrev pub AddsOne : {A : Type 0} → History A → Entry A → History A → Result Bool GraphFault → Type 0
 AddsOne old entry new (Ok is_new) =
     (new.format ≡ old.format) × ComesIn old.format old.entries entry new.entries
     × (IsTrue is_new ↔ (node_at old.entries entry.id ≡ None))
 AddsOne old entry new (Err fault) = (new ≡ old) × IsCause old.format old.entries entry fault
 
--- what adding a copy of it answers
+-- the outcome of adding a copy of one entry
 abbrev pub AddsCopy : {A : Type 0} → History A → Entry A → History A → Result (Unit {0}) GraphFault → Type 0
 AddsCopy old entry new (Ok _) = (new.format ≡ old.format) × ComesIn old.format old.entries entry new.entries
 AddsCopy old entry new (Err fault) = (new ≡ old) × IsCause old.format old.entries entry fault
 
--- what adding entries answers: how many ids are new, and all entries came in; or a fault, and nothing changed
+-- the outcome of adding a list: all entries are inserted, and the result is the number of new ids; or a fault, with the
+-- graph unchanged
 abbrev pub Adds : {A : Type 0} → History A → List (Entry A) → History A → Result ℕ GraphFault → Type 0
 Adds old entries new (Ok added) =
     (new.format ≡ old.format) × Inserts old.format old.entries entries new.entries
     × (length new.entries ≡ length old.entries + added)
 Adds old entries new (Err fault) = (new ≡ old) × IsRefused old.format old.entries entries fault
 
--- the id is that of an entry of the list, with the node
+-- the list has an entry with this id and this node
 abbrev pub Lists : {A : Type 0} → List (Entry A) → Id → Node A → Type 0
 Lists entries a node = Contains entries (entry_of a node)
 
--- nothing else came in: each node of the new graph is one of the old graph's or stands in the list
+-- each node of the new graph is in the old graph or in the list
 abbrev pub AddsOnly : {A : Type 0} → List (Entry A) → List (Entry A) → List (Entry A) → Type 0
 AddsOnly {A} old entries new =
     (a : Id) (node : Node A) → IsNode new a node → IsNode old a node ⊎ Lists entries a node
 
--- and so is each parent of an id
+-- each parent of an id in the new graph is also its parent in the old graph or in the list
 abbrev pub AddsOnlyParents : {A : Type 0} → List (Entry A) → List (Entry A) → List (Entry A) → Type 0
 AddsOnlyParents {A} old entries new =
     (a b : Id) → HasParent new a b →

@@ -1,4 +1,4 @@
--- Laws of graphs, over all graphs and lists.
+-- The laws of graphs.
 use Rattle.std.specs.Prelude.{◌≡◌, ◌≢◌, ◌<◌, ◌≤◌, ◌⊎◌, ◌↔◌, ℕ, List, ◌∷◌, ◌++◌, length, All, Contains, None, Some, slice_get}
 use Rattle.std.specs.List.{IsDistinct}
 use Rattle.std.specs.Str.{bytes_eq}
@@ -19,33 +19,33 @@ use Rattle.gdag.specs.Levels.{distinct_of, level, AreDistances}
 use Rattle.gdag.specs.Offer.{IsExact}
 use Rattle.gdag.specs.Walks.{CountsReached, common_of}
 
--- an entry may come next: its id is not held, its ids are of the format, its node has its shape, and there is room
+-- the entry could be appended: its id is new, its ids have the format, its node is well-shaped, and there is room
 pub record MayComeNext {A : Type 0} (format : Format) (g : List (Entry A)) (entry : Entry A) : Type 0 where
   pub absent : node_at g entry.id ≡ None
   pub ids : HasIdsOf format entry
   pub shaped : IsShaped entry.node
   pub room : length g < max_nodes
 
--- each entry of a graph could come next after those before it
+-- each entry of a graph could be appended to the entries before it
 abbrev pub EntriesComeInOrder : Type 0 → Type 0
 EntriesComeInOrder A =
     (format : Format) (front : List (Entry A)) (entry : Entry A) (back : List (Entry A))
     → IsGraph (record { format = format; entries = front ++ entry ∷ back }) → MayComeNext format front entry
 
--- an entry that can't come in has one cause
+-- a refused entry is refused for only one reason
 abbrev pub OneCause : Type 0 → Type 0
 OneCause A =
     (format : Format) (g : List (Entry A)) (entry : Entry A) (fault other : GraphFault)
     → IsCause format g entry fault → IsCause format g entry other → fault ≡ other
 
--- a list is refused in one way, out of memory aside
+-- a refused list has only one possible fault, apart from out of memory
 abbrev pub OneRefusal : Type 0 → Type 0
 OneRefusal A =
     (format : Format) (old entries : List (Entry A)) (fault other : GraphFault)
     → IsRefused format old entries fault → IsRefused format old entries other
     → fault ≢ Memory → other ≢ Memory → fault ≡ other
 
--- a list that comes in whole is refused as out of memory alone, and the graph that it makes is one
+-- a list whose entries all fit is refused only if out of memory, and its insertion has only one result
 abbrev pub WholeListsComeIn : Type 0 → Type 0
 WholeListsComeIn A =
     (format : Format) (old entries new : List (Entry A))
@@ -53,60 +53,60 @@ WholeListsComeIn A =
     → ((fault : GraphFault) → IsRefused format old entries fault → fault ≡ Memory)
     × ((other : List (Entry A)) → Inserts format old entries other → new ≡ other)
 
--- a graph is closed exactly where each id that it holds is connected
+-- a graph is closed exactly if each id that it contains is connected
 abbrev pub ClosedIsConnected : Type 0 → Type 0
 ClosedIsConnected A = (g : List (Entry A)) → IsClosed g ↔ ((a : Id) → Holds g a → IsConnected g a)
 
--- what is reached from what is reached is reached
+-- reaching is transitive
 abbrev pub ReachingGoesOn : Type 0 → Type 0
 ReachingGoesOn A = (g : List (Entry A)) (a b c : Id) → Reaches g a b → Reaches g b c → Reaches g a c
 
--- where a graph keeps what it held, an id that was connected is so, and reaches nothing new
+-- if a graph keeps all its nodes, a connected id stays connected and reaches nothing new
 abbrev pub ConnectedStaysConnected : Type 0 → Type 0
 ConnectedStaysConnected A =
     (g h : List (Entry A)) (a : Id) → Keeps g h → IsConnected g a
     → IsConnected h a × ((b : Id) → Reaches h a b → Reaches g a b)
 
--- where two graphs agree, a path in the one from an id that is connected in the other is a path in the other
+-- if two graphs agree and `a` is connected in the second, each path from `a` in the first is a path in the second
 abbrev pub PathsAreShared : Type 0 → Type 0
 PathsAreShared A = (g h : List (Entry A)) (a b : Id) → Agree g h → IsConnected h a → Reaches g a b → Reaches h a b
 
--- what grows keeps what it held
+-- a graph that grows keeps all its nodes
 abbrev pub GrowingKeeps : Type 0 → Type 0
 GrowingKeeps A = (g h : List (Entry A)) → Grows g h → Keeps g h
 
--- what grows from a graph that grew grows from the first
+-- growing is transitive
 abbrev pub GrowingGoesOn : Type 0 → Type 0
 GrowingGoesOn A = (f g h : List (Entry A)) → Grows f g → Grows g h → Grows f h
 
--- a graph grows as an entry comes in
+-- a graph grows when an entry is inserted
 abbrev pub ComingGrows : Type 0 → Type 0
 ComingGrows A =
     (format : Format) (g : List (Entry A)) (entry : Entry A) (h : List (Entry A)) → ComesIn format g entry h → Grows g h
 
--- an id that is held has a node
+-- each id that a graph contains has a node
 abbrev pub HoldingIsANode : Type 0 → Type 0
 HoldingIsANode A = (g : List (Entry A)) (a : Id) → Holds g a → (node : Node A) × IsNode g a node
 
--- where a graph keeps what it held, an id that was held is held
+-- a graph that keeps all its nodes keeps all its ids
 abbrev pub KeepingHolds : Type 0 → Type 0
 KeepingHolds A = (g h : List (Entry A)) (a : Id) → Keeps g h → Holds g a → Holds h a
 
--- where a graph keeps what it held, a path is still there
+-- a graph that keeps all its nodes keeps all its paths
 abbrev pub KeepingReaches : Type 0 → Type 0
 KeepingReaches A = (g h : List (Entry A)) (a b : Id) → Keeps g h → Reaches g a b → Reaches h a b
 
--- where the graph holds the entry's id, it holds it with the entry's node
+-- if the graph contains the entry's id, it maps that id to the entry's node
 abbrev pub AgreesWith : {A : Type 0} → List (Entry A) → Entry A → Type 0
 AgreesWith {A} g entry = (node : Node A) → IsNode g entry.id node → node ≡ entry.node
 
--- two graphs that agree still do once entries with which the one agrees are inserted into the other
+-- two graphs still agree after entries are inserted into the second, if the first graph agrees with each of the entries
 abbrev pub AgreeingStays : Type 0 → Type 0
 AgreeingStays A =
     (g h entries new : List (Entry A)) (format : Format)
     → Agree g h → All (AgreesWith g) entries → Inserts format h entries new → Agree g new
 
--- entries of a graph are refused by one that agrees with it only for lack of room, or as out of memory
+-- if two graphs agree, one refuses entries of the other only as too many or out of memory
 abbrev pub AgreeingEntriesFit : Type 0 → Type 0
 AgreeingEntriesFit A =
     (g h entries : List (Entry A)) (format : Format) (fault : GraphFault)
@@ -114,51 +114,50 @@ AgreeingEntriesFit A =
     → All (λ entry. IsNode g entry.id entry.node) entries → IsRefused format h entries fault
     → (fault ≡ TooMany) ⊎ (fault ≡ Memory)
 
--- an id peels to one commit at most
+-- an id peels to at most one commit
 abbrev pub PeelsToOne : Type 0 → Type 0
 PeelsToOne A = (g : List (Entry A)) (a b c : Id) → PeelsTo g a b → PeelsTo g a c → b ≡ c
 
--- along tags only: the id is the commit, or a tag of an id that peels to it; so it reaches the commit
+-- peeling follows only tags: the id is the commit itself, or a tag of an id that peels to the commit
 abbrev pub PeelsAlongTags : Type 0 → Type 0
 PeelsAlongTags A =
     (g : List (Entry A)) (a c : Id) → PeelsTo g a c
     → ((a ≡ c) ⊎ ((b : Id) × IsTagOf g a b × PeelsTo g b c)) × Reaches g a c
 
--- a graph in which parents come first is closed
+-- a graph in which each entry comes after its parents is closed
 abbrev pub OrderedIsClosed : Type 0 → Type 0
 OrderedIsClosed A = (g : List (Entry A)) → IdsDiffer g → IsOrdered g → IsClosed g
 
--- and what an id of such a graph reaches is not after it
+-- in a graph in which each entry comes after its parents, an id reaches no id at a higher position
 abbrev pub ReachingGoesDown : Type 0 → Type 0
 ReachingGoesDown A =
     (g : List (Entry A)) (a b : Id) (p : ℕ)
     → IdsDiffer g → IsOrdered g → Reaches g a b → position_of g a ≡ Some p → (q : ℕ) × (position_of g b ≡ Some q) × (q ≤ p)
 
--- a closed graph stays so as an entry comes in whose parents are held
+-- a closed graph stays closed when an entry is inserted whose parents it contains
 abbrev pub ClosedStays : Type 0 → Type 0
 ClosedStays A =
     (format : Format) (g : List (Entry A)) (entry : Entry A) (h : List (Entry A))
     → IsClosed g → HoldsParents g entry → ComesIn format g entry h → IsClosed h
 
--- the id and its node stand at the position in store order
+-- the entry at this position has this id and this node
 abbrev pub IsAt : {A : Type 0} → List (Entry A) → ℕ → Id → Node A → Type 0
 IsAt g position a node = slice_get g position ≡ Some (entry_of a node)
 
--- an id has a node exactly where it stands at some position with that node, and it has one position
+-- an id has a node exactly if an entry at some position has both, and the id has no other position
 abbrev pub PositionsAreNodes : Type 0 → Type 0
 PositionsAreNodes A =
     (g : List (Entry A)) → IdsDiffer g
     → ((a : Id) (node : Node A) → IsNode g a node ↔ ((position : ℕ) × IsAt g position a node))
     × ((a : Id) (position : ℕ) → (position_of g a ≡ Some position) ↔ ((node : Node A) × IsAt g position a node))
 
--- there is one list to send
+-- the list to send is unique for given wants, common ids and tips
 abbrev pub OneListToSend : Type 0 → Type 0
 OneListToSend A =
     (g list other : List (Entry A)) (wants commons tips : List Id)
     → IsListToSend g wants commons tips list → IsListToSend g wants commons tips other → list ≡ other
 
--- and its entries are a graph's: their ids differ and are of the format, and each node has its shape; a pack may have
--- them; and each is of the graph that it was made from
+-- the entries of a list to send form a valid graph and a valid pack, and each of them is an entry of the sender's graph
 abbrev pub SentAreEntries : Type 0 → Type 0
 SentAreEntries A =
     (g : History A) (list : List (Entry A)) (wants commons tips : List Id)
@@ -166,20 +165,19 @@ SentAreEntries A =
     → IsGraph (record { format = g.format; entries = list }) × AreEntries list
     × All (λ entry. IsNode g.entries entry.id entry.node) list
 
--- the ids are connected, and all that they reach in another graph is held
+-- in graph `h` each want is connected, and `h` contains every id that the want reaches in graph `s`
 abbrev pub HasAll : {A : Type 0} → List (Entry A) → List Id → List (Entry A) → Type 0
 HasAll s wants h = All (λ want. IsConnected h want × ((a : Id) → Reaches s want a → Holds h a)) wants
 
--- what a server's graph `s` sends to a client's graph `c` makes the wants connected there. `s` is closed, the two
--- agree, `s` holds the wants, and the common ids are connected in `c`: once a list to send comes in, the wants are
--- connected, and all that they reach in `s` is held
+-- Inserting the list that a server with graph `s` sends makes the wants connected at a client with graph `c`. `s` is
+-- closed and contains the wants, the two graphs agree, and the common ids are connected in `c`.
 abbrev pub SendingIsEnough : Type 0 → Type 0
 SendingIsEnough A =
     (s c list new : List (Entry A)) (wants commons tips : List Id) (format : Format)
     → IdsDiffer s → IsClosed s → Agree s c → All (Holds s) wants → All (IsConnected c) commons
     → IsListToSend s wants commons tips list → Inserts format c list new → HasAll s wants new
 
--- what connects the wants of a closed graph still does once that graph has more: the wants reach nothing new there
+-- a graph that contains all that the wants reach in a closed graph still does after the closed graph gets more nodes
 abbrev pub KeepingHasAll : Type 0 → Type 0
 KeepingHasAll A =
     (s t h : List (Entry A)) (wants : List Id)
@@ -187,14 +185,14 @@ KeepingHasAll A =
 
 -- ---- counts
 
--- distinct held ids that tips reach are at most as many as are counted
+-- the count is at least the number of distinct ids in the graph that the tips reach
 abbrev pub ReachedAreCounted : Type 0 → Type 0
 ReachedAreCounted A =
     (g : List (Entry A)) (tips ids : List Id) (held parents : ℕ)
     → CountsReached g tips held parents → IsDistinct bytes_eq ids
     → All (λ a. Holds g a × SomeReaches g tips a) ids → length ids ≤ held
 
--- the counts about connected tips stay as the graph grows
+-- growth of the graph does not change the counts for connected tips
 abbrev pub CountsStay : Type 0 → Type 0
 CountsStay A =
     (g h : List (Entry A)) (tips : List Id) (held parents : ℕ)
@@ -203,28 +201,28 @@ CountsStay A =
 
 -- ---- levels, offers and common ids
 
--- each level has exactly the ids at its distance from the tips
+-- level k has exactly the ids at distance k from the tips
 abbrev pub LevelsAreDistances : Type 0 → Type 0
 LevelsAreDistances A = (g : List (Entry A)) (tips : List Id) → AreDistances g tips
 
--- an id is at some level exactly where some tip reaches it
+-- an id is in some level exactly if a tip reaches that id
 abbrev pub LevelsAreReached : Type 0 → Type 0
 LevelsAreReached A =
     (g : List (Entry A)) (tips : List Id) (a : Id)
     → ((k : ℕ) × Contains (level g tips k) a) ↔ SomeReaches g tips a
 
--- there is one offer, of the ids that it ought to have
+-- the offer is unique, and has exactly the ids that should be offered
 abbrev pub OffersAreExact : Type 0 → Type 0
 OffersAreExact A = (g : List (Entry A)) (tips commons sent : List Id) (n : ℕ) → IsExact g tips commons sent n
 
--- the common ids are the haves that are held, each once
+-- the common ids are the haves that the graph contains, each once
 abbrev pub CommonsAreHeld : Type 0 → Type 0
 CommonsAreHeld A =
     (g : List (Entry A)) (haves : List Id)
     → IsDistinct bytes_eq (common_of g haves)
     × ((a : Id) → Contains (common_of g haves) a ↔ (Contains haves a × Holds g a))
 
--- the distinct ids of a list are its ids, each once; those of its beginning come first
+-- the distinct ids of a list are its ids, each once; those of a prefix of the list come first
 pub record AreDistinct (ids : List Id) : Type 0 where
   pub once : IsDistinct bytes_eq (distinct_of ids)
   pub same : (a : Id) → Contains (distinct_of ids) a ↔ Contains ids a

@@ -9,13 +9,13 @@ use Rattle.gdag.specs.Reach.{SomeReaches}
 use Rattle.gdag.specs.Levels.{AreLevels}
 use Rattle.gdag.specs.Selecting.{Selects}
 
--- an id that may be offered: it is held, no common id reaches it, and it was not sent before
+-- an id that may be offered: the graph contains it, no common id reaches it, and it was not sent before
 pub record MayBeOffered {A : Type 0} (g : List (Entry A)) (commons sent : List Id) (a : Id) : Type 0 where
   pub held : Holds g a
   pub unknown : ¬ (SomeReaches g commons a)
   pub unsent : ¬ (Contains sent a)
 
--- the offer: of the ids of all levels about the tips, in order, the first n that may be offered
+-- the offer: the first n ids that may be offered, searched level by level from the tips
 pub record IsOffer {A : Type 0} (g : List (Entry A)) (tips commons sent : List Id) (n : ℕ)
     (list : List Id) : Type 0 where
   pub ids : List Id
@@ -24,10 +24,10 @@ pub record IsOffer {A : Type 0} (g : List (Entry A)) (tips commons sent : List I
   pub chosen : Selects (MayBeOffered g commons sent) ids choice
   pub first : list ≡ take n choice
 
--- ---- what an offer is
+-- ---- the properties of an offer
 
--- there is one offer; it has at most n ids, each once, and each may be offered and is reached by a tip; where it has
--- fewer, it has all of these
+-- The offer is unique. Its ids are at most n distinct ids that may be offered and that a tip reaches. An offer of fewer
+-- than n ids has all such ids.
 pub record IsExact {A : Type 0} (g : List (Entry A)) (tips commons sent : List Id) (n : ℕ) : Type 0 where
   pub one : (xs ys : List Id) → IsOffer g tips commons sent n xs → IsOffer g tips commons sent n ys → xs ≡ ys
   pub few : (xs : List Id) → IsOffer g tips commons sent n xs → length xs ≤ n

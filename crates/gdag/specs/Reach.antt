@@ -1,36 +1,36 @@
--- Which objects lead to which: a commit to its parents, a tag to the object that it names, and so on to theirs
--- (gitglossary(7), "reachable").
+-- Reachability (gitglossary(7), "reachable"): a commit reaches its parents, a tag reaches its object, and each of these
+-- reaches further objects.
 use Rattle.std.specs.Prelude.{◌≡◌, List, ◌++◌, Contains}
 use Rattle.gname.specs.Ids.{Id}
 use Rattle.gobject.specs.declared.node.Node.{Node}
 use Rattle.gobject.specs.declared.node.Entry.{Entry}
 use Rattle.gdag.specs.Graphs.{Holds, HasParent, IsNode}
 
--- an id reaches itself, and where it is held all that a parent of it reaches
+-- an id reaches itself and all that its parents in the graph reach
 pub data Reaches {A : Type 0} (g : List (Entry A)) : Id → Id → Type 0 where
   here : {a : Id} → Reaches g a a
   onward : {a b c : Id} → HasParent g a b → Reaches g b c → Reaches g a c
 
--- one of the ids reaches `b`
+-- at least one of the ids reaches `b`
 abbrev pub SomeReaches : {A : Type 0} → List (Entry A) → List Id → Id → Type 0
 SomeReaches g ids b = (a : Id) × Contains ids a × Reaches g a b
 
--- the id is connected: it is held, and so is all that it reaches
+-- the id `a` is connected: the graph contains all that `a` reaches, and so also `a`
 abbrev pub IsConnected : {A : Type 0} → List (Entry A) → Id → Type 0
 IsConnected g a = (b : Id) → Reaches g a b → Holds g b
 
--- the graph is closed: it holds each parent of each object
+-- the graph is closed: it contains each parent of each of its objects
 abbrev pub IsClosed : {A : Type 0} → List (Entry A) → Type 0
 IsClosed g = (a b : Id) → HasParent g a b → Holds g b
 
--- an id that both hold names one object
+-- two graphs agree: each id that both contain has the same node in both
 abbrev pub Agree : {A : Type 0} → List (Entry A) → List (Entry A) → Type 0
 Agree {A} g h = (a : Id) (m n : Node A) → IsNode g a m → IsNode h a n → m ≡ n
 
--- objects only came, after those that were there
+-- the graph `h` is `g` with more entries appended
 abbrev pub Grows : {A : Type 0} → List (Entry A) → List (Entry A) → Type 0
 Grows {A} g h = (more : List (Entry A)) × (h ≡ g ++ more)
 
--- what was held is held, with the same node
+-- the graph `h` contains each node of `g` under the same id
 abbrev pub Keeps : {A : Type 0} → List (Entry A) → List (Entry A) → Type 0
 Keeps {A} g h = (a : Id) (node : Node A) → IsNode g a node → IsNode h a node

@@ -1,4 +1,4 @@
--- The objects to send for some wants to one who has the common ids with their ancestries
+-- The objects that a server sends for some wants to a client that already has the common ids with their ancestries
 -- (gitprotocol-v2(5), "fetch": `want`, `have`, `include-tag`).
 use Rattle.std.specs.Prelude.{◌⊎◌, ℕ, List, Contains}
 use Rattle.gname.specs.Ids.{Id}
@@ -7,12 +7,12 @@ use Rattle.gdag.specs.Reach.{SomeReaches}
 use Rattle.gdag.specs.Peeling.{IsTagOf, Tags, PeelsTo}
 use Rattle.gdag.specs.Selecting.{Selects}
 
--- some want reaches the id, and no common id does
+-- an id that a want reaches and no common id reaches
 pub record IsNew {A : Type 0} (g : List (Entry A)) (wants commons : List Id) (a : Id) : Type 0 where
   pub wanted : SomeReaches g wants a
   pub unknown : ¬ (SomeReaches g commons a)
 
--- the id is a tag on the chain of tags that leads from a tip to a new commit
+-- a tag in a chain of tags that leads from a tip to a commit to send
 pub record IsTagToSend {A : Type 0} (g : List (Entry A)) (wants commons tips : List Id) (a : Id) : Type 0 where
   pub tip : Id
   pub among : Contains tips tip
@@ -24,10 +24,10 @@ pub record IsTagToSend {A : Type 0} (g : List (Entry A)) (wants commons tips : L
   pub peels : PeelsTo g a commit
   pub new : IsNew g wants commons commit
 
--- an object to send: it is new, or such a tag
+-- an object to send: a new object, or a tag in a chain of tags to a new commit
 abbrev pub IsToSend : {A : Type 0} → List (Entry A) → List Id → List Id → List Id → Entry A → Type 0
 IsToSend g wants commons tips entry = IsNew g wants commons entry.id ⊎ IsTagToSend g wants commons tips entry.id
 
--- the objects to send, in store order; without `include-tag` there are no tips
+-- the objects to send, in the order of insertion; without `include-tag` the list of tips is empty
 abbrev pub IsListToSend : {A : Type 0} → List (Entry A) → List Id → List Id → List Id → List (Entry A) → Type 0
 IsListToSend g wants commons tips list = Selects (IsToSend g wants commons tips) g list

@@ -1,4 +1,4 @@
-//! Whether a graph is closed.
+//! The test that a graph is closed.
 
 ghost use Rattle.std.specs.Prelude.{◌↔◌, All, IsTrue};
 ghost use Rattle.gdag.specs.Graphs.{HoldsParents, IsGraph};
@@ -8,7 +8,8 @@ use crate::graph::Graph;
 use std::alloc::Allocator;
 
 impl<A: Allocator + Copy> Graph<A> {
-    /// Whether the graph is closed: it contains each parent of each object. It does not allocate.
+    /// Returns whether the graph is closed: it contains each parent of each of its objects. It does
+    /// not allocate.
     pub fn is_closed(&self) -> bool
         ensures { IsTrue result ↔ IsClosed self.now.entries }
     {
@@ -18,7 +19,7 @@ impl<A: Allocator + Copy> Graph<A> {
         self.holds_parents()
     }
 
-    // Whether the graph contains the parents of each of its nodes.
+    // Returns whether the graph contains the parents of each of its nodes.
     #[tactic(auto, using(crate::proofs::ClosedLemmas::holds_at, crate::proofs::ClosedLemmas::holds_more))]
     fn holds_parents(&self) -> bool
         ensures graph { IsGraph self.now }

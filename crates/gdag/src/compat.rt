@@ -1,4 +1,4 @@
-//! Other names for items of this library.
+//! Aliases of items of this crate.
 
 ghost use Rattle.std.specs.Prelude.{◌≡◌};
 ghost use Rattle.gobject.specs.Objects.{position_of};
@@ -8,7 +8,7 @@ use gname::Oid;
 use std::alloc::Allocator;
 
 impl<A: Allocator + Copy> Graph<A> {
-    /// [`Graph::position`] by another name.
+    /// An alias of [`Graph::position`].
     pub fn number(&self, id: &Oid) -> Option<usize>
         ensures { result ≡ position_of self.now.entries id.now }
     {

@@ -1,4 +1,4 @@
-//! Why a call on a graph fails.
+//! The faults of calls on a graph.
 
 ghost use Rattle.std.specs.Prelude.{◌≡◌, Some};
 ghost use Rattle.gdag.specs.Faults.{graph_fault_row, graph_fault_text};
@@ -9,18 +9,18 @@ use std::alloc::{AllocError, AllocFailed};
 use std::error::Error;
 use std::fmt;
 
-/// Why a call on a graph failed.
+/// The reason why a call on a graph failed.
 #[derive(Clone, Copy, Debug, PartialEq, Eq, Drop)]
 pub enum GraphFault {
-    /// The entry under this id, or one of its parents, has another object format than the graph.
+    /// The object format of the entry's `id` or of one of its parents is not that of the graph.
     OtherFormat { id: Oid },
-    /// The id already has another node, in the graph or earlier in the list.
+    /// The `id` already has a different node, in the graph or earlier in the list.
     Conflict { id: Oid },
     /// The graph would have more than `MAX_NODES` nodes.
     TooMany,
     /// The node has more than `MAX_PARENTS` parents.
     TooManyParents,
-    /// A tag does not have exactly one parent.
+    /// The node is a tag without exactly one parent.
     TagShape,
     /// Out of memory.
     Memory,

@@ -18,11 +18,11 @@ use std::marker::Model;
 /// The maximum number of nodes of a graph.
 pub const MAX_NODES: usize = 1_048_576;
 
-/// The hasher for the ids of a graph. Peers may choose ids. An attacker has to search for
-/// collisions of `DefaultHasher` one by one, but can write down collisions of std's fast hasher.
+/// The hasher for the ids of a graph. An attacker can choose ids, and can easily construct
+/// collisions of std's fast hasher. Collisions of `DefaultHasher` must be searched for one by one.
 pub type IdHasher = BuildHasherDefault<DefaultHasher>;
 
-/// The commits and tags of a repository, each id once, in the order of their insertion. All ids
+/// The commits and tags of a repository in the order of their insertion. The ids are distinct and
 /// have one format.
 #[derive(Debug, Drop)]
 pub struct Graph<A: Allocator + Copy = Global> {
@@ -44,7 +44,7 @@ impl<A: Allocator + Copy> Model for Graph<A> {
 }
 
 impl<A: Allocator + Copy> Graph<A> {
-    /// Returns a graph without nodes, for ids of the format. It does not allocate.
+    /// Returns a graph without nodes, for ids of the given format. It does not allocate.
     pub fn new_in(alloc: A, format: Format) -> Graph<A>
         ensures { result ≡ record { format = format; entries = [] } }
     {
@@ -62,8 +62,8 @@ impl<A: Allocator + Copy> Graph<A> {
         Graph::new_in(alloc, Format::Sha1)
     }
 
-    /// Reserves room for `more` nodes, so that adding them moves none. If there is not enough
-    /// memory, it frees what it allocated. The graph is unchanged.
+    /// Reserves room for `more` nodes, so that adding them does not move the others. Without enough
+    /// memory the call frees what it allocated. The contents of the graph are unchanged.
     pub fn make_room(&mut self, more: usize)
         ensures { self.new ≡ self.old }
     {
@@ -88,22 +88,22 @@ impl<A: Allocator + Copy> Graph<A> {
         self.nodes.len()
     }
 
-    /// A law: the properties of each graph.
+    /// A law: a graph has distinct ids of its format, well-shaped nodes, and at most [`MAX_NODES`].
     pub fn laws(&self)
         ensures { IsGraph self.now }
     {
         let _ = &self.format;
     }
 
-    /// Whether the graph has no node.
+    /// Returns whether the graph has no nodes.
     pub fn is_empty(&self) -> bool
         ensures { IsTrue result ↔ (self.now.entries ≡ []) }
     {
         self.nodes.is_empty()
     }
 
-    /// Whether each node was inserted after all its parents. Then the graph is closed, and an id
-    /// reaches no id at a higher position. It does not allocate.
+    /// Returns whether each node was inserted after all its parents. If so, the graph is closed,
+    /// and an id reaches no id at a higher position. It does not allocate.
     pub fn is_ordered(&self) -> bool
         ensures graph { IsGraph self.now }
         ensures ordered { IsTrue result ↔ IsOrdered self.now.entries }
@@ -111,7 +111,7 @@ impl<A: Allocator + Copy> Graph<A> {
         self.ordered
     }
 
-    /// Whether the graph contains the id. It does not allocate.
+    /// Returns whether the graph contains the id. It does not allocate.
     #[tactic(auto, using(crate::proofs::Pairs::node_at_pairs))]
     pub fn contains(&self, id: &Oid) -> bool
         ensures { IsTrue result ↔ Holds self.now.entries id.now }
@@ -119,14 +119,15 @@ impl<A: Allocator + Copy> Graph<A> {
         self.nodes.contains_key(id)
     }
 
-    /// Whether the graph contains each of the ids. It does not allocate.
+    /// Returns whether the graph contains each of the ids. It does not allocate.
     pub fn contains_all(&self, ids: &[Oid]) -> bool
         ensures { IsTrue result ↔ All (Holds self.now.entries) ids.now }
     {
         ids.iter().all(|id| self.contains(id))
     }
 
-    /// Returns the first of the ids that the graph does not contain. It does not allocate.
+    /// Returns the first of the ids that the graph does not contain, or `None`. It does not
+    /// allocate.
     pub fn first_absent(&self, ids: &[Oid]) -> Option<Oid>
         ensures { MatchOption result (All (Holds self.now.entries) ids.now)
             (IsFirstAbsent self.now.entries ids.now) }
@@ -147,8 +148,8 @@ impl<A: Allocator + Copy> Graph<A> {
         self.nodes.get(id)
     }
 
-    /// Returns the position of the id in store order, counted from 0, or `None` if the graph does
-    /// not contain it.
+    /// Returns the position of the id in insertion order, counted from 0, or `None` if the graph
+    /// does not contain the id.
     #[tactic(auto, using(crate::proofs::Pairs::position_of_pairs))]
     pub fn position(&self, id: &Oid) -> Option<usize>
         ensures { result ≡ position_of self.now.entries id.now }
@@ -156,8 +157,8 @@ impl<A: Allocator + Copy> Graph<A> {
         self.nodes.get_index_of(id)
     }
 
-    /// Returns the id and the node at a position in store order, counted from 0, or `None` after
-    /// the end.
+    /// Returns the id and the node at a position in insertion order, counted from 0, or `None`
+    /// after the end.
     #[tactic(auto, using(crate::proofs::Pairs::at_pair))]
     pub fn at(&self, position: usize) -> Option<(&Oid, &Node<A>)>
         ensures at { MatchOption result (length self.now.entries ≤ position) (λ pair.
@@ -167,7 +168,7 @@ impl<A: Allocator + Copy> Graph<A> {
         self.nodes.get_index(position)
     }
 
-    /// Returns the map from ids to nodes. Its pairs are the graph's in store order.
+    /// Returns the map from ids to nodes, in insertion order.
     #[tactic(auto, using(crate::proofs::Pairs::pairs_again))]
     pub fn as_map(&self) -> &IndexMap<Oid, Node<A>, IdHasher, A>
         ensures { result.now.entries ≡ pairs_of self.now.entries }
@@ -180,7 +181,8 @@ impl<A: Allocator + Copy> Graph<A> {
         *self.nodes.allocator()
     }
 
-    /// Returns the parents of the node at a position in store order, in the order of the object.
+    /// Returns the parents of the node at a position in insertion order, in the order in which the
+    /// object lists them.
     #[tactic(auto, using(crate::proofs::Pairs::parents_at_value))]
     pub fn parents(&self, position: usize) -> &[Oid]
         requires { position < length self.now.entries }
@@ -190,7 +192,7 @@ impl<A: Allocator + Copy> Graph<A> {
         self.nodes[position].parents.as_slice()
     }
 
-    /// Returns the id at a position in store order.
+    /// Returns the id at a position in insertion order.
     pub fn id_at(&self, position: usize) -> &Oid
         requires { position < length self.now.entries }
         ensures { option_map (λ entry. entry.id) (slice_get self.now.entries position)
@@ -199,7 +201,7 @@ impl<A: Allocator + Copy> Graph<A> {
         self.at(position).unwrap().0
     }
 
-    /// Returns a copy of the entry at a position in store order. Fails only if out of memory.
+    /// Returns a copy of the entry at a position in insertion order. Fails only if out of memory.
     pub fn entry_in(&self, position: usize, alloc: A) -> Result<Entry<A>, AllocError>
         requires { position < length self.now.entries }
         ensures { IfOk result (λ entry. slice_get self.now.entries position ≡ Some entry) }
@@ -209,15 +211,15 @@ impl<A: Allocator + Copy> Graph<A> {
         Ok(Entry { id: *id, node })
     }
 
-    // Whether each node was inserted after all its parents, including the next one. `parents_held`
-    // says whether the graph contains the parents of the next one.
+    // Returns whether each node, including the next one, is inserted after all its parents.
+    // `parents_held` states whether the graph contains the parents of the next node.
     fn stays_ordered(&self, parents_held: bool) -> bool
         ensures { IsTrue result ↔ (IsOrdered self.now.entries × IsTrue parents_held) }
     {
         self.is_ordered() && parents_held
     }
 
-    /// Appends an entry. If out of memory, the graph is unchanged.
+    /// Appends an entry. A failed call leaves the graph unchanged.
     ///
     /// Fails only with `Memory`.
     pub(crate) fn push(&mut self, entry: Entry<A>) -> Result<(), GraphFault>
@@ -235,8 +237,8 @@ impl<A: Allocator + Copy> Graph<A> {
         self.push_after(entry, parents_held)
     }
 
-    /// Appends an entry, for a caller who has looked up whether the graph contains its parents. If
-    /// out of memory, the graph is unchanged.
+    /// Appends an entry. `parents_held` states whether the graph contains all parents of the entry.
+    /// A failed call leaves the graph unchanged.
     ///
     /// Fails only with `Memory`.
     #[tactic(auto, using(crate::proofs::Pairs::pushed_pairs))]
@@ -258,8 +260,8 @@ impl<A: Allocator + Copy> Graph<A> {
         Ok(())
     }
 
-    /// Keeps the first `count` entries. `ordered` says whether each of them has its parents before
-    /// it.
+    /// Keeps only the first `count` entries. `ordered` states whether each of them comes after all
+    /// its parents.
     #[tactic(auto, using(crate::proofs::Pairs::taken_pairs))]
     pub(crate) fn cut_back(&mut self, count: usize, ordered: bool)
         requires { IsTrue ordered ↔ IsOrdered (take count self.old.entries) }

@@ -1,4 +1,4 @@
-//! Adding entries to a graph, all or none.
+//! Adding of entries to a graph. Either all are added or none.
 
 ghost use Rattle.std.specs.Prelude.{◌≡◌, ◌<◌, ◌++◌, ◌∷◌, ◌↔◌, [], length, None, MatchResult, OnOk, IsTrue, All};
 ghost use Rattle.gobject.specs.Objects.{IsShaped, node_at};
@@ -15,10 +15,11 @@ use gobject::{Entry, Kind, MAX_PARENTS, Node};
 use std::alloc::Allocator;
 
 impl<A: Allocator + Copy> Graph<A> {
-    /// Appends an entry in store order, and returns whether its id is new. If the id already has
-    /// the same node, nothing changes.
+    /// Appends an entry, and returns whether its id is new. If the graph already maps the id to the
+    /// same node, nothing changes.
     ///
-    /// Fails as `insert_all` does for an entry of a list, and then the graph is unchanged.
+    /// Fails as `insert_all` does with a list of this one entry. A failed call leaves the graph
+    /// unchanged.
     pub fn insert(&mut self, entry: Entry<A>) -> Result<bool, GraphFault>
         ensures adds { AddsOne self.old entry self.new result }
         ensures only { AddsOnly self.old.entries (entry ∷ []) self.new.entries }
@@ -38,17 +39,17 @@ impl<A: Allocator + Copy> Graph<A> {
         Ok(is_new)
     }
 
-    /// Adds copies of the entries, all or none, and returns the number of new ids. A repeated id
-    /// with the same node adds nothing. New entries are appended in store order, in the order of
-    /// the list.
+    /// Appends copies of the entries, all or none, and returns the number of new ids. A repeated id
+    /// with the same node adds nothing. New entries keep the order of the list.
     ///
-    /// Entries are checked in order. The call fails at the first one that can't be added, and then
-    /// the graph is unchanged. The fault is the first of these that applies to the entry:
+    /// The call checks the entries in order, and fails at the first one that can't be added. A
+    /// failed call leaves the graph unchanged. The fault is the first in this list that applies to
+    /// the entry:
     ///
-    /// - `OtherFormat`: its id or a parent has another format than the graph.
+    /// - `OtherFormat`: the entry's id or one of its parents does not have the graph's format.
     /// - `TooManyParents`.
-    /// - `TagShape`: it is a tag without exactly one parent.
-    /// - `Conflict`: its id has another node in the graph or earlier in the list.
+    /// - `TagShape`: the entry is a tag without exactly one parent.
+    /// - `Conflict`: the entry's id has a different node in the graph or earlier in the list.
     /// - `TooMany`: the graph already has the maximum number of nodes.
     /// - `Memory`.
     pub fn insert_all(&mut self, entries: &[Entry<A>]) -> Result<usize, GraphFault>
@@ -86,8 +87,8 @@ impl<A: Allocator + Copy> Graph<A> {
         Ok(())
     }
 
-    // Whether to push the entry: its id is new. It is not new if the graph has it with the same
-    // node.
+    // Returns whether the entry must be appended because its id is new. Returns `false` if the
+    // graph already maps the id to the same node.
     fn admits(&self, entry: &Entry<A>) -> Result<bool, GraphFault>
         ensures graph { IsGraph self.now }
         ensures admits { MatchResult result
@@ -110,21 +111,21 @@ impl<A: Allocator + Copy> Graph<A> {
     }
 }
 
-// Whether the id has the format.
+// Returns whether the id has the format.
 fn is_of(format: Format, id: &Oid) -> bool
     ensures { IsTrue result ↔ IsIdOf format id.now }
 {
     id.format() == format
 }
 
-// Whether all ids have the format.
+// Returns whether all ids have the format.
 fn are_of(format: Format, ids: &[Oid]) -> bool
     ensures { IsTrue result ↔ All (IsIdOf format) ids.now }
 {
     ids.iter().all(|id| is_of(format, id))
 }
 
-// Checks that an entry's ids have the format.
+// Checks that the id and the parents of an entry have the format.
 fn check_ids<A: Allocator + Copy>(format: Format, entry: &Entry<A>) -> Result<(), GraphFault>
     ensures { MatchResult result
         (λ _. HasIdsOf format entry.now)
@@ -136,7 +137,7 @@ fn check_ids<A: Allocator + Copy>(format: Format, entry: &Entry<A>) -> Result<()
     Err(GraphFault::OtherFormat { id: entry.id })
 }
 
-// Checks that a node has the right shape for a graph.
+// Checks that a node has at most `MAX_PARENTS` parents, and exactly one if it is a tag.
 fn check_shape<A: Allocator + Copy>(node: &Node<A>) -> Result<(), GraphFault>
     ensures { MatchResult result (λ _. IsShaped node.now) (IsMisshapen node.now) }
 {

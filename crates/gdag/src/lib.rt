@@ -1,43 +1,42 @@
-//! The graph of a repository's commits and tags: its objects, in the order of their insertion, and
+//! The graph of a repository's commits and tags: the objects, in the order of their insertion, and
 //! their parents.
 //!
 //! # Proved
 //!
-//! - A `Graph` contains each id once, at most `MAX_NODES` of them, all of one object format. Each
-//!   node has at most `MAX_PARENTS` parents, and a tag has exactly one. Its look-ups, by id and by
-//!   position, and the map that it lends read its contents, and do not allocate. `make_room` leaves
-//!   it unchanged.
-//! - It knows exactly whether each object was inserted after all its parents.
-//! - `insert` and `insert_all` append only the new objects. They refuse an entry only for its first
-//!   cause, in a fixed order, and then the graph is unchanged. Out of memory is a cause only if an
-//!   object is new and there is room for it. Apart from out of memory, a list is refused in one
-//!   way: by its first entry that can't be added. If the list can be inserted whole, it fails only
-//!   if out of memory.
+//! - A `Graph` contains at most `MAX_NODES` distinct ids of one object format. Each node has at
+//!   most `MAX_PARENTS` parents, and a tag has exactly one. The look-ups by id and by position
+//!   return the contents of the graph, and do not allocate. `make_room` leaves the contents of the
+//!   graph unchanged.
+//! - `is_ordered` returns whether each object was inserted after all its parents.
+//! - `insert` and `insert_all` append only the new objects. They report the first fault of an entry
+//!   in a fixed order, and then leave the graph unchanged. They report out of memory only if an
+//!   object is new and there is room for it. Apart from out of memory, a refused list has only one
+//!   possible fault: that of its first entry that can't be added. A list whose entries all fit is
+//!   refused only if out of memory.
 //! - `is_closed` returns whether the graph is closed. `peel` returns the commit at the end of a
 //!   chain of tags exactly when there is one. Neither allocates.
 //! - `first_absent` returns the first of some ids that the graph does not contain.
 //! - `distinct_ids` returns the distinct ids of a list, in the order of their first occurrences.
-//! - `laws` are about all graphs and lists: reaching, connected ids, graphs that grow, graphs that
-//!   agree and the entries that they refuse of each other. They also cover positions, peeling, the
-//!   number of reached ids, the levels of some tips, the ids to offer, and distinct ids. A list to
-//!   send, after it is inserted, makes the wants connected at the client.
+//! - `laws` states facts about all graphs and lists: reachability, connected ids, graphs that grow,
+//!   and graphs that agree. Other laws cover positions, peeling, the number of reachable ids, the
+//!   levels of some tips, the ids to offer, and distinct ids. After a client inserts the list to
+//!   send, the wants are connected in its graph.
 //!
 //! # What the contracts do not rule out
 //!
-//! It may take as long as it likes, and more memory than it needs. It may report out of memory for
-//! any new object for which there is room, for any copy and for any list of distinct ids. A copy by
-//! `entry_in` may take its memory from the graph's own allocator and not from the given one, since
-//! no clause says which allocator is used. `make_room` may reserve nothing. Formatting a fault may
-//! return an error (`fmt::Error`) although the text would be right. With options, such as a width,
-//! it may write another text.
+//! A call may take any amount of time, and more memory than it needs. A call may report out of
+//! memory for any new object, any copy, and any list of distinct ids. `entry_in` may allocate the
+//! copy from the graph's own allocator, because no clause names the allocator. `make_room` may
+//! reserve nothing. Formatting a fault may return an error (`fmt::Error`) without need. Formatting
+//! with options, such as a width, may write a different text.
 //!
-//! There are no tests here. The program `conformance` loads, fetches and walks histories, with each
-//! allocation refused in turn.
+//! This crate has no tests of its own. The program `conformance` loads, fetches and walks
+//! histories, and makes each allocation fail in turn.
 //!
 //! # Stands on
 //!
-//! `gname` for ids, `gobject` for nodes and entries, and `indexmap` for the map from ids to nodes
-//! and the set of distinct ids.
+//! The crate uses `gname` for ids, `gobject` for nodes and entries, and `indexmap` for the map from
+//! ids to nodes and the set of distinct ids.
 #![tactic(auto)]
 
 mod closed;

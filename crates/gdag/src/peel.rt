@@ -1,4 +1,4 @@
-//! Peeling: from a tag to the commit at the end of its chain.
+//! Peeling of a tag to the commit at the end of its chain of tags.
 
 ghost use Rattle.std.specs.Prelude.{◌≡◌, IfSome, Some};
 ghost use Rattle.gname.specs.Ids.{Id};
@@ -10,15 +10,15 @@ use gobject::Kind;
 use std::alloc::Allocator;
 
 impl<A: Allocator + Copy> Graph<A> {
-    /// Returns the commit at the end of the chain of tags that begins at the id, or the id itself
-    /// if it is a commit (gitrevisions(7), `<rev>^{}`). Returns `None` if the chain leaves the
-    /// graph or never ends. It does not allocate.
+    /// Returns the commit at the end of the chain of tags that begins at the id, or the id of a
+    /// commit itself (gitrevisions(7), `<rev>^{}`). Returns `None` if the chain leaves the graph or
+    /// is a cycle. It does not allocate.
     pub fn peel(&self, id: &Oid) -> Option<Oid>
         ensures found { IfSome result (PeelsTo self.now.entries id.now) }
         ensures only { (c : Id) → PeelsTo self.now.entries id.now c → result ≡ Some c }
     {
-        // One id of the chain is kept, and replaced at each power of two. A chain that returns to
-        // it never ends.
+        // `kept` is an id of the chain, replaced after each power of two steps. A chain that
+        // returns to `kept` is a cycle.
         let mut at = *id;
         let mut kept = *id;
         for steps in 0..self.len() {

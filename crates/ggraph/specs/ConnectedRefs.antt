@@ -1,4 +1,4 @@
--- Whether refs are connected in a graph.
+-- Refs that are connected in a graph.
 use Rattle.std.specs.Map.{values_of}
 use Rattle.std.specs.Prelude.{List, All}
 use Rattle.gname.specs.Ids.{Id}
@@ -7,15 +7,15 @@ use Rattle.gobject.specs.declared.node.Entry.{Entry}
 use Rattle.gdag.specs.Reach.{IsConnected, Keeps}
 use Rattle.grefs.specs.RefLists.{RefList, SetsRef}
 
--- each ref is connected
+-- each ref is connected in the graph
 abbrev pub HasConnectedRefs : {A : Type 0} → List (Entry A) → RefList → Type 0
 HasConnectedRefs g refs = All (IsConnected g) (values_of refs)
 
--- refs stay connected where a graph keeps what it held
+-- refs stay connected when a graph keeps all its nodes
 abbrev pub ConnectedRefsStay : Type 0 → Type 0
 ConnectedRefsStay A = (g h : List (Entry A)) (refs : RefList) → Keeps g h → HasConnectedRefs g refs → HasConnectedRefs h refs
 
--- and where one is set to a connected id
+-- refs stay connected when a ref is set to a connected id
 abbrev pub SettingKeepsConnectedRefs : Type 0 → Type 0
 SettingKeepsConnectedRefs A =
     (g : List (Entry A)) (old new : RefList) (name : Name) (id : Id)

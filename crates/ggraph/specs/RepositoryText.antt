@@ -1,5 +1,6 @@
--- The text that keeps a repository: a first line, which says the format of its ids, a line a node in store order, a
--- line a ref in name order, a line for HEAD and a last line, each ended by LF. Ids are written in lower case.
+-- The text format of a repository. The first line names the object format. Then follow a line for each node in
+-- insertion order, a line for each ref in name order, a line for HEAD and a last line. Each line ends with LF, and ids
+-- are in lower case.
 use Rattle.std.specs.Prelude.{◌≡◌, ⊤, ℕ, List, [], ◌∷◌, ◌++◌, map, codes}
 use Rattle.gname.specs.Ids.{Id, IsIdOf, id_text}
 use Rattle.gname.specs.Names.{Name}
@@ -22,11 +23,11 @@ abbrev pub first_line : Format → List ℕ
 first_line Sha1 = codes "gitv2 1"
 first_line Sha256 = codes "gitv2 2 sha256"
 
--- a ref: its id and its name
+-- the line of a ref, with its id and its name
 abbrev pub ref_line : Name × Id → List ℕ
 ref_line ref = codes "r " ++ (id_text ref.1 ++ (codes " " ++ ref.0))
 
--- HEAD
+-- the line of HEAD
 abbrev pub head_line : {A : Type 0} → Head A → List ℕ
 head_line (head_is.Id id) = codes "h id " ++ id_text id
 head_line (head_is.Symref target) = codes "h ref " ++ target
@@ -35,7 +36,7 @@ head_line _ = codes "h none"
 abbrev pub last_line : List ℕ
 last_line = codes "end"
 
--- the lines of a repository; a node's line is that of a plain pack
+-- the lines of a repository; the line of a node is the same as in a plain pack
 abbrev pub lines_of : {A : Type 0} → History A → RefList → Head A → List (List ℕ)
 lines_of g refs head =
     first_line g.format ∷ (map node_text g.entries ++ (map ref_line refs ++ (head_line head ∷ last_line ∷ [])))
@@ -44,35 +45,37 @@ lines_of g refs head =
 abbrev pub repository_text : {A : Type 0} → History A → RefList → Head A → List ℕ
 repository_text g refs head = text_of (lines_of g refs head)
 
--- ---- what may stand in a text
+-- ---- valid contents of a text
 
--- what HEAD stands at is an id of the format, or a name below refs/
+-- a valid HEAD: detached at an id of the format, symbolic with a target below `refs/`, or missing
 abbrev pub IsHead : {A : Type 0} → Format → Head A → Type 0
 IsHead format (head_is.Id id) = IsIdOf format id
 IsHead format (head_is.Symref target) = IsBelowRefs target
 IsHead format _ = ⊤
 
--- each parent is on an earlier line, where that is asked
+-- each parent of the entry is on an earlier line, if the order demands it
 abbrev pub ComesAfter : {A : Type 0} → Order → List (Entry A) → Entry A → Type 0
 ComesAfter Any g entry = ⊤
 ComesAfter ParentsFirst g entry = HoldsParents g entry
 
--- the entry may follow these: it may come next in their graph, and after its parents where that is asked
+-- the entry may follow these entries: it could be appended to their graph, and it comes after its parents if the order
+-- demands it
 pub record MayFollow {A : Type 0} (order : Order) (format : Format) (g : List (Entry A))
     (entry : Entry A) : Type 0 where
   pub comes : MayComeNext format g entry
   pub after : ComesAfter order g entry
 
--- the ref may follow these: its name may come next, and its id is of the format
+-- the ref may follow these refs: its name is allowed next, and its id has the format
 pub record RefMayFollow (format : Format) (refs : RefList) (ref : Name × Id) : Type 0 where
   pub comes : NameMayComeNext refs ref.0
   pub id : IsIdOf format ref.1
 
--- P holds of each element and the elements before it
+-- P holds of each element together with the elements before it
 abbrev pub EachFollows : {X : Type 0} → (List X → X → Type 0) → List X → Type 0
 EachFollows {X} P xs = (front : List X) (x : X) (rest : List X) → xs ≡ front ++ x ∷ rest → P front x
 
--- what a text may keep: each node may follow those before it, and each ref those before it
+-- a valid repository: each node may follow the nodes before it, each ref may follow the refs before it, and HEAD is
+-- valid
 pub record IsLoadable {A : Type 0} (order : Order) (g : History A) (refs : RefList) (head : Head A) : Type 0 where
   pub nodes : EachFollows (MayFollow order g.format) g.entries
   pub refs_follow : EachFollows (RefMayFollow g.format) refs

@@ -1,4 +1,4 @@
--- Saving a repository's text: for what it is refused.
+-- The reasons to refuse saving a repository.
 use Rattle.std.specs.Prelude.{◌≡◌, List, [], ◌∷◌, ◌++◌, map, All}
 use Rattle.gname.specs.Ids.{Id, IsIdOf}
 use Rattle.gname.specs.declared.formats.Format.{Format}
@@ -8,20 +8,20 @@ use Rattle.grefs.specs.declared.head.Head.TheVariants as head_is
 use Rattle.ggraph.specs.declared.fault.SaveFault.{SaveFault}
 use Rattle.ggraph.specs.declared.fault.SaveFault.TheVariants.{Memory, OtherFormat}
 
--- the id at which HEAD stands, if it stands at one
+-- the id of a detached HEAD, in a list that is empty for any other HEAD
 abbrev pub head_ids : {A : Type 0} → Head A → List Id
 head_ids (head_is.Id id) = id ∷ []
 head_ids _ = []
 
--- the ids at which the refs stand, in name order
+-- the ids of the refs, in name order
 abbrev pub ref_ids : RefList → List Id
 ref_ids refs = map (λ ref. ref.1) refs
 
--- these, and then HEAD's
+-- the ids of the refs in name order, and then the id of a detached HEAD
 abbrev pub named_ids : {A : Type 0} → RefList → Head A → List Id
 named_ids refs head = ref_ids refs ++ head_ids head
 
--- the first of the ids that is not of the format
+-- `id` is the first of the ids that does not have the format
 pub record IsFirstOther (format : Format) (ids : List Id) (id : Id) : Type 0 where
   pub front : List Id
   pub rest : List Id
@@ -29,7 +29,8 @@ pub record IsFirstOther (format : Format) (ids : List Id) (id : Id) : Type 0 whe
   pub before : All (IsIdOf format) front
   pub other : ¬ (IsIdOf format id)
 
--- why refs and HEAD are not saved with a graph of the format: an id of another format comes first
+-- the reason to refuse saving refs and HEAD with a graph: the first id of another format, or out of memory if there is
+-- none
 abbrev pub SaveRefuses : {A : Type 0} → Format → RefList → Head A → SaveFault → Type 0
 SaveRefuses format refs head (OtherFormat id) = IsFirstOther format (named_ids refs head) id
 SaveRefuses format refs head Memory = All (IsIdOf format) (named_ids refs head)

@@ -1,4 +1,4 @@
--- The steps: what only private functions and proofs speak of.
+-- Definitions that only private functions and proofs use.
 pub mod NoSuchPart
 pub mod Reading
 pub mod TextLaws

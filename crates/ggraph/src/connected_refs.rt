@@ -1,4 +1,4 @@
-//! Whether the refs are connected in a graph.
+//! The test that all refs are connected in a graph.
 
 ghost use Rattle.std.specs.Prelude.{◌≡◌, ◌↔◌, IfErr, IfOk, IsTrue};
 ghost use Rattle.gdag.specs.declared.fault.GraphFault.TheVariants.{Memory};
@@ -9,7 +9,7 @@ use grefs::Refs;
 use gwalk::missing;
 use std::alloc::Allocator;
 
-/// Whether each ref is connected: the graph contains all ancestors of its id.
+/// Returns whether each ref is connected: the graph contains its id and all ancestors of that id.
 ///
 /// Fails only with `Memory`.
 pub fn has_connected_refs<A: Allocator + Copy>(

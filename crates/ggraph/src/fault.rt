@@ -1,4 +1,4 @@
-//! Why a repository text is not loaded, or a repository is not saved.
+//! The faults of loading a repository text and of saving a repository.
 
 ghost use Rattle.std.specs.Prelude.{◌≡◌, Some};
 ghost use Rattle.ggraph.specs.Faults.{load_fault_row, load_fault_text, save_fault_row, save_fault_text};
@@ -11,13 +11,12 @@ use std::alloc::{AllocError, AllocFailed};
 use std::error::Error;
 use std::fmt;
 
-/// Why a repository text was not loaded.
+/// The reason why a repository text was not loaded.
 #[derive(Clone, Copy, Debug, PartialEq, Eq, Drop)]
 pub enum LoadFault {
-    /// The line of a repository text, counted from 1, that does not have the right form, exceeds a
-    /// limit or is missing.
+    /// The first line, counted from 1, that is malformed, exceeds a limit or is missing.
     Text { line: usize },
-    /// The line of a repository text, counted from 1, with a parent that is on no earlier line.
+    /// The first line, counted from 1, with a parent that is not on an earlier line.
     ParentLater { line: usize },
     /// Out of memory.
     Memory,
@@ -83,10 +82,10 @@ impl<T: Drop> From<AllocFailed<T>> for LoadFault {
     }
 }
 
-/// Why a repository was not saved.
+/// The reason why a repository was not saved.
 #[derive(Clone, Copy, Debug, PartialEq, Eq, Drop)]
 pub enum SaveFault {
-    /// A ref or HEAD has this id, which has another object format than the graph.
+    /// The object format of this `id` of a ref or of `HEAD` is not that of the graph.
     OtherFormat { id: Oid },
     /// Out of memory.
     Memory,

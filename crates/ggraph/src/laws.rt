@@ -1,4 +1,5 @@
-//! The laws of repositories: functions without effect whose contracts are the laws.
+//! The laws of repositories. Each function does nothing at run time, and its contract states the
+//! law.
 
 ghost use Rattle.ggraph.specs.Loading.{ParentsFirstIsOrdered, TextsStopOnce};
 ghost use Rattle.ggraph.specs.ConnectedRefs.{ConnectedRefsStay, SettingKeepsConnectedRefs};
@@ -7,25 +8,25 @@ use crate::text::text_laws;
 use gdag::laws::connected_stays_connected;
 use std::alloc::Allocator;
 
-/// Refs stay connected if a graph keeps its nodes.
+/// Refs stay connected when a graph keeps all its nodes.
 pub fn connected_refs_stay<A: Allocator + Copy>()
     ensures { ConnectedRefsStay A }
 {
     connected_stays_connected::<A>();
 }
 
-/// Refs stay connected if one is set to a connected id.
+/// Refs stay connected when a ref is set to a connected id.
 pub fn setting_keeps_connected_refs<A: Allocator + Copy>()
     ensures { SettingKeepsConnectedRefs A }
 {}
 
-/// If a repository is loaded with parents first, each parent of a node is before the node.
+/// In a repository that is loaded with `Order::ParentsFirst`, each node comes after its parents.
 pub fn parents_first_is_ordered<A: Allocator + Copy>()
     ensures { ParentsFirstIsOrdered A }
 {}
 
-/// Apart from out of memory, a text is refused at one line and for one reason:
-/// [`load`](crate::load) reports the first line that is wrong.
+/// Apart from out of memory, [`load`](crate::load) has only one possible fault for a text. It
+/// reports the first wrong line.
 #[tactic(auto, using(crate::proofs::StoppingOnce::stop_once))]
 pub fn texts_stop_once<A: Allocator + Copy>()
     ensures { TextsStopOnce A }

@@ -1,38 +1,38 @@
-//! The text format of a repository: its objects, its refs and HEAD. The crate also re-exports what
-//! programs need with it: graphs (`gdag`), walks (`gwalk`), objects and packs (`gobject`), refs and
-//! HEAD (`grefs`).
+//! The text format of a repository, with its objects, its refs and `HEAD`. The crate re-exports
+//! graphs (`gdag`), walks (`gwalk`), objects and packs (`gobject`), and refs and `HEAD` (`grefs`).
 //!
 //! # Proved
 //!
-//! - [`load`] accepts exactly the texts of repositories. The first line names the format of all
-//!   ids. The text has a graph, refs and HEAD, and each node and ref may follow the ones before it.
-//!   It is read as these, or the call is out of memory. Any other text is refused at the first line
-//!   that does not fit, or at its early end. A later parent is reported only if the line is right
-//!   apart from the order. There is one such line, and one reason: [`laws::texts_stop_once`].
-//! - Out of memory is reported only at a right line of a node, a ref or a HEAD on a ref, with right
-//!   lines before it. A line that breaks a rule or exceeds a limit is refused for that reason.
-//! - [`save`] writes the one text of its arguments, which `load` reads back in any order of nodes.
-//!   It fails with the first id of another format than the graph's exactly when a ref or HEAD has
-//!   one. Otherwise it fails only if out of memory.
-//! - [`has_connected_refs`] says whether each ref is connected. Refs stay connected as a graph
-//!   grows, and if one is set to a connected id.
-//! - Each fault has the number, the name and the text of its row.
-//! - No call panics, overflows or reads out of bounds, and each returns.
+//! - [`load`] accepts exactly the texts of valid repositories, and returns their graph, refs and
+//!   `HEAD`, unless it is out of memory. The first line of a text names the format of all ids. Any
+//!   other text is refused at the first line that does not fit, or at its early end. A later parent
+//!   is reported only if the line is otherwise valid. A refused text has only one possible fault,
+//!   apart from out of memory: [`laws::texts_stop_once`].
+//! - [`load`] reports out of memory only at a valid line of a node, a ref or a symbolic `HEAD`,
+//!   after valid lines. A line that breaks a rule or exceeds a limit is refused for that reason.
+//! - [`save`] writes the unique text of a repository, which `load` reads back with `Order::Any`. If
+//!   a ref or `HEAD` has an id of another format than the graph, `save` fails with the first such
+//!   id. Otherwise it fails only if out of memory.
+//! - [`has_connected_refs`] returns whether each ref is connected. Refs stay connected when the
+//!   graph grows, and when a ref is set to a connected id.
+//! - Each fault has the number, the name and the text of its row in the table
+//!   (`specs/Faults.antt`).
+//! - No call panics, overflows or reads out of bounds, and every call returns.
 //!
 //! # What the contracts do not rule out
 //!
-//! As often as they like, loading may report out of memory at any right line that stores something,
-//! and saving for anything that can be saved. So may `has_connected_refs` for any refs. A call may
-//! take as long as it likes, and more memory than it needs. Formatting a fault may return an error
-//! (`fmt::Error`) although the text would be right.
+//! `load` may report out of memory at any valid line with contents to store. `save` may report out
+//! of memory for any valid repository, and `has_connected_refs` for any refs. A call may take any
+//! amount of time, and more memory than it needs. Formatting a fault may return an error
+//! (`fmt::Error`) without need.
 //!
-//! There are no tests here. The program `conformance` loads and saves texts, among them the
-//! largest, and runs programs on them with each allocation refused in turn.
+//! This crate has no tests of its own. The program `conformance` loads and saves texts up to the
+//! maximum size. It also runs programs on such texts, and makes each allocation fail in turn.
 //!
 //! # Stands on
 //!
-//! `gobject`, `gdag` and `grefs` for the contents of a repository, `gname` for ids and names,
-//! `memchr` for the ends of lines, `gwalk` for the missing ancestors of refs.
+//! The crate uses `gobject`, `gdag` and `grefs` for the contents of a repository, `gname` for ids
+//! and names, `memchr` for the ends of lines, `gwalk` for the missing ancestors of refs.
 #![tactic(auto)]
 
 mod connected_refs;

@@ -1,4 +1,4 @@
-//! The text format of a repository, and the contents of a text.
+//! The text format of a repository, and the parsed contents of a text.
 
 mod laws;
 mod lines;
@@ -15,22 +15,22 @@ use gdag::Graph;
 use grefs::{Head, Refs};
 use std::alloc::{Allocator, Global};
 
-/// The order of nodes that a text must have.
+/// The order of nodes that `load` demands of a text.
 #[derive(Clone, Copy, Debug, PartialEq, Eq)]
 pub enum Order {
-    /// Any order.
+    /// The nodes may be in any order.
     Any,
-    /// Each parent of a node is on an earlier line.
+    /// Each parent of a node must be on an earlier line.
     ParentsFirst,
 }
 
-/// The contents of a text.
+/// The contents of a repository text.
 #[derive(Debug, Drop)]
 pub struct Repository<A: Allocator + Copy = Global> {
-    /// The commits and tags, in store order.
+    /// The commits and tags, in insertion order.
     pub graph: Graph<A>,
     /// The refs, in name order.
     pub refs: Refs<A>,
-    /// HEAD.
+    /// The `HEAD` of the repository.
     pub head: Head<A>,
 }

@@ -15,14 +15,14 @@ use Rattle.ggrammar.specs.PeerErrors.{judge_unless_error}
 use Rattle.ggrammar.specs.Capabilities.{Capability, IsWellFormed, capability_of, capability_text, is_key, is_value}
 use Rattle.ggrammar.specs.declared.fault.Why.TheVariants as why
 
--- how many capabilities are advertised at most
+-- the maximum number of capabilities in an advertisement
 abbrev pub max_advertised : ℕ
 max_advertised = 64
 
 abbrev pub version : Bytes
 version = codes "version 2"
 
--- ---- in the manual's words
+-- ---- the advertisement in the words of the manual
 
 -- the packets are an advertisement of these capabilities
 pub record IsAdvert (packets : List Packet) (capabilities : List Capability) : Type 0 where
@@ -33,7 +33,7 @@ pub record IsAdvert (packets : List Packet) (capabilities : List Capability) : T
   pub each : map (λ payload. capability_of (text payload)) payloads ≡ map (λ capability. Some capability) capabilities
   pub few : length capabilities ≤ max_advertised
 
--- ---- the table
+-- ---- the grammar
 
 abbrev pub capabilities_in : List Bytes → List Capability
 capabilities_in [] = []
@@ -49,7 +49,7 @@ abbrev pub judge_capability : ℕ → Option Capability → Verdict
 judge_capability count None = Refused why.BadText
 judge_capability count (Some capability) = if_room (nat_lt count max_advertised)
 
--- so many texts came before, and so many capabilities are among them
+-- the verdict on a text line, from the numbers of earlier lines and of capabilities among those
 abbrev pub judge_text : ℕ → ℕ → Bytes → Verdict
 judge_text texts capabilities line =
     if texts == 0 then judge_version line else judge_capability capabilities (capability_of line)
@@ -64,19 +64,19 @@ judge_at texts capabilities ResponseEnd = Refused why.UnexpectedFrame
 abbrev pub judge : List Packet → Packet → Verdict
 judge packets packet = judge_at (length (texts_of packets)) (length (capabilities_of packets)) packet
 
--- the version brings nothing to keep, and each capability does
+-- whether the packet has contents to store: a capability has, and the version line has not
 abbrev pub brings : List Packet → Packet → Bool
 brings packets (Data payload) = nat_lt 0 (length (texts_of packets))
 brings packets _ = false
 
--- the packets are an advertisement, and say this
+-- the packets are a complete advertisement of these capabilities
 pub record Says (packets : List Packet) (capabilities : List Capability) : Type 0 where
   pub whole : IsWhole judge packets
   pub says : capabilities ≡ capabilities_of packets
 
--- ---- what is written
+-- ---- writing
 
--- the capabilities of an advertisement
+-- valid contents of an advertisement: well-formed capabilities, at most 64
 pub record AreCapabilities (capabilities : List Capability) : Type 0 where
   pub each : All IsWellFormed capabilities
   pub few : length capabilities ≤ max_advertised
@@ -87,20 +87,20 @@ capability_packet capability = text_packet (capability_text capability)
 abbrev pub canonical_advert : List Capability → List Packet
 canonical_advert capabilities = text_packet version ∷ (map capability_packet capabilities ++ Flush ∷ [])
 
--- these packets are written of capabilities
+-- the packets are exactly those that are written for the capabilities
 abbrev pub IsCanonical : List Packet → List Capability → Type 0
 IsCanonical packets capabilities = packets ≡ canonical_advert capabilities
 
--- ---- what can be added
+-- ---- capabilities that can be added
 
 abbrev pub is_value_or_none : Option Bytes → Bool
 is_value_or_none None = true
 is_value_or_none (Some value) = is_value value
 
--- a key, and a value where there is one
+-- whether the key is well-formed, and also the value if there is one
 abbrev pub is_capability : Capability → Bool
 is_capability capability = is_key capability.key && is_value_or_none capability.value
 
--- there is room for one more
+-- whether another capability can be added
 abbrev pub has_room : List Capability → Bool
 has_room capabilities = nat_lt (length capabilities) max_advertised

@@ -5,7 +5,7 @@
 --   host-parameter = "host=" hostname
 --   extra-parameters = "version=2" NUL
 --
--- The host and the version are demanded here, and there is no other parameter.
+-- Here the host and the version are mandatory, and no other parameter is allowed.
 use Rattle.std.specs.Prelude.{◌≡◌, ℕ, Bool, true, false, ◌&&◌, IsTrue, List, [], ◌∷◌, ◌++◌, length, codes, nat_eq}
 use Rattle.std.specs.Prelude.{nat_le, if◌then◌else◌, Option, Some, None, is_some, Result, Ok, Err}
 use Rattle.std.specs.List.{list_all, slice_split, starts_with}
@@ -18,19 +18,19 @@ use Rattle.ggrammar.specs.Building.{IsBuildReason}
 use Rattle.ggrammar.specs.declared.fault.MessageFault.{MessageFault}
 use Rattle.ggrammar.specs.declared.fault.Why.TheVariants.{UnexpectedFrame, BadText}
 
--- the most bytes of a path, and of a host
+-- the maximum length of a path in bytes
 abbrev pub max_path : ℕ
 max_path = 1000
 
 abbrev pub max_host : ℕ
 max_host = 255
 
--- a path begins with a slash and has printable bytes
+-- whether the bytes are a path: a slash first, only printable bytes, and at most 1,000
 unfoldable pub is_path : Bytes → Bool
 is_path path =
     starts_with nat_eq path (codes "/") && nat_le (length path) max_path && list_all is_printable path
 
--- a host has graphic bytes, one at least
+-- whether the bytes are a host: 1 to 255 graphic bytes
 unfoldable pub is_host : Bytes → Bool
 is_host host = nat_le 1 (length host) && nat_le (length host) max_host && list_all is_graphic host
 
@@ -45,17 +45,17 @@ pub record IsHello (hello : Hello) : Type 0 where
 abbrev pub is_hello : Hello → Bool
 is_hello hello = is_path hello.path && is_host hello.host
 
--- the hello of this path and host is made; or a fault at packet 0 says that it is none, or out of memory
+-- the call returns the hello with this path and host, or a fault at packet 0: a malformed part, or out of memory
 abbrev pub MakesHello : Hello → Result Hello MessageFault → Type 0
 MakesHello wanted (Ok hello) = (hello ≡ wanted) × IsHello hello
 MakesHello wanted (Err fault) = (fault.frame ≡ 0) × IsBuildReason (is_hello wanted) true fault.why
 
--- ---- what is written
+-- ---- writing
 
 abbrev pub nul : Bytes
 nul = 0 ∷ []
 
--- the payload: no line feed is left out of it
+-- the payload of the first line, which has no line feed at its end
 abbrev pub hello_payload : Hello → Bytes
 hello_payload hello =
     codes "git-upload-pack " ++ hello.path ++ nul ++ codes "host=" ++ hello.host ++ nul ++ nul
@@ -64,16 +64,16 @@ hello_payload hello =
 unfoldable pub canonical_hello : Hello → List Packet
 canonical_hello hello = Data (hello_payload hello) ∷ []
 
--- these packets are written of a hello
+-- the packets are exactly those that are written for the hello
 abbrev pub IsCanonical : List Packet → Hello → Type 0
 IsCanonical packets hello = packets ≡ canonical_hello hello
 
--- the packets say this: they are written so, and in no other way
+-- the packets encode this hello, which has only this one encoding
 pub record Says (packets : List Packet) (hello : Hello) : Type 0 where
   pub form : IsHello hello
   pub line : IsCanonical packets hello
 
--- ---- the table
+-- ---- the grammar
 
 abbrev pub is_nul : ℕ → Bool
 is_nul byte = nat_eq byte 0
@@ -83,7 +83,7 @@ hello_with (Some path) (Some host) =
     if is_hello (record { path = path; host = host }) then Some (record { path = path; host = host }) else None
 hello_with path host = None
 
--- the command with its path, the host, and the version after an empty part; the last NUL ends the payload
+-- the hello whose payload has these parts between NULs: command with path, host, empty, version, empty
 abbrev pub hello_of_parts : List Bytes → Option Hello
 hello_of_parts (command ∷ host ∷ [] ∷ version ∷ [] ∷ []) =
     if bytes_eq version (codes "version=2")
@@ -91,7 +91,7 @@ hello_of_parts (command ∷ host ∷ [] ∷ version ∷ [] ∷ []) =
     else None
 hello_of_parts parts = None
 
--- what a payload says, by its parts between NULs
+-- the hello that a payload encodes
 unfoldable pub hello_of : Bytes → Option Hello
 hello_of payload = hello_of_parts (slice_split is_nul payload)
 
@@ -99,12 +99,12 @@ abbrev pub judge_payload : Option Hello → Verdict
 judge_payload (Some hello) = Whole
 judge_payload None = Refused BadText
 
--- one packet is the whole message; that it reports an error is no reason of its own
+-- a hello is exactly one packet; an `ERR` packet is refused like any other malformed payload
 abbrev pub judge : List Packet → Packet → Verdict
 judge packets (Data payload) = judge_payload (hello_of payload)
 judge packets _ = Refused UnexpectedFrame
 
--- the path and the host are kept
+-- whether the packet has contents to store: a valid hello has
 abbrev pub brings : List Packet → Packet → Bool
 brings packets (Data payload) = is_some (hello_of payload)
 brings packets _ = false

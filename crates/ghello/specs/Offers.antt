@@ -1,4 +1,4 @@
--- What a client looks for among the capabilities of a server (gitprotocol-v2(5), "Capabilities").
+-- The checks of a client on the capabilities of a server (gitprotocol-v2(5), "Capabilities").
 use Rattle.std.specs.Prelude.{◌≡◌, Bool, true, false, not, ◌&&◌, if◌then◌else◌, List, [], ◌∷◌, codes}
 use Rattle.std.specs.Prelude.{Option, Some, None}
 use Rattle.std.specs.List.{list_any, slice_split}
@@ -25,16 +25,16 @@ abbrev pub value_in : Option Capability → Option Bytes
 value_in None = None
 value_in (Some capability) = capability.value
 
--- there is a value, and the word is one of its parts between spaces
+-- whether the value exists and has the word as one of its parts between spaces
 abbrev pub has_word : Bytes → Option Bytes → Bool
 has_word word None = false
 has_word word (Some value) = list_any (λ part. bytes_eq part word) (slice_split is_space value)
 
--- the first capability with a key has a value with this word
+-- whether the first capability with the key has the word in its value
 abbrev pub has_feature : Bytes → Bytes → List Capability → Bool
 has_feature key word capabilities = has_word word (value_in (first_with key capabilities))
 
--- an advertisement without `object-format` is for sha1; one without a value names none
+-- the object format that a server names: SHA-1 without `object-format`, and none if `object-format` has no value
 abbrev pub named_format : Option Capability → Option Bytes
 named_format None = Some (format_name Sha1)
 named_format (Some capability) = capability.value
@@ -43,21 +43,21 @@ abbrev pub is_name_of : Format → Option Bytes → Bool
 is_name_of format None = false
 is_name_of format (Some name) = bytes_eq name (format_name format)
 
--- the ids are of this format
+-- whether the ids of the server have the given format
 abbrev pub is_of_format : Format → List Capability → Bool
 is_of_format format capabilities = is_name_of format (named_format (first_with (codes "object-format") capabilities))
 
--- the format of the ids; there is none where another is named
+-- the format of the server's ids, or `None` if the server names a format other than SHA-1 and SHA-256
 abbrev pub IsFormatOf : List Capability → Option Format → Type 0
 IsFormatOf capabilities (Some format) = is_of_format format capabilities ≡ true
 IsFormatOf capabilities None = (format : Format) → is_of_format format capabilities ≡ false
 
--- the server lists no refs, or fetches nothing
+-- whether the server lacks the command `ls-refs` or the command `fetch`
 abbrev pub lacks_command : List Capability → Bool
 lacks_command capabilities =
     not (list_any (has_key (codes "ls-refs")) capabilities && list_any (has_key (codes "fetch")) capabilities)
 
--- why a client of this format can't go on with the server
+-- the reason why a client with ids of this format can't use the server
 abbrev pub check_fault : Format → List Capability → Option Why
 check_fault format capabilities =
     if lacks_command capabilities then Some UnknownCommand

@@ -1,3 +1,3 @@
--- The steps: what only private functions and proofs speak of.
+-- Definitions that only private functions and proofs use.
 pub mod AdvertReading
 pub mod HelloReading

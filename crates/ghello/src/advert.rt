@@ -35,18 +35,18 @@ pub const MAX_ADVERTISED: usize = 64;
 // The text of the first line.
 const VERSION: &[u8] = b"version 2";
 
-// The maximum length of a capability's text in bytes: a key, an equals sign and a value.
+// The maximum length of a capability's text in bytes: a key, `=` and a value.
 const MAX_TEXT: usize = 2_001;
 
-// The commands that a client of this protocol needs: listing refs, and fetching.
+// The commands that a client needs of a server.
 const LS_REFS: &[u8] = b"ls-refs";
 
 const FETCH: &[u8] = b"fetch";
 
-// The capability that names the hash of the ids.
+// The key of the capability that names the object format.
 const OBJECT_FORMAT: &[u8] = b"object-format";
 
-// A capability that an advertisement stores.
+// A capability with owned bytes.
 #[derive(Debug, Drop)]
 struct OwnedCapability<A: Allocator + Copy> {
     key: Vec<u8, A>,
@@ -86,7 +86,7 @@ impl<A: Allocator + Copy> OwnedCapability<A> {
         }
     }
 
-    // Writes the packet of the capability.
+    // Writes the capability as one packet.
     fn write<W: Sink>(&self, writer: &mut PacketWriter<W>) -> Result<(), WriteFault>
         requires { IsWellFormed self.now }
         ensures { WritesPackets W.contents W.passed_on W.is_down W.loans writer.old writer.new result
@@ -139,10 +139,10 @@ impl<A: Allocator + Copy> Advert<A> {
 
     /// Adds a capability after the others.
     ///
-    /// Fails with `BadText` if the key is not 1 to 1,000 letters, digits, `-` and `_`. It also
-    /// fails so if the value is not 1 to 1,000 bytes from space to `~`. Otherwise fails with
-    /// `Limit` if there are 64 capabilities. Otherwise fails with `Memory`, only if the capability
-    /// could not be stored. The fault is at packet 0, and the advertisement is unchanged.
+    /// Fails with `BadText` if the key is not 1 to 1,000 letters, digits, `-` and `_`. Also fails
+    /// with `BadText` if the value is not 1 to 1,000 bytes from space to `~`. Otherwise fails with
+    /// `Limit` if the advertisement already has 64 capabilities, or with `Memory`. The fault is at
+    /// packet 0, and a failed call leaves the advertisement unchanged.
     pub fn push(&mut self, capability: Capability<'_>) -> Result<(), MessageFault>
         ensures { Builds (is_capability (capability_view capability.entry)) (has_room self.old)
             self.old self.new (self.old ++ capability_view capability.entry ∷ []) result }
@@ -159,7 +159,7 @@ impl<A: Allocator + Copy> Advert<A> {
         }
     }
 
-    // Adds a capability for which there is room.
+    // Adds a capability to an advertisement with fewer than 64.
     fn add(&mut self, capability: Capability<'_>) -> Result<(), AllocError>
         requires form { IsWellFormed (capability_view capability) }
         requires room { length self.old < max_advertised }
@@ -179,15 +179,14 @@ impl<A: Allocator + Copy> Advert<A> {
         self.capabilities.len()
     }
 
-    /// Whether there is no capability.
+    /// Returns whether the advertisement has no capabilities.
     pub fn is_empty(&self) -> bool
         ensures { IsTrue result ↔ (self.now ≡ []) }
     {
         self.capabilities.is_empty()
     }
 
-    /// Returns the capability at a position in their order, counted from 0, or `None` if there is
-    /// none.
+    /// Returns the capability at a position, counted from 0, or `None` after the last one.
     pub fn at(&self, place: usize) -> Option<Capability<'_>>
         ensures capability { option_map capability_view result ≡ slice_get self.now place }
         ensures form { AreCapabilities self.now }
@@ -196,16 +195,16 @@ impl<A: Allocator + Copy> Advert<A> {
         Some(kept.as_capability())
     }
 
-    /// Returns the first capability with a key, with its value, if any, or `None` if there is none.
+    /// Returns the first capability with a key, or `None` if no capability has that key.
     pub fn value_of(&self, key: &[u8]) -> Option<Capability<'_>>
         ensures { option_map capability_view result ≡ first_with key.now self.now }
     {
         first_with(key, self.capabilities.as_slice()).map(|kept| kept.as_capability())
     }
 
-    /// Whether the first capability with a key has a value with a word between spaces. A server
-    /// reports an unborn `HEAD` if its `ls-refs` has the word `unborn` (gitprotocol-v2(5),
-    /// "ls-refs").
+    /// Returns whether `word` is a space-separated word in the value of the first capability with a
+    /// key. For example, a server whose `ls-refs` has the word `unborn` reports an unborn `HEAD`
+    /// (gitprotocol-v2(5), "ls-refs").
     pub fn has_feature(&self, key: &[u8], word: &[u8]) -> bool
         ensures { result ≡ has_feature key.now word.now self.now }
     {
@@ -215,9 +214,9 @@ impl<A: Allocator + Copy> Advert<A> {
         }
     }
 
-    /// Returns the format of the server's ids. It is the one that the first `object-format` names,
-    /// or SHA-1 if there is no `object-format` (gitprotocol-v2(5), "object-format"). Returns `None`
-    /// if that names another format or none.
+    /// Returns the format of the server's ids. The first `object-format` names the format, and
+    /// without `object-format` the format is SHA-1 (gitprotocol-v2(5), "object-format"). Returns
+    /// `None` if the first `object-format` names neither SHA-1 nor SHA-256.
     pub fn format(&self) -> Option<Format>
         ensures { IsFormatOf self.now result }
     {
@@ -230,7 +229,8 @@ impl<A: Allocator + Copy> Advert<A> {
         None
     }
 
-    /// Checks that a client of SHA-1 ids can use the server, as [`check_in`](Self::check_in) does.
+    /// Checks that a client with SHA-1 ids can use the server, as [`check_in`](Self::check_in)
+    /// does.
     pub fn check(&self) -> Result<(), MessageFault>
         ensures { MatchResult result (λ _. check_fault Sha1 self.now ≡ None)
             (λ fault. (check_fault Sha1 self.now ≡ Some fault.why) × (fault.frame ≡ 0)) }
@@ -238,11 +238,11 @@ impl<A: Allocator + Copy> Advert<A> {
         self.check_in(Format::Sha1)
     }
 
-    /// Checks that a client of ids in a format can use the server.
+    /// Checks that a client whose ids have the given format can use the server.
     ///
-    /// Fails with `UnknownCommand` if `ls-refs` or `fetch` is not a key of a capability. Otherwise
-    /// fails with `Format` if the first `object-format` names another format or none, or if there
-    /// is no `object-format` and the format is not SHA-1. The fault is at packet 0.
+    /// Fails with `UnknownCommand` if the server does not advertise both `ls-refs` and `fetch`.
+    /// Otherwise fails with `Format` if the first `object-format` does not name the given format. A
+    /// server without `object-format` has SHA-1 ids. The fault is at packet 0.
     pub fn check_in(&self, format: Format) -> Result<(), MessageFault>
         ensures { MatchResult result (λ _. check_fault format self.now ≡ None)
             (λ fault. (check_fault format self.now ≡ Some fault.why) × (fault.frame ≡ 0)) }
@@ -268,7 +268,8 @@ impl<A: Allocator + Copy> Advert<A> {
         self.capabilities.iter().any(|kept| kept.has_key(key))
     }
 
-    // Whether the server has the format. An advertisement that names no format is for SHA-1.
+    // Returns whether the server's ids have the given format. A server without `object-format` has
+    // SHA-1 ids.
     fn is_of_format(&self, format: Format) -> bool
         ensures { result ≡ is_of_format format self.now }
     {
@@ -283,7 +284,7 @@ impl<A: Allocator + Copy> Advert<A> {
     }
 }
 
-// Composes the text of a capability.
+// Writes the text of a capability into the buffer.
 fn compose(capability: Capability<'_>, text: &mut ArrayVec<u8, MAX_TEXT>)
     requires key { length capability.key.now ≤ max_capability }
     requires value { IfSome capability.value (λ value. length value.now ≤ max_capability) }
@@ -298,7 +299,7 @@ fn compose(capability: Capability<'_>, text: &mut ArrayVec<u8, MAX_TEXT>)
     }
 }
 
-// Returns the first capability with a key.
+// Returns the first capability with a key, or `None`.
 fn first_with<'a, A: Allocator + Copy>(
     key: &[u8],
     capabilities: &'a [OwnedCapability<A>],
@@ -313,7 +314,7 @@ fn first_with<'a, A: Allocator + Copy>(
     None
 }
 
-// Whether there is a value, and the word is one of its parts between spaces.
+// Returns whether the value exists and has the word as one of its parts between spaces.
 fn has_word(value: Option<&[u8]>, word: &[u8]) -> bool
     ensures { result ≡ has_word word.now (option_copied value.entry) }
 {
@@ -323,7 +324,7 @@ fn has_word(value: Option<&[u8]>, word: &[u8]) -> bool
     }
 }
 
-// Whether the key and the value have the right form.
+// Returns whether the key and the value, if any, are well-formed.
 fn is_capability(capability: Capability<'_>) -> bool
     ensures { result ≡ is_capability (capability_view capability.entry) }
 {
@@ -339,14 +340,15 @@ fn is_value_or_none(value: Option<&[u8]>) -> bool
     }
 }
 
-/// Reads an advertisement to its flush, and nothing after it.
+/// Reads an advertisement exactly to the end of its flush.
 ///
-/// The fault has the packet's position, counted from 0. A fault of the packet reader takes
-/// precedence, then the end of the input, then an error that the peer reports. Otherwise the fault
-/// is `UnexpectedFrame` for a delimiter, a response-end, or a flush at position 0. It is `BadText`
-/// for a first text other than `version 2`, and for a later one that is not a capability. It is
-/// `Limit` for a 65th capability, and `Memory` only if a capability could not be stored. After a
-/// refusal the packet reader has failed exactly if it refused the packet itself.
+/// The fault states the position of the refused packet, counted from 0. A fault of the packet
+/// reader takes precedence, then the end of the input, then an error that the peer reports.
+/// Otherwise the fault is `UnexpectedFrame` for a delimiter, a response-end, or a flush at position
+/// 0. The fault is `BadText` for a first line other than `version 2`, and for any later line that
+///    is not a capability. The fault is `Limit` for a 65th capability, and `Memory` only if a
+///    capability could not be stored. The packet reader is unusable after a refusal exactly if the
+///    packet reader itself refused the packet.
 pub fn read_advert<S: Source, A: Allocator + Copy, B: Allocator + Copy>(
     reader: &mut PacketReader<S, B>,
     alloc: A,
@@ -362,11 +364,11 @@ pub fn read_advert<S: Source, A: Allocator + Copy, B: Allocator + Copy>(
     Ok(advert)
 }
 
-/// Writes an advertisement: the version, the capabilities in order, and a flush. It reads back as
-/// the same advertisement ([`reads_back`](crate::laws::reads_back)). It does not allocate.
+/// Writes an advertisement: the version, the capabilities in order, and a flush. The bytes read
+/// back as the same advertisement ([`reads_back`](crate::laws::reads_back)). It does not allocate.
 ///
-/// Fails with `Io` if the sink fails, and a prefix of the advertisement was then written. Fails
-/// with `Failed` if the writer had failed before.
+/// Fails with `Io` if the sink fails, after it may have written a prefix of the advertisement.
+/// Fails with `Failed` if the writer had failed before.
 pub fn write_advert<A: Allocator + Copy, W: Sink>(
     advert: &Advert<A>,
     writer: &mut PacketWriter<W>,
@@ -417,7 +419,7 @@ fn write_capabilities<A: Allocator + Copy, W: Sink>(
     Ok(())
 }
 
-// An advertisement that is being read.
+// The state of reading an advertisement.
 #[derive(Drop)]
 struct AdvertReader<A: Allocator + Copy> {
     has_version: bool,

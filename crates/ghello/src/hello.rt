@@ -27,21 +27,21 @@ pub const MAX_PATH: usize = 1_000;
 /// The maximum length of a host in bytes.
 pub const MAX_HOST: usize = 255;
 
-// The texts before the path, before the host, and after the host.
+// The words of the payload: before the path, before the host, and at the end.
 const COMMAND: &[u8] = b"git-upload-pack ";
 
 const HOST: &[u8] = b"host=";
 
 const VERSION: &[u8] = b"version=2";
 
-// The end of each part.
+// The byte that ends each part of the payload.
 const NUL: &[u8] = b"\0";
 
-// The maximum length of the payload in bytes: its words, a path, a host, and the NULs.
+// The maximum length of the payload in bytes: three words, a path, a host, and four NULs.
 const MAX_LINE: usize = 1_289;
 
-/// The first line of a client on a `git://` connection: the repository that it asks for, and the
-/// host.
+/// The first line of a client on a `git://` connection: the path of the requested repository, and
+/// the host.
 #[derive(Debug, Drop)]
 pub struct Hello<A: Allocator + Copy> {
     path: Vec<u8, A>,
@@ -59,11 +59,11 @@ impl<A: Allocator + Copy> Model for Hello<A> {
 }
 
 impl<A: Allocator + Copy> Hello<A> {
-    /// Returns a hello for a path and a host. The path begins with a slash and has at most 1,000
-    /// bytes, from space to `~`. The host has 1 to 255 bytes, from `!` to `~`.
+    /// Returns a hello for a path and a host. A path begins with a slash and has at most 1,000
+    /// bytes, from space to `~`. A host has 1 to 255 bytes, from `!` to `~`.
     ///
-    /// Fails with `BadText` if one of them has another form. Otherwise fails with `Memory`, only if
-    /// it could not be stored. The fault is at packet 0.
+    /// Fails with `BadText` if the path or the host is malformed, and otherwise with `Memory` if
+    /// the hello could not be stored. The fault is at packet 0.
     pub fn new(alloc: A, path: &[u8], host: &[u8]) -> Result<Hello<A>, MessageFault>
         ensures { MakesHello (record { path = path.now; host = host.now }) result }
     {
@@ -76,7 +76,7 @@ impl<A: Allocator + Copy> Hello<A> {
         }
     }
 
-    // Stores a path and a host.
+    // Copies a valid path and a valid host into a hello.
     fn keep(alloc: A, path: &[u8], host: &[u8]) -> Result<Hello<A>, AllocError>
         requires { IsHello (record { path = path.now; host = host.now }) }
         ensures { IfOk result (λ hello. hello ≡ record { path = path.now; host = host.now }) }
@@ -86,7 +86,7 @@ impl<A: Allocator + Copy> Hello<A> {
         Ok(Hello { path, host })
     }
 
-    /// Returns the path of the repository, with its slash: at most 1,000 bytes.
+    /// Returns the path of the repository with its leading slash, at most 1,000 bytes.
     #[tactic(auto, using(crate::proofs::HelloLemmas::path_within))]
     pub fn path(&self) -> &[u8]
         ensures path { result.now ≡ self.now.path }
@@ -96,7 +96,7 @@ impl<A: Allocator + Copy> Hello<A> {
         self.path.as_slice()
     }
 
-    /// Returns the host that the client asks for: 1 to 255 bytes.
+    /// Returns the host that the client names, 1 to 255 bytes.
     #[tactic(auto, using(crate::proofs::HelloLemmas::host_within))]
     pub fn host(&self) -> &[u8]
         ensures host { result.now ≡ self.now.host }
@@ -107,7 +107,8 @@ impl<A: Allocator + Copy> Hello<A> {
     }
 }
 
-/// Whether the bytes are a path: a slash first, at most 1,000 bytes, from space to `~`.
+/// Returns whether the bytes are a path: a leading slash, and at most 1,000 bytes from space to
+/// `~`.
 #[tactic(auto, unfolding(crate::specs::Hello::is_path))]
 pub fn is_path(path: &[u8]) -> bool
     ensures { result ≡ is_path path.now }
@@ -115,7 +116,7 @@ pub fn is_path(path: &[u8]) -> bool
     path.starts_with(b"/") && path.len() <= MAX_PATH && are_printable(path)
 }
 
-/// Whether the bytes are a host: 1 to 255 bytes from `!` to `~`.
+/// Returns whether the bytes are a host: 1 to 255 bytes from `!` to `~`.
 #[tactic(auto, unfolding(crate::specs::Hello::is_host))]
 pub fn is_host(host: &[u8]) -> bool
     ensures { result ≡ is_host host.now }
@@ -123,12 +124,13 @@ pub fn is_host(host: &[u8]) -> bool
     1 <= host.len() && host.len() <= MAX_HOST && are_graphic(host)
 }
 
-/// Reads the first line of a connection, and nothing after it.
+/// Reads the first line of a connection exactly to its end.
 ///
 /// The fault is at packet 0. A fault of the packet reader takes precedence, then the end of the
-/// input. Otherwise the fault is `UnexpectedFrame` for another kind of packet, and `BadText` for a
-/// payload of another form, even if it reports an error. It is `Memory` only if a hello could not
-/// be stored. After a refusal the packet reader has failed exactly if it refused the packet itself.
+/// input. Otherwise the fault is `UnexpectedFrame` for a flush, a delimiter or a response-end. The
+/// fault is `BadText` for a malformed payload, even for one that reports an error, and `Memory`
+/// only if a hello could not be stored. The packet reader is unusable after a refusal exactly if
+/// the packet reader itself refused the packet.
 pub fn read_hello<S: Source, A: Allocator + Copy, B: Allocator + Copy>(
     reader: &mut PacketReader<S, B>,
     alloc: A,
@@ -148,10 +150,10 @@ pub fn read_hello<S: Source, A: Allocator + Copy, B: Allocator + Copy>(
     }
 }
 
-/// Writes the packet of a hello. It reads back as the same hello
+/// Writes a hello as one packet, which reads back as the same hello
 /// ([`reads_back`](crate::laws::reads_back)). It does not allocate.
 ///
-/// Fails with `Io` if the sink fails, and a prefix of the packet was then written. Fails with
+/// Fails with `Io` if the sink fails, after it may have written a prefix of the packet. Fails with
 /// `Failed` if the writer had failed before.
 #[tactic(auto, unfolding(crate::specs::Hello::canonical_hello))]
 pub fn write_hello<A: Allocator + Copy, W: Sink>(
@@ -169,7 +171,7 @@ pub fn write_hello<A: Allocator + Copy, W: Sink>(
     writer.put(line.as_slice())
 }
 
-// Composes the payload.
+// Writes the payload of a hello into the buffer.
 fn compose<A: Allocator + Copy>(hello: &Hello<A>, line: &mut ArrayVec<u8, MAX_LINE>)
     requires { line.old.items ≡ [] }
     ensures line { line.new.items ≡ hello_payload hello.now }
@@ -187,14 +189,14 @@ fn compose<A: Allocator + Copy>(hello: &Hello<A>, line: &mut ArrayVec<u8, MAX_LI
     add(NUL, line);
 }
 
-// The contents of a payload, borrowed from it.
+// The path and the host of a payload, borrowed from its bytes.
 #[derive(Clone, Copy, Debug, PartialEq, Eq)]
 struct HelloText<'a> {
     path: &'a [u8],
     host: &'a [u8],
 }
 
-// Returns the text before the first NUL, and the text after it, if there is one.
+// Returns the text before the first NUL, and the text after that NUL if there is one.
 fn cut(text: &[u8]) -> (&[u8], Option<&[u8]>)
     ensures { slice_split is_nul text.now
         ≡ result.0.now ∷ option_map_or (λ rest. slice_split is_nul rest.now) result.1 [] }
@@ -205,7 +207,7 @@ fn cut(text: &[u8]) -> (&[u8], Option<&[u8]>)
     }
 }
 
-// Returns the position of the first NUL.
+// Returns the position of the first NUL, or `None`.
 fn first_nul(text: &[u8]) -> Option<usize>
     ensures place { result ≡ position is_nul text.now }
     ensures within { IfSome result (λ at. at < length text.now) }
@@ -213,7 +215,7 @@ fn first_nul(text: &[u8]) -> Option<usize>
     text.iter().position(|byte| *byte == 0)
 }
 
-// Returns the contents of a payload, by its parts between NULs.
+// Returns the path and the host of a payload, or `None` if the payload is malformed.
 #[tactic(auto, unfolding(crate::specs::Hello::hello_of))]
 fn hello_of(payload: &[u8]) -> Option<HelloText<'_>>
     ensures { option_map hello_view result ≡ hello_of payload.now }
@@ -232,7 +234,8 @@ fn hello_of(payload: &[u8]) -> Option<HelloText<'_>>
     }
 }
 
-// Returns the contents of a payload of three words.
+// Returns the path and the host of a payload with these three parts, or `None` if a part is
+// malformed.
 fn hello_of_words<'a>(command: &'a [u8], host: &'a [u8], version: &[u8]) -> Option<HelloText<'a>>
     ensures { option_map hello_view result
         ≡ hello_of_parts (command.now ∷ host.now ∷ [] ∷ version.now ∷ [] ∷ []) }
@@ -255,7 +258,7 @@ fn hello_with<'a>(path: Option<&'a [u8]>, host: Option<&'a [u8]>) -> Option<Hell
     }
 }
 
-/// A hello that is being read.
+/// The state of reading a hello.
 #[derive(Drop)]
 pub struct HelloReader<A: Allocator + Copy> {
     alloc: A,
@@ -263,14 +266,14 @@ pub struct HelloReader<A: Allocator + Copy> {
 }
 
 impl<A: Allocator + Copy> HelloReader<A> {
-    /// Returns a hello without packets.
+    /// Returns a reader that has not read any packet yet.
     pub fn new(alloc: A) -> HelloReader<A>
         ensures { result.hello ≡ None }
     {
         HelloReader { alloc, hello: None }
     }
 
-    /// Returns the contents of the packet, after it was taken.
+    /// Returns the hello that was read, or `None` if no packet was accepted.
     pub fn finish(self) -> Option<Hello<A>>
         ensures { result ≡ self.hello }
     {

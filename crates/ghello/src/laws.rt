@@ -1,4 +1,5 @@
-//! The laws of hellos and advertisements: functions without effect whose contracts are the laws.
+//! The laws of hellos and advertisements. Each function does nothing at run time, and its contract
+//! states the law.
 
 ghost use Rattle.std.specs.Prelude.{◌≡◌};
 ghost use Rattle.ggrammar.specs.Grammar.{HasEndings, IsPrefixFree, RefusesFirstMisfits};
@@ -15,7 +16,7 @@ use ggrammar::laws::{
 };
 use gpkt::laws::text_reads_back;
 
-// Hellos, as a kind of message.
+// The kind of message "hello".
 struct Hellos;
 
 impl MessageKind for Hellos {
@@ -36,7 +37,7 @@ impl MessageKind for Hellos {
     ghost is_canonical = { λ _. hello.IsCanonical };
 }
 
-// Advertisements, as a kind of message.
+// The kind of message "advertisement".
 struct Adverts;
 
 impl MessageKind for Adverts {
@@ -59,20 +60,21 @@ impl MessageKind for Adverts {
     ghost is_canonical = { λ _. advert.IsCanonical };
 }
 
-/// The constants are the limits that the definitions use.
+/// The constants equal the limits of the specs.
 pub fn limits_are_the_constants()
     ensures path { MAX_PATH ≡ hello.max_path }
     ensures host { MAX_HOST ≡ hello.max_host }
     ensures advertised { MAX_ADVERTISED ≡ advert.max_advertised }
 {}
 
-/// Packets say at most one hello, and at most one advertisement.
+/// A list of packets encodes at most one hello and at most one advertisement.
 pub fn one_meaning()
     ensures hello { OneMeaning hello.Says }
     ensures advert { OneMeaning advert.Says }
 {}
 
-/// No hello is a prefix of another, and no advertisement is, as packets or as bytes.
+/// No hello is a prefix of another hello, and no advertisement is a prefix of another one. The law
+/// holds for packets and for bytes.
 pub fn prefix_free()
     ensures hello { IsPrefixFree hello.judge }
     ensures hello_spellings { SpellingsPrefixFree hello.judge }
@@ -83,9 +85,8 @@ pub fn prefix_free()
     messages_are_read();
 }
 
-/// The packets that are read as a hello, or as an advertisement, are those of the manual, and they
-/// say the same (gitprotocol-pack(5), "Git Transport"; gitprotocol-v2(5), "Capability
-/// Advertisement").
+/// The readers accept exactly the hellos and the advertisements of the manual, with the same values
+/// (gitprotocol-pack(5), "Git Transport"; gitprotocol-v2(5), "Capability Advertisement").
 pub fn manual()
     ensures hello { SaysWhole hello.judge hello.Says }
     ensures hello_payload { PayloadSaysHello }
@@ -97,8 +98,8 @@ pub fn manual()
     grammars_are_exact();
 }
 
-/// Each prefix of a hello, or of an advertisement, has an ending, and a refused packet is the first
-/// that does not fit.
+/// Every accepted prefix of a hello or of an advertisement can be completed. A refused packet is
+/// the first one with which no message can continue.
 pub fn endings()
     ensures hello { HasEndings hello.judge }
     ensures hello_first { RefusesFirstMisfits hello.judge }
@@ -108,8 +109,8 @@ pub fn endings()
     grammars_are_exact();
 }
 
-/// A packet is refused only for a reason in the packet. All bytes begin with a hello, or are
-/// refused for a reason in the bytes. All bytes begin with an advertisement, or are refused.
+/// The grammars refuse a packet only because of its contents. Any input either begins with a hello
+/// or is refused as a hello because of its bytes. The same holds for advertisements.
 pub fn every_input()
     ensures hello_packets { RefusesPackets hello.judge }
     ensures hello { BeginsOrIsRefused hello.judge hello.brings }
@@ -120,7 +121,8 @@ pub fn every_input()
     messages_are_read();
 }
 
-/// A hello or an advertisement is written as packets that say it, and each payload fits a packet.
+/// The packets that are written for a hello or an advertisement encode the same value, and each
+/// payload fits in a packet.
 pub fn canonical_says()
     ensures hello { CanonicalSays hello.Says hello.IsHello hello.IsCanonical }
     ensures advert { CanonicalSays advert.Says advert.AreCapabilities advert.IsCanonical }
@@ -130,8 +132,8 @@ pub fn canonical_says()
     manual();
 }
 
-/// A hello, or an advertisement, is read exactly when the bytes begin with it, and nothing after it
-/// is read.
+/// The readers return a hello or an advertisement exactly when the input begins with it, and they
+/// read nothing after it.
 pub fn reads_exactly()
     ensures hello { ReadsExactly hello.judge hello.brings hello.Says }
     ensures advert { ReadsExactly advert.judge advert.brings advert.Says }
@@ -142,7 +144,7 @@ pub fn reads_exactly()
     kinds_are_read::<Adverts>();
 }
 
-/// A written hello or advertisement reads back as the same value, whatever follows.
+/// A written hello or advertisement reads back as the same value, whatever bytes follow it.
 pub fn reads_back()
     ensures hello { ReadsBack hello.judge hello.brings hello.Says hello.IsHello hello.IsCanonical }
     ensures advert { ReadsBack advert.judge advert.brings advert.Says advert.AreCapabilities

@@ -1,42 +1,45 @@
-//! The opening of a connection. A client sends the first line of a `git://` connection
+//! The first messages of a connection. A client sends the first line of a `git://` connection
 //! (gitprotocol-pack(5), "Git Transport"), and a server an advertisement (gitprotocol-v2(5),
-//! "Capability Advertisement"). Each has a value, a reader and a writer.
+//! "Capability Advertisement"). Each of the two messages has a value type, a reader and a writer.
 //!
 //! # Proved
 //!
-//! - [`Hello`] and [`Advert`] keep their forms and limits. A call that would break a form fails
-//!   with `BadText`. Otherwise one that would exceed a limit fails with `Limit`, and any other call
-//!   at most with `Memory`. After a failure nothing has changed.
+//! - Every [`Hello`] and every [`Advert`] is well-formed and within its limits. A call with a
+//!   malformed text fails with `BadText`. Otherwise a call that would exceed a limit fails with
+//!   `Limit`, and any other call can fail only with `Memory`. A failed call changes nothing.
 //! - [`read_hello`] and [`read_advert`] read exactly one message, however its bytes are split into
-//!   pieces, and nothing after it. Otherwise they refuse it at the first packet that does not fit,
-//!   for the reason in the table (`specs/Hello.antt`, `specs/Adverts.antt`). Out of memory is
-//!   reported only at a packet with contents to store. After a message the packet reader can be
-//!   used further. After a refusal it has failed exactly when it refused the packet itself.
+//!   pieces. They refuse any other input at the first packet that does not fit, for the reason that
+//!   the grammar gives (`specs/Hello.antt`, `specs/Adverts.antt`). They report out of memory only
+//!   at a packet with contents to store. After a message the packet reader is ready for the next
+//!   message. After a refusal the packet reader is unusable exactly if it refused the packet
+//!   itself.
 //! - [`write_hello`] and [`write_advert`] write the canonical packets of the value, or a prefix of
-//!   them if the sink fails. The value has the form that reads back.
-//! - Look-ups for a client are in `specs/Offers.antt`. [`Advert::value_of`] returns the first
-//!   capability with a key, and [`Advert::has_feature`] looks for a word in its value.
-//!   [`Advert::format`] returns the format of the server's ids. [`Advert::check_in`] says why a
-//!   client of an object format can't use it.
-//! - [`laws`] hold for both kinds. The tables have exactly the messages of the manual, with the
-//!   same value. Packets say at most one value. No message is a prefix of another, as packets or as
-//!   bytes. Each prefix has an ending, and a refused packet is the first that does not fit. All
-//!   bytes begin with a message or are refused for a reason in the bytes. A value is written as
-//!   packets that say it, and each payload fits a packet. A message is read exactly when the bytes
-//!   begin with it, and a written one reads back. The constants are the limits of the definitions.
+//!   them if the sink fails. The written value reads back.
+//! - The look-ups for a client obey `specs/Offers.antt`. [`Advert::value_of`] returns the first
+//!   capability with a key, and [`Advert::has_feature`] looks for a word in the value of that
+//!   capability. [`Advert::format`] returns the format of the server's ids. [`Advert::check_in`]
+//!   checks that a client whose ids have a given format can use the server.
+//! - [`laws`] states facts about both kinds of messages. The grammars accept exactly the messages
+//!   of the manual, with the same values. A list of packets encodes at most one value. No message
+//!   is a prefix of another, as packets or as bytes. Every accepted prefix can be completed, and a
+//!   refused packet is the first with which no message can continue. Any input begins with a
+//!   message or is refused because of its bytes. The packets that are written for a value encode
+//!   that value, and each payload fits in a packet. A reader returns a message exactly when the
+//!   input begins with it, and a written message reads back. The constants equal the limits of the
+//!   specs.
 //!
 //! # What the contracts do not rule out
 //!
-//! It may take as long as it likes, and report out of memory wherever something is to be stored. A
-//! value may use more memory than it needs, and a look-up or a writer may allocate and free some.
-//! If a sink fails, a shorter prefix may have been written. If the bytes of a source or of a sink
-//! are unknown, the contracts say nothing about the bytes read or written. They still say what a
-//! device has done.
+//! A call may take any amount of time, and may report out of memory whenever it has contents to
+//! store. A value may use more memory than it needs, and a look-up or a writer may allocate and
+//! free memory. If a sink fails, any prefix of the packets may have been written. If the bytes of a
+//! source or of a sink are unknown, the contracts say nothing about the bytes read or written. The
+//! contracts still state the effect on the device.
 //!
 //! # Stands on
 //!
-//! `ggrammar` for reading by a grammar and for capabilities, `gpkt` for packets, `gname` for the
-//! names of object formats, `arrayvec` for texts of bounded length.
+//! The crate uses `ggrammar` for reading by a grammar and for capabilities, `gpkt` for packets,
+//! `gname` for the names of object formats, `arrayvec` for texts of bounded length.
 #![tactic(auto)]
 
 mod advert;

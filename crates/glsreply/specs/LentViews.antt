@@ -1,4 +1,4 @@
--- The line of a ref whose names are lent, without where they lie in memory.
+-- The value of a ref's line with borrowed names: the bytes of the names without their addresses.
 use Rattle.std.specs.Option.{option_copied}
 use Rattle.glsreply.specs.RefTexts.{RefLine}
 use Rattle.glsreply.specs.declared.lent.LentLine.{LentLine}

@@ -1,4 +1,4 @@
--- What a server may send as the reply to ls-refs, in the words of gitprotocol-v2(5), "ls-refs":
+-- The replies to ls-refs that a server may send, in the words of gitprotocol-v2(5), "ls-refs":
 --
 --   output = *ref flush-pkt
 --   obj-id-or-unborn = (obj-id | "unborn")
@@ -7,7 +7,8 @@
 --   symref = "symref-target:" symref-target
 --   peeled = "peeled:" obj-id
 --
--- Here `unborn` comes only first, of HEAD, with its target alone; and an attribute comes once.
+-- Here `unborn` is allowed only in the first line, for HEAD, with a symref target and no other attribute. Each
+-- attribute occurs at most once.
 use Rattle.std.specs.Prelude.{◌≡◌, ℕ, ◌≤◌, List, [], ◌∷◌, ◌++◌, length, map, codes, Option, Some, None, ◌⊎◌}
 use Rattle.gpkt.specs.Packets.{Bytes, Packet, Data, Flush, text}
 use Rattle.gname.specs.Ids.{Id, IsIdTextOf}
@@ -18,19 +19,19 @@ use Rattle.ggrammar.specs.declared.ends.Ends.{Ends}
 use Rattle.glsreply.specs.RefTexts.{RefLine, unborn_text}
 use Rattle.glsreply.specs.LsReplies.{LsReply, max_lines}
 
--- an attribute with its value: the target of a symbolic ref, and the id to which a tag leads
+-- the text of the attribute `symref-target:`, with the target of a symbolic ref
 abbrev pub IsSymref : Bytes → Name → Type 0
 IsSymref text target = (text ≡ codes " symref-target:" ++ target) × IsRefName target
 
 abbrev pub IsPeeled : Format → Bytes → Id → Type 0
 IsPeeled format text id = (digits : Bytes) × (text ≡ codes " peeled:" ++ digits) × IsIdTextOf format digits id
 
--- an attribute, or nothing where there is no value
+-- the text of an optional attribute: empty if the attribute has no value
 abbrev pub IsAttribute : (Bytes → List ℕ → Type 0) → Bytes → Option (List ℕ) → Type 0
 IsAttribute IsTextOf text None = text ≡ []
 IsAttribute IsTextOf text (Some value) = IsTextOf text value
 
--- each attribute at most once, in either order
+-- the text of the two attributes, each at most once, in either order
 pub record AreAttributes (format : Format) (text : Bytes) (symref : Option Name) (peeled : Option Id) : Type 0 where
   pub target : Bytes
   pub leads : Bytes
@@ -38,7 +39,7 @@ pub record AreAttributes (format : Format) (text : Bytes) (symref : Option Name)
   pub is_target : IsAttribute IsSymref target symref
   pub is_leads : IsAttribute (IsPeeled format) leads peeled
 
--- the text says the line of a ref: the digits of its id, a space, its name, and its attributes
+-- the text of a ref's line: the hex digits of the id, a space, the name, and the attributes
 pub record IsRefText (format : Format) (text : Bytes) (ref : RefLine) : Type 0 where
   pub digits : Bytes
   pub attributes : Bytes
@@ -47,19 +48,19 @@ pub record IsRefText (format : Format) (text : Bytes) (ref : RefLine) : Type 0 w
   pub is_name : IsRefName ref.name
   pub are_attributes : AreAttributes format attributes ref.symref ref.peeled
 
--- each text says its line
+-- the texts are those of the refs, one for each ref, in order
 abbrev pub AreRefTexts : Format → List Bytes → List RefLine → Type 0
 AreRefTexts format [] [] = Unit {0}
 AreRefTexts format (text ∷ texts) (ref ∷ refs) = IsRefText format text ref × AreRefTexts format texts refs
 AreRefTexts format _ _ = ⊥
 
--- an unborn HEAD may come first
+-- the payload of an unborn HEAD, or no payload if there is no unborn HEAD
 abbrev pub IsUnbornFirst : Option Name → List Bytes → Type 0
 IsUnbornFirst None payloads = payloads ≡ []
 IsUnbornFirst (Some target) payloads =
     (payload : Bytes) × (payloads ≡ payload ∷ []) × (text payload ≡ unborn_text target) × IsRefName target
 
--- the packets are a reply, and say this
+-- the packets are a reply to ls-refs with this value
 pub record IsLsReply (format : Format) (ends : Ends) (packets : List Packet) (reply : LsReply) : Type 0 where
   pub first : List Bytes
   pub refs : List Bytes

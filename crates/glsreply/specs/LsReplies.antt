@@ -1,6 +1,6 @@
--- The reply to ls-refs as a list of packets: what it says, what is refused at each position and why, and the
--- packets that are written. Where the peer ends each reply so, a response-end follows the flush
--- (gitprotocol-v2(5), "Packet-Line Framing": 0002).
+-- The grammar of the reply to ls-refs: the value that a list of packets encodes, the packets that are refused and why,
+-- and the packets that are written. On a stateless connection a response-end follows the flush (gitprotocol-v2(5),
+-- "Packet-Line Framing": 0002).
 use Rattle.std.specs.Prelude.{◌≡◌, ℕ, Bool, true, false, List, [], ◌∷◌, ◌++◌, length, map, if◌then◌else◌, nat_lt}
 use Rattle.std.specs.Prelude.{◌==◌, Option, Some, None, Result, Ok, Err}
 use Rattle.std.specs.List.{filter_map, list_any}
@@ -16,22 +16,22 @@ use Rattle.ggrammar.specs.declared.fault.Why.{Why}
 use Rattle.ggrammar.specs.declared.fault.Why.TheVariants.{UnexpectedFrame}
 use Rattle.glsreply.specs.RefTexts.{RefLine, line_of, FirstForm, UnbornForm, RefForm, first_form, ref_text, unborn_text}
 
--- the most texts of a reply: HEAD and 65,536 refs, or an unborn HEAD and these
+-- the maximum number of lines of a reply: one for HEAD, born or unborn, and 65,536 for other refs
 abbrev pub max_lines : ℕ
 max_lines = 65537
 
--- what the reply says
+-- the value of a reply: the target of an unborn HEAD, and the refs
 pub record LsReply : Type 0 where
   pub unborn : Option Name
   pub lines : List RefLine
 
--- ---- what the packets so far say
+-- ---- the value of the packets so far
 
 abbrev pub is_flush : Packet → Bool
 is_flush Flush = true
 is_flush _ = false
 
--- the flush has come, and a response-end is due
+-- whether the flush is among the packets, so that only a response-end may follow
 abbrev pub is_over : List Packet → Bool
 is_over packets = list_any is_flush packets
 
@@ -48,7 +48,7 @@ abbrev pub line_in : Result RefLine Why → Option RefLine
 line_in (Ok line) = Some line
 line_in (Err why) = None
 
--- an unborn HEAD is no line of a ref: `unborn` is no id
+-- the refs of the texts; the line of an unborn HEAD is skipped, because `unborn` is not an id
 abbrev pub ref_lines : Format → List Bytes → List RefLine
 ref_lines format texts = filter_map (λ line. line_in (line_of format line)) texts
 
@@ -58,7 +58,7 @@ reply_of format packets = record {
   lines = ref_lines format (texts_of packets);
 }
 
--- ---- the table
+-- ---- the grammar
 
 abbrev pub judge_line : Result RefLine Why → Verdict
 judge_line (Ok line) = Open
@@ -69,7 +69,7 @@ judge_first format line (UnbornForm (Ok target)) = Open
 judge_first format line (UnbornForm (Err why)) = Refused why
 judge_first format line RefForm = judge_line (line_of format line)
 
--- one more than the most is refused where its form is right
+-- a well-formed line after the maximum is refused
 abbrev pub within_limit : ℕ → Verdict → Verdict
 within_limit count Open = if_room (nat_lt count max_lines)
 within_limit count verdict = verdict
@@ -79,7 +79,7 @@ judge_text format count line =
     within_limit count
     (if count == 0 then judge_first format line (first_form line) else judge_line (line_of format line))
 
--- before the flush
+-- the verdict on a packet before the flush
 abbrev pub judge_body : Format → Ends → ℕ → Packet → Verdict
 judge_body format ends count (Data payload) = judge_unless_error (λ bytes. judge_text format count (text bytes)) payload
 judge_body format ends count Flush = at_flush ends
@@ -92,17 +92,17 @@ judge_at format ends over count packet = if over then after_flush packet else ju
 abbrev pub judge : Format → Ends → List Packet → Packet → Verdict
 judge format ends packets packet = judge_at format ends (is_over packets) (length (texts_of packets)) packet
 
--- each text brings something to keep
+-- whether the packet has contents to store: each text line has
 abbrev pub brings : List Packet → Packet → Bool
 brings packets (Data payload) = true
 brings packets _ = false
 
--- the packets are a reply, and say this
+-- the packets are a complete reply with this value
 pub record Says (format : Format) (ends : Ends) (packets : List Packet) (reply : LsReply) : Type 0 where
   pub whole : IsWhole (judge format ends) packets
   pub says : reply ≡ reply_of format packets
 
--- ---- what is written
+-- ---- writing
 
 abbrev pub unborn_packets : Option Name → List Packet
 unborn_packets None = []
@@ -111,11 +111,11 @@ unborn_packets (Some target) = text_packet (unborn_text target) ∷ []
 abbrev pub ref_packet : RefLine → Packet
 ref_packet line = text_packet (ref_text line)
 
--- the packets of a reply
+-- the packets that are written for a reply
 unfoldable pub canonical_reply : Ends → LsReply → List Packet
 canonical_reply ends reply =
     unborn_packets reply.unborn ++ map ref_packet reply.lines ++ Flush ∷ ends_with ends
 
--- the packets are those that are written of the reply
+-- the packets are exactly those that are written for the reply
 abbrev pub IsCanonicalReply : Ends → List Packet → LsReply → Type 0
 IsCanonicalReply ends packets reply = packets ≡ canonical_reply ends reply

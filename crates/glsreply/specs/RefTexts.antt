@@ -1,5 +1,5 @@
--- The texts of the reply to ls-refs as they are read (gitprotocol-v2(5), "ls-refs"; its grammar is in `LsManual`): the
--- parts of a text are separated by one space each, and are judged from left to right.
+-- The parsing of the lines of the reply to ls-refs (gitprotocol-v2(5), "ls-refs"; its grammar is in `LsManual`). One
+-- space separates the parts of a line, and the parts are checked from left to right.
 use Rattle.std.specs.Prelude.{Bool, List, [], ◌∷◌, ◌++◌, codes, if◌then◌else◌, Option, Some, None, is_none}
 use Rattle.std.specs.Prelude.{Result, Ok, Err}
 use Rattle.std.specs.List.{slice_split}
@@ -14,7 +14,7 @@ use Rattle.ggrammar.specs.Texts.{is_space}
 use Rattle.ggrammar.specs.declared.fault.Why.{Why}
 use Rattle.ggrammar.specs.declared.fault.Why.TheVariants.{BadText, BadId, BadName}
 
--- a ref of the reply
+-- a ref in the reply
 pub record RefLine : Type 0 where
   pub id : Id
   pub name : Name
@@ -42,12 +42,12 @@ abbrev pub symref_or_else : Option Bytes → Attribute → Attribute
 symref_or_else None other = other
 symref_or_else (Some target) other = Symref target
 
--- a part after the name; what follows the word is not looked at yet
+-- the attribute in a part after the name, with its value not yet checked
 unfoldable pub attribute_of : Bytes → Attribute
 attribute_of part =
     symref_or_else (after_word (codes "symref-target:") part) (peeled_or_unknown (after_word (codes "peeled:") part))
 
--- an attribute comes once, which is judged before its value
+-- the line with a symref target; a second target is refused before its name is checked
 abbrev pub with_symref : RefLine → Bytes → Result RefLine Why
 with_symref line target =
     if is_none line.symref
@@ -89,11 +89,11 @@ abbrev pub line_of_parts : Format → List Bytes → Result RefLine Why
 line_of_parts format [] = Err BadId
 line_of_parts format (first ∷ parts) = line_with_id format (id_of_text format first) parts
 
--- what a text says as the line of a ref, or why it is none
+-- the ref that a text describes, or the reason why the text is not the line of a ref
 unfoldable pub line_of : Format → Bytes → Result RefLine Why
 line_of format text = line_of_parts format (parts_of text)
 
--- ---- HEAD on a branch that is not there yet
+-- ---- an unborn HEAD
 
 abbrev pub unborn_target : Option Bytes → Result Name Why
 unborn_target None = Err BadText
@@ -103,7 +103,7 @@ abbrev pub unborn_after_head : List Bytes → Result Name Why
 unborn_after_head (part ∷ []) = unborn_target (after_word (codes "symref-target:") part)
 unborn_after_head parts = Err BadText
 
--- `unborn HEAD symref-target:` and a name
+-- the target in `unborn HEAD symref-target:<name>`, from the parts after `unborn`
 abbrev pub unborn_of_parts : List Bytes → Result Name Why
 unborn_of_parts [] = Err BadText
 unborn_of_parts (head ∷ parts) = if bytes_eq head head_name then unborn_after_head parts else Err BadText
@@ -116,7 +116,7 @@ abbrev pub first_of_parts : List Bytes → FirstForm
 first_of_parts [] = RefForm
 first_of_parts (first ∷ parts) = if bytes_eq first (codes "unborn") then UnbornForm (unborn_of_parts parts) else RefForm
 
--- the first text of a reply is an unborn HEAD where its first part says so
+-- the kind of a reply's first line: an unborn HEAD if the first part is `unborn`, otherwise a ref
 unfoldable pub first_form : Bytes → FirstForm
 first_form text = first_of_parts (parts_of text)
 

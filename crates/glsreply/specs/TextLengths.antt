@@ -1,13 +1,13 @@
--- The most bytes of the texts that are written.
+-- The maximum lengths in bytes of the texts that are written.
 use Rattle.std.specs.Prelude.{ℕ, ◌+◌}
 use Rattle.gname.specs.Formats.{max_id_text}
 use Rattle.gname.specs.Names.{max_name}
 
--- ` symref-target:` and a name
+-- the maximum length of ` symref-target:` with a name
 abbrev pub max_symref_text : ℕ
 max_symref_text = 15 + max_name
 
--- ` peeled:` and an id
+-- the maximum length of ` peeled:` with an id
 abbrev pub max_peeled_text : ℕ
 max_peeled_text = 8 + max_id_text
 

@@ -13,27 +13,27 @@ use Rattle.ggrammar.specs.declared.fault.MessageFault.{MessageFault}
 use Rattle.glsreply.specs.RefTexts.{RefLine}
 use Rattle.glsreply.specs.LsReplies.{LsReply, max_lines, unborn_packets}
 
--- a line of a repository with ids of one format
+-- a valid line of a ref whose ids have the given format
 pub record IsRefLine (format : Format) (line : RefLine) : Type 0 where
   pub id : IsIdOf format line.id
   pub name : IsRefName line.name
   pub symref : IfSome line.symref IsRefName
   pub peeled : IfSome line.peeled (IsIdOf format)
 
--- the ids of a line are of this format
+-- both ids of a line have the given format
 abbrev pub HasIdsOf : Format → RefLine → Type 0
 HasIdsOf format line = IsIdOf format line.id × IfSome line.peeled (IsIdOf format)
 
--- the ids of a reply, which has them of one format, are of this one where the first is
+-- the first line of a reply, if there is one, has an id of the given format
 abbrev pub BeginsIn : Format → List RefLine → Type 0
 BeginsIn format [] = Unit {0}
 BeginsIn format (line ∷ lines) = IsIdOf format line.id
 
--- an unborn HEAD counts as a line
+-- the number of lines, including the line of an unborn HEAD
 abbrev pub line_count : LsReply → ℕ
 line_count reply = length (unborn_packets reply.unborn) + length reply.lines
 
--- the position of the last packet: of the flush after the lines, or of the response-end after that
+-- the position of the last packet: the flush after the lines, or the response-end after the flush
 abbrev pub last_frame : Ends → LsReply → ℕ
 last_frame ends reply = line_count reply + length (ends_with ends)
 
@@ -42,7 +42,7 @@ pub record IsLsReplyIn (format : Format) (reply : LsReply) : Type 0 where
   pub lines : All (IsRefLine format) reply.lines
   pub few : line_count reply ≤ max_lines
 
--- a reply of a repository with ids of one format
+-- a valid reply whose ids all have one format
 abbrev pub IsReplyValue : LsReply → Type 0
 IsReplyValue reply = (format : Format) × IsLsReplyIn format reply
 
@@ -53,7 +53,7 @@ is_format Sha1 Sha1 = true
 is_format Sha256 Sha256 = true
 is_format _ _ = false
 
--- the ids of a line are of one format with each other and with those of the lines before it
+-- whether the id has the same format as the id of the line
 abbrev pub has_format_of : RefLine → Id → Bool
 has_format_of line id = is_format (format_of id) (format_of line.id)
 
@@ -65,20 +65,20 @@ abbrev pub has_one_format : List RefLine → RefLine → Bool
 has_one_format lines line =
     first_has_format_of line lines && option_map_or (has_format_of line) line.peeled true
 
--- there is room for a line more
+-- whether the reply has room for another line
 abbrev pub has_room : LsReply → Bool
 has_room reply = nat_lt (line_count reply) max_lines
 
--- there is room for the line of an unborn HEAD, or there is one already
+-- whether the reply has room for the line of an unborn HEAD, or has that line already
 abbrev pub has_room_for_unborn : LsReply → Bool
 has_room_for_unborn reply = is_some reply.unborn || has_room reply
 
--- the reply has a line more, or is refused and stays as it was
+-- the line is added to the reply, or it is refused and the reply is unchanged
 abbrev pub Pushes : LsReply → RefLine → LsReply → Result Unit MessageFault → Type 0
 Pushes old line new result =
     Builds (has_one_format old.lines line) (has_room old) old new (record old { lines = old.lines ++ line ∷ [] }) result
 
--- the reply has an unborn HEAD, or is refused and stays as it was
+-- the reply gets this unborn HEAD, or the call fails and the reply is unchanged
 abbrev pub SetsUnborn : LsReply → Name → LsReply → Result Unit MessageFault → Type 0
 SetsUnborn old target new result =
     Builds true (has_room_for_unborn old) old new (record old { unborn = Some target }) result

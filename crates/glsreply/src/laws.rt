@@ -1,5 +1,5 @@
-//! Laws of the reply to ls-refs. Each function does nothing, and its contract is the law. A caller
-//! may rely on the law after the call.
+//! Laws of the reply to ls-refs. Each function does nothing at run time, and its contract states
+//! the law. A proof may use the law after a call of the function.
 
 ghost use Rattle.std.specs.Prelude.{◌≡◌, ◌+◌, List, length};
 ghost use Rattle.gname.specs.declared.formats.Format.{Format};
@@ -20,23 +20,23 @@ use gname::laws::{
     texts_have_one_reading,
 };
 
-/// The constant is the limit that the definitions use.
+/// [`MAX_LINES`] equals the limit of the specs, `max_lines`.
 pub fn limits_are_the_constants()
     ensures lines { MAX_LINES ≡ max_lines }
 {}
 
-/// Packets say at most one reply.
+/// A list of packets encodes at most one reply.
 pub fn one_meaning()
     ensures { (format : Format) (ends : Ends) → OneMeaning (Says format ends) }
 {}
 
-/// A list of packets is complete exactly if it says a reply.
+/// A list of packets is complete exactly if it encodes a reply.
 pub fn says_whole()
     ensures { (format : Format) (ends : Ends) → SaysWhole (judge format ends) (Says format ends) }
 {}
 
-/// No reply is a prefix of another in the same format and with the same ending, as packets or as
-/// bytes.
+/// Among the replies with the same object format and ending, no reply is a prefix of another. The
+/// law holds for packets and for bytes.
 pub fn prefix_free()
     ensures packets { (format : Format) (ends : Ends) → IsPrefixFree (judge format ends) }
     ensures spellings { (format : Format) (ends : Ends) → SpellingsPrefixFree (judge format ends) }
@@ -45,8 +45,8 @@ pub fn prefix_free()
     messages_are_read();
 }
 
-/// Each list of packets that the table leaves open is a prefix of a reply, and a refused packet is
-/// the first that does not fit.
+/// Every list of packets that `judge` accepts as incomplete is a prefix of some reply. A refused
+/// packet is the first one with which no reply can continue.
 pub fn endings()
     ensures endings { (format : Format) (ends : Ends) → HasEndings (judge format ends) }
     ensures first { (format : Format) (ends : Ends) → RefusesFirstMisfits (judge format ends) }
@@ -54,8 +54,8 @@ pub fn endings()
     grammars_are_exact();
 }
 
-/// A packet is refused only for a reason in the packet. All bytes begin with a reply, or are
-/// refused for a reason in the bytes.
+/// `judge` refuses a packet only because of its contents. Any input either begins with a reply or
+/// is refused because of its bytes.
 pub fn every_input()
     ensures packets { (format : Format) (ends : Ends) → RefusesPackets (judge format ends) }
     ensures bytes { (format : Format) (ends : Ends)
@@ -65,7 +65,8 @@ pub fn every_input()
     messages_are_read();
 }
 
-/// The lists of packets that are read as a reply are those of the manual, and they say the same.
+/// The reader accepts exactly the replies of gitprotocol-v2(5), and reads each with the value that
+/// the manual gives it.
 pub fn manual()
     ensures { (format : Format) (ends : Ends)
         → AsInManual (Says format ends) (IsLsReply format ends) }
@@ -77,7 +78,7 @@ pub fn manual()
     texts_have_one_reading();
 }
 
-/// A reply is written as packets that say it, and each payload fits a packet.
+/// The packets that are written for a reply encode that reply, and each payload fits in a packet.
 pub fn canonical_says()
     ensures { (format : Format) (ends : Ends)
         → CanonicalSays (Says format ends) (IsLsReplyIn format) (IsCanonicalReply ends) }
@@ -91,8 +92,8 @@ pub fn canonical_says()
     texts_have_one_reading();
 }
 
-/// The position of the last packet of a reply is
-/// [`LsReply::last_frame`](crate::LsReply::last_frame).
+/// [`LsReply::last_frame`](crate::LsReply::last_frame) is the position of the last packet of a
+/// reply.
 pub fn last_frame()
     ensures { (format : Format) (ends : Ends) (packets : List Packet) (reply : LsReply)
         → Says format ends packets reply → length packets ≡ last_frame ends reply + 1 }
@@ -100,7 +101,7 @@ pub fn last_frame()
     manual();
 }
 
-// Replies with a format of ids and an ending, as a kind of message.
+// The kind of message "reply to ls-refs", for an object format and an ending.
 struct Replies;
 
 impl MessageKind for Replies {
@@ -124,7 +125,7 @@ impl MessageKind for Replies {
     ghost is_canonical = { λ given. IsCanonicalReply given.1 };
 }
 
-/// A reply is read exactly when the bytes begin with one.
+/// The reader returns a reply exactly when the input begins with that reply.
 pub fn reads_exactly()
     ensures { (format : Format) (ends : Ends)
         → ReadsExactly (judge format ends) brings (Says format ends) }
@@ -134,7 +135,7 @@ pub fn reads_exactly()
     kinds_are_read::<Replies>();
 }
 
-/// A written reply reads back as the same reply, whatever follows.
+/// A written reply reads back as the same reply, whatever bytes follow it.
 pub fn reads_back()
     ensures { (format : Format) (ends : Ends)
         → ReadsBack (judge format ends) brings (Says format ends) (IsLsReplyIn format)

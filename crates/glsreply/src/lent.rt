@@ -1,4 +1,4 @@
-//! The line of a ref with borrowed names, and its text.
+//! The line of a ref with borrowed names, and the text of that line.
 
 ghost use Rattle.std.specs.Prelude.{◌≡◌, ◌+◌, ◌≤◌, ◌++◌, [], length};
 ghost use Rattle.std.specs.Option.{option_copied};
@@ -14,7 +14,7 @@ use gname::{Oid, RefName};
 use std::alloc::Allocator;
 use std::marker::Model;
 
-// The maximum length of a line's text in bytes: two ids, two names, and the words between them.
+// The maximum length of a line's text in bytes: two ids, two names, and the words in between.
 const MAX_REF_TEXT: usize = 2_152;
 
 /// The line of a ref (gitprotocol-v2(5), "ls-refs"), with borrowed names.
@@ -31,7 +31,8 @@ pub struct LentLine<'a, A: Allocator + Copy> {
 }
 
 impl<'a, A: Allocator + Copy> LentLine<'a, A> {
-    /// Returns the line of these parts. The names may be borrowed from different values.
+    /// Returns the line with the given id, name, symref target and peeled object. The two names may
+    /// be borrowed from different values.
     pub fn new(
         id: Oid,
         name: &'a RefName<A>,
@@ -55,7 +56,7 @@ impl<'a, A: Allocator + Copy> LentLine<'a, A> {
         }
     }
 
-    /// A law: the properties of each line.
+    /// A law: the ids and the names of a line are well-formed.
     pub(crate) fn laws(&self)
         ensures { IsLine (lent_view self.now) }
     {
@@ -70,8 +71,8 @@ impl<'a, A: Allocator + Copy> LentLine<'a, A> {
     }
 }
 
-/// The text of a ref's line. It has room for any such text, so it does not allocate, and it can be
-/// reused.
+/// The text of a ref's line. The buffer has room for any such text, so it never allocates. It can
+/// be reused for other lines.
 #[derive(Drop)]
 pub struct RefText {
     text: ArrayVec<u8, MAX_REF_TEXT>,
@@ -95,9 +96,9 @@ impl RefText {
         }
     }
 
-    /// Replaces the text by that of a line: the id, a space, the name, and each attribute after a
-    /// space, first ` symref-target:` and then ` peeled:`. It has no line feed. Ids are in lower
-    /// case.
+    /// Replaces the text by that of a line: the id, a space, the name, ` symref-target:` with its
+    /// name, and ` peeled:` with its id. The two attributes are optional. The text has no line
+    /// feed, and the ids are in lower case.
     pub fn set<A: Allocator + Copy>(&mut self, line: &LentLine<'_, A>)
         ensures text { self.new ≡ ref_text (lent_view line.now) }
         ensures long { length self.new ≤ max_ref_text }

@@ -1,4 +1,4 @@
-//! The texts of a reply, read from left to right.
+//! Parsing of the text lines of a reply, from left to right.
 
 ghost use Rattle.std.specs.Prelude.{◌≡◌, ◌∷◌, ◌<◌, codes, length, position, IfSome, None, Ok};
 ghost use Rattle.ggrammar.specs.PeerErrors.{after_word};
@@ -18,7 +18,7 @@ pub(crate) struct LineParts<'a> {
     pub(crate) peeled: Option<Oid>,
 }
 
-// A part after the name. The text after its word is not checked yet.
+// An attribute after the ref name. Its value is not checked yet.
 #[derive(Clone, Copy)]
 enum Attribute<'a> {
     Symref(&'a [u8]),
@@ -26,15 +26,15 @@ enum Attribute<'a> {
     Unknown,
 }
 
-/// The kinds of a reply's first text.
+/// The two kinds of a reply's first line.
 pub(crate) enum FirstText<'a> {
-    /// An unborn `HEAD` with its target, or the reason why the text is refused.
+    /// The line of an unborn `HEAD`: its target, or the reason why the line is refused.
     Unborn(Result<&'a [u8], Why>),
     /// The line of a ref.
     Ref,
 }
 
-// Returns the text before the first space, and the text after it if there is one.
+// Returns the text before the first space, and the text after that space if there is one.
 fn cut(text: &[u8]) -> (&[u8], Option<&[u8]>)
     ensures parts { parts_of text.now ≡ result.0.now ∷ parts_left result.1 }
     ensures shorter { IfSome result.1 (λ rest. length rest.now < length text.now) }
@@ -53,15 +53,15 @@ fn first_space(text: &[u8]) -> Option<usize>
     text.iter().position(|byte| *byte == b' ')
 }
 
-// Whether a text is a ref name.
+// Returns whether a text is a valid ref name.
 fn is_name(text: &[u8]) -> bool
     ensures { result ≡ is_name text.now }
 {
     RefName::check(text).is_ok()
 }
 
-/// Returns the parts of a text as a ref's line, or the reason why it is not one. It does not
-/// allocate.
+/// Parses a text as the line of a ref. Returns its parts, or the reason why the text is not such a
+/// line. It does not allocate.
 #[tactic(auto, unfolding(crate::specs::RefTexts::line_of))]
 pub(crate) fn line_of(format: Format, text: &[u8]) -> Result<LineParts<'_>, Why>
     ensures { line_read result ≡ line_of format text.now }
@@ -86,7 +86,7 @@ fn line_with_name(format: Format, id: Oid, rest: &[u8]) -> Result<LineParts<'_>,
     with_attributes(format, id, name, attributes)
 }
 
-// Returns the line with its attributes, each at most once.
+// Parses the attributes of a line, each at most once, and returns the complete line.
 fn with_attributes<'a>(
     format: Format,
     id: Oid,
@@ -146,7 +146,8 @@ fn attribute_of(part: &[u8]) -> Attribute<'_>
     }
 }
 
-/// Returns the kind of a reply's first text, by its first part. It does not allocate.
+/// Returns the kind of a reply's first line. A line whose first word is `unborn` reports an unborn
+/// `HEAD`. It does not allocate.
 #[tactic(auto, unfolding(crate::specs::RefTexts::first_form))]
 pub(crate) fn first_form(text: &[u8]) -> FirstText<'_>
     ensures { form_view result ≡ first_form text.now }

@@ -1,4 +1,4 @@
-//! Reading a reply.
+//! Reading of a reply.
 
 ghost use Rattle.std.specs.Prelude.{◌≡◌, ◌<◌, true, false, [], IfOk, Ok};
 ghost use Rattle.gpkt.specs.Packets.{Data, Flush, ResponseEnd, packet_of, text};
@@ -37,15 +37,16 @@ pub fn read_ls_reply<S: Source, A: Allocator + Copy, B: Allocator + Copy>(
     read_ls_reply_in(reader, Format::Sha1, ends, alloc)
 }
 
-/// Reads one reply to ls-refs to its end, and nothing after it (gitprotocol-v2(5), "ls-refs"). Its
-/// ids have the format.
+/// Reads one reply to ls-refs exactly to its end (gitprotocol-v2(5), "ls-refs"). The ids of the
+/// reply have the given format.
 ///
-/// The fault has the reason, and the position of the first packet that does not fit. A fault of the
-/// packet reader ([`Why::Packet`]) takes precedence, then the end of the input ([`Why::Ended`]).
-/// Next is an error that the peer reports ([`Why::RemoteErr`]), and then a refusal by the grammar,
-/// which reads a text from left to right. Line 65,538 is refused with [`Why::Limit`] if its form is
-/// right. [`Why::Memory`] is reported only at an accepted line. After a refusal the reader has
-/// failed exactly if it refused the packet itself.
+/// The fault states the reason, and the position of the first packet that does not fit. A fault of
+/// the packet reader ([`Why::Packet`]) takes precedence over all others. Next is the end of the
+/// input ([`Why::Ended`]), then an error that the peer reports ([`Why::RemoteErr`]), and last a
+/// refusal by the grammar. The grammar checks a line from left to right. A well-formed line 65,538
+/// is refused with [`Why::Limit`]. [`Why::Memory`] is reported only at a line that the grammar
+/// accepts. The packet reader is unusable after a refusal exactly if the packet reader itself
+/// refused the packet.
 pub fn read_ls_reply_in<S: Source, A: Allocator + Copy, B: Allocator + Copy>(
     reader: &mut PacketReader<S, A>,
     format: Format,
@@ -67,22 +68,22 @@ pub fn read_ls_reply_in<S: Source, A: Allocator + Copy, B: Allocator + Copy>(
     }
 }
 
-/// A reply that is being read.
+/// The state of reading a reply.
 #[derive(Drop)]
 pub(crate) struct LsReplyReader<A: Allocator + Copy> {
     alloc: A,
     format: Format,
     ends: Ends,
-    // Whether the flush was read, and a response-end is expected.
+    // Whether the flush was read, so that only a response-end may follow.
     is_over: bool,
-    // The number of texts.
+    // The number of text lines read.
     count: usize,
     unborn: Option<RefName<A>>,
     lines: Vec<RefLine<A>, A>,
 }
 
 impl<A: Allocator + Copy> LsReplyReader<A> {
-    /// Returns a reply without packets.
+    /// Returns a reader that has not read any packet yet.
     pub(crate) fn new(alloc: A, format: Format, ends: Ends) -> LsReplyReader<A>
         ensures format { result.format ≡ format }
         ensures ends { result.ends ≡ ends }
@@ -99,7 +100,7 @@ impl<A: Allocator + Copy> LsReplyReader<A> {
         }
     }
 
-    /// Returns what the packets say.
+    /// Returns the reply that the packets encode.
     fn finish(self) -> LsReply<A>
         requires { IsReplyValue (state_in self).reply }
         ensures { result ≡ (state_in self).reply }
@@ -244,7 +245,7 @@ impl<A: Allocator + Copy> LsReplyReader<A> {
     }
 }
 
-// Returns the line as a value.
+// Copies the borrowed parts of a line into an owned line.
 fn keep_line<A: Allocator + Copy>(alloc: A, line: &LineParts<'_>) -> Result<RefLine<A>, AllocError>
     ensures { IfOk result (λ kept. kept ≡ parts_view line.now) }
 {
@@ -261,7 +262,7 @@ fn keep_line<A: Allocator + Copy>(alloc: A, line: &LineParts<'_>) -> Result<RefL
     })
 }
 
-// Stores a name that was checked.
+// Stores a name that is already checked.
 fn keep_name<A: Allocator + Copy>(alloc: A, text: &[u8]) -> Result<RefName<A>, AllocError>
     ensures { IfOk result (λ kept. kept ≡ text.now) }
 {

@@ -1,4 +1,4 @@
-//! The reply as a value.
+//! The reply to ls-refs as an owned value.
 
 ghost use Rattle.std.specs.Prelude.{◌≡◌, [], length, IfErr, None};
 ghost use Rattle.std.specs.List.{slice_get};
@@ -15,7 +15,8 @@ use gname::{Oid, RefName};
 use std::alloc::Allocator;
 use std::marker::Model;
 
-/// The maximum number of lines of a reply: `HEAD` and 65,536 refs, or an unborn `HEAD` and these.
+/// The maximum number of lines of a reply: one for `HEAD`, born or unborn, and 65,536 for other
+/// refs.
 pub const MAX_LINES: usize = 65_537;
 
 /// A ref of the reply (gitprotocol-v2(5), "ls-refs").
@@ -40,7 +41,7 @@ impl<A: Allocator + Copy> Model for RefLine<A> {
 }
 
 impl<A: Allocator + Copy> RefLine<A> {
-    /// Returns the line with borrowed names.
+    /// Returns the same line with borrowed names.
     pub fn lend(&self) -> LentLine<'_, A>
         ensures { lent_view result ≡ self.now }
     {
@@ -73,7 +74,7 @@ impl<A: Allocator + Copy> Model for LsReply<A> {
 }
 
 impl<A: Allocator + Copy> LsReply<A> {
-    /// Returns a reply without lines. It does not allocate yet.
+    /// Returns a reply without lines. It does not allocate.
     pub fn new(alloc: A) -> LsReply<A>
         ensures { result ≡ record { unborn = None; lines = [] } }
     {
@@ -83,7 +84,7 @@ impl<A: Allocator + Copy> LsReply<A> {
         }
     }
 
-    // Returns the reply of these parts.
+    // Returns the reply with the given unborn `HEAD` and lines.
     pub(crate) fn of_parts(unborn: Option<RefName<A>>, lines: Vec<RefLine<A>, A>) -> LsReply<A>
         requires { IsReplyValue (record { unborn = unborn; lines = lines.items }) }
         ensures { result ≡ record { unborn = unborn; lines = lines.items } }
@@ -91,8 +92,8 @@ impl<A: Allocator + Copy> LsReply<A> {
         LsReply { unborn, lines }
     }
 
-    /// Sets the target of an unborn `HEAD`. Fails with `Limit` if the reply has no room for another
-    /// line, and then nothing changes. It does not allocate.
+    /// Sets the target of an unborn `HEAD`. Fails with `Limit` and changes nothing if the reply has
+    /// no room for another line. It does not allocate.
     pub fn set_unborn(&mut self, target: RefName<A>) -> Result<(), MessageFault>
         ensures sets { SetsUnborn self.old target self.new result }
         ensures full { IfErr result (λ fault. fault.why ≡ Limit) }
@@ -106,9 +107,9 @@ impl<A: Allocator + Copy> LsReply<A> {
         Ok(())
     }
 
-    /// Adds a line. Fails with `BadText` if its ids do not have one format, with each other and
-    /// with the lines before it. Otherwise fails with `Limit` if the reply has no room for another
-    /// line, or with `Memory`. After a failure nothing has changed.
+    /// Adds a line. Fails with `BadText` if its ids differ in format from each other or from the
+    /// earlier lines. Otherwise fails with `Limit` if the reply has no room for another line, or
+    /// with `Memory`. A failed call leaves the reply unchanged.
     pub fn push(&mut self, line: RefLine<A>) -> Result<(), MessageFault>
         ensures { Pushes self.old line self.new result }
     {
@@ -124,7 +125,7 @@ impl<A: Allocator + Copy> LsReply<A> {
         push_ref_line(&mut self.lines, line)
     }
 
-    // Whether there is room for another line.
+    // Returns whether the reply has room for another line.
     fn has_room(&self) -> bool
         ensures room { result ≡ has_room self.now }
         ensures formed { IsReplyValue self.now }
@@ -132,7 +133,7 @@ impl<A: Allocator + Copy> LsReply<A> {
         self.line_count() < MAX_LINES
     }
 
-    // Returns the number of lines, including that of an unborn HEAD.
+    // Returns the number of lines, including the line of an unborn `HEAD`.
     fn line_count(&self) -> usize
         ensures count { result ≡ line_count self.now }
         ensures formed { IsReplyValue self.now }
@@ -151,8 +152,8 @@ impl<A: Allocator + Copy> LsReply<A> {
         self.lines.len()
     }
 
-    /// Returns the position of the last packet: of the flush, or of the response-end if `ends` has
-    /// one.
+    /// Returns the position of the last packet, which is the flush, or the response-end if `ends`
+    /// has one.
     pub fn last_frame(&self, ends: Ends) -> u64
         ensures { result ≡ last_frame ends self.now }
     {
@@ -163,7 +164,7 @@ impl<A: Allocator + Copy> LsReply<A> {
         }
     }
 
-    /// Returns the ref at this position, or `None` after the last one.
+    /// Returns the ref at a position, counted from 0, or `None` after the last ref.
     pub fn at(&self, place: usize) -> Option<&RefLine<A>>
         ensures { option_copied result ≡ slice_get self.now.lines place }
     {
@@ -186,7 +187,7 @@ impl<A: Allocator + Copy> LsReply<A> {
     }
 }
 
-// Whether the ids of a line have one format, with each other and with these lines.
+// Returns whether the ids of `line` have one format, the same as the ids of `lines`.
 fn goes_with<A: Allocator + Copy>(lines: &[RefLine<A>], line: &RefLine<A>) -> bool
     ensures { result ≡ has_one_format lines.now line.now }
 {
@@ -202,7 +203,7 @@ fn goes_with<A: Allocator + Copy>(lines: &[RefLine<A>], line: &RefLine<A>) -> bo
     is_first && is_peeled
 }
 
-// Adds a line if there is memory for it.
+// Adds a line, or fails with `Memory` and changes nothing.
 fn push_ref_line<A: Allocator + Copy>(
     lines: &mut Vec<RefLine<A>, A>,
     line: RefLine<A>,

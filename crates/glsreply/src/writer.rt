@@ -1,4 +1,4 @@
-//! Writing a reply.
+//! Writing of a reply.
 
 ghost use Rattle.std.specs.Prelude.{◌≡◌, ◌≢◌, ◌≤◌, ◌++◌, [], ◌∷◌, length, map, IfSome};
 ghost use Rattle.std.specs.Option.{option_copied};
@@ -22,13 +22,13 @@ use gname::laws::ids_have_one_format;
 use gpkt::{PacketWriter, Sink, WriteFault};
 use std::alloc::Allocator;
 
-/// Writes a reply: the line of an unborn `HEAD` if there is one, a line for each ref, a flush, and
-/// a response-end if `ends` has one (gitprotocol-v2(5), "ls-refs"). It does not allocate.
+/// Writes a reply: an unborn `HEAD` if there is one, each ref, a flush, and a response-end if
+/// `ends` has one (gitprotocol-v2(5), "ls-refs"). It does not allocate.
 ///
-/// Fails with `Io` if the sink fails, and a prefix of the reply was then written. Fails with
-/// `Failed` if the writer had failed before. Never fails with `Payload`. A reply meets the
-/// conditions of [`reads_back`](crate::laws::reads_back) in the format of its ids, so a written
-/// reply reads back.
+/// Fails with `Io` if the sink fails, after it may have written a prefix of the reply. Fails with
+/// `Failed` if the writer had failed before. Never fails with `Payload`. The reply meets the
+/// conditions of [`reads_back`](crate::laws::reads_back) in the format of its ids, so it reads
+/// back.
 pub fn write_ls_reply<A: Allocator + Copy, W: Sink>(
     reply: &LsReply<A>,
     ends: Ends,
@@ -47,12 +47,12 @@ pub fn write_ls_reply<A: Allocator + Copy, W: Sink>(
     write_refs(lines, ends, writer)
 }
 
-/// Writes the line of an unborn `HEAD` with its target, or nothing if there is none. It does not
-/// allocate.
+/// Writes the line of an unborn `HEAD` with its target, or nothing if `target` is `None`. It does
+/// not allocate.
 ///
-/// A caller who writes a reply line by line begins with this, continues with [`write_ref`] and ends
-/// with [`write_end`]. The result is the same as with [`write_ls_reply`], and each fails as that
-/// does.
+/// A caller who writes a reply line by line calls `write_unborn`, then [`write_ref`] for each ref,
+/// then [`write_end`]. The bytes are those of [`write_ls_reply`], and each function fails as
+/// [`write_ls_reply`] does.
 pub fn write_unborn<A: Allocator + Copy, W: Sink>(
     target: Option<&RefName<A>>,
     writer: &mut PacketWriter<W>,
@@ -69,7 +69,7 @@ pub fn write_unborn<A: Allocator + Copy, W: Sink>(
     }
 }
 
-// Writes a line for each ref, and the end of the reply.
+// Writes the lines of the refs and the end of the reply.
 fn write_refs<A: Allocator + Copy, W: Sink>(
     lines: &[RefLine<A>],
     ends: Ends,
@@ -87,11 +87,11 @@ fn write_refs<A: Allocator + Copy, W: Sink>(
     write_end(ends, writer)
 }
 
-/// Writes the line of a ref. It composes the text in `text`, and replaces the previous text there.
-/// It does not allocate, and fails as [`write_ls_reply`] does.
+/// Writes the line of a ref. The function uses `text` as a buffer and overwrites it. It does not
+/// allocate, and it fails as [`write_ls_reply`] does.
 ///
-/// If both ids of the line have a format, it is a line of a reply in that format. The caller
-/// ensures that all ids of a reply have one format: no reader accepts another id.
+/// If both ids of the line have a format, the line is valid in a reply of that format. The caller
+/// ensures that all ids of a reply have one format, because a reader refuses any other id.
 pub fn write_ref<A: Allocator + Copy, W: Sink>(
     line: &LentLine<'_, A>,
     text: &mut RefText,

@@ -1,4 +1,4 @@
--- The tables of faults: the number, the name and the text of each, as they are printed.
+-- The tables of faults, with the number, the name and the text of each fault.
 use Rattle.std.specs.Prelude.{ℕ, List, ◌++◌, codes}
 use Rattle.std.specs.Fmt.{decimal}
 use Rattle.gname.specs.declared.faults.NameFault.{NameFault}
@@ -6,12 +6,11 @@ use Rattle.gname.specs.declared.faults.NameFault.TheVariants as name
 use Rattle.gname.specs.declared.ids.OidFault.{OidFault}
 use Rattle.gname.specs.declared.ids.OidFault.TheVariants as id
 
--- a number and a name
+-- the number and the name of a fault
 abbrev pub FaultRow : Type 0
 FaultRow = ℕ × List ℕ
 
--- what faults of several crates have in common: out of memory for a repository, an answer or a buffer; the text of
--- each fault that means out of memory, whatever its number; and that the parent of an object to be added is not held
+-- the number and the name that several crates share for out of memory
 abbrev pub out_of_memory : FaultRow
 out_of_memory = (64, codes "Memory")
 
@@ -21,12 +20,12 @@ out_of_memory_text = codes "out of memory"
 abbrev pub missing_parent : FaultRow
 missing_parent = (72, codes "MissingParent")
 
--- the faults of object ids
+-- the number and the name of each fault of an object id
 abbrev pub id_fault_row : OidFault → FaultRow
 id_fault_row id.Length = (1, codes "Length")
 id_fault_row (id.Digit at) = (2, codes "Digit")
 
--- the faults of ref names and prefixes
+-- the number and the name of each fault of a ref name or a prefix
 abbrev pub name_fault_row : NameFault → FaultRow
 name_fault_row name.Empty = (10, codes "Empty")
 name_fault_row name.TooLong = (11, codes "TooLong")
@@ -38,7 +37,7 @@ name_fault_row (name.AtBrace at) = (16, codes "AtBrace")
 name_fault_row name.End = (17, codes "End")
 name_fault_row name.Memory = (18, codes "Memory")
 
--- their texts
+-- the text of each fault of an object id, as `Display` writes it
 abbrev pub id_fault_text : OidFault → List ℕ
 id_fault_text id.Length = codes "an object id has 40 hexadecimal digits, or 64 in SHA-256"
 id_fault_text (id.Digit at) = codes "byte " ++ decimal at ++ codes " of the object id is no hexadecimal digit"

@@ -1,18 +1,18 @@
--- The formats of object ids (gitprotocol-v2(5), "object-format"): the hash by which objects are named.
+-- The formats of object ids (gitprotocol-v2(5), "object-format"): the hash functions that name objects.
 use Rattle.std.specs.Prelude.{ℕ, ◌*◌, List, codes}
 use Rattle.gname.specs.declared.formats.Format.{Format}
 use Rattle.gname.specs.declared.formats.Format.TheVariants.{Sha1, Sha256}
 
--- how many bytes an object id has
+-- the number of bytes of an object id
 abbrev pub id_length : Format → ℕ
 id_length Sha1 = 20
 id_length Sha256 = 32
 
--- how many digits its text has
+-- the number of hexadecimal digits of an object id
 abbrev pub id_text_length : Format → ℕ
 id_text_length format = 2 * id_length format
 
--- the most of them
+-- the maximum number of hexadecimal digits of an object id
 abbrev pub max_id_text : ℕ
 max_id_text = id_text_length Sha256
 

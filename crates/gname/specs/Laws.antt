@@ -1,4 +1,4 @@
--- What follows from the definitions of object ids, ref names and prefixes.
+-- The laws of object ids, ref names and prefixes.
 use Rattle.std.specs.Prelude.{◌≡◌, ◌≢◌, ℕ, ◌<◌, ◌≤◌, Bool, true, false, List, length, codes, nat_eq, All, Some}
 use Rattle.std.specs.Prelude.{MatchOption, Result, Ok}
 use Rattle.std.specs.List.{AllPass, starts_with}
@@ -9,15 +9,15 @@ use Rattle.gname.specs.Names.{IsPrefix, IsRefName, first_place, head_name, is_ba
 use Rattle.gname.specs.declared.ids.OidFault.{OidFault}
 use Rattle.gname.specs.declared.faults.NameFault.TheVariants.{Memory}
 
--- the text of an id spells it, in lower case and in upper case
+-- the texts of an id, in lower case and in upper case, encode that id
 abbrev pub IdsHaveTexts : Type 0
 IdsHaveTexts = (id : Id) → IsId id → IsIdText (id_text id) id × IsIdText (upper_id_text id) id
 
--- the bytes of a text are above the control characters and the space: no LF, for one
+-- a text without control characters and spaces
 abbrev pub IsClean : List ℕ → Type 0
 IsClean text = All (λ b. 32 < b) text
 
--- the text of an id is clean and of digits alone, and what it spells is an id
+-- the text of an id has only hexadecimal digits, and so no control characters and spaces, and the encoded id is valid
 pub record IdTextFacts (text : List ℕ) (id : Id) : Type 0 where
   pub spelt : IsId id
   pub digits : AllPass is_hex_digit text
@@ -26,22 +26,22 @@ pub record IdTextFacts (text : List ℕ) (id : Id) : Type 0 where
 abbrev pub IdTextsAreDigits : Type 0
 IdTextsAreDigits = (text : List ℕ) (id : Id) → IsIdText text id → IdTextFacts text id
 
--- a text spells one id
+-- a text encodes at most one id
 abbrev pub TextsSpellOneId : Type 0
 TextsSpellOneId = (text : List ℕ) (a b : Id) → IsIdText text a → IsIdText text b → a ≡ b
 
--- in each format a text has one reading: the id that it spells, where it spells one
+-- in each format the result of parsing a text is unique, and is the id that the text encodes if there is one
 abbrev pub TextsHaveOneReading : Type 0
 TextsHaveOneReading = (format : Format) (text : List ℕ) →
     ((id : Id) → IsIdTextOf format text id → ReadsId format text (Ok id))
     × ((a b : Result Id OidFault) → ReadsId format text a → ReadsId format text b → a ≡ b)
 
--- an id of a format is an id, and has that format alone
+-- an id of a format is a valid id, and has only that format
 abbrev pub IdsHaveOneFormat : Type 0
 IdsHaveOneFormat = (format : Format) (id : Id) → IsIdOf format id → IsId id × (format_of id ≡ format)
 
--- a ref name has a byte, is within the limit and clean, and has no byte that no name has; it is HEAD or begins with
--- refs/; it is a prefix, too
+-- A ref name is not empty, is within the limit, and has no forbidden bytes. A ref name is HEAD or begins with refs/. A
+-- ref name is also a valid prefix.
 pub record NameFacts (text : List ℕ) : Type 0 where
   pub some : 0 < length text
   pub within : length text ≤ max_name
@@ -50,7 +50,7 @@ pub record NameFacts (text : List ℕ) : Type 0 where
   pub below : text ≢ head_name → starts_with nat_eq text (codes "refs/") ≡ true
   pub prefix : IsPrefix text
 
--- a prefix is within the limit and clean, and has no byte that no name has
+-- a prefix is within the limit, and has no forbidden bytes
 pub record PrefixFacts (text : List ℕ) : Type 0 where
   pub within : length text ≤ max_name
   pub clean : IsClean text
@@ -62,12 +62,11 @@ NamesAreClean = (text : List ℕ) → IsRefName text → NameFacts text
 abbrev pub PrefixesAreClean : Type 0
 PrefixesAreClean = (text : List ℕ) → IsPrefix text → PrefixFacts text
 
--- no rule reports out of memory
+-- no rule of names and prefixes reports out of memory
 abbrev pub RulesNeverReportMemory : Type 0
 RulesNeverReportMemory = (text : List ℕ) → (name_fault text ≢ Some Memory) × (prefix_fault text ≢ Some Memory)
 
--- the first place of a text that passes a test passes it, and no place before it does; where there is no first
--- place, none does
+-- `first_place` returns the first position that passes the test, or `None` exactly if no position of the text passes it
 abbrev pub FirstPlacesAreFirst : Type 0
 FirstPlacesAreFirst = (test : ℕ → Bool) (text : List ℕ) →
     MatchOption (first_place test text) ((j : ℕ) → j ≤ length text → test j ≡ false)

@@ -1,6 +1,6 @@
--- The limits that several layers keep.
+-- The limits that several crates share.
 use Rattle.std.specs.Prelude.{ℕ}
 
--- how many bytes a pack has at most
+-- the maximum length of a pack in bytes
 abbrev pub max_pack : ℕ
 max_pack = 67108864

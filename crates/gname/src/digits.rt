@@ -1,12 +1,12 @@
-//! The hexadecimal digits of bytes.
+//! The encoding and decoding of bytes as hexadecimal digits.
 
 ghost use Rattle.std.specs.Prelude.{◌≡◌, ◌<◌, ◌*◌, ◌/◌, ◌%◌, IsTrue, Ok, Some, length, slice_index};
 ghost use Rattle.hex.specs.Hex.{decode_sized, encode_lower, hex_digit_value, lower_digits};
 
 use hex::{FromHex, FromHexError};
 
-// The two digits of each byte, from `00` to `ff`. A list of refs is mostly texts of ids, and
-// writing both digits at once makes these texts cheap.
+// The two digits of each byte, from `00` to `ff`. Ids make up most of a ref advertisement, and
+// writing both digits at once makes their texts cheap.
 const DIGIT_PAIRS: &[u8; 512] = b"\
     000102030405060708090a0b0c0d0e0f101112131415161718191a1b1c1d1e1f\
     202122232425262728292a2b2c2d2e2f303132333435363738393a3b3c3d3e3f\
@@ -17,7 +17,7 @@ const DIGIT_PAIRS: &[u8; 512] = b"\
     c0c1c2c3c4c5c6c7c8c9cacbcccdcecfd0d1d2d3d4d5d6d7d8d9dadbdcdddedf\
     e0e1e2e3e4e5e6e7e8e9eaebecedeeeff0f1f2f3f4f5f6f7f8f9fafbfcfdfeff";
 
-// Returns the two digits of a byte, in lower case.
+// Returns the two hexadecimal digits of a byte, in lower case.
 fn digit_pair(byte: u8) -> (u8, u8)
     ensures high { result.0 ≡ slice_index lower_digits (byte / 16) }
     ensures low { result.1 ≡ slice_index lower_digits (byte % 16) }
@@ -26,7 +26,7 @@ fn digit_pair(byte: u8) -> (u8, u8)
     (DIGIT_PAIRS[pair], DIGIT_PAIRS[pair + 1])
 }
 
-/// Writes the two digits of each byte, in lower case.
+/// Writes the two hexadecimal digits of each byte, in lower case.
 pub(crate) fn write_digits(bytes: &[u8], out: &mut [u8])
     requires { length out.old ≡ 2 * length bytes.now }
     ensures { out.new ≡ encode_lower bytes.now }
@@ -38,9 +38,8 @@ pub(crate) fn write_digits(bytes: &[u8], out: &mut [u8])
     }
 }
 
-// The value of each byte as a digit, in either case, or 255 if it is not a digit. Ids are read by
-// one look-up per digit, since a branch on the kind of digit would be mispredicted at every third
-// digit.
+// The value of each byte as a hexadecimal digit, in either case, or 255 for any other byte. A table
+// is faster here than a branch, which would be mispredicted at every third digit.
 static DIGIT_VALUES: [u8; 256] = [
     255, 255, 255, 255, 255, 255, 255, 255, 255, 255, 255, 255, 255, 255, 255, 255, 255, 255, 255,
     255, 255, 255, 255, 255, 255, 255, 255, 255, 255, 255, 255, 255, 255, 255, 255, 255, 255, 255,
@@ -58,14 +57,15 @@ static DIGIT_VALUES: [u8; 256] = [
     255, 255, 255,
 ];
 
-// Returns the value of a digit, in either case, or 255 if the byte is not a digit.
+// Returns the value of a hexadecimal digit, in either case, or 255 for any other byte.
 fn digit_value(byte: u8) -> u8
     ensures { result < 16 → hex_digit_value byte ≡ Some result }
 {
     DIGIT_VALUES[byte as usize]
 }
 
-// Reads two digits for each byte, in either case, and returns whether all are digits.
+// Decodes two digits for each byte, in either case, and returns whether all bytes of the text are
+// digits.
 fn read_digits(text: &[u8], out: &mut [u8]) -> bool
     requires { length text.now ≡ 2 * length out.old }
     ensures { IsTrue result → decode_sized text.now (length out.old) ≡ Ok out.new }
@@ -81,7 +81,8 @@ fn read_digits(text: &[u8], out: &mut [u8]) -> bool
     true
 }
 
-/// Returns the bytes that a text spells with two digits each, in either case, as `hex` reads it.
+/// Decodes a text of two hexadecimal digits for each byte, in either case, with the results of the
+/// `hex` crate.
 pub(crate) fn from_digits<const N: usize>(text: &[u8]) -> Result<[u8; N], FromHexError>
     ensures { result ≡ decode_sized text.now N }
 {

@@ -1,5 +1,4 @@
-//! The faults of ref names and prefixes, and what the faults of several other crates have in
-//! common.
+//! The faults of ref names and prefixes, and the rows of faults that several crates share.
 
 ghost use Rattle.std.specs.Prelude.{◌≡◌, Some};
 ghost use Rattle.gname.specs.Faults.{name_fault_row, name_fault_text};
@@ -9,38 +8,37 @@ use std::alloc::{AllocError, AllocFailed};
 use std::error::Error;
 use std::fmt;
 
-/// The number and the name of the faults of several crates that mean out of memory for a
-/// repository, a response or a buffer.
+/// The number and the name that several crates share for the fault "out of memory".
 pub const OUT_OF_MEMORY: (u32, &str) = (64, "Memory");
 
-/// The text of each fault that means out of memory, with any number.
+/// The text of every out-of-memory fault, whatever its number.
 pub const OUT_OF_MEMORY_TEXT: &str = "out of memory";
 
-/// The number and the name of the faults of several crates that mean that an object to be added has
-/// a missing parent.
+/// The number and the name that several crates share for the fault "an object to be added has a
+/// missing parent".
 pub const MISSING_PARENT: (u32, &str) = (72, "MissingParent");
 
-/// Why a text is not a ref name or not a prefix. If a text has several faults, the first in this
-/// order is reported, with its first position in the text.
+/// The reason why a text is not a ref name or not a prefix. If a text has several faults, the first
+/// in this order is reported, with its first position in the text.
 #[derive(Clone, Copy, Debug, PartialEq, Eq, Drop)]
 pub enum NameFault {
-    /// It is empty.
+    /// The text is empty.
     Empty,
-    /// It has more than 1,000 bytes.
+    /// The text has more than 1,000 bytes.
     TooLong,
-    /// It is not `HEAD` and does not begin with `refs/`.
+    /// The text is not `HEAD` and does not begin with `refs/`.
     NotRef,
-    /// This byte is a control character, DEL, a space or one of `~ ^ : ? * [ \`.
+    /// The byte at this position is a control character, DEL, a space or one of `~ ^ : ? * [ \`.
     BadByte { at: usize },
-    /// The component that begins here is empty, begins with `.` or ends with `.lock`.
+    /// The component that begins at this position is empty, begins with `.` or ends with `.lock`.
     Component { at: usize },
-    /// There are two dots here.
+    /// Two dots follow each other at this position.
     DoubleDot { at: usize },
-    /// There is `@{` here.
+    /// The text has `@{` at this position.
     AtBrace { at: usize },
     /// The last byte is a dot.
     End,
-    /// The text is well-formed, but there is no memory to store it.
+    /// The text is well-formed, but it could not be stored: out of memory.
     Memory,
 }
 

@@ -3,18 +3,18 @@
 ghost use Rattle.std.specs.Prelude.{◌≡◌};
 ghost use Rattle.gname.specs.Formats.{format_name, id_length, id_text_length};
 
-/// The object format of a repository: the hash that names its objects (gitprotocol-v2(5),
+/// The object format of a repository: the hash function that names its objects (gitprotocol-v2(5),
 /// "object-format"). `Sha1` is less than `Sha256`.
 #[derive(Clone, Copy, Debug, PartialEq, Eq, PartialOrd, Ord, Hash, Drop)]
 pub enum Format {
-    /// Ids of 20 bytes.
+    /// SHA-1, with ids of 20 bytes.
     Sha1,
-    /// Ids of 32 bytes.
+    /// SHA-256, with ids of 32 bytes.
     Sha256,
 }
 
 impl Format {
-    /// Returns the length of an id in bytes.
+    /// Returns the length in bytes of an id of this format.
     pub fn id_length(self) -> usize
         ensures { result ≡ id_length self }
     {
@@ -24,14 +24,14 @@ impl Format {
         }
     }
 
-    /// Returns the number of digits of an id's text.
+    /// Returns the number of hexadecimal digits of an id of this format.
     pub fn id_text_length(self) -> usize
         ensures { result ≡ id_text_length self }
     {
         2 * self.id_length()
     }
 
-    /// Returns the name of the format, as `object-format` gives it.
+    /// Returns the name of the format that the capability `object-format` uses.
     pub fn name(self) -> &'static str
         ensures { result.now ≡ format_name self }
     {

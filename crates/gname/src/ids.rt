@@ -23,11 +23,11 @@ use std::fmt;
 use std::hash::{Hash, Hasher};
 use std::marker::Model;
 
-/// The maximum number of digits of an object id's text.
+/// The maximum number of hexadecimal digits of an object id.
 pub const MAX_ID_TEXT: usize = 64;
 
-/// An object id: the bytes of an object's SHA-1 or SHA-256 hash. Ids are ordered by their formats,
-/// and then by their bytes, the first byte first.
+/// An object id: the bytes of an object's SHA-1 or SHA-256 hash. The order of ids is SHA-1 before
+/// SHA-256, and then the lexicographic order of the bytes.
 #[derive(Clone, Copy, Debug, Drop)]
 pub struct Oid {
     digest: Digest,
@@ -56,14 +56,14 @@ impl Model for Oid {
 }
 
 impl Oid {
-    /// Reads the forty hexadecimal digits of a SHA-1 id, in either case, as `from_hex_in` does.
+    /// Parses the 40 hexadecimal digits of a SHA-1 id, in either case, as `from_hex_in` does.
     pub fn from_hex(text: &[u8]) -> Result<Oid, OidFault>
         ensures { ReadsId Sha1 text.now result }
     {
         Oid::from_hex_in(Format::Sha1, text)
     }
 
-    /// Reads the hexadecimal digits of an id of the format, in either case: forty, or sixty-four.
+    /// Parses the hexadecimal digits of an id, in either case: 40 for SHA-1, and 64 for SHA-256.
     ///
     /// Fails with `Length` if the text has another length. Otherwise fails with `Digit` at the
     /// first byte that is not a hexadecimal digit.
@@ -78,8 +78,8 @@ impl Oid {
         Ok(Oid { digest })
     }
 
-    /// Reads the bytes of an id: twenty for SHA-1, or thirty-two for SHA-256. Returns `None` for
-    /// any other length.
+    /// Makes an id of its bytes: 20 for SHA-1, or 32 for SHA-256. Returns `None` for any other
+    /// length.
     pub fn from_bytes(bytes: &[u8]) -> Option<Oid>
         ensures { MatchOption result ((format : Format) → length bytes.now ≢ id_length format)
             (λ id. (id ≡ bytes.now) × IsId id) }
@@ -92,8 +92,8 @@ impl Oid {
         Some(Oid { digest })
     }
 
-    /// Writes the digits of the id, in lower case, into the first forty or sixty-four bytes, and
-    /// returns their number. The other bytes are unchanged.
+    /// Writes the digits of the id, in lower case, into the first 40 or 64 bytes of `out`, and
+    /// returns the number of digits. The other bytes of `out` are unchanged.
     pub fn to_hex(&self, out: &mut [u8; MAX_ID_TEXT]) -> usize
         ensures number { result ≡ id_text_length (format_of self.now) }
         ensures text { take result out.new ≡ id_text self.now }
@@ -127,7 +127,7 @@ impl Oid {
         }
     }
 
-    /// Returns the bytes of the id: 20 or 32.
+    /// Returns the bytes of the id: 20 for SHA-1, or 32 for SHA-256.
     pub fn as_bytes(&self) -> &[u8]
         ensures bytes { result.now ≡ self.now }
         ensures id { IsId self.now }
@@ -138,7 +138,7 @@ impl Oid {
         }
     }
 
-    /// A law: the properties of each id.
+    /// A law: an id has the length of its format.
     pub fn laws(&self)
         ensures { IsId self.now }
     {
@@ -204,10 +204,10 @@ impl fmt::Display for Oid {
     }
 }
 
-/// Why a text is not an object id.
+/// The reason why a text is not an object id.
 #[derive(Clone, Copy, Debug, PartialEq, Eq, Drop)]
 pub enum OidFault {
-    /// The text does not have forty bytes, or sixty-four for SHA-256.
+    /// The text does not have 40 bytes for SHA-1, or 64 for SHA-256.
     Length,
     /// The byte at this position is the first that is not a hexadecimal digit.
     Digit { at: usize },

@@ -1,5 +1,5 @@
-//! Laws of ids, names and prefixes. Each function does nothing, and its contract is the law. A
-//! caller may rely on the law after the call.
+//! Laws of ids, names and prefixes. Each function does nothing at run time, and its contract states
+//! the law. A proof may use the law after a call of the function.
 
 ghost use Rattle.std.specs.Prelude.{◌≡◌};
 ghost use Rattle.gname.specs.Formats.{id_text_length};
@@ -11,37 +11,38 @@ ghost use Rattle.gname.specs.Laws.{FirstPlacesAreFirst, IdsHaveOneFormat, IdsHav
 
 use crate::{MAX_ID_TEXT, MAX_NAME, MAX_PACK};
 
-/// Each id has a text in lower case and one in upper case. Both read back as the id.
+/// The text of an id, in lower case or in upper case, encodes that id.
 pub fn ids_have_texts()
     ensures { IdsHaveTexts }
 {}
 
-/// The text of an id has only hexadecimal digits, so it has no control character and no space. Any
-/// value that a text spells is an id.
+/// The text of an id has only hexadecimal digits, and so no control characters and no spaces. Every
+/// value that such a text encodes is a valid id.
 #[tactic(auto, using(crate::proofs::IdLemmas::id_texts_are_digits))]
 pub fn id_texts_are_digits()
     ensures { IdTextsAreDigits }
 {}
 
-/// A text spells at most one id.
+/// A text encodes at most one id.
 #[tactic(auto, using(crate::proofs::IdLemmas::texts_spell_one_id))]
 pub fn texts_spell_one_id()
     ensures { TextsSpellOneId }
 {}
 
-/// An id of a format is an id, and has only that format, which its length shows.
+/// An id of a format is a valid id, and has only that format.
 #[tactic(auto, using(crate::proofs::IdLemmas::ids_have_one_format))]
 pub fn ids_have_one_format()
     ensures { IdsHaveOneFormat }
 {}
 
-/// Each text has one reading in each format, and a text that spells an id is read as that id.
+/// In each format the result of parsing a text is unique. A text that encodes an id is parsed as
+/// that id.
 pub fn texts_have_one_reading()
     ensures { TextsHaveOneReading }
 {}
 
-/// A ref name has from 1 to 1,000 bytes. It has no control character, DEL or space, and none of
-/// `~ ^ : ? * [ \`. It is `HEAD` or begins with `refs/`. Each name is a prefix.
+/// A ref name has from 1 to 1,000 bytes, and no control character, DEL, space or any of `~ ^ : ? *
+/// [ \`. A ref name is `HEAD` or begins with `refs/`. Every ref name is also a valid prefix.
 pub fn names_are_clean()
     ensures { NamesAreClean }
 {}
@@ -58,19 +59,19 @@ pub fn prefixes_are_clean()
     ensures { PrefixesAreClean }
 {}
 
-/// The constants are the limits that the definitions use.
+/// The constants equal the limits of the specs.
 pub fn limits_are_the_constants()
     ensures id_text { MAX_ID_TEXT ≡ id_text_length Sha256 }
     ensures name { MAX_NAME ≡ max_name }
     ensures pack { MAX_PACK ≡ max_pack }
 {}
 
-/// The rules find faults of the text, and never report out of memory.
+/// The rules of names and prefixes never report out of memory.
 pub fn rules_never_report_memory()
     ensures { RulesNeverReportMemory }
 {}
 
-/// The position of a fault is the first position that has the fault.
+/// The reported position of a fault is its first position in the text.
 #[tactic(auto, using(crate::proofs::PlaceLemmas::first_places_are_first))]
 pub fn first_places_are_first()
     ensures { FirstPlacesAreFirst }
@@ -79,7 +80,7 @@ pub fn first_places_are_first()
 /// The components of a text are its parts between slashes, and every text has at least one. A ref
 /// name has no component that is empty, begins with a dot or ends with `.lock`. The fault
 /// `Component` is reported exactly when the text has such a component and no earlier rule finds a
-/// fault. Its position is the start of the first such component.
+/// fault. The reported position is the start of the first such component.
 pub fn components_are_parts()
     ensures { ComponentsAreParts }
 {}

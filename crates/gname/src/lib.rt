@@ -1,46 +1,48 @@
-//! Object ids in two formats, ref names and prefixes of ref names. Every layer of a Git protocol v2
-//! server and client uses these small types, and some limits from here.
+//! Object ids in two formats, ref names, prefixes of ref names, and some shared limits. Every layer
+//! of a Git protocol v2 server and client uses these small types.
 //!
 //! # Proved
 //!
-//! - [`Oid::from_hex_in`] reads exactly the texts of forty hexadecimal digits, or sixty-four for
-//!   SHA-256, in either case. For any other text it reports the fault and its position.
-//!   [`Oid::to_hex`] writes the text in lower case, which reads back as the id, and
-//!   [`Oid::push_hex`] appends it to a text. [`Oid::from_bytes`] takes exactly twenty or thirty-two
-//!   bytes. An id has one [`Format`].
+//! - [`Oid::from_hex_in`] accepts exactly the texts of 40 hexadecimal digits, or 64 for SHA-256, in
+//!   either case. For any other text it reports the fault and its position. [`Oid::to_hex`] writes
+//!   the text in lower case, which reads back as the same id. [`Oid::push_hex`] appends that text
+//!   to a vector. [`Oid::from_bytes`] accepts exactly 20 or 32 bytes. An id has only one
+//!   [`Format`].
 //! - [`RefName::new`], [`RefName::check`] and [`Prefix::new`] accept exactly the names and prefixes
-//!   that the rules of git-check-ref-format(1) allow. For any other text they report the first
-//!   fault in a fixed order, with its first position. Out of memory is reported only for a
-//!   well-formed text, and never by `check`, which does not allocate. [`RefName::head`] is `HEAD`.
-//!   [`RefName::copy_in`] is the same name in another allocator, if there is memory.
-//! - The rules are applied to the components of a text, its parts between slashes:
-//!   [`laws::components_are_parts`].
-//! - Ids, names and prefixes are equal if their bytes are. Names are ordered by their bytes, and
-//!   ids by their formats and then by their bytes. Both orders are total. Equal values hash alike,
-//!   so ids and names may be keys of a map.
+//!   that the rules of git-check-ref-format(1) allow. For any other text these functions report the
+//!   first fault in a fixed order, with its first position. Out of memory is reported only for a
+//!   well-formed text, and never by `check`, which does not allocate. [`RefName::head`] returns the
+//!   name `HEAD`. [`RefName::copy_in`] returns a copy of the name, unless it is out of memory.
+//! - One of the rules applies to the components of a text, which are its parts between slashes
+//!   ([`laws::components_are_parts`]).
+//! - Ids, names and prefixes are equal exactly if their bytes are equal. Names are ordered by their
+//!   bytes, and ids by their formats and then by their bytes. The orders of names and of ids are
+//!   total. Equal values have equal hashes, so ids and names may be keys of a map.
 //! - A name or a prefix has at most [`MAX_NAME`] bytes, and no control character or space.
-//!   [`MAX_NAME`], [`MAX_ID_TEXT`] and [`MAX_PACK`] are the limits that the definitions use.
-//! - Each fault has the number, the name and the text of its row. [`OUT_OF_MEMORY`],
-//!   [`OUT_OF_MEMORY_TEXT`] and [`MISSING_PARENT`] are shared by the faults of other crates.
-//! - No call panics, overflows or reads out of bounds, and each returns.
+//!   [`MAX_NAME`], [`MAX_ID_TEXT`] and [`MAX_PACK`] equal the limits of the specs.
+//! - Each fault has the number, the name and the text of its row in the table
+//!   (`specs/Faults.antt`). Other crates share [`OUT_OF_MEMORY`], [`OUT_OF_MEMORY_TEXT`] and
+//!   [`MISSING_PARENT`].
+//! - No call panics, overflows or reads out of bounds, and every call returns.
 //!
-//! [`laws`] has more facts about ids, names and prefixes, for the proofs of other crates.
+//! [`laws`] states further facts about ids, names and prefixes, for the proofs of other crates.
 //!
 //! # Only tested
 //!
-//! - The definitions in `specs/` agree with `git check-ref-format`: the cases of the program
-//!   `conformance` have names with that program's results.
-//! - The debug output of a value. No call reports out of memory if there is enough.
+//! - The definitions in `specs/` agree with `git check-ref-format`. The program `conformance`
+//!   compares them on sample names with recorded results of Git.
+//! - The debug output of a value is as expected. No call reports out of memory while enough memory
+//!   is available.
 //!
 //! # What the contracts do not rule out
 //!
-//! A body may report out of memory for any well-formed name or prefix, for `HEAD` and for any copy,
-//! as often as it likes. Formatting a fault may fail although there is room for its text. It may
-//! take as long as it likes, and more memory than it needs.
+//! A call may report out of memory for any well-formed name or prefix, for `HEAD` and for any copy.
+//! Formatting a fault may fail without need. A call may take any amount of time, and more memory
+//! than it needs.
 //!
 //! # Stands on
 //!
-//! `hex` for the faults of digits that can't be read, `memchr` for searches in a name.
+//! The crate uses `hex` for the faults of malformed digits, `memchr` for searches in a name.
 #![tactic(auto)]
 
 mod digits;

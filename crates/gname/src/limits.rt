@@ -1,4 +1,4 @@
-//! Limits that several layers share.
+//! The limits that several crates share.
 
-/// The largest pack that is read or written, in bytes.
+/// The maximum length in bytes of a pack that is read or written.
 pub const MAX_PACK: usize = 67_108_864;

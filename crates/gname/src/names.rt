@@ -20,10 +20,10 @@ use std::fmt;
 use std::hash::{Hash, Hasher};
 use std::marker::Model;
 
-/// The name of the ref that says what is checked out (gitglossary(7), "HEAD").
+/// The name of the ref `HEAD` (gitglossary(7), "HEAD").
 pub const HEAD: &[u8; 4] = b"HEAD";
 
-/// A ref name: `HEAD`, or a name below `refs/`. Names are compared by their bytes.
+/// A ref name: `HEAD`, or a name below `refs/`. The order of names is that of their bytes.
 #[derive(Drop)]
 pub struct RefName<A: Allocator + Copy = Global> {
     text: Vec<u8, A>,
@@ -38,8 +38,8 @@ impl<A: Allocator + Copy> Model for RefName<A> {
 }
 
 impl RefName {
-    /// Checks a text by the rules of `new`. Fails with its first fault in the order of `NameFault`,
-    /// but never with `Memory`. It does not allocate.
+    /// Checks a text by the rules of [`new`](Self::new). Fails with the first fault of the text in
+    /// the order of [`NameFault`], but never with `Memory`. It does not allocate.
     #[tactic(auto, using(crate::proofs::NameLemmas::rules_never_report_memory))]
     pub fn check(text: &[u8]) -> Result<(), NameFault>
         ensures judged { Finds name_fault text.now result }
@@ -50,13 +50,13 @@ impl RefName {
 }
 
 impl<A: Allocator + Copy> RefName<A> {
-    /// Makes a ref name of a text, by the rules of git-check-ref-format(1). It has at most 1,000
-    /// bytes, and is `HEAD` or begins with `refs/`. It has no control character, DEL, space or one
-    /// of `~ ^ : ? * [ \`, no `..`, no `@{` and no dot at its end. No part between slashes is
-    /// empty, begins with a dot or ends with `.lock`. Bytes from 128 up are allowed.
+    /// Makes a ref name of a text, by the rules of git-check-ref-format(1). A ref name has at most
+    /// 1,000 bytes, and is `HEAD` or begins with `refs/`. A ref name has no control character, DEL,
+    /// space or any of `~ ^ : ? * [ \`, no `..`, no `@{` and no dot at its end. No part between
+    /// slashes is empty, begins with a dot or ends with `.lock`. Bytes from 128 up are allowed.
     ///
-    /// Fails with the text's first fault in the order of `NameFault`. Fails with `Memory` only if a
-    /// well-formed name could not be stored.
+    /// Fails with the first fault of the text in the order of [`NameFault`]. Fails with `Memory`
+    /// only if a well-formed name could not be stored.
     pub fn new(alloc: A, text: &[u8]) -> Result<RefName<A>, NameFault>
         ensures { Owns name_fault text.now result }
     {
@@ -74,7 +74,7 @@ impl<A: Allocator + Copy> RefName<A> {
         Ok(RefName { text })
     }
 
-    /// Returns the same name in another allocator. Fails only if out of memory.
+    /// Returns a copy of the name in memory of the given allocator. Fails only if out of memory.
     pub fn copy_in<B: Allocator + Copy>(&self, alloc: B) -> Result<RefName<B>, AllocError>
         ensures { IfOk result (λ copy. copy ≡ self.now) }
     {
@@ -82,22 +82,22 @@ impl<A: Allocator + Copy> RefName<A> {
         Ok(RefName { text })
     }
 
-    /// Whether the name is `HEAD`, the only one that is not below `refs/`.
+    /// Returns whether the name is `HEAD`, the only ref name that is not below `refs/`.
     pub fn is_head(&self) -> bool
         ensures { IsTrue result ↔ (self.now ≡ head_name) }
     {
         self.as_bytes() == HEAD.as_slice()
     }
 
-    /// Whether the name begins with the bytes of the prefix. Each name begins with the empty
-    /// prefix.
+    /// Returns whether the name begins with the prefix. Every name begins with the empty prefix.
     pub fn starts_with<B: Allocator + Copy>(&self, prefix: &Prefix<B>) -> bool
         ensures { result ≡ starts_with nat_eq self.now prefix.now }
     {
         self.as_bytes().starts_with(prefix.as_bytes())
     }
 
-    /// Returns the bytes of the name: at most 1,000, and no control character or space.
+    /// Returns the bytes of the name, which are at most 1,000 and have no control characters or
+    /// spaces.
     #[tactic(auto, using(crate::proofs::NameLemmas::name_within, crate::proofs::NameLemmas::name_clean))]
     pub fn as_bytes(&self) -> &[u8]
         ensures bytes { result.now ≡ self.now }
@@ -108,7 +108,8 @@ impl<A: Allocator + Copy> RefName<A> {
         self.text.as_slice()
     }
 
-    /// A law: the properties of each name.
+    /// A law: a ref name obeys the rules, has at most 1,000 bytes, and has no control characters or
+    /// spaces.
     pub fn laws(&self)
         ensures name { IsRefName self.now }
         ensures within { length self.now ≤ max_name }

@@ -27,10 +27,11 @@ impl<A: Allocator + Copy> Model for Prefix<A> {
 }
 
 impl<A: Allocator + Copy> Prefix<A> {
-    /// Makes a prefix of a text. It may be empty, and need not be a name.
+    /// Makes a prefix of a text. The text may be empty, and need not be a ref name.
     ///
-    /// Fails with `TooLong` or `BadByte`, in this order. Fails with `Memory` only if a well-formed
-    /// prefix could not be stored.
+    /// Fails with `TooLong` if the text has more than 1,000 bytes, and otherwise with `BadByte` if
+    /// it has a forbidden byte. Fails with `Memory` only if a well-formed prefix could not be
+    /// stored.
     pub fn new(alloc: A, text: &[u8]) -> Result<Prefix<A>, NameFault>
         ensures { Owns prefix_fault text.now result }
     {
@@ -39,7 +40,8 @@ impl<A: Allocator + Copy> Prefix<A> {
         Ok(Prefix { text })
     }
 
-    /// Returns the bytes of the prefix: at most 1,000, and no control character or space.
+    /// Returns the bytes of the prefix, which are at most 1,000 and have no control characters or
+    /// spaces.
     #[tactic(auto, using(crate::proofs::NameLemmas::prefixes_are_clean))]
     pub fn as_bytes(&self) -> &[u8]
         ensures bytes { result.now ≡ self.now }

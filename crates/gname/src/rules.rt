@@ -1,4 +1,4 @@
-//! The rules of git-check-ref-format(1): a function for each, and their order.
+//! The rules of git-check-ref-format(1), with a function for each rule.
 
 ghost use Rattle.std.specs.Prelude.{◌≡◌, ◌≤◌, length, position};
 ghost use Rattle.gname.specs.Names.{Finds, name_fault, prefix_fault, empty, too_long, not_ref, is_bad_byte, bad_byte, is_bad_component, component_at, begins_bad_component, component, double_dot, at_brace, end, max_name};
@@ -9,7 +9,7 @@ use memchr::{memchr, memmem};
 /// The maximum length of a ref name or a prefix in bytes.
 pub const MAX_NAME: usize = 1_000;
 
-/// Finds the first fault of a text as a ref name.
+/// Checks that a text is a ref name, or fails with its first fault.
 #[tactic(auto, unfolding(crate::specs::Names::name_fault))]
 pub(crate) fn check_name(text: &[u8]) -> Result<(), NameFault>
     ensures { Finds name_fault text.now result }
@@ -24,7 +24,7 @@ pub(crate) fn check_name(text: &[u8]) -> Result<(), NameFault>
     check_end(text)
 }
 
-/// Finds the first fault of a text as a prefix.
+/// Checks that a text is a prefix, or fails with its first fault.
 #[tactic(auto, unfolding(crate::specs::Names::prefix_fault))]
 pub(crate) fn check_prefix(text: &[u8]) -> Result<(), NameFault>
     ensures { Finds prefix_fault text.now result }

@@ -1,4 +1,4 @@
--- The table of faults: the number, the name and the text of each.
+-- The table of faults, with the number, the name and the text of each fault.
 use Rattle.std.specs.Prelude.{ℕ, List, ◌++◌, codes}
 use Rattle.std.specs.Fmt.{decimal}
 use Rattle.gname.specs.Faults.{FaultRow, out_of_memory_text}
@@ -7,15 +7,15 @@ use Rattle.gobject.specs.declared.fault.PackFault.TheVariants as pack
 use Rattle.gobject.specs.declared.fault.IndexFault.{IndexFault}
 use Rattle.gobject.specs.declared.fault.IndexFault.TheVariants as index
 
--- why entries were not packed: one number for all causes
+-- the number and the name of a fault of packing, the same for all causes
 abbrev pub pack_fault_row : PackFault → FaultRow
 pack_fault_row _ = (65, codes "Pack")
 
--- why bytes were not read as a pack: one number for all causes
+-- the number and the name of a fault of indexing, the same for all causes
 abbrev pub index_fault_row : IndexFault → FaultRow
 index_fault_row _ = (66, codes "Index")
 
--- their texts
+-- the text of each fault of packing, as `Display` writes it
 abbrev pub pack_fault_text : PackFault → List ℕ
 pack_fault_text pack.Memory = out_of_memory_text
 pack_fault_text pack.TooLarge = codes "the pack is too large"

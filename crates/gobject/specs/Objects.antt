@@ -1,5 +1,4 @@
--- Objects of a repository, commits and tags, each with its id (gitglossary(7), "commit object", "tag object"), and
--- lists of them.
+-- The objects of a repository: commits and tags with their ids (gitglossary(7), "commit object", "tag object").
 use Rattle.std.specs.Prelude.{◌≡◌, ℕ, ◌≤◌, ⊤, Bool, List, [], ◌∷◌, length, find, position, All, Option, None}
 use Rattle.std.specs.Str.{bytes_eq}
 use Rattle.std.specs.Option.{option_map}
@@ -9,45 +8,45 @@ use Rattle.gobject.specs.declared.node.Kind.TheVariants.{Tag}
 use Rattle.gobject.specs.declared.node.Node.{Node}
 use Rattle.gobject.specs.declared.node.Entry.{Entry}
 
--- a kind with its parents
+-- the node with this kind and these parents
 abbrev pub node_of : {A : Type 0} → Kind → List Id → Node A
 node_of kind parents = record { kind = kind; parents = parents }
 
--- an id with its node
+-- the entry with this id and this node
 abbrev pub entry_of : {A : Type 0} → Id → Node A → Entry A
 entry_of a node = record { id = a; node = node }
 
--- whether an entry has the id
+-- whether the id of an entry is `a`
 abbrev pub has_id : {A : Type 0} → Id → Entry A → Bool
 has_id a entry = bytes_eq entry.id a
 
--- the node of the first entry with the id; where ids differ, of the only one
+-- the node of the first entry with the id
 abbrev pub node_at : {A : Type 0} → List (Entry A) → Id → Option (Node A)
 node_at g a = option_map (λ entry. entry.node) (find (has_id a) g)
 
--- the position of that entry
+-- the position of the first entry with the id
 abbrev pub position_of : {A : Type 0} → List (Entry A) → Id → Option ℕ
 position_of g a = position (has_id a) g
 
--- the id of an entry and those of its parents are object ids
+-- the id of an entry and the ids of its parents are valid object ids
 pub record HasIds {A : Type 0} (entry : Entry A) : Type 0 where
   pub id : IsId entry.id
   pub parents : All IsId entry.node.parents
 
--- no id comes twice
+-- the ids of the entries are distinct
 abbrev pub IdsDiffer : {A : Type 0} → List (Entry A) → Type 0
 IdsDiffer [] = ⊤
 IdsDiffer (entry ∷ g) = (node_at g entry.id ≡ None) × IdsDiffer g
 
--- the most parents of a node
+-- the maximum number of parents of a node
 abbrev pub max_parents : ℕ
 max_parents = 64
 
--- a tag names one object
+-- a tag has exactly one parent, which is the object that it tags
 abbrev pub IsTagShaped : {A : Type 0} → Node A → Type 0
 IsTagShaped node = node.kind ≡ Tag → length node.parents ≡ 1
 
--- a node of a graph has at most so many parents, and a tag exactly one
+-- a well-shaped node: not too many parents, and exactly one for a tag
 pub record IsShaped {A : Type 0} (node : Node A) : Type 0 where
   pub few : length node.parents ≤ max_parents
   pub tag : IsTagShaped node

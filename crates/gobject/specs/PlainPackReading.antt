@@ -1,4 +1,4 @@
--- What was read of a plain pack, part by part.
+-- The state of reading a plain pack, part by part.
 use Rattle.std.specs.Prelude.{◌≡◌, ◌≢◌, ℕ, List, [], ◌∷◌, ◌++◌, slice_index, codes}
 use Rattle.gobject.specs.declared.node.Entry.{Entry}
 use Rattle.gobject.specs.declared.plain_pack.read.Next.{Next}
@@ -6,26 +6,26 @@ use Rattle.gobject.specs.declared.plain_pack.read.Next.TheVariants.{Header, Id, 
 use Rattle.gobject.specs.PlainPackText.{text_of, header, letter, IsNodeText, AreNodeTexts, ArePackLines}
 use Rattle.gobject.specs.declared.plain_pack.feed.PlainFeed.{PlainFeed}
 
--- neither a space nor a line feed is in the text
+-- a text without spaces and line feeds
 abbrev pub IsPart : List ℕ → Type 0
 IsPart text = (at : ℕ) → (slice_index text at ≢ 32) × (slice_index text at ≢ 10)
 
--- ---- what was read
+-- ---- the bytes that were read
 
--- the lines before the one that the next part stands in
+-- the complete lines before the line of the next part
 abbrev pub AreLines : {A : Type 0} → Next A → List (Entry A) → List (List ℕ) → Type 0
 AreLines Header list lines = (lines ≡ []) × (list ≡ [])
 AreLines Nothing list lines = ArePackLines lines list
 AreLines _ list lines = (nodes : List (List ℕ)) × (lines ≡ header ∷ nodes) × AreNodeTexts nodes list
 
--- what stands in its line before the next part
+-- the text before the next part in the same line
 abbrev pub IsOpening : {A : Type 0} → Next A → List ℕ → Type 0
 IsOpening (Id kind) text = text ≡ letter kind ∷ 32 ∷ []
 IsOpening (Parent entry) text = (node : List ℕ) × (text ≡ node ++ 32 ∷ []) × IsNodeText node entry
 IsOpening Count text = text ≡ codes "end "
 IsOpening _ text = text ≡ []
 
--- the bytes before the part that comes next
+-- the bytes before the next part
 pub record HasRead {A : Type 0} (next : Next A) (list : List (Entry A)) (bytes : List ℕ) : Type 0 where
   pub front : List (List ℕ)
   pub opening : List ℕ
@@ -33,9 +33,9 @@ pub record HasRead {A : Type 0} (next : Next A) (list : List (Entry A)) (bytes :
   pub lines : AreLines next list front
   pub opens : IsOpening next opening
 
--- ---- what was fed
+-- ---- the bytes that were fed
 
--- the bytes read, and those of a part that has not ended
+-- the bytes that were fed: the bytes that were read, and then those of an unfinished part
 pub record Fed {A : Type 0} (feed : PlainFeed A) (bytes : List ℕ) : Type 0 where
   pub before : List ℕ
   pub parts : bytes ≡ before ++ feed.part.items

@@ -10,14 +10,14 @@ use std::alloc::{AllocError, AllocFailed};
 use std::error::Error;
 use std::fmt;
 
-/// Why a list of entries was not packed.
+/// The reason why a list of entries was not packed.
 #[derive(Clone, Copy, Debug, PartialEq, Eq, Drop)]
 pub enum PackFault {
     /// Out of memory.
     Memory,
     /// The pack would have more than `gname::MAX_PACK` bytes.
     TooLarge,
-    /// Another cause, specific to the packer.
+    /// A cause that is specific to the packer.
     Other,
 }
 
@@ -36,7 +36,7 @@ impl PackFault {
         self.fault_row().1
     }
 
-    // Returns the number and the name of the fault. They are the same for all causes.
+    // Returns the number and the name of the fault, which are the same for all causes.
     fn fault_row(&self) -> (u32, &'static str)
         ensures { (result.0, result.1.now) ≡ pack_fault_row self.now }
     {
@@ -58,14 +58,14 @@ impl fmt::Display for PackFault {
 
 impl Error for PackFault {}
 
-/// Why bytes were not read as a pack.
+/// The reason why bytes were not read as a pack.
 #[derive(Clone, Copy, Debug, PartialEq, Eq, Drop)]
 pub enum IndexFault {
     /// Out of memory.
     Memory,
-    /// The first line, counted from 1, that does not have the right form.
+    /// The first line, counted from 1, that is malformed.
     Bad { line: usize },
-    /// Another cause, specific to the indexer.
+    /// A cause that is specific to the indexer.
     Other,
 }
 
@@ -84,7 +84,7 @@ impl IndexFault {
         self.fault_row().1
     }
 
-    /// Returns the number and the name of the fault. They are the same for all causes.
+    /// Returns the number and the name of the fault, which are the same for all causes.
     pub fn fault_row(&self) -> (u32, &'static str)
         ensures { (result.0, result.1.now) ≡ index_fault_row self.now }
     {

@@ -1,4 +1,5 @@
-//! The laws of plain packs: functions without effect whose contracts are the laws.
+//! The laws of plain packs. Each function does nothing at run time, and its contract states the
+//! law.
 
 ghost use Rattle.std.specs.Prelude.{◌≡◌};
 ghost use Rattle.gobject.specs.Laws.{BadLinesHaveOnePlace, PacksHaveNoBadLine, PacksHaveOneReading};
@@ -8,7 +9,7 @@ use crate::MAX_PARENTS;
 use gname::laws::{id_texts_are_digits, texts_spell_one_id};
 use std::alloc::Allocator;
 
-/// The constant is the limit that the definitions use.
+/// [`MAX_PARENTS`] equals the limit of the specs, `max_parents`.
 pub fn limits_are_the_constants()
     ensures { MAX_PARENTS ≡ max_parents }
 {}
@@ -21,7 +22,7 @@ pub fn packs_have_one_reading<A: Allocator + Copy>()
     texts_spell_one_id();
 }
 
-/// No line of a plain pack is bad.
+/// A plain pack has no bad line.
 pub fn packs_have_no_bad_line<A: Allocator + Copy>()
     ensures { PacksHaveNoBadLine A }
 {
@@ -29,8 +30,8 @@ pub fn packs_have_no_bad_line<A: Allocator + Copy>()
     texts_spell_one_id();
 }
 
-/// Bytes have at most one bad line. The same line is reported however the bytes are split into
-/// pieces.
+/// Bytes have at most one bad line. An indexer reports the same line however the bytes are split
+/// into pieces.
 pub fn bad_lines_have_one_place<A: Allocator + Copy>()
     ensures { BadLinesHaveOnePlace A }
 {

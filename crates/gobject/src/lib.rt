@@ -1,41 +1,42 @@
-//! The objects that a fetch transfers: commits and tags under their ids, and packs, which carry
-//! lists of them from one end to the other.
+//! The objects that a fetch transfers: commits and tags with their ids, and the packs that transfer
+//! lists of such objects.
 //!
 //! # Proved
 //!
-//! - A copy of a node or an entry is equal to it. [`Node::is_same`] compares kind and parents, in
-//!   order. [`Node::is_shaped`] holds exactly for nodes with at most [`MAX_PARENTS`] parents, and
-//!   exactly one if it is a tag.
-//! - [`Node::push_line`] appends the line of an object to a text.
-//! - [`PlainPack`] writes the text of a list, of at most `gname::MAX_PACK` bytes, and refuses as
-//!   too large exactly the lists whose text is longer. It reads exactly such texts, with ids in
-//!   either case. For any other bytes it reports the first line that is wrong. Bytes in pieces, cut
-//!   anywhere, are read like whole ones. Out of memory is reported for no list whose text is too
-//!   long. For bytes it is reported only after right lines and the id of one more entry.
-//! - The clauses of [`Indexer`] say what an indexer must do with a pack in pieces. `index` of a
-//!   whole pack follows from them.
-//! - Bytes have at most one bad line, and a pack has none: [`laws`].
-//! - [`Faithful`] says what a packer and an indexer that lose nothing must do. A plain pack of a
-//!   list with distinct ids reads back as that list.
-//! - Each fault has the number, the name and the text of its row.
-//! - No call panics, overflows or reads out of bounds, and each returns.
+//! - A copy of a node or an entry is equal to the original. [`Node::is_same`] compares the kinds
+//!   and the parents, in order. [`Node::is_shaped`] returns whether a node has at most
+//!   [`MAX_PARENTS`] parents, and exactly one if it is a tag.
+//! - [`Node::push_line`] appends the text line of an object to a vector.
+//! - [`PlainPack`] writes the text of a list. It fails with `TooLarge` exactly if the text has more
+//!   than `gname::MAX_PACK` bytes. It reads exactly the texts of lists, with ids in either case.
+//!   For any other bytes it reports the first wrong line. The result does not depend on how the
+//!   bytes are split into pieces. Writing reports out of memory only for a list that is not too
+//!   large. Reading reports it only after valid lines and the id of one more entry.
+//! - The contracts of [`Indexer`] specify how an indexer reads a pack in pieces. The contract of
+//!   `index`, for a whole pack, follows from them.
+//! - Bytes have at most one bad line, and a plain pack has no bad line: [`laws`].
+//! - [`Faithful`] specifies a packer and an indexer that lose nothing. A plain pack of a list with
+//!   distinct ids reads back as that list.
+//! - Each fault has the number, the name and the text of its row in the table
+//!   (`specs/Faults.antt`).
+//! - No call panics, overflows or reads out of bounds, and every call returns.
 //!
 //! # What the contracts do not rule out
 //!
-//! As often as it likes, it may report out of memory for any list whose text is not too long. It
-//! may also do so for any bytes with an entry to store, and for any copy. It may thus report out of
-//! memory instead of a bad line if there is an entry before that line. A copy may take its memory
-//! from another allocator of the same type. It may take as long as it likes, and more memory than
-//! it needs. Formatting a fault may return an error (`fmt::Error`) although the text would be
-//! right. With options, such as a width, it may write another text.
+//! A call may report out of memory for any list whose text is not too long, for any bytes with an
+//! entry to store, and for any copy. It may thus report out of memory instead of a bad line if
+//! there is an entry before that line. A copy may be allocated from a different allocator of the
+//! same type. A call may take any amount of time, and more memory than it needs. Formatting a fault
+//! may return an error (`fmt::Error`) without need. Formatting with options, such as a width, may
+//! write a different text.
 //!
-//! There are no tests here. The program `conformance` reads and writes packs, whole and in pieces,
-//! with each allocation refused in turn.
+//! This crate has no tests of its own. The program `conformance` reads and writes packs, whole and
+//! in pieces, and makes each allocation fail in turn.
 //!
 //! # Stands on
 //!
-//! `gname` for ids, `memchr` for the ends of parts, `arrayvec` for a part that is cut, `itoa` for
-//! the count in a pack. The proofs use `hex`.
+//! The crate uses `gname` for ids, `memchr` for the ends of parts, `arrayvec` for a part that is
+//! split between pieces, `itoa` for the count in a pack. The proofs use `hex`.
 #![tactic(auto)]
 
 mod fault;

@@ -1,4 +1,4 @@
-//! The line of an object, in plain packs and in the text file of a repository.
+//! The text line of an object, in plain packs and in the text file of a repository.
 
 ghost use Rattle.std.specs.Prelude.{◌≡◌, ◌++◌, ◌∷◌, [], OnOk};
 ghost use Rattle.gobject.specs.PlainPackText.{ids_text, letter, line, node_text};
@@ -8,9 +8,9 @@ use gname::Oid;
 use std::alloc::{AllocError, Allocator};
 
 impl<A: Allocator + Copy> Node<A> {
-    /// Appends the line of this object, under an id, to a text. It has `c` for a commit or `t` for
-    /// a tag, the id and the ids of the parents, each after a space, and a line feed. Fails only if
-    /// out of memory.
+    /// Appends the line of this object with the given id to a text. The line has `c` for a commit
+    /// or `t` for a tag, the id, and the ids of the parents, each id after a space. A line feed
+    /// ends the line. Fails only if out of memory.
     pub fn push_line<B: Allocator + Copy>(
         &self,
         id: &Oid,
@@ -27,7 +27,7 @@ impl<A: Allocator + Copy> Node<A> {
     }
 }
 
-// Returns the letter of a kind.
+// Returns the letter of a kind: `c` for a commit, `t` for a tag.
 fn letter_of(kind: Kind) -> u8
     ensures { result ≡ letter kind }
 {
@@ -37,7 +37,7 @@ fn letter_of(kind: Kind) -> u8
     }
 }
 
-// Appends an id after a space.
+// Appends a space and an id.
 fn push_id<A: Allocator + Copy>(text: &mut Vec<u8, A>, id: &Oid) -> Result<(), AllocError>
     ensures { OnOk result (text.new.items ≡ text.old.items ++ ids_text (id.now ∷ [])) }
 {

@@ -9,8 +9,8 @@ use std::marker::Model;
 /// The maximum number of parents of a node.
 pub const MAX_PARENTS: usize = 64;
 
-/// The type of an object (gitglossary(7), "object type"): a commit, or a tag, whose one parent is
-/// the object that it names.
+/// The type of an object (gitglossary(7), "object type"): a commit or a tag. The only parent of a
+/// tag is the tagged object.
 #[derive(Clone, Copy, Debug, PartialEq, Eq)]
 pub enum Kind {
     Commit,
@@ -41,7 +41,8 @@ impl<A: Allocator + Copy> Parents<A> {
         }
     }
 
-    /// Returns these parents, in this order, in memory of `alloc`. Fails only if out of memory.
+    /// Returns a list of the given parents, in order, in memory of `alloc`. Fails only if out of
+    /// memory.
     pub fn from_slice(alloc: A, ids: &[Oid]) -> Result<Parents<A>, AllocError>
         ensures { IfOk result (λ parents. parents ≡ ids.now) }
     {
@@ -49,7 +50,7 @@ impl<A: Allocator + Copy> Parents<A> {
         Ok(Parents { ids })
     }
 
-    /// Appends a parent. If out of memory, the list is unchanged.
+    /// Appends a parent. If out of memory, the call fails and leaves the list unchanged.
     pub fn push(&mut self, id: Oid) -> Result<(), AllocError>
         ensures ok { OnOk result (self.new ≡ self.old ++ id ∷ []) }
         ensures err { OnErr result (self.new ≡ self.old) }
@@ -69,9 +70,9 @@ impl<A: Allocator + Copy> Parents<A> {
 /// An object: its kind and its parents.
 #[derive(Debug, Drop)]
 pub struct Node<A: Allocator + Copy = Global> {
-    /// Its kind.
+    /// The type of the object.
     pub kind: Kind,
-    /// Its parents. For a tag, the object that it names.
+    /// The parents of a commit, or the tagged object of a tag.
     pub parents: Parents<A>,
 }
 
@@ -89,7 +90,7 @@ impl<A: Allocator + Copy> Node<A> {
         })
     }
 
-    /// Whether the node has at most `MAX_PARENTS` parents, and exactly one if it is a tag.
+    /// Returns whether the node has at most `MAX_PARENTS` parents, and exactly one if it is a tag.
     pub fn is_shaped(&self) -> bool
         ensures { IsTrue result ↔ IsShaped self.now }
     {
@@ -100,7 +101,7 @@ impl<A: Allocator + Copy> Node<A> {
         }
     }
 
-    /// Whether two nodes have the same kind and the same parents in the same order.
+    /// Returns whether two nodes have the same kind and the same parents in the same order.
     pub fn is_same(&self, other: &Node<A>) -> bool
         ensures { IsTrue result ↔ (self.now ≡ other.now) }
     {
@@ -108,12 +109,12 @@ impl<A: Allocator + Copy> Node<A> {
     }
 }
 
-/// An object under its id, as a graph stores it.
+/// An object with its id, as a graph stores it.
 #[derive(Debug, Drop)]
 pub struct Entry<A: Allocator + Copy = Global> {
     /// The id of the object.
     pub id: Oid,
-    /// The object.
+    /// The kind and the parents of the object.
     pub node: Node<A>,
 }
 

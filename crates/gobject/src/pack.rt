@@ -1,4 +1,4 @@
-//! Packers, which write entries as bytes, and indexers, which read them.
+//! Packers, which write entries as bytes, and indexers, which read entries from bytes.
 
 ghost use Rattle.std.specs.Prelude.{◌≡◌, ◌++◌, [], ℕ, List, MatchResult};
 ghost use Rattle.gobject.specs.Packs.{LosesNothing, MayPack};
@@ -12,23 +12,26 @@ use std::alloc::Allocator;
 
 /// A packer writes entries as a pack.
 ///
-/// `packs` says which bytes it may return for a list, and `pack_fails` which faults.
+/// `packs` relates a list to the bytes that the packer may return for it, and `pack_fails` relates
+/// a list to the possible faults.
 pub trait Packer<A: Allocator + Copy> {
     ghost packs: { Self → List (Entry A) → List ℕ → Type 0 };
 
     ghost pack_fails: { Self → List (Entry A) → PackFault → Type 0 };
 
-    /// Returns the pack of the entries, of at most `gname::MAX_PACK` bytes, in memory of `alloc`.
+    /// Returns a pack of the entries in memory of `alloc`. The pack has at most `gname::MAX_PACK`
+    /// bytes.
     fn pack(&self, alloc: A, entries: &[Entry<A>]) -> Result<Vec<u8, A>, PackFault>
         ensures { MatchResult result
             (λ pack. MayPack (packs self.now) entries.now pack.items)
             (λ fault. pack_fails self.now entries.now fault) };
 }
 
-/// An indexer reads entries from a pack, which it takes in pieces.
+/// An indexer reads entries from the pieces of a pack.
 ///
-/// `indexes` says which entries it may return for the bytes of a whole pack, and `index_fails`
-/// which faults. `fed` says which bytes were fed to a feed.
+/// `indexes` relates the bytes of a whole pack to the entries that the indexer may return for them.
+/// `index_fails` relates the bytes to the possible faults. `fed` relates a feed to the bytes that
+/// were fed to it.
 pub trait Indexer<A: Allocator + Copy> {
     /// The state of the indexer after a part of a pack.
     type Feed: Drop;
@@ -39,14 +42,14 @@ pub trait Indexer<A: Allocator + Copy> {
 
     ghost fed: { Self → Self.Feed → List ℕ → Type 0 };
 
-    /// Returns a feed to which nothing was fed. A fault here may be returned for any pack.
+    /// Returns a feed before the first piece. A fault of this call is possible for any pack.
     fn start(&self, alloc: A) -> Result<Self::Feed, IndexFault>
         ensures { MatchResult result
             (λ feed. fed self.now feed [])
             (λ fault. ((bytes : List ℕ) → index_fails self.now bytes fault)) };
 
-    /// Feeds the next piece of a pack. A fault here may be returned for any pack that begins with
-    /// the pieces fed, including this one. After a fault the feed can't be used further: drop it.
+    /// Feeds the next piece of a pack. A fault of this call is possible for any pack that begins
+    /// with the pieces fed so far. After a fault the feed can't be used further.
     fn feed(&self, feed: &mut Self::Feed, piece: &[u8]) -> Result<(), IndexFault>
         ensures { MatchResult result
             (λ _. ((given : List ℕ) → fed self.now feed.old given
@@ -54,8 +57,8 @@ pub trait Indexer<A: Allocator + Copy> {
             (λ fault. ((given more : List ℕ) → fed self.now feed.old given
             → index_fails self.now ((given ++ piece.now) ++ more) fault)) };
 
-    /// Returns the entries of the pack whose pieces were fed, in order. A fault here is for
-    /// exactly these pieces.
+    /// Returns the entries of the pack whose pieces were fed, in order. A fault of this call
+    /// applies to a pack of exactly the pieces that were fed.
     fn finish(&self, feed: Self::Feed) -> Result<Vec<Entry<A>, A>, IndexFault>
         ensures { MatchResult result
             (λ entries. ((given : List ℕ) → fed self.now feed given
@@ -63,7 +66,7 @@ pub trait Indexer<A: Allocator + Copy> {
             (λ fault. ((given : List ℕ) → fed self.now feed given
             → index_fails self.now given fault)) };
 
-    /// Returns the entries of a whole pack, in its order. Fails as the calls on a feed do.
+    /// Returns the entries of a whole pack, in order. Fails as `start`, `feed` and `finish` do.
     fn index(&self, alloc: A, bytes: &[u8]) -> Result<Vec<Entry<A>, A>, IndexFault>
         ensures { MatchResult result (λ entries. indexes self.now bytes.now entries.items)
             (λ fault. index_fails self.now bytes.now fault) }
@@ -76,13 +79,14 @@ pub trait Indexer<A: Allocator + Copy> {
 
 /// A packer that is also an indexer, and reads back what it writes.
 ///
-/// Each list has an `image`. For a list with distinct ids, `pack` returns the image, or `TooLarge`
-/// if the image has more than `gname::MAX_PACK` bytes. `index` reads the image as the list. Both
-/// may fail with `Memory`.
+/// Each list has one `image`. For a list with distinct ids, `pack` returns the image, or fails with
+/// `TooLarge` if the image has more than `gname::MAX_PACK` bytes. `index` reads the image back as
+/// the list. Both calls may fail with `Memory`.
 pub trait Faithful<A: Allocator + Copy>: Packer<A> + Indexer<A> {
     ghost image: { Self → List (Entry A) → List ℕ };
 
-    /// The law of the image, for generic callers. The call does nothing.
+    /// A law for generic callers: `index` reads back what `pack` writes. The function does nothing
+    /// at run time.
     fn loses_nothing(&self)
         ensures { LosesNothing (Self.packs self.now) (Self.pack_fails self.now)
             (Self.indexes self.now) (Self.index_fails self.now) (image self.now) };

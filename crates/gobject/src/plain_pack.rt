@@ -1,4 +1,4 @@
-//! A pack in plain text: a line for each entry.
+//! Packs in plain text, with a line for each entry.
 
 mod feed;
 mod read;
@@ -15,23 +15,24 @@ use crate::plain_pack::feed::PlainFeed;
 use gname::laws::{id_texts_are_digits, ids_have_texts, texts_spell_one_id};
 use std::alloc::Allocator;
 
-/// Packs as plain text.
+/// A packer and indexer of packs in plain text.
 ///
-/// The first line is `GPK1`. Each entry has a line: `c` (a commit) or `t` (a tag), its id and the
-/// ids of its parents. The last line is `end` and the number of entries, in decimal without leading
-/// zeros. One space separates parts, and a line feed ends each line.
+/// The first line is `GPK1`. Each entry has a line: `c` for a commit or `t` for a tag, its id and
+/// the ids of its parents. The last line is `end` and the number of entries, in decimal without
+/// leading zeros. One space separates parts, and a line feed ends each line.
 ///
-/// `pack` writes the entries in the given order, ids in lower case. It fails with `TooLarge` if
-/// the text has more than `gname::MAX_PACK` bytes.
+/// `pack` writes the entries in the given order, with ids in lower case. It fails with `TooLarge`
+/// if the text has more than `gname::MAX_PACK` bytes.
 ///
-/// `index` reads exactly such texts, with ids in either case, and returns the entries in order. It
-/// does not check the number of parents, or whether an id is repeated. It fails with `Bad` at the
-/// first line without this form. This is a line that is neither an entry nor the right end, or the
-/// line after the end if bytes follow. If the input ends early, it is the line in which it ends:
-/// the number of line feeds plus one.
+/// `index` accepts exactly the texts of this form, with ids in either case, and returns the entries
+/// in order. It does not check the number of parents, or that ids are distinct. It fails with `Bad`
+/// at the first line that is neither an entry nor the right end, or at any line after the end. If
+/// the input ends early, `Bad` states the line at which the input ends: the number of line feeds
+/// plus one.
 ///
-/// Both fail with `Memory` if out of memory. `pack` never does so for a list whose pack is too
-/// large, and `index` only after right lines and the id of one more entry.
+/// Both calls fail with `Memory` if out of memory. `pack` never fails with `Memory` for a list
+/// whose pack is too large. `index` fails with `Memory` only after valid lines and the id of one
+/// more entry.
 #[derive(Clone, Copy, Debug, PartialEq, Eq, Drop)]
 pub struct PlainPack;
 

@@ -1,10 +1,10 @@
--- The table of faults: the number, the name and the text of each.
+-- The table of faults, with the number, the name and the text of each fault.
 use Rattle.std.specs.Prelude.{ℕ, List, codes}
 use Rattle.gname.specs.Faults.{FaultRow, out_of_memory, out_of_memory_text}
 use Rattle.grefs.specs.declared.fault.RefsFault.{RefsFault}
 use Rattle.grefs.specs.declared.fault.RefsFault.TheVariants as refs
 
--- why a ref was not set
+-- the number and the name of each fault of setting a ref
 abbrev pub refs_fault_row : RefsFault → FaultRow
 refs_fault_row refs.Refs = (69, codes "Refs")
 refs_fault_row refs.Memory = out_of_memory

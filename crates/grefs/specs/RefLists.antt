@@ -1,5 +1,5 @@
--- Refs: names below refs/ with the ids that they stand at (git-check-ref-format(1)), in the byte order of the names:
--- "sorted by name according to the C locale ordering" (gitprotocol-pack(5), "Reference Discovery").
+-- Refs: names below refs/ with their ids (git-check-ref-format(1)). The order is the byte order of the names, "sorted
+-- by name according to the C locale ordering" (gitprotocol-pack(5), "Reference Discovery").
 use Rattle.std.specs.Cmp.Lexicographic.{slice_cmp}
 use Rattle.std.specs.List.{AllByRecursion, starts_with}
 use Rattle.std.specs.List.Sorted.{IsStrictlySortedBy}
@@ -13,39 +13,38 @@ use Rattle.std.specs.declared.cmp.Ordering.TheVariants.{Less}
 use Rattle.gname.specs.Ids.{Id}
 use Rattle.gname.specs.Names.{Name, IsRefName, head_name}
 
--- each ref is a name and an id
+-- a list of refs, each with its name and its id
 abbrev pub RefList : Type 0
 RefList = List (Name × Id)
 
--- whether a ref has the name
+-- whether the name of a ref is `name`
 abbrev pub has_name : Name → Name × Id → Bool
 has_name name ref = bytes_eq ref.0 name
 
--- the id at which the name stands
+-- the id of the ref with this name
 abbrev pub ref_at : RefList → Name → Option Id
 ref_at refs name = option_map (λ ref. ref.1) (find (has_name name) refs)
 
--- a ref name below refs/, which is any but HEAD
+-- a ref name below refs/, which is any ref name except HEAD
 pub record IsBelowRefs (name : Name) : Type 0 where
   pub well_formed : IsRefName name
   pub below : starts_with nat_eq name (codes "refs/") ≡ true
 
--- every name of the refs is below the name
+-- every ref has a name that sorts before `name`
 abbrev pub AreBelow : RefList → Name → Type 0
 AreBelow refs name = AllByRecursion (λ other. slice_cmp nat_cmp other name ≡ Less) (keys_of refs)
 
--- the most refs, HEAD not counted
+-- the maximum number of refs, without HEAD
 abbrev pub max_refs : ℕ
 max_refs = 65536
 
--- refs: each name is below refs/ and below the names after it, byte by byte, and there are not too many
+-- a valid list of refs: names below refs/ in strictly ascending byte order, and not too many
 pub record IsRefs (refs : RefList) : Type 0 where
   pub names : All (λ ref. IsBelowRefs ref.0) refs
   pub ascending : IsStrictlySortedBy (slice_cmp nat_cmp) (keys_of refs)
   pub few : length refs ≤ max_refs
 
--- the name stands at the id, and every other name where it stood; no other ref comes, and one more where the name
--- is new
+-- the name is set to the id: every other ref is unchanged, and the list is one longer if the name is new
 pub record SetsRef (old new : RefList) (name : Name) (id : Id) : Type 0 where
   pub this_name : ref_at new name ≡ Some id
   pub others : (other : Name) → other ≢ name → ref_at new other ≡ ref_at old other
@@ -53,6 +52,6 @@ pub record SetsRef (old new : RefList) (name : Name) (id : Id) : Type 0 where
   pub one_more : ref_at old name ≡ None → length new ≡ length old + 1
   pub as_many : ref_at old name ≢ None → length new ≡ length old
 
--- a ref can't be set: the name is HEAD, or it is new where there are as many as can be
+-- a name that can't be set: HEAD, or a new name when the list already has the maximum number of refs
 abbrev pub CannotSet : RefList → Name → Type 0
 CannotSet refs name = (name ≡ head_name) ⊎ ((ref_at refs name ≡ None) × (length refs ≡ max_refs))

@@ -1,11 +1,11 @@
--- The table of faults: the number, the name and the text of each.
+-- The table of faults, with the number, the name and the text of each fault.
 use Rattle.std.specs.Prelude.{ℕ, List, codes}
 use Rattle.gname.specs.Faults.{FaultRow, name_fault_row, name_fault_text}
 use Rattle.gname.specs.declared.faults.NameFault.TheVariants as name
 use Rattle.grefs.specs.declared.refspec.fault.SpecFault.{SpecFault}
 use Rattle.grefs.specs.declared.refspec.fault.SpecFault.TheVariants.{BadSpec, Memory}
 
--- why a text was not read as a refspec
+-- the number and the name of each fault of parsing a refspec
 abbrev pub spec_fault_row : SpecFault → FaultRow
 spec_fault_row BadSpec = (87, codes "BadSpec")
 spec_fault_row Memory = name_fault_row name.Memory

@@ -1,5 +1,5 @@
--- Refspecs (git-fetch(1), "<refspec>"): which refs of another repository are fetched, and which refs here they move.
--- Git takes more forms: that `SRC:DST` alone is taken, with `+` before it or not, is our own rule.
+-- Refspecs (git-fetch(1), "<refspec>"): the refs of a remote repository to fetch, and the local refs to update. Only
+-- the form `SRC:DST`, with an optional `+` before it, is accepted. Git accepts more forms.
 use Rattle.std.specs.List.{ends_with, starts_with}
 use Rattle.std.specs.Prelude.{◌≡◌, ℕ, Bool, true, false, ◌&&◌, List, [], ◌++◌, length, drop, codes, nat_eq, nat_lt}
 use Rattle.std.specs.Prelude.{if◌then◌else◌, Option, None, Some, Result, Ok, Err}
@@ -10,8 +10,8 @@ use Rattle.grefs.specs.RefLists.{IsBelowRefs}
 use Rattle.grefs.specs.declared.refspec.fault.SpecFault.{SpecFault}
 use Rattle.grefs.specs.declared.refspec.fault.SpecFault.TheVariants.{BadSpec, Memory}
 
--- a refspec: whether it moves refs by force, whether it is a pattern, and its sides; the side of a pattern is what
--- stands before its `*`
+-- a refspec: whether it forces updates, whether it is a pattern, its source and its destination; each side of a pattern
+-- is stored without its `*`
 pub record Refspec : Type 0 where
   pub forced : Bool
   pub pattern : Bool
@@ -20,17 +20,17 @@ pub record Refspec : Type 0 where
 
 -- ---- texts
 
--- the text of a side
+-- the text of the source or of the destination
 abbrev pub side_text : Bool → List ℕ → List ℕ
 side_text true side = side ++ codes "*"
 side_text false side = side
 
--- `+` where refs are moved by force
+-- `+` if the refspec forces updates, otherwise nothing
 abbrev pub force_text : Bool → List ℕ
 force_text true = codes "+"
 force_text false = []
 
--- the sides, with `:` between them
+-- the source and the destination, with `:` between them
 abbrev pub sides_text : Refspec → List ℕ
 sides_text spec = side_text spec.pattern spec.source ++ (codes ":" ++ side_text spec.pattern spec.destination)
 
@@ -39,50 +39,50 @@ abbrev pub spec_text : Refspec → List ℕ
 spec_text spec =
     force_text spec.forced ++ sides_text spec
 
--- what stands before a `*`: it ends with a slash, and is below refs/, as a name with `x` for the `*`
+-- the part of a pattern before its `*`: it ends with a slash, and with `x` in place of the `*` it is a ref name below
+-- refs/
 pub record IsStem (stem : List ℕ) : Type 0 where
   pub slash : ends_with nat_eq stem (codes "/") ≡ true
   pub name : IsBelowRefs (stem ++ codes "x")
 
--- the sides of a refspec: a ref name and one below refs/; of a pattern two stems
+-- valid sides of a refspec: a ref name and a ref name below refs/, or two stems for a pattern
 abbrev pub AreSides : Bool → List ℕ → List ℕ → Type 0
 AreSides false source destination = IsRefName source × IsBelowRefs destination
 AreSides true source destination = IsStem source × IsStem destination
 
--- a refspec has sides of its kind
+-- a valid refspec: its sides are valid
 abbrev pub IsRefspec : Refspec → Type 0
 IsRefspec spec = AreSides spec.pattern spec.source spec.destination
 
--- the text is that of the refspec
+-- the text is that of this valid refspec
 pub record IsSpec (text : List ℕ) (spec : Refspec) : Type 0 where
   pub written : text ≡ spec_text spec
   pub sides : IsRefspec spec
 
--- what reading answers where the refspec is to be one with P: it; that there is none; or, where there is one, out of
--- memory
+-- the result of parsing a refspec that satisfies P: the refspec, `BadSpec` if there is none, or `Memory`
 abbrev pub Reads : (Refspec → Type 0) → Result Refspec SpecFault → Type 0
 Reads P (Ok spec) = P spec
 Reads P (Err BadSpec) = (spec : Refspec) → ¬ (P spec)
 Reads P (Err Memory) = (spec : Refspec) × P spec
 
--- a text is that of one refspec at most
+-- a text is the text of at most one refspec
 abbrev pub OneReading : Type 0
 OneReading = (text : List ℕ) (a b : Refspec) → IsSpec text a → IsSpec text b → a ≡ b
 
--- ---- what a refspec does with the names of refs
+-- ---- the mapping of ref names
 
--- whether the source matches a name: it is that name; that of a pattern begins the name, which goes on
+-- whether the source matches a name: the source is that name, or the source of a pattern is a proper prefix of it
 abbrev pub matches : Refspec → Name → Bool
 matches spec name =
     if spec.pattern then starts_with nat_eq name spec.source && nat_lt (length spec.source) (length name)
     else bytes_eq name spec.source
 
--- where a name that matches goes: to the destination; that of a pattern is followed by the rest of the name
+-- the destination of a name that matches: for a pattern, the rest of the name follows the destination's stem
 abbrev pub destination_of : Refspec → Name → List ℕ
 destination_of spec name = spec.destination ++ drop (length spec.source) name
 
--- what asking for the destination of a name answers: none, where it doesn't match; else the destination, or why it is
--- not made a ref name
+-- the result of mapping a name to its destination: `None` if the name does not match, otherwise the destination or the
+-- fault of its name
 abbrev pub FindsDestination : Refspec → Name → Result (Option Name) NameFault → Type 0
 FindsDestination spec name (Ok None) = matches spec name ≡ false
 FindsDestination spec name (Ok (Some destination)) =

@@ -1,4 +1,4 @@
-//! Why a call on refs fails.
+//! The faults of calls on refs.
 
 ghost use Rattle.std.specs.Prelude.{◌≡◌, Some};
 ghost use Rattle.grefs.specs.Faults.{refs_fault_row, refs_fault_text};
@@ -9,7 +9,7 @@ use std::alloc::{AllocError, AllocFailed};
 use std::error::Error;
 use std::fmt;
 
-/// Why a ref was not set.
+/// The reason why a ref was not set.
 #[derive(Clone, Copy, Debug, PartialEq, Eq, Drop)]
 pub enum RefsFault {
     /// The ref can't be set: its name is `HEAD`, or there would be more than `MAX_REFS` refs.

@@ -1,4 +1,4 @@
-//! HEAD and its target.
+//! The value of `HEAD`, and the target of a symbolic `HEAD`.
 
 ghost use Rattle.std.specs.Prelude.{◌≡◌, ◌≢◌, IfOk, MatchOption};
 ghost use Rattle.gname.specs.Names.{head_name};
@@ -10,7 +10,7 @@ use gname::{Oid, RefName};
 use std::alloc::{AllocError, Allocator, Global};
 use std::marker::Model;
 
-/// A name to which HEAD can point, a symref's target (gitglossary(7)): any name below `refs/`.
+/// The target of a symbolic `HEAD` (gitglossary(7), "symref"): any ref name below `refs/`.
 #[derive(Debug, Drop)]
 pub struct Target<A: Allocator + Copy = Global> {
     name: RefName<A>,
@@ -28,7 +28,7 @@ impl<A: Allocator + Copy> Model for Target<A> {
 }
 
 impl<A: Allocator + Copy> Target<A> {
-    /// Returns the name as a target, or `None` if it is HEAD itself.
+    /// Returns the name as a target, or `None` if the name is `HEAD` itself.
     pub fn new(name: RefName<A>) -> Option<Target<A>>
         ensures { MatchOption result (name ≡ head_name)
             (λ target. (target ≡ name) × (name ≢ head_name)) }
@@ -49,7 +49,7 @@ impl<A: Allocator + Copy> Target<A> {
         Ok(Target { name })
     }
 
-    /// Returns the name.
+    /// Returns the name of the target.
     pub fn name(&self) -> &RefName<A>
         ensures name { result.now ≡ self.now }
         ensures below { IsBelowRefs self.now }
@@ -58,19 +58,19 @@ impl<A: Allocator + Copy> Target<A> {
     }
 }
 
-/// The value of HEAD.
+/// The value of `HEAD`.
 #[derive(Debug, Drop)]
 pub enum Head<A: Allocator + Copy = Global> {
-    /// There is no HEAD.
+    /// The repository has no `HEAD`.
     None,
-    /// HEAD is detached at an id.
+    /// A detached `HEAD` with its id.
     Id(Oid),
-    /// HEAD points to a ref. It is unborn if there is no such ref.
+    /// A symbolic `HEAD` with its target. `HEAD` is unborn if the target does not exist.
     Symref(Target<A>),
 }
 
 impl<A: Allocator + Copy> Head<A> {
-    /// Returns a copy of the head. Fails only if out of memory.
+    /// Returns a copy of the `HEAD` value. Fails only if out of memory.
     pub fn copy_in(&self, alloc: A) -> Result<Head<A>, AllocError>
         ensures { IfOk result (λ head. head ≡ self.now) }
     {
@@ -81,7 +81,7 @@ impl<A: Allocator + Copy> Head<A> {
         }
     }
 
-    /// A law: the properties of each head.
+    /// A law: the target of a symbolic `HEAD` is below `refs/`.
     pub fn laws(&self)
         ensures { PointsBelowRefs self.now }
     {

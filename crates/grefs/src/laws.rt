@@ -1,4 +1,4 @@
-//! The laws of refs: functions without effect whose contracts are the laws.
+//! The laws of refs. Each function does nothing at run time, and its contract states the law.
 
 ghost use Rattle.std.specs.Prelude.{◌≡◌};
 ghost use Rattle.grefs.specs.Laws.{RefsAreTheirLookUps, RefsComeInOrder};
@@ -6,12 +6,12 @@ ghost use Rattle.grefs.specs.RefLists.{max_refs};
 
 use crate::MAX_REFS;
 
-/// The constant is the limit that the definitions use.
+/// [`MAX_REFS`] equals the limit of the specs, `max_refs`.
 pub fn limits_are_the_constants()
     ensures { MAX_REFS ≡ max_refs }
 {}
 
-/// Each ref could have been added after the refs before it.
+/// Each ref of a list could have been appended to the refs before it.
 #[tactic(auto, using(crate::proofs::RefLemmas::refs_come_in_order))]
 pub fn refs_come_in_order()
     ensures { RefsComeInOrder }

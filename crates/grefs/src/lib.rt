@@ -1,36 +1,37 @@
-//! The refs of a repository (names below `refs/` with their ids), and its HEAD.
+//! The refs of a repository (names below `refs/` with their ids), and its `HEAD`.
 //!
 //! # Proved
 //!
-//! - [`Refs`] are in strictly ascending order of their names' bytes, at most [`MAX_REFS`] of them,
-//!   and no name is `HEAD`. Look-ups return the id of the name, or `None` if there is no such ref.
-//! - [`Refs::set`] sets one name to an id, leaves all other refs and adds no other ref, or changes
-//!   nothing. It fails with `Refs` exactly for `HEAD` and for one name too many, and never for a
-//!   name that already has a ref.
-//! - A copy of refs, of a target or of a head is equal to the original.
-//! - A [`Target`] is a name below `refs/`: any name but `HEAD`.
-//! - Each fault has the number, the name and the text of its row.
-//! - No call panics, overflows or reads out of bounds, and each returns.
+//! - [`Refs`] is a list of at most [`MAX_REFS`] refs in strictly ascending byte order of their
+//!   names. No ref has the name `HEAD`. A look-up returns the id of a name, or `None` if no ref has
+//!   that name.
+//! - [`Refs::set`] sets one name to an id and leaves all other refs unchanged, or fails and changes
+//!   nothing. It fails with `Refs` exactly for `HEAD`, and for a new name after [`MAX_REFS`] refs.
+//!   It never fails for a name that already has a ref.
+//! - A copy of refs, of a target or of a `HEAD` value is equal to the original.
+//! - A [`Target`] is any ref name below `refs/`.
+//! - Each fault has the number, the name and the text of its row in the table
+//!   (`specs/Faults.antt`).
+//! - No call panics, overflows or reads out of bounds, and every call returns.
 //!
-//! By [`laws`], each ref could have been added after the refs before it. Two lists of refs are
-//! equal if every name has the same id in both.
+//! [`laws`] proves that each ref could have been appended to the refs before it. It also proves
+//! that two lists of refs are equal if every name has the same id in both.
 //!
 //! # Only tested
 //!
-//! No call reports out of memory if there is enough.
+//! No call reports out of memory while enough memory is available.
 //!
 //! # What the contracts do not rule out
 //!
-//! Setting or adding a new name, and copying, may report out of memory as often as they like.
-//! `Refs::copy_in` may take its memory from the allocator of the original and not from the given
-//! one, since no clause says which allocator is used. Each call may take as long as it likes, and
-//! more memory than it needs.
+//! A call that adds a new name or makes a copy may report out of memory at any time.
+//! `Refs::copy_in` may allocate from the allocator of the original, because no clause names the
+//! allocator. Each call may take any amount of time, and more memory than it needs.
 //!
-//! Formatting a fault may return an error (`fmt::Error`) although the text would be right.
+//! Formatting a fault may return an error (`fmt::Error`) without need.
 //!
 //! # Stands on
 //!
-//! `gname` for names and ids.
+//! The crate uses `gname` for names and ids.
 #![tactic(auto)]
 
 mod fault;

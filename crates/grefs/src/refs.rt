@@ -11,7 +11,7 @@ use gname::{Oid, RefName};
 use std::alloc::{AllocError, Allocator, Global};
 use std::marker::Model;
 
-/// The maximum number of refs, without HEAD.
+/// The maximum number of refs, not counting `HEAD`.
 pub const MAX_REFS: usize = 65_536;
 
 /// Names below `refs/` with their ids, in the byte order of the names.
@@ -48,14 +48,15 @@ impl<A: Allocator + Copy> Refs<A> {
         self.refs.len()
     }
 
-    /// A law: the properties of all refs together.
+    /// A law: the refs have names below `refs/` in strictly ascending byte order, and are at most
+    /// [`MAX_REFS`].
     pub fn laws(&self)
         ensures { IsRefs self.now }
     {
         let _ = &self.refs;
     }
 
-    /// Whether there is no ref.
+    /// Returns whether the list has no refs.
     pub fn is_empty(&self) -> bool
         ensures { IsTrue result ↔ (self.now ≡ []) }
     {
@@ -87,7 +88,7 @@ impl<A: Allocator + Copy> Refs<A> {
         Ok(Refs { refs })
     }
 
-    /// Returns the id of a name, or `None` if there is no such ref.
+    /// Returns the id of the ref with this name, or `None` if no ref has this name.
     pub fn get(&self, name: &RefName<A>) -> Option<Oid>
         ensures { result ≡ ref_at self.now name.now }
     {
@@ -97,7 +98,8 @@ impl<A: Allocator + Copy> Refs<A> {
         }
     }
 
-    /// Returns the ref at a position in the order of the names, from 0, or `None` after the last.
+    /// Returns the ref at a position in the order of the names, counted from 0, or `None` after the
+    /// last ref.
     pub fn at(&self, place: usize) -> Option<(&RefName<A>, Oid)>
         ensures pair { MatchOption result (length self.now ≤ place) (λ pair.
             slice_get self.now place ≡ Some (pair.0.now, pair.1)) }
@@ -107,8 +109,8 @@ impl<A: Allocator + Copy> Refs<A> {
         Some((&pair.0, pair.1))
     }
 
-    /// Returns the name of the ref at a position in the order of the names, from 0. It does not
-    /// allocate, and it consumes the refs.
+    /// Consumes the refs, and returns the name at a position in the order of the names, counted
+    /// from 0. It does not allocate.
     pub fn into_name(self, place: usize) -> RefName<A>
         requires { place < length self }
         ensures { IfSome (slice_get self place) (λ ref. result ≡ ref.0) }
@@ -117,7 +119,7 @@ impl<A: Allocator + Copy> Refs<A> {
         refs.swap_remove(place).0
     }
 
-    /// Whether a name of these bytes is greater than every name of the refs.
+    /// Returns whether the bytes of `name` sort after the name of every ref.
     pub fn are_below(&self, name: &[u8]) -> bool
         ensures { IsTrue result ↔ AreBelow self.now name.now }
     {
@@ -127,7 +129,7 @@ impl<A: Allocator + Copy> Refs<A> {
         }
     }
 
-    /// Adds a ref after the others. If out of memory, the refs are unchanged.
+    /// Appends a ref. If out of memory, the call fails and leaves the refs unchanged.
     pub fn push(&mut self, name: RefName<A>, id: Oid) -> Result<(), AllocError>
         requires name { IsBelowRefs name }
         requires above { AreBelow self.old name }
@@ -142,9 +144,9 @@ impl<A: Allocator + Copy> Refs<A> {
 
     /// Sets a name to an id.
     ///
-    /// Fails with `Refs` if the name is HEAD, or if it is new and there are `MAX_REFS` refs. Fails
-    /// with `Memory` if out of memory. After a failure the refs are unchanged. A name that already
-    /// has a ref needs no memory.
+    /// Fails with `Refs` if the name is `HEAD`, or if the name is new and there are already
+    /// `MAX_REFS` refs. Fails with `Memory` if out of memory. A failed call leaves the refs
+    /// unchanged. Setting a name that already has a ref does not allocate.
     pub fn set(&mut self, name: RefName<A>, id: Oid) -> Result<(), RefsFault>
         ensures ok { OnOk result (SetsRef self.old self.new name id) }
         ensures held { ref_at self.old name ≢ None → IsTrue (is_ok result) }
@@ -176,7 +178,7 @@ impl<A: Allocator + Copy> Refs<A> {
     }
 }
 
-/// Whether a name is below `refs/`, as any name but `HEAD` is.
+/// Returns whether a name is below `refs/`, which every ref name except `HEAD` is.
 pub fn is_below_refs<A: Allocator + Copy>(name: &RefName<A>) -> bool
     ensures { IsTrue result ↔ IsBelowRefs name.now }
 {
@@ -198,7 +200,7 @@ fn copy_refs<A: Allocator + Copy>(
     Ok(copies)
 }
 
-// Returns the position of the name, or the position at which it would be inserted.
+// Returns the position of the name, or in `Err` the position at which the name would be inserted.
 fn place_of<A: Allocator + Copy>(
     refs: &[(RefName<A>, Oid)],
     name: &RefName<A>,

@@ -1,15 +1,17 @@
-//! Refspecs (git-fetch(1), "<refspec>"): which refs of another repository are fetched, and which
-//! refs here they update.
+//! Refspecs (git-fetch(1), "<refspec>"): the refs of a remote repository to fetch, and the local
+//! refs to update.
 //!
 //! # Proved
 //!
-//! - [`Spec::parse`] accepts exactly the texts of refspecs, and keeps what they say. A text is that
-//!   of at most one refspec. Out of memory is reported only for the text of a refspec.
-//! - [`Spec::matches`] says which names the source matches. [`Spec::destination`] maps such a name
-//!   to its destination, or reports why that is not a ref name. [`Spec::can_take`] says whether it
-//!   is one, and does not allocate.
-//! - Each fault has the number, the name and the text of its row.
-//! - No call panics, overflows or reads out of bounds, and each returns.
+//! - [`Spec::parse`] accepts exactly the texts of refspecs, and returns the refspec that the text
+//!   describes. A text describes at most one refspec. [`Spec::parse`] reports out of memory only
+//!   for the text of a refspec.
+//! - [`Spec::matches`] returns whether the source matches a name. [`Spec::destination`] maps a
+//!   matching name to its destination, or reports why that destination is not a ref name.
+//!   [`Spec::can_take`] returns whether the destination is a ref name, and does not allocate.
+//! - Each fault has the number, the name and the text of its row in the table
+//!   (`specs/RefspecFaults.antt`).
+//! - No call panics, overflows or reads out of bounds, and every call returns.
 
 mod fault;
 pub mod laws;

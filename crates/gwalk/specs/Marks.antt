@@ -1,4 +1,4 @@
--- Marks of ids by their positions in store order. A position past the end has no mark.
+-- Marks of ids by their positions in insertion order. A position past the end is unmarked.
 use Rattle.std.specs.Prelude.{◌≡◌, ◌≤◌, ◌⊎◌, ◌↔◌, ℕ, Bool, true, false, cond, List, [], ◌∷◌, length, slice_get, All}
 use Rattle.std.specs.Prelude.{slice_index_or, sum_by, Contains, Some}
 use Rattle.gname.specs.Ids.{Id}
@@ -15,29 +15,30 @@ AreConnected {A} g marks =
     (position : ℕ) → slice_index_or marks position false ≡ true →
     (entry : Entry A) × (slice_get g position ≡ Some entry) × IsConnected g entry.id
 
--- the same objects where the marked ones have no parents
+-- the same graph, but without the parents of marked objects
 abbrev pub stop_at : {A : Type 0} → List Bool → List (Entry A) → List (Entry A)
 stop_at [] g = g
 stop_at (mark ∷ marks) [] = []
 stop_at (mark ∷ marks) (entry ∷ g) =
     cond mark (entry_of entry.id (node_of entry.node.kind [])) entry ∷ stop_at marks g
 
--- the id is held, and its position has no mark
+-- the graph contains the id, and the id's position is unmarked
 abbrev pub IsUnmarked : {A : Type 0} → List (Entry A) → List Bool → Id → Type 0
 IsUnmarked g marks a = (position : ℕ) × (position_of g a ≡ Some position) × (slice_index_or marks position false ≡ false)
 
--- reaching by steps that leave unmarked ids: an id reaches itself, and where it is held and has no mark all that a
--- parent of it reaches so
+-- reachability that does not continue past marked ids: an id reaches itself, and an unmarked id in the graph reaches
+-- all that its parents reach
 pub data ReachesPast {A : Type 0} (g : List (Entry A)) (marks : List Bool) : Id → Id → Type 0 where
   there : {a : Id} → ReachesPast g marks a a
   further : {a b c : Id} → IsUnmarked g marks a → HasParent g a b →
       ReachesPast g marks b c → ReachesPast g marks a c
 
--- one of the ids reaches `b` so
+-- one of the ids reaches `b` without continuing past marked ids
 abbrev pub SomeReachesPast : {A : Type 0} → List (Entry A) → List Bool → List Id → Id → Type 0
 SomeReachesPast g marks ids b = (a : Id) × Contains ids a × ReachesPast g marks a b
 
--- so many held ids do some ids reach so, and so many parents do the unmarked ones of these have
+-- the number of ids that some ids reach without continuing past marked ids, and the number of parents of the unmarked
+-- ones
 pub record CountsPast {A : Type 0} (g : List (Entry A)) (marks : List Bool) (ids : List Id)
     (held parents : ℕ) : Type 0 where
   pub list : List (Entry A)
@@ -47,8 +48,7 @@ pub record CountsPast {A : Type 0} (g : List (Entry A)) (marks : List Bool) (ids
   pub unmarked : Selects (λ entry. IsUnmarked g marks entry.id) list left
   pub parents_are : parents ≡ sum_by (λ entry. length entry.node.parents) left
 
--- where marked objects have lost their parents, ids are reached by steps that leave unmarked ids; and what is counted
--- there is counted so
+-- removing the parents of marked objects is the same as not continuing past them, for reachability and for counts
 abbrev pub StopsAtMarks : Type 0 → Type 0
 StopsAtMarks A =
     (g : List (Entry A)) (marks : List Bool)
@@ -56,23 +56,23 @@ StopsAtMarks A =
     × ((ids : List Id) (held parents : ℕ) → IdsDiffer g
     → CountsReached (stop_at marks g) ids held parents → CountsPast g marks ids held parents)
 
--- the ids that some ids reach were marked, and all other marks are as before
+-- all ids that some ids reach are now marked, and the other marks are unchanged
 pub record MarksReached {A : Type 0} (g : List (Entry A)) (ids : List Id) (old new : List Bool) : Type 0 where
   pub each : (position : ℕ) (entry : Entry A) → slice_get g position ≡ Some entry →
       (slice_index_or new position false ≡ true) ↔ ((slice_index_or old position false ≡ true) ⊎ SomeReaches g ids entry.id)
   pub others : (position : ℕ) → length g ≤ position → slice_index_or new position false ≡ slice_index_or old position false
 
--- marks stay true where a graph grows
+-- marks of connected ids stay marks of connected ids when the graph grows
 abbrev pub MarksStayConnected : Type 0 → Type 0
 MarksStayConnected A = (g h : List (Entry A)) (marks : List Bool) → Grows g h → AreConnected g marks → AreConnected h marks
 
--- the marks cover the ids: all that one of these reaches has its mark
+-- the marks cover the ids: every id that one of the given ids reaches is marked
 abbrev pub Covers : {A : Type 0} → List (Entry A) → List Id → List Bool → Type 0
 Covers {A} g ids marks =
     (position : ℕ) (entry : Entry A) → slice_get g position ≡ Some entry → SomeReaches g ids entry.id
     → slice_index_or marks position false ≡ true
 
--- marks that cover connected ids still do where a graph grows
+-- marks that cover connected ids still cover them when the graph grows
 abbrev pub CoveringStays : Type 0 → Type 0
 CoveringStays A =
     (g h : List (Entry A)) (ids : List Id) (marks : List Bool)

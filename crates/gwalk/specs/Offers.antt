@@ -1,5 +1,5 @@
--- Offering ids batch by batch: a walk from the tips of a client that goes on where it was (gitprotocol-v2(5), "fetch":
--- `have`). Positions are those in store order.
+-- Offering of ids in batches: a walk from a client's tips that is resumed for each batch (gitprotocol-v2(5), "fetch":
+-- `have`). Positions are in insertion order.
 use Rattle.std.specs.Prelude.{◌≡◌, ◌↔◌, ℕ, suc, Bool, true, false, List, [], ◌++◌, length, slice_index_or, All, Option}
 use Rattle.std.specs.Prelude.{Some}
 use Rattle.gname.specs.Ids.{Id}
@@ -11,9 +11,8 @@ use Rattle.gdag.specs.Reach.{SomeReaches}
 use Rattle.gwalk.specs.Walks.{HasMet, places}
 use Rattle.gwalk.specs.declared.offer.Offers.{Offers}
 
--- a walk from tips has met these ids, and has taken up so many of them. It is in level k + 1 at most: the ids of the
--- levels down to k are those taken up and the rest; after them come new parents; and with the parents of the rest the
--- next level would be whole
+-- A walk from the tips has met these ids, and has visited the first `at` of them. The walk has met all of levels 0 to k
+-- and part of level k + 1. The parents of the unvisited ids of level k complete level k + 1.
 pub record IsWalked {A : Type 0} (g : List (Entry A)) (tips ids : List Id) (at : ℕ) : Type 0 where
   pub k : ℕ
   pub done : List Id
@@ -24,21 +23,21 @@ pub record IsWalked {A : Type 0} (g : List (Entry A)) (tips ids : List Id) (at :
   pub position : length done ≡ at
   pub ahead : ids ++ new_ids ids (parents_of_each g rest) ≡ levels_below g tips (suc (suc k))
 
--- the walk has taken up the ids of the front, and not those of the back
+-- the state of a walk that has visited the ids of `front`, and has met but not visited the ids of `back`
 pub record IsUnderway {A : Type 0} (g : List (Entry A)) (tips front back : List Id) (marks : List Bool) (met : List ℕ)
     (lost : Option Id) (parents at : ℕ) : Type 0 where
   pub walked : IsWalked g tips (front ++ back) (length front)
   pub has_met : HasMet g (front ++ back) marks met lost parents
   pub position : length (places g front) ≡ at
 
--- the marked ids are those that one of the ids reaches
+-- the marked ids are exactly those that one of the given ids reaches
 abbrev pub AreReached : {A : Type 0} → List (Entry A) → List Id → List Bool → Type 0
 AreReached g ids marks =
     (a : Id) (position : ℕ) → position_of g a ≡ Some position
     → (slice_index_or marks position false ≡ true) ↔ SomeReaches g ids a
 
--- ids were offered from these tips, where these are common: the walk from the tips is underway, and may offer none of
--- the ids that it has taken up; what the common ids reach is marked, and what was offered
+-- The state after some batches were offered. The walk from the tips has nothing more to offer among the visited ids.
+-- The sent ids and the ids that common ids reach are marked.
 pub record AreOffers {A : Type 0} (g : List (Entry A)) (tips commons sent : List Id) (offers : Offers A) : Type 0 where
   pub front : List Id
   pub back : List Id

@@ -1,4 +1,4 @@
--- A walk: what it keeps, and what it ends with. Positions are those in store order.
+-- The state of a walk and its final result. Positions are in insertion order.
 use Rattle.std.specs.Prelude.{◌≡◌, ◌≤◌, ◌<◌, ◌↔◌, ℕ, Bool, true, false, List, [], ◌∷◌, length, slice_get}
 use Rattle.std.specs.Prelude.{slice_index_or, sum_by, All, Contains, Option, None, Some}
 use Rattle.std.specs.List.{filter_map}
@@ -8,11 +8,11 @@ use Rattle.gobject.specs.Objects.{node_at, position_of}
 use Rattle.gdag.specs.Graphs.{Holds}
 use Rattle.gdag.specs.Levels.{AreLevels}
 
--- the positions of those of some ids that are held, in order
+-- the positions of the ids that the graph contains, in order
 abbrev pub places : {A : Type 0} → List (Entry A) → List Id → List ℕ
 places g ids = filter_map (position_of g) ids
 
--- how many parents the nodes of some entries have
+-- the total number of parents of some entries
 abbrev pub parents_in : {A : Type 0} → List (Entry A) → ℕ
 parents_in list = sum_by (λ entry. length entry.node.parents) list
 
@@ -23,19 +23,19 @@ marked_entries (entry ∷ g) [] = []
 marked_entries (entry ∷ g) (true ∷ marks) = entry ∷ marked_entries g marks
 marked_entries (entry ∷ g) (false ∷ marks) = marked_entries g marks
 
--- the marked ids are those with P
+-- the marked ids are exactly those that satisfy P
 pub record AreMarked {A : Type 0} (P : Id → Type 0) (g : List (Entry A)) (marks : List Bool) : Type 0 where
   pub long : length marks ≡ length g
   pub each : (position : ℕ) (entry : Entry A) → slice_get g position ≡ Some entry →
       (slice_index_or marks position false ≡ true) ↔ P entry.id
 
--- one of the ids that is not held, where there is one
+-- one of the ids that the graph does not contain, or `None` if it contains all
 abbrev pub IsLost : {A : Type 0} → List (Entry A) → List Id → Option Id → Type 0
 IsLost g ids None = (a : Id) → Contains ids a → Holds g a
 IsLost g ids (Some b) = Contains ids b × (node_at g b ≡ None)
 
--- what a walk keeps when it has met some ids: a mark for each that is held; the positions of these, in order, once
--- each; one that is not held; and how many parents the held ones have
+-- the state of a walk that has met some ids: marks and distinct positions of the ids in the graph, an id that is not in
+-- the graph, and the number of parents
 pub record HasMet {A : Type 0} (g : List (Entry A)) (ids : List Id) (marks : List Bool) (met : List ℕ)
     (lost : Option Id) (parents : ℕ) : Type 0 where
   pub long : length marks ≡ length g
@@ -47,7 +47,7 @@ pub record HasMet {A : Type 0} (g : List (Entry A)) (ids : List Id) (marks : Lis
   pub parents_are : parents ≡ parents_in (marked_entries g marks)
   pub marked : (a : Id) (p : ℕ) → position_of g a ≡ Some p → (slice_index_or marks p false ≡ true) ↔ Contains ids a
 
--- what a walk from some ids ends with: it has met the ids of all levels about them
+-- the final state of a walk from some ids: it has met all ids that they reach
 pub record IsWalk {A : Type 0} (g : List (Entry A)) (starts : List Id) (marks : List Bool) (met : List ℕ)
     (lost : Option Id) (parents : ℕ) : Type 0 where
   pub ids : List Id

@@ -1,4 +1,4 @@
-//! Missing ancestors of some ids.
+//! The search for missing ancestors of some ids.
 
 ghost use Rattle.std.specs.Prelude.{◌≡◌, IfOk, IfErr, IsTrue, is_ok};
 ghost use Rattle.gdag.specs.Graphs.{IsOrdered};
@@ -12,19 +12,20 @@ use gdag::{Graph, GraphFault};
 use gname::Oid;
 use std::alloc::Allocator;
 
-/// The size of a walk.
+/// The number of ids and of parents that a walk visited.
 #[derive(Clone, Copy, Debug, PartialEq, Eq)]
 pub struct Count {
-    /// The number of ids visited. No id is visited twice.
+    /// The number of visited ids of the graph. No id is visited twice.
     pub ids: u64,
-    /// The number of parents of their nodes, without the parents of marked ids.
+    /// The total number of parents of the visited nodes, without the parents of marked ids.
     pub parents: u64,
 }
 
 /// Returns an id that the graph does not contain and that one of the given ids reaches. Returns
 /// `None` if each of the given ids is connected.
 ///
-/// In an ordered graph it looks the ids up, and does not allocate. Fails only with `Memory`.
+/// In an ordered graph the call only looks the ids up, and does not allocate. Fails only with
+/// `Memory`.
 pub fn missing<A: Allocator + Copy>(
     graph: &Graph<A>,
     ids: &[Oid],
@@ -43,8 +44,8 @@ pub fn missing<A: Allocator + Copy>(
     Ok(missing)
 }
 
-/// Returns the result of `missing`, the number of ids of the graph that the given ids reach, and
-/// the number of their parents.
+/// Returns the result of `missing`, and the number of ids and of parents in the graph that the
+/// given ids reach.
 ///
 /// Fails only with `Memory`.
 pub fn missing_counted<A: Allocator + Copy>(
@@ -59,9 +60,8 @@ pub fn missing_counted<A: Allocator + Copy>(
     missing_known(graph, ids, &ConnectedMarks::new(graph.allocator()))
 }
 
-/// Returns the result of `missing`, by a walk that stops at marked ids. The count has the ids of
-/// the graph that the given ids reach by steps from unmarked ids, and the parents of the unmarked
-/// ones.
+/// Returns the result of `missing`, by a walk that does not continue past marked ids. The count
+/// covers the ids of the graph that the walk visits, and the parents of the unmarked ones.
 ///
 /// Fails only with `Memory`.
 pub fn missing_known<A: Allocator + Copy>(

@@ -1,4 +1,4 @@
-//! The ids that both ends have, and the ids that reach them.
+//! The ids that both sides have, and the ids that reach such a common id.
 
 ghost use Rattle.std.specs.Prelude.{◌≡◌, ◌↔◌, ◌<◌, [], List, Ok, Some, length, not, is_some, filter, IfOk, IfErr, IsTrue, false, All, Contains};
 ghost use Rattle.std.specs.List.{Any};
@@ -31,11 +31,11 @@ pub fn common_ids<A: Allocator + Copy>(
     Ok(ids_at(graph, walk.met.as_slice())?)
 }
 
-/// Whether the first id reaches the second: they are the same id, or a parent of the first reaches
-/// the second. In the latter case the graph contains the first.
+/// Returns whether the id `a` reaches the id `b`. An id reaches itself, and an id of the graph
+/// reaches all that its parents reach.
 ///
-/// In an ordered graph it passes once over the objects from the second id to the first. In any
-/// other graph it walks from the first id, but not past the second. Fails only with `Memory`.
+/// In an ordered graph the call makes one pass over the objects from `b` to `a`. In any other graph
+/// it walks from `a`, and stops at `b`. Fails only with `Memory`.
 pub fn reaches<A: Allocator + Copy>(graph: &Graph<A>, a: &Oid, b: &Oid) -> Result<bool, GraphFault>
     ensures answer { IfOk result (λ answer. IsTrue answer
         ↔ Reaches graph.now.entries a.now b.now) }
@@ -48,12 +48,13 @@ pub fn reaches<A: Allocator + Copy>(graph: &Graph<A>, a: &Oid, b: &Oid) -> Resul
     Ok(goals.reached_by(graph, a)?)
 }
 
-/// Whether enough is common for a pack (gitprotocol-v2(5), "fetch": `ready`): there are common ids,
-/// and each want reaches one of them. It does not allocate if there are none.
+/// Returns whether the server is ready to send a pack (gitprotocol-v2(5), "fetch": `ready`): there
+/// are common ids, and each want reaches one of them. It does not allocate if there are no common
+/// ids.
 ///
-/// In an ordered graph it passes once over the objects from the first common id to the last want.
-/// In any other graph it walks from each want, but not past the first common id that it meets.
-/// Fails only with `Memory`.
+/// In an ordered graph the call makes one pass over the objects from the first common id to the
+/// last want. In any other graph it walks from each want, and stops at the first common id. Fails
+/// only with `Memory`.
 pub fn ready<A: Allocator + Copy>(
     graph: &Graph<A>,
     wants: &[Oid],
@@ -73,7 +74,7 @@ pub fn ready<A: Allocator + Copy>(
     Ok(all_reach(graph, wants, commons)?)
 }
 
-// Whether each of the ids reaches one of the goals.
+// Returns whether each of the ids reaches one of the goals.
 fn all_reach<A: Allocator + Copy>(
     graph: &Graph<A>,
     ids: &[Oid],
@@ -91,7 +92,7 @@ fn all_reach<A: Allocator + Copy>(
     Ok(true)
 }
 
-/// Returns a walk that has met only the given ids. Fails only if out of memory.
+/// Returns the state of a walk that has met only the given ids. Fails only if out of memory.
 pub fn met_of<A: Allocator + Copy>(graph: &Graph<A>, ids: &[Oid]) -> Result<Walk<A>, AllocError>
     ensures { IfOk result (λ walk. HasMet graph.now.entries (new_ids [] ids.now)
         walk.marks.items walk.met.items walk.lost walk.parents) }
@@ -116,14 +117,14 @@ fn ids_at<A: Allocator + Copy>(
     Ok(ids)
 }
 
-// Whether the graph does not contain the id.
+// Returns whether the graph lacks the id.
 fn is_absent<A: Allocator + Copy>(graph: &Graph<A>, id: &Oid) -> bool
     ensures { result ≡ not (is_some (node_at graph.now.entries id.now)) }
 {
     graph.node(id).is_none()
 }
 
-// Returns those of the ids that the graph does not contain.
+// Returns the given ids that the graph does not contain.
 fn absent_of<A: Allocator + Copy>(graph: &Graph<A>, ids: &[Oid]) -> Result<Vec<Oid, A>, AllocError>
     ensures { IfOk result (λ absent.
         absent.items ≡ filter (λ a. not (is_some (node_at graph.now.entries a))) ids.now) }
@@ -134,7 +135,7 @@ fn absent_of<A: Allocator + Copy>(graph: &Graph<A>, ids: &[Oid]) -> Result<Vec<O
         .collect(graph.allocator())
 }
 
-// Whether one of the ids is in the list.
+// Returns whether the list contains at least one of the ids.
 fn has_one(list: &[Oid], ids: &[Oid]) -> bool
     ensures { IsTrue result ↔ Any (Contains list.now) ids.now }
 {
@@ -146,7 +147,8 @@ fn has_one(list: &[Oid], ids: &[Oid]) -> bool
     false
 }
 
-// The ids that a walk looks for: a mark at the position of each id of the graph, and the other ids.
+// The ids that a walk searches for: marks at the positions of those in the graph, and a list of the
+// others.
 #[derive(Drop)]
 struct Goals<A: Allocator + Copy> {
     marks: Vec<bool, A>,
@@ -166,7 +168,7 @@ impl<A: Allocator + Copy> Goals<A> {
         })
     }
 
-    // Whether the id reaches one of the goals.
+    // Returns whether the id reaches one of the goals.
     fn reached_by(&self, graph: &Graph<A>, start: &Oid) -> Result<bool, AllocError>
         requires { (ids : List Id)
             × AreGoals graph.now.entries ids self.now.marks.items self.now.absent.items }

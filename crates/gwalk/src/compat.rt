@@ -1,4 +1,4 @@
-//! Other names for items of this library.
+//! Aliases of items of this crate.
 
 ghost use Rattle.std.specs.Prelude.{◌≡◌, slice_index_or, false};
 
@@ -7,7 +7,7 @@ pub use crate::marks::{ConnectedMarks as FullMarks, mark_connected as mark_full}
 use std::alloc::Allocator;
 
 impl<A: Allocator + Copy> ConnectedMarks<A> {
-    /// [`ConnectedMarks::is_marked`] by another name.
+    /// An alias of [`ConnectedMarks::is_marked`].
     pub fn marked(&self, position: usize) -> bool
         ensures { result ≡ slice_index_or self.now position false }
     {

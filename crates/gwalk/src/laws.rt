@@ -1,11 +1,11 @@
-//! The laws of marks: functions without effect whose contracts are the laws.
+//! The laws of marks. Each function does nothing at run time, and its contract states the law.
 
 ghost use Rattle.gwalk.specs.Marks.{CoveringStays, MarksStayConnected, StopsAtMarks};
 
 use gdag::laws::{connected_stays_connected, growing_keeps};
 use std::alloc::Allocator;
 
-/// If objects are only added to a graph, marks of connected ids remain marks of connected ids.
+/// Marks of connected ids remain marks of connected ids when objects are added to the graph.
 pub fn marks_stay_connected<A: Allocator + Copy>()
     ensures { MarksStayConnected A }
 {
@@ -13,8 +13,8 @@ pub fn marks_stay_connected<A: Allocator + Copy>()
     growing_keeps::<A>();
 }
 
-/// If objects are only added to a graph, marks that cover connected ids still cover them: all that
-/// these ids reach is marked.
+/// Marks that cover connected ids still cover them when objects are added to the graph. Marks cover
+/// an id if every id that it reaches is marked.
 pub fn covering_stays<A: Allocator + Copy>()
     ensures { CoveringStays A }
 {
@@ -22,9 +22,8 @@ pub fn covering_stays<A: Allocator + Copy>()
     growing_keeps::<A>();
 }
 
-/// The counts of `missing_known`. Suppose marked objects lose their parents. Then an id reaches
-/// another exactly when it does so by steps from unmarked ids. The counts are those of the ids that
-/// are reached in this way, and of the parents of the unmarked ones.
+/// Removing the parents of marked objects from a graph is the same as not continuing a walk past
+/// marked objects. Both give the same reachable ids and the same counts as `missing_known`.
 pub fn stops_at_marks<A: Allocator + Copy>()
     ensures { StopsAtMarks A }
 {}

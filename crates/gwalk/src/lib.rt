@@ -1,46 +1,47 @@
 //! Walks over the graph of a repository's commits and tags. They find the objects that some ids
-//! reach, the missing ones, the objects to send, and the ids to offer.
+//! reach, the missing objects, the objects to send, and the ids to offer.
 //!
 //! # Proved
 //!
 //! - [`missing`] returns `None` if each id is connected. Otherwise it returns an id that one of the
-//!   given ids reaches and that the graph does not contain. In an ordered graph it never reports
-//!   out of memory.
-//! - [`missing_counted`] returns the same, and exactly how many ids of the graph the given ids
-//!   reach, with how many parents. No id counts twice.
-//! - [`mark_connected`] marks the ids that the given ones reach, and leaves all other marks. If out
-//!   of memory, [`ConnectedMarks`] are unchanged. Marks of connected ids remain so after it, and
-//!   when objects are added to the graph ([`laws`]).
-//! - [`missing_known`] returns the result of `missing` by a walk that stops at marked ids. It
-//!   counts exactly the ids that are reached by steps from unmarked ids, and the parents of the
-//!   unmarked ones ([`laws::stops_at_marks`]).
-//! - [`common_ids`], [`reaches`] and [`ready`] return exactly what is common, reached and ready.
-//! - [`send_list`] and [`send_list_tags`] return the list to send, without tags and with the tags
-//!   of the refs. Its entries are a graph's: their ids differ and have the graph's format.
-//! - If each object was inserted after its parents, `reaches`, `ready` and `send_list` are one pass
-//!   down or up the store. The pass down continues only while something below is wanted and not
-//!   known.
-//! - [`haves`] returns the offer: the first `n` ids of the graph, level by level from the tips,
-//!   that were not sent and that no common id reaches. [`Offers`] returns successive offers, each
-//!   with the ones before it as sent, by one walk that is resumed.
-//! - `Memory` is the only fault. No call panics, overflows or reads out of bounds, and each
-//!   returns.
+//!   given ids reaches and that the graph does not contain. In an ordered graph `missing` never
+//!   reports out of memory.
+//! - [`missing_counted`] returns the result of `missing`, and the exact number of ids and of
+//!   parents in the graph that the given ids reach. No id is counted twice.
+//! - [`mark_connected`] marks every id that the given ids reach, and leaves the other marks
+//!   unchanged. If out of memory, the [`ConnectedMarks`] are unchanged. All marked ids stay
+//!   connected, also when objects are added to the graph ([`laws`]).
+//! - [`missing_known`] returns the result of `missing` by a walk that does not continue past marked
+//!   ids. It counts exactly the ids that the walk visits, and the parents of the unmarked ones
+//!   ([`laws::stops_at_marks`]).
+//! - [`common_ids`] returns exactly the common ids. [`reaches`] and [`ready`] return whether an id
+//!   reaches another, and whether the server is ready to send a pack.
+//! - [`send_list`] returns the list of objects to send, and [`send_list_tags`] adds the tags of the
+//!   refs. The ids of the list are distinct and have the graph's format.
+//! - If each object was inserted after its parents, `reaches`, `ready` and `send_list` make one
+//!   pass down or up the insertion order. The pass down ends when no object below is wanted without
+//!   being known to be common.
+//! - [`haves`] returns the offer: the first `n` unsent ids of the graph, level by level from the
+//!   tips, that no common id reaches. [`Offers`] returns successive offers by one walk that is
+//!   resumed. No id is offered twice.
+//! - `Memory` is the only fault of these calls. No call panics, overflows or reads out of bounds,
+//!   and every call returns.
 //!
 //! # What the contracts do not rule out
 //!
-//! If several ids are missing, it may return any of them. It may report out of memory as often as
-//! it likes, except in calls proved not to do so. It may take as long as it likes, and more memory
-//! than it needs. No clause says that a walk takes linear time in the objects and parents that it
-//! meets. No clause says that `ready` stops at a common id, or `haves` at the level where it has
-//! enough.
+//! If several ids are missing, `missing` may return any of them. A call may report out of memory at
+//! any time, unless it is proved not to. A call may take any amount of time, and more memory than
+//! it needs. No contract says that a walk takes linear time in the objects and parents that it
+//! meets. No contract says that `ready` stops at a common id, or that `haves` stops when it has `n`
+//! ids.
 //!
-//! There are no tests here. The program `conformance` makes each call on worked histories. One of
-//! them has more paths than can be walked one by one.
+//! This crate has no tests of its own. The program `conformance` makes each call on sample
+//! histories. One sample history has too many paths to walk one by one.
 //!
 //! # Stands on
 //!
-//! `gdag` for graphs, `gobject` for their objects, `gname` for ids, `grefs` for the refs whose tags
-//! are sent.
+//! The crate uses `gdag` for graphs, `gobject` for their objects, `gname` for ids, `grefs` for the
+//! refs whose tags are sent.
 #![tactic(auto)]
 
 mod ancestry;

@@ -12,7 +12,7 @@ use gname::Oid;
 use std::alloc::{AllocError, Allocator, Global};
 use std::marker::Model;
 
-/// Marks of connected ids, by their positions in a graph's store order.
+/// Marks of connected ids, by their positions in a graph's insertion order.
 #[derive(Debug, Drop)]
 pub struct ConnectedMarks<A: Allocator + Copy = Global> {
     marks: Vec<bool, A>,
@@ -37,8 +37,8 @@ impl<A: Allocator + Copy> ConnectedMarks<A> {
         }
     }
 
-    /// Whether the id at the position is marked. There is no mark after the end. It does not
-    /// allocate.
+    /// Returns whether the id at the position is marked. A position after the end is unmarked. It
+    /// does not allocate.
     pub fn is_marked(&self, position: usize) -> bool
         ensures { result ≡ slice_index_or self.now position false }
     {
@@ -53,10 +53,10 @@ impl<A: Allocator + Copy> ConnectedMarks<A> {
     }
 }
 
-/// Marks all ids that the given ids, which are connected, reach. The other marks are unchanged.
+/// Marks every id that the given connected ids reach. The other marks are unchanged.
 ///
-/// The marks are then in memory of the graph's allocator. Fails only with `Memory`, and leaves the
-/// marks unchanged.
+/// The new marks are allocated by the graph's allocator. Fails only with `Memory`, and then leaves
+/// the marks unchanged.
 pub fn mark_connected<A: Allocator + Copy>(
     graph: &Graph<A>,
     ids: &[Oid],
@@ -73,7 +73,7 @@ pub fn mark_connected<A: Allocator + Copy>(
     Ok(())
 }
 
-/// Returns a mark wherever one of the two has it. Fails only if out of memory.
+/// Returns the union of two sets of marks. Fails only if out of memory.
 pub fn either<A: Allocator + Copy>(
     reached: Vec<bool, A>,
     old: &[bool],
@@ -92,7 +92,7 @@ pub fn either<A: Allocator + Copy>(
     Ok(marks)
 }
 
-/// Whether a position is marked. A position after the end is not.
+/// Returns whether a position is marked. A position after the end is unmarked.
 pub fn is_marked(marks: &[bool], position: usize) -> bool
     ensures { result ≡ slice_index_or marks.now position false }
 {

@@ -17,13 +17,13 @@ use gdag::{Graph, GraphFault};
 use gname::Oid;
 use std::alloc::{AllocError, Allocator, Global};
 
-/// Returns the ids to offer as haves to another end that has `commons` (gitprotocol-v2(5), "fetch":
-/// `have`). They are the first `n` ids of the graph, level by level, that no id of `commons`
+/// Returns the ids to offer as haves to a server that has `commons` (gitprotocol-v2(5), "fetch":
+/// `have`). The offer is the first `n` ids of the graph, level by level, that no id of `commons`
 /// reaches and that are not in `sent`.
 ///
-/// Level 0 is the tips in order, each once. Each next level is the parents of the ids of the
-/// previous level, in order, each once, without ids of earlier levels. An id that the graph does
-/// not contain has no parents. It stops at the level where it has `n`. Fails only with `Memory`.
+/// Level 0 is the tips in order, each once. Each further level is the parents of the previous level
+/// in order, each once, without ids of earlier levels. An id that the graph does not contain has no
+/// parents. The walk stops as soon as it has `n` ids. Fails only with `Memory`.
 pub fn haves<A: Allocator + Copy>(
     graph: &Graph<A>,
     tips: &[Oid],
@@ -40,28 +40,29 @@ pub fn haves<A: Allocator + Copy>(
     Ok(ids)
 }
 
-/// A walk from some tips, and how many of the ids that it met were visited.
+/// A walk from some tips that can be resumed, with the number of its visited positions.
 #[derive(Drop)]
 pub(crate) struct Tour<A: Allocator + Copy> {
     pub(crate) walk: Walk<A>,
     pub(crate) at: usize,
 }
 
-/// Ids that are offered as haves in batches, level by level from some tips. The walk is resumed, so
-/// all batches together cost one walk.
+/// The state of offering haves in batches, level by level from some tips. All batches together cost
+/// one walk, because each batch resumes the same walk.
 #[derive(Drop)]
 pub struct Offers<A: Allocator + Copy = Global> {
     tour: Tour<A>,
-    // A mark at the position of each id of the graph that a common id reaches.
+    // Marks at the positions of the ids that a common id reaches.
     known: Vec<bool, A>,
-    // The number of common ids.
+    // The number of common ids that are already marked.
     heard: usize,
-    // The ids that were offered.
+    // The ids that were already offered, as a set of marks.
     sent: Walk<A>,
 }
 
 impl<A: Allocator + Copy> Offers<A> {
-    /// Starts at the tips. The ids in `sent` were offered before, and none is common yet.
+    /// Returns the state before the first batch. The ids in `sent` count as offered, and no id is
+    /// common yet.
     ///
     /// Fails only with `Memory`.
     pub fn new(graph: &Graph<A>, tips: &[Oid], sent: &[Oid]) -> Result<Offers<A>, GraphFault>
@@ -79,11 +80,11 @@ impl<A: Allocator + Copy> Offers<A> {
         })
     }
 
-    /// Returns the next batch: the result of [`haves`] with `commons` as common, and all batches
-    /// before as sent. The common ids begin with those of the previous call, and the graph is the
-    /// same.
+    /// Returns the next batch: the result of [`haves`] for `commons`, with the ids of all earlier
+    /// batches as sent. The list `commons` must begin with that of the previous call, and the graph
+    /// must be the same.
     ///
-    /// Fails only with `Memory`, and then can't be used further.
+    /// Fails only with `Memory`, and then the `Offers` can't be used further.
     pub fn next(
         &mut self,
         graph: &Graph<A>,
@@ -109,7 +110,7 @@ impl<A: Allocator + Copy> Offers<A> {
         Ok(ids)
     }
 
-    // Marks all ids that the common ids reach. The first common ids were handled before.
+    // Marks every id that the common ids reach. The first `heard` common ids are already marked.
     fn hear(&mut self, graph: &Graph<A>, commons: &[Oid]) -> Result<(), AllocError>
         requires { (tips first rest sent : List Id) × (commons.now ≡ first ++ rest)
             × AreOffers graph.now.entries tips first sent self.old }
@@ -129,7 +130,7 @@ impl<A: Allocator + Copy> Offers<A> {
     }
 }
 
-// Whether the position is marked neither as known nor as sent.
+// Returns whether the position is marked neither as known nor as sent.
 fn is_untold(known: &[bool], sent: &[bool], position: usize) -> bool
     ensures { result ≡ (not (slice_index_or known.now position false) &&
         not (slice_index_or sent.now position false)) }
@@ -137,7 +138,7 @@ fn is_untold(known: &[bool], sent: &[bool], position: usize) -> bool
     !is_marked(known, position) && !is_marked(sent, position)
 }
 
-// Returns the first `n` ids of the rest of the tour that are marked neither as known nor as sent.
+// Resumes the tour, and returns its next `n` ids that are marked neither as known nor as sent.
 fn first_untold<A: Allocator + Copy>(
     graph: &Graph<A>,
     tour: &mut Tour<A>,

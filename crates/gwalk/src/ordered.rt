@@ -1,5 +1,6 @@
 //! Passes over a graph in which each object was inserted after all its parents. A pass goes once
-//! down or up the store, in its order, so a fetch costs what is new and not the whole history.
+//! down or up the insertion order, so the cost of a fetch grows with the new objects and not with
+//! the whole history.
 
 mod down;
 mod marks;

@@ -1,4 +1,4 @@
-//! The objects to send.
+//! The objects that a server sends in a pack.
 
 ghost use Rattle.std.specs.Prelude.{◌≡◌, ◌↔◌, ◌⊎◌, [], IfOk, IfErr, IfSome, IsSome, IsTrue, ℕ, Some, length, slice_index_or, true, false};
 ghost use Rattle.std.specs.Map.{values_of};
@@ -20,9 +20,9 @@ use gobject::{Entry, Kind};
 use grefs::Refs;
 use std::alloc::{AllocError, Allocator};
 
-/// Returns the entries to send for the wants to a receiver in whose graph the common ids are
-/// connected (gitprotocol-v2(5), "fetch": `want`, `have`). They are the entries that some want
-/// reaches and no common id reaches, in store order.
+/// Returns the entries to send for the wants to a receiver that has the common ids connected
+/// (gitprotocol-v2(5), "fetch": `want`, `have`). The list has the entries that some want reaches
+/// and no common id reaches, in insertion order.
 ///
 /// Fails only with `Memory`.
 pub fn send_list<A: Allocator + Copy>(
@@ -41,9 +41,9 @@ pub fn send_list<A: Allocator + Copy>(
     Ok(list_to_send(graph, wants, commons, &[])?)
 }
 
-/// Returns the entries to send with `include-tag` (gitprotocol-v2(5), "fetch"), in store order.
-/// They are the entries of `send_list`, and each tag on the chain of tags from a ref's id to a
-/// commit of `send_list`.
+/// Returns the entries to send with `include-tag` (gitprotocol-v2(5), "fetch"), in insertion order.
+/// The list has the entries of `send_list`, and each tag in the chains of tags from the refs to
+/// commits of `send_list`.
 ///
 /// Fails only with `Memory`.
 pub fn send_list_tags<A: Allocator + Copy>(
@@ -64,8 +64,8 @@ pub fn send_list_tags<A: Allocator + Copy>(
     Ok(list_to_send(graph, wants, commons, tips.as_slice())?)
 }
 
-// Returns the list to send, with the tags of the tips. It uses a pass if parents come first, and
-// walks otherwise.
+// Returns the list to send, with the tags of the tips. The function makes a pass if each object
+// comes after its parents, and otherwise a walk.
 fn list_to_send<A: Allocator + Copy>(
     graph: &Graph<A>,
     wants: &[Oid],
@@ -83,7 +83,7 @@ fn list_to_send<A: Allocator + Copy>(
     Ok(walked_list(graph, wants, commons, tips)?)
 }
 
-// Returns the same list by walks.
+// Returns the list to send by walks, in a graph in any order.
 fn walked_list<A: Allocator + Copy>(
     graph: &Graph<A>,
     wants: &[Oid],
@@ -99,7 +99,8 @@ fn walked_list<A: Allocator + Copy>(
     Ok(entries_at(graph, marks.as_slice())?)
 }
 
-// Returns the marks, with one for each tag on a chain of tags from a tip to a marked commit.
+// Returns the marks `new`, with additional marks for the tags in the chains of tags from tips to
+// marked commits.
 fn with_tags<A: Allocator + Copy>(
     graph: &Graph<A>,
     new: &[bool],
@@ -117,7 +118,7 @@ fn with_tags<A: Allocator + Copy>(
     Ok(marks)
 }
 
-// Whether a chain of tags leads from the id to a marked commit.
+// Returns whether a chain of tags leads from the id to a marked commit.
 fn leads_to_marked<A: Allocator + Copy>(graph: &Graph<A>, marks: &[bool], id: &Oid) -> bool
     ensures { IsTrue result ↔ LeadsToMarked graph.now.entries marks.now id.now }
 {
@@ -130,14 +131,14 @@ fn leads_to_marked<A: Allocator + Copy>(graph: &Graph<A>, marks: &[bool], id: &O
     is_marked(marks, position)
 }
 
-// The position of a tag, and the id that it names.
+// The position of a tag, and the id of the tag's object.
 #[derive(Clone, Copy)]
 struct Tag {
     position: usize,
     named: Oid,
 }
 
-// Returns the tag under the id.
+// Returns the tag under the id, or `None` if the graph has no such tag.
 fn tag_at<A: Allocator + Copy>(graph: &Graph<A>, id: &Oid) -> Option<Tag>
     ensures found { IfSome result (λ tag.
         (position_of graph.now.entries id.now ≡ Some tag.position)
@@ -153,7 +154,7 @@ fn tag_at<A: Allocator + Copy>(graph: &Graph<A>, id: &Oid) -> Option<Tag>
     Some(Tag { position, named })
 }
 
-// Marks the tags of the chain that begins at the id and leads to a commit.
+// Marks the tags in the chain of tags that begins at the id and leads to a commit.
 fn mark_chain<A: Allocator + Copy>(graph: &Graph<A>, marks: &mut Vec<bool, A>, id: &Oid)
     requires long { length marks.old.items ≡ length graph.now.entries }
     requires ends { (c : Id) × PeelsTo graph.now.entries id.now c }
@@ -173,7 +174,7 @@ fn mark_chain<A: Allocator + Copy>(graph: &Graph<A>, marks: &mut Vec<bool, A>, i
     }
 }
 
-// Returns a mark at the position of each entry that some want reaches and no common id does.
+// Returns marks at the positions of the entries that some want reaches and no common id reaches.
 fn new_marks<A: Allocator + Copy>(
     graph: &Graph<A>,
     wants: &[Oid],
@@ -194,7 +195,7 @@ fn new_marks<A: Allocator + Copy>(
     Ok(marks)
 }
 
-// Returns the entries at marked positions, in store order.
+// Returns the entries at marked positions, in insertion order.
 fn entries_at<A: Allocator + Copy>(
     graph: &Graph<A>,
     marks: &[bool],

@@ -1,4 +1,4 @@
-//! The walk from some objects to all their ancestors.
+//! The walk from some ids to all their ancestors.
 
 ghost use Rattle.std.specs.Prelude.{◌≡◌, ◌<◌, ◌∷◌, ◌++◌, [], Bool, List, slice_get, length, IfOk, OnOk, Some};
 ghost use Rattle.std.specs.Option.{option_map};
@@ -13,20 +13,21 @@ use gdag::Graph;
 use gname::Oid;
 use std::alloc::{AllocError, Allocator};
 
-/// The state of a walk. Each id of the graph is visited once.
+/// The state of a walk. A walk visits each id of the graph at most once.
 #[derive(Drop)]
 pub struct Walk<A: Allocator + Copy> {
-    /// A mark at the position of each id of the graph that was met.
+    /// Marks at the positions of the ids of the graph that the walk has met.
     pub marks: Vec<bool, A>,
-    /// Their positions, level by level.
+    /// The positions of the ids that the walk has met, level by level.
     pub met: Vec<usize, A>,
-    /// An id that was met and is not in the graph, if there is one.
+    /// An id that the walk has met and that is not in the graph, if there is one.
     pub lost: Option<Oid>,
-    /// The number of parents of the met nodes, without the parents of known ones.
+    /// The total number of parents of the met nodes, without the parents of known nodes.
     pub parents: u64,
 }
 
-/// Returns the parents of the node at a position, or none if the position is marked as known.
+/// Returns the parents of the node at a position, or an empty slice if the position is marked as
+/// known.
 pub fn parents_past<'a, A: Allocator + Copy>(
     graph: &'a Graph<A>,
     known: &[bool],
@@ -44,7 +45,7 @@ pub fn parents_past<'a, A: Allocator + Copy>(
 }
 
 impl<A: Allocator + Copy> Walk<A> {
-    /// Returns a walk that has met nothing. Fails only if out of memory.
+    /// Returns a walk that has not met any id. Fails only if out of memory.
     pub fn new(graph: &Graph<A>) -> Result<Walk<A>, AllocError>
         ensures graph { IsGraph graph.now }
         ensures met { IfOk result (λ walk. (known : List Bool) →
@@ -61,7 +62,8 @@ impl<A: Allocator + Copy> Walk<A> {
         })
     }
 
-    /// Meets an id. Fails only if out of memory. After that, the walk can't be used further.
+    /// Records that the walk meets an id. Fails only if out of memory, and then the walk can't be
+    /// used further.
     pub fn meet(&mut self, graph: &Graph<A>, known: &[bool], id: &Oid) -> Result<(), AllocError>
         requires graph { IsGraph graph.now }
         requires has { (ids : List Id) × HasMet (stop_at known.now graph.now.entries) ids
@@ -84,7 +86,7 @@ impl<A: Allocator + Copy> Walk<A> {
         Ok(())
     }
 
-    /// Meets some ids, in order. Fails as `meet` does.
+    /// Records that the walk meets some ids, in order. Fails as `meet` does.
     pub fn meet_all(
         &mut self,
         graph: &Graph<A>,
@@ -107,8 +109,8 @@ impl<A: Allocator + Copy> Walk<A> {
     }
 }
 
-/// Walks from the ids to all ids that they reach by steps from ids that are not known. Fails only
-/// if out of memory.
+/// Walks from the ids to all ids that they reach, without continuing past known ids. Fails only if
+/// out of memory.
 pub fn walk_past<A: Allocator + Copy>(
     graph: &Graph<A>,
     known: &[bool],

@@ -1,4 +1,4 @@
--- The steps of reading a line that is refused: what a part of it may not be, where a reader finds none.
+-- Definitions for the proofs of refusing a line: the forms that a part of the line does not have.
 use Rattle.std.specs.Prelude.{◌≡◌, ℕ, ◌≤◌, List, ◌∷◌, ◌++◌, length, All, codes}
 use Rattle.gname.specs.Ids.{Id, IsIdOf, id_text}
 use Rattle.gname.specs.Names.{Name}
@@ -15,21 +15,21 @@ use Rattle.ggraph.specs.RepositoryText.{IsHead, head_line}
 abbrev pub BeginsWithNoId : Format → List ℕ → Type 0
 BeginsWithNoId format text = (id : Id) (rest : List ℕ) → IsIdOf format id → text ≡ id_text id ++ rest → ⊥
 
--- nor with a space and an id
+-- the text does not begin with a space and an id
 abbrev pub BeginsWithNoSpacedId : Format → List ℕ → Type 0
 BeginsWithNoSpacedId format text =
     (id : Id) (rest : List ℕ) → IsIdOf format id → text ≡ codes " " ++ (id_text id ++ rest) → ⊥
 
--- it is not the ids of a node's parents
+-- the text is not a list of parent ids
 abbrev pub IsNoParents : Format → List ℕ → Type 0
 IsNoParents format text =
     (ids : List Id) → All (IsIdOf format) ids → length ids ≤ max_parents → text ≡ ids_text ids → ⊥
 
--- the line is no node's
+-- the line is not the line of a node
 abbrev pub IsNoNode : List ℕ → Type 0
 IsNoNode line = (kind : Kind) (rest : List ℕ) → line ≡ letter kind ∷ rest → ⊥
 
--- the line is no ref's
+-- the line is not the line of a ref
 abbrev pub IsNoRef : List ℕ → Type 0
 IsNoRef line = (rest : List ℕ) → line ≡ codes "r " ++ rest → ⊥
 
@@ -38,16 +38,16 @@ abbrev pub BeginsWithNoRefId : Format → List ℕ → Type 0
 BeginsWithNoRefId format text =
     (id : Id) (rest : List ℕ) → IsIdOf format id → text ≡ id_text id ++ (codes " " ++ rest) → ⊥
 
--- the text is not an id's
+-- the text is not the text of an id
 abbrev pub IsNoIdText : Format → List ℕ → Type 0
 IsNoIdText format text = (id : Id) → IsIdOf format id → text ≡ id_text id → ⊥
 
--- HEAD stands at the id of this text
+-- HEAD is detached at the id that this text encodes
 abbrev pub IsHeadAt : {A : Type 0} → Format → List ℕ → Head A → Type 0
 IsHeadAt format text (head_is.Id id) = (text ≡ id_text id) × IsIdOf format id
 IsHeadAt format text _ = ⊥
 
--- HEAD is on the ref with this name
+-- HEAD is symbolic, and its target is the ref with this name
 abbrev pub IsHeadOn : {A : Type 0} → List ℕ → Head A → Type 0
 IsHeadOn text (head_is.Symref target) = (target ≡ text) × IsBelowRefs text
 IsHeadOn text _ = ⊥
@@ -56,6 +56,6 @@ IsHeadOn text _ = ⊥
 abbrev pub IsNoHead : (A : Type 0) → Format → List ℕ → Type 0
 IsNoHead A format line = (head : Head A) → IsHead format head → line ≡ head_line head → ⊥
 
--- the line is that of HEAD on a ref
+-- the line is that of a symbolic HEAD
 abbrev pub IsSymrefLine : (A : Type 0) → List ℕ → Type 0
 IsSymrefLine A line = (target : Name) × IsBelowRefs target × (line ≡ head_line {A = A} (head_is.Symref target))

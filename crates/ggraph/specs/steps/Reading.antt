@@ -1,4 +1,5 @@
--- The steps of reading a repository text: line by line, which may come next, and what they add.
+-- Definitions for the proofs of reading a repository text: the lines that are allowed next, and the state after each
+-- line.
 use Rattle.std.specs.Prelude.{◌≡◌, ◌⊎◌, ⊤, ℕ, List, [], ◌∷◌, ◌++◌}
 use Rattle.gname.specs.Ids.{Id}
 use Rattle.gname.specs.Names.{Name}
@@ -19,7 +20,7 @@ use Rattle.ggraph.specs.declared.text.reading.Reading.{Reading}
 use Rattle.ggraph.specs.declared.text.reading.TextStage.{TextStage}
 use Rattle.ggraph.specs.declared.text.reading.TextStage.TheVariants.{First, Nodes, Refs, Last, Done}
 
--- what a line stands for
+-- the contents of a line
 pub data Item (A : Type 0) : Type 0 where
   begins : Format → Item A
   node : Entry A → Item A
@@ -27,7 +28,7 @@ pub data Item (A : Type 0) : Type 0 where
   heads : Head A → Item A
   ends : Item A
 
--- its line
+-- the line of an item
 abbrev pub line_of : {A : Type 0} → Item A → List ℕ
 line_of (begins format) = first_line format
 line_of (node entry) = node_text entry
@@ -35,27 +36,27 @@ line_of (ref it) = ref_line it
 line_of (heads head) = head_line head
 line_of ends = last_line
 
--- what it says takes memory
+-- an item that needs memory
 abbrev pub IsKept : {A : Type 0} → Item A → Type 0
 IsKept (node entry) = ⊤
 IsKept (ref it) = ⊤
 IsKept (heads (head_is.Symref target)) = ⊤
 IsKept _ = ⊥
 
--- a graph with an entry more
+-- the graph with one more entry
 abbrev pub with_entry : {A : Type 0} → History A → Entry A → History A
 with_entry g entry = record { format = g.format; entries = g.entries ++ entry ∷ [] }
 
--- before the first line
+-- the state before the first line
 abbrev pub nothing_read : {A : Type 0} → Reading A
 nothing_read =
     record { stage = First; graph = record { format = Sha1; entries = [] }; refs = []; head = head_is.None }
 
--- a ref or HEAD may come
+-- the stages at which a ref or HEAD is allowed next
 abbrev pub RefMayCome : TextStage → Type 0
 RefMayCome stage = (stage ≡ Nodes) ⊎ (stage ≡ Refs)
 
--- which item may come next
+-- the items that are allowed next
 abbrev pub MayCome : {A : Type 0} → Order → Reading A → Item A → Type 0
 MayCome order old (begins format) = old.stage ≡ First
 MayCome order old (node entry) = (old.stage ≡ Nodes) × MayFollow order old.graph.format old.graph.entries entry
@@ -63,7 +64,7 @@ MayCome order old (ref it) = RefMayCome old.stage × RefMayFollow old.graph.form
 MayCome order old (heads head) = RefMayCome old.stage × IsHead old.graph.format head
 MayCome order old ends = old.stage ≡ Last
 
--- what is read then
+-- the state after the item
 abbrev pub after : {A : Type 0} → Reading A → Item A → Reading A
 after old (begins format) = record old { stage = Nodes; graph = record { format = format; entries = [] } }
 after old (node entry) = record old { graph = with_entry old.graph entry }
@@ -71,17 +72,17 @@ after old (ref it) = record old { stage = Refs; refs = old.refs ++ it ∷ [] }
 after old (heads head) = record old { stage = Last; head = head }
 after old ends = record old { stage = Done }
 
--- the line may come next, and this is read then
+-- the line is allowed next, and `new` is the state after the line
 abbrev pub ComesNext : {A : Type 0} → Order → Reading A → List ℕ → Reading A → Type 0
 ComesNext {A} order old line new =
     (item : Item A) × (line ≡ line_of item) × MayCome order old item × (new ≡ after old item)
 
--- no item that may come next has the line
+-- the line is not the line of any item that is allowed next
 abbrev pub NeverComes : {A : Type 0} → Order → Reading A → List ℕ → Type 0
 NeverComes {A} order old line = (item : Item A) → line ≡ line_of item → MayCome order old item → ⊥
 
--- why a line is refused: it may come, and takes memory; or it may not come; or it may and names a parent that comes
--- later
+-- the reason to refuse a line: an allowed line that needs memory, a line that is not allowed, or a line with a later
+-- parent
 abbrev pub RefusesLine : {A : Type 0} → Order → Reading A → List ℕ → ℕ → LoadFault → Type 0
 RefusesLine {A} order old line number Memory =
     (item : Item A) × (line ≡ line_of item) × MayCome order old item × IsKept item
@@ -90,7 +91,7 @@ RefusesLine {A} order old line number (ParentLater at) =
     (at ≡ number) × (order ≡ ParentsFirst) × NeverComes ParentsFirst old line
     × (item : Item A) × (line ≡ line_of item) × MayCome Any old item
 
--- why an entry is refused
+-- the reason to refuse an entry
 abbrev pub RefusesEntry : {A : Type 0} → Order → History A → Entry A → ℕ → LoadFault → Type 0
 RefusesEntry order g entry number Memory = MayFollow order g.format g.entries entry
 RefusesEntry order g entry number (Text at) = (at ≡ number) × (MayFollow Any g.format g.entries entry → ⊥)
@@ -98,7 +99,7 @@ RefusesEntry order g entry number (ParentLater at) =
     (at ≡ number) × (order ≡ ParentsFirst) × MayFollow Any g.format g.entries entry
     × (MayFollow ParentsFirst g.format g.entries entry → ⊥)
 
--- why a ref is refused
+-- the reason to refuse a ref
 abbrev pub RefusesRef : Format → RefList → Name × Id → ℕ → LoadFault → Type 0
 RefusesRef format refs it number Memory = RefMayFollow format refs it
 RefusesRef format refs it number (Text at) = (at ≡ number) × (RefMayFollow format refs it → ⊥)

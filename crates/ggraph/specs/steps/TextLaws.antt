@@ -1,4 +1,4 @@
--- The steps of reading a repository text that are laws of ids and names.
+-- The laws of ids and names that the proofs of reading a repository text use.
 use Rattle.gname.specs.Laws.{IdTextsAreDigits, IdsHaveOneFormat, IdsHaveTexts, NamesAreClean, RulesNeverReportMemory}
 use Rattle.gname.specs.Laws.{TextsHaveOneReading, TextsSpellOneId}
 

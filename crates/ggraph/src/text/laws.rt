@@ -1,11 +1,11 @@
-//! Laws for reading a repository text.
+//! The laws that the proofs of reading a repository text use.
 
 ghost use Rattle.ggraph.specs.steps.TextLaws.{TextLaws};
 
 use gname::laws;
 
-/// The laws of ids and names. The call does nothing, and its contract gives the laws to its
-/// callers.
+/// The laws of ids and names. The function does nothing at run time, and its contract states the
+/// laws.
 pub(crate) fn text_laws()
     ensures { TextLaws }
 {

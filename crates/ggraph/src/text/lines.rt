@@ -1,4 +1,4 @@
-//! The lines of a repository text, one kind at a time.
+//! Parsing of each kind of line of a repository text.
 
 ghost use Rattle.std.specs.Prelude.{◌≡◌, ◌++◌, ◌∷◌, MatchOption, MatchResult, codes};
 ghost use Rattle.gobject.specs.PlainPackText.{letter};
@@ -15,7 +15,8 @@ use gobject::Kind;
 use grefs::{Head, Target};
 use std::alloc::{AllocError, Allocator};
 
-/// Returns the format of a text's ids, as its first line names it.
+/// Returns the object format that the first line of a text names, or `None` if the line is
+/// malformed.
 pub(crate) fn format_of(line: &[u8]) -> Option<Format>
     ensures { MatchOption result
         (((format : Format) → line.now ≡ first_line format → ⊥))
@@ -30,21 +31,21 @@ pub(crate) fn format_of(line: &[u8]) -> Option<Format>
     }
 }
 
-/// A node's line: its kind, and the text of its ids after the letter.
+/// The line of a node: its kind, and the unparsed text of its ids.
 #[derive(Clone, Copy)]
 pub(crate) struct NodeLine<'a> {
     pub kind: Kind,
     pub ids: &'a [u8],
 }
 
-/// A ref's line: its id, and its name, which is not checked yet.
+/// The line of a ref: its id, and its unchecked name.
 #[derive(Clone, Copy)]
 pub(crate) struct RawRef<'a> {
     pub id: Oid,
     pub name: &'a [u8],
 }
 
-/// Returns the parts of a node's line.
+/// Splits the line of a node into its kind and its ids, or returns `None`.
 pub(crate) fn node_parts(line: &[u8]) -> Option<NodeLine<'_>>
     ensures { MatchOption result (IsNoNode line.now)
         (λ node. line.now ≡ letter node.kind ∷ node.ids.now) }
@@ -60,7 +61,7 @@ pub(crate) fn node_parts(line: &[u8]) -> Option<NodeLine<'_>>
     None
 }
 
-/// Returns the parts of a ref's line, after its first word.
+/// Splits the text after `r ` in the line of a ref into its id and its name, or returns `None`.
 pub(crate) fn ref_parts(format: Format, text: &[u8]) -> Option<RawRef<'_>>
     ensures { MatchOption result (BeginsWithNoRefId format text.now) (λ it.
         (text.now ≡ id_text it.id ++ (codes " " ++ it.name.now)) × IsIdOf format it.id) }
@@ -77,8 +78,8 @@ pub(crate) fn ref_parts(format: Format, text: &[u8]) -> Option<RawRef<'_>>
     Some(RawRef { id, name })
 }
 
-/// Returns the HEAD of a line, if it is a line of HEAD. Fails only if out of memory for the name of
-/// the ref that HEAD is on.
+/// Parses a line of HEAD, or returns `None` for any other line. Fails only if out of memory for the
+/// target of a symbolic HEAD.
 pub(crate) fn head_of<A: Allocator + Copy>(
     alloc: A,
     format: Format,
@@ -101,7 +102,8 @@ pub(crate) fn head_of<A: Allocator + Copy>(
     Ok(None)
 }
 
-// Returns HEAD, detached at the id with these digits.
+// Returns a HEAD that is detached at the id with these digits, or `None` if the digits are
+// malformed.
 fn head_at<A: Allocator + Copy>(format: Format, digits: &[u8]) -> Option<Head<A>>
     ensures { MatchOption result (IsNoIdText format digits.now)
         (λ head. IsHeadAt format digits.now head) }
@@ -120,7 +122,8 @@ fn head_at<A: Allocator + Copy>(format: Format, digits: &[u8]) -> Option<Head<A>
     }
 }
 
-// Returns HEAD on the ref with this name.
+// Returns a symbolic HEAD with this target, or `None` if the target is not a valid name below
+// `refs/`.
 fn head_on<A: Allocator + Copy>(alloc: A, text: &[u8]) -> Result<Option<Head<A>>, AllocError>
     ensures { MatchResult result
         (λ found. MatchOption found (¬ (IsBelowRefs text.now)) (λ head. IsHeadOn text.now head))

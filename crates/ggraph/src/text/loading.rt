@@ -1,4 +1,4 @@
-//! Loading a repository text.
+//! Loading of a repository text.
 
 ghost use Rattle.std.specs.Prelude.{◌≡◌, ◌++◌, ◌≤◌, MatchOption, IfOk, IfErr};
 ghost use Rattle.gobject.specs.PlainPackText.{IsInLine, line};
@@ -16,19 +16,20 @@ use grefs::{Head, Refs};
 use memchr::{memchr, memchr_iter};
 use std::alloc::Allocator;
 
-// The number of bytes at the front of a text from which the number of its nodes is estimated.
+// The length in bytes of the prefix of a text that serves to estimate the number of nodes.
 const SAMPLE: usize = 65_536;
 
-// The minimum length of a node's line: a letter, a space, the forty digits of an id, and an LF.
+// The minimum length in bytes of a node's line: a letter, a space, the 40 digits of an id, and an
+// LF.
 const SHORTEST_NODE: usize = 43;
 
-/// Reads the text of a repository. Its first line names the format of its ids.
+/// Reads the text of a repository. The first line names the format of all ids.
 ///
-/// Fails with `Text` at the first line without the right form, at a line that exceeds a limit, or
-/// if the text ends early. Under `Order::ParentsFirst`, fails with `ParentLater` at the first line
-/// with a parent that is on no earlier line. If both apply, the fault is the one at the earlier
-/// line, or `Text` at the same line. Fails with `Memory` only if out of memory for the contents of
-/// a right line: a node, a ref, or a HEAD on a ref.
+/// Fails with `Text` at the first line that is malformed or exceeds a limit, or if the text ends
+/// early. Under `Order::ParentsFirst`, fails with `ParentLater` at the first line with a parent
+/// that is not on an earlier line. If both apply, the fault at the earlier line is reported, and
+/// `Text` takes precedence at the same line. Fails with `Memory` only at a valid line of a node, a
+/// ref, or a symbolic HEAD.
 pub fn load<A: Allocator + Copy>(
     alloc: A,
     text: &[u8],
@@ -61,8 +62,8 @@ pub fn load<A: Allocator + Copy>(
     })
 }
 
-// Estimates the number of nodes from the front of the text. The estimate is at most the number that
-// the text's length, or a graph, allows.
+// Estimates the number of nodes from a prefix of the text. The estimate never exceeds the number of
+// nodes that the length of the text and a graph allow.
 fn expected_nodes(text: &[u8]) -> usize
     ensures { result ≤ max_nodes }
 {
@@ -72,7 +73,8 @@ fn expected_nodes(text: &[u8]) -> usize
     expected.min(text.len() / SHORTEST_NODE).min(MAX_NODES)
 }
 
-// Returns the first line, without its LF, and the text after the LF.
+// Returns the first line without its LF, and the text after the LF, or `None` if the text has no
+// LF.
 fn split_line(text: &[u8]) -> Option<(&[u8], &[u8])>
     ensures { MatchOption result (IsInLine text.now) (λ pair.
         (text.now ≡ line pair.0.now ++ pair.1.now) × IsInLine pair.0.now) }

@@ -1,4 +1,4 @@
-//! The parts of a line: ids in lower case, and names.
+//! Parsing of the parts of a line: ids in lower case, and names.
 
 ghost use Rattle.std.specs.Prelude.{◌≡◌, ◌++◌, ◌≤◌, MatchOption, MatchResult, All, IsTrue, ◌↔◌, codes, false, length, take};
 ghost use Rattle.std.specs.Char.{is_ascii_uppercase};
@@ -14,7 +14,7 @@ use gname::{Format, NameFault, Oid, RefName};
 use gobject::MAX_PARENTS;
 use std::alloc::{AllocError, Allocator};
 
-/// An id at the front of a text, its digits there, and the text after them.
+/// An id at the beginning of a text, its digits, and the text after the digits.
 #[derive(Clone, Copy)]
 pub(crate) struct FrontId<'a> {
     pub id: Oid,
@@ -22,7 +22,7 @@ pub(crate) struct FrontId<'a> {
     pub rest: &'a [u8],
 }
 
-/// Returns the id of the format whose digits are at the front, and the text after them.
+/// Returns the id of the format with whose digits the text begins, and the text after the digits.
 pub(crate) fn take_id(format: Format, text: &[u8]) -> Option<(Oid, &[u8])>
     ensures { MatchOption result (BeginsWithNoId format text.now) (λ pair.
         (text.now ≡ id_text pair.0 ++ pair.1.now) × IsIdOf format pair.0) }
@@ -33,7 +33,7 @@ pub(crate) fn take_id(format: Format, text: &[u8]) -> Option<(Oid, &[u8])>
     }
 }
 
-// Returns the id of the format whose digits are at the front.
+// Returns the id of the format with whose digits the text begins, or `None`.
 fn front_id(format: Format, text: &[u8]) -> Option<FrontId<'_>>
     ensures { MatchOption result (BeginsWithNoId format text.now) (λ found.
         (text.now ≡ id_text found.id ++ found.rest.now) × (found.digits.now ≡ id_text found.id)
@@ -58,14 +58,14 @@ fn front_id(format: Format, text: &[u8]) -> Option<FrontId<'_>>
     }
 }
 
-// Whether no digit is an upper-case letter.
+// Returns whether the digits have no upper-case letters.
 fn is_lower(digits: &[u8]) -> bool
     ensures { IsTrue result ↔ All (λ digit. is_ascii_uppercase digit ≡ false) digits.now }
 {
     digits.iter().all(|digit| !digit.is_ascii_uppercase())
 }
 
-/// Returns the id at the front after a space.
+/// Returns the id after the space with which the text begins, or `None`.
 pub(crate) fn take_spaced(format: Format, text: &[u8]) -> Option<FrontId<'_>>
     ensures { MatchOption result (BeginsWithNoSpacedId format text.now) (λ found.
         (text.now ≡ codes " " ++ (id_text found.id ++ found.rest.now))
@@ -75,8 +75,8 @@ pub(crate) fn take_spaced(format: Format, text: &[u8]) -> Option<FrontId<'_>>
     front_id(format, text.strip_prefix(b" ")?)
 }
 
-// Returns the parent at the front after a space, and the text after it. Most parents are on one of
-// the previous lines.
+// Returns the parent's id after the space with which the text begins, and the text after that id.
+// The function tries the recent ids first, because most parents are on one of the previous lines.
 fn take_parent<'t>(format: Format, recent: &Recent<'_>, text: &'t [u8]) -> Option<(Oid, &'t [u8])>
     ensures { MatchOption result (BeginsWithNoSpacedId format text.now) (λ pair.
         (text.now ≡ codes " " ++ (id_text pair.0 ++ pair.1.now)) × IsIdOf format pair.0) }
@@ -90,8 +90,8 @@ fn take_parent<'t>(format: Format, recent: &Recent<'_>, text: &'t [u8]) -> Optio
     take_id(format, text)
 }
 
-/// The state that all lines of a text share: room for a node's parents, the number of expected
-/// nodes, and the ids that were read last.
+/// The buffers that all lines of a text share: an array for a node's parents, the expected number
+/// of nodes, and the recent ids.
 #[derive(Drop)]
 pub(crate) struct Room<'a> {
     ids: [Oid; MAX_PARENTS],
@@ -100,7 +100,8 @@ pub(crate) struct Room<'a> {
 }
 
 impl<'a> Room<'a> {
-    /// Returns the state for a text with `nodes` expected nodes. The ids have no meaning yet.
+    /// Returns the buffers for a text with `nodes` expected nodes. The ids in the array are
+    /// placeholders.
     pub(crate) fn new(nodes: usize) -> Room<'a> {
         let blank = Oid::from_hex(&[b'0'; 40]).unwrap();
         Room {
@@ -110,8 +111,8 @@ impl<'a> Room<'a> {
         }
     }
 
-    /// Returns the ids of a node's parents, a space before each. Returns `None` if the text has any
-    /// other content.
+    /// Parses the ids of a node's parents, each after a space. Returns `None` if the text is
+    /// anything else.
     pub(crate) fn read(&mut self, format: Format, text: &[u8]) -> Option<&[Oid]>
         ensures { MatchOption result (IsNoParents format text.now) (λ ids.
             (text.now ≡ ids_text ids.now) × All (IsIdOf format) ids.now
@@ -122,7 +123,7 @@ impl<'a> Room<'a> {
     }
 }
 
-// Reads the ids of a node's parents into the front of the array, and returns their number.
+// Reads the ids of a node's parents into the first elements of the array, and returns their number.
 fn read_parents(
     format: Format,
     recent: &Recent<'_>,
@@ -151,7 +152,8 @@ fn read_parents(
     Some(count)
 }
 
-/// Returns the name, if it is one below `refs/`. Fails only if out of memory for such a name.
+/// Returns the name if it is a valid ref name below `refs/`, otherwise `None`. Fails only if out of
+/// memory for a valid name.
 pub(crate) fn name_of<A: Allocator + Copy>(
     alloc: A,
     text: &[u8],

@@ -19,22 +19,22 @@ use gobject::{Entry, Kind, MAX_PARENTS, Node, Parents};
 use grefs::{Head, MAX_REFS, Refs};
 use std::alloc::Allocator;
 
-/// The kinds of lines that are allowed next.
+/// The stage of reading: the kinds of lines that are allowed next.
 #[derive(Clone, Copy, Debug, PartialEq, Eq)]
 pub(crate) enum TextStage {
-    /// The first line.
+    /// The first line, which names the object format.
     First,
-    /// A node, a ref or HEAD.
+    /// The line of a node, of a ref or of HEAD.
     Nodes,
-    /// A ref or HEAD.
+    /// The line of a ref or of HEAD.
     Refs,
-    /// The last line.
+    /// The last line, `end`.
     Last,
-    /// No line.
+    /// No further line.
     Done,
 }
 
-/// The contents of the lines so far.
+/// The contents of the lines read so far.
 #[derive(Drop)]
 pub(crate) struct Reading<A: Allocator + Copy> {
     pub stage: TextStage,
@@ -60,7 +60,8 @@ impl<A: Allocator + Copy> Reading<A> {
         }
     }
 
-    /// Takes the next line, with its number in the text. It reads the node's parents into the room.
+    /// Reads the next line, whose number in the text is `number`. The buffers in `room` hold a
+    /// node's parents.
     pub(crate) fn take_line<'a>(
         &mut self,
         room: &mut Room<'a>,
@@ -83,7 +84,7 @@ impl<A: Allocator + Copy> Reading<A> {
         }
     }
 
-    // Takes the first line, and reserves memory for the expected nodes.
+    // Reads the first line, and reserves memory for the expected nodes.
     fn take_first(&mut self, nodes: usize, line: &[u8], number: usize) -> Result<(), LoadFault>
         requires { self.old.stage ≡ TextStage.First }
         ensures ok { ((order : Order) → OnOk result (ComesNext order self.old line.now self.new)) }
@@ -114,7 +115,7 @@ impl<A: Allocator + Copy> Reading<A> {
         Ok(())
     }
 
-    // Takes a node's line.
+    // Reads the line of a node.
     fn take_node<'a>(
         &mut self,
         room: &mut Room<'a>,
@@ -147,7 +148,7 @@ impl<A: Allocator + Copy> Reading<A> {
         added
     }
 
-    // Takes the line of a ref or of HEAD.
+    // Reads the line of a ref or of HEAD.
     fn take_ref(&mut self, line: &[u8], number: usize) -> Result<(), LoadFault>
         requires due { RefMayCome self.old.stage }
         requires no_node { self.old.stage ≡ TextStage.Nodes → IsNoNode line.now }
@@ -188,7 +189,7 @@ impl<A: Allocator + Copy> Reading<A> {
     }
 }
 
-// The node of a line, whose parents are in the room.
+// The node of a line, with its parents borrowed from the shared buffers.
 #[derive(Clone, Copy)]
 struct NewNode<'a> {
     kind: Kind,
@@ -196,7 +197,7 @@ struct NewNode<'a> {
     parents: &'a [Oid],
 }
 
-// Adds the node of a line to the graph. It allocates last.
+// Adds the node of a line to the graph. All checks happen before the first allocation.
 fn add_node<A: Allocator + Copy>(
     graph: &mut Graph<A>,
     order: Order,
@@ -228,7 +229,7 @@ fn add_node<A: Allocator + Copy>(
     }
 }
 
-// Whether a node of the kind may have these parents.
+// Returns whether a node of the kind may have these parents.
 fn is_shaped(kind: Kind, parents: &[Oid]) -> bool
     ensures { IsTrue result ↔ IsShaped {A = Unit {0}} (node_of kind parents.now) }
 {
@@ -238,7 +239,7 @@ fn is_shaped(kind: Kind, parents: &[Oid]) -> bool
     }
 }
 
-// Adds the ref of a line to the refs. It allocates last.
+// Adds the ref of a line to the refs. All checks happen before the first allocation.
 fn add_ref<A: Allocator + Copy>(
     refs: &mut Refs<A>,
     alloc: A,

@@ -1,4 +1,4 @@
-//! The ids that were read last.
+//! The ids of the last two nodes that were read.
 
 ghost use Rattle.std.specs.Prelude.{◌≡◌, ◌≢◌, ◌++◌, [], IfSome};
 ghost use Rattle.gname.specs.Ids.{id_text};
@@ -7,7 +7,7 @@ use gname::Oid;
 use std::marker::Model;
 
 /// The ids of the last two nodes, with their digits in the text. A node's parents are often among
-/// them, and then need no decoding. If no node was read, there are no digits.
+/// these ids, and then need no decoding. Before the first node the digits are empty.
 #[derive(Drop)]
 pub(crate) struct Recent<'a> {
     last: Oid,
@@ -29,7 +29,7 @@ impl<'a> Model for Recent<'a> {
 }
 
 impl<'a> Recent<'a> {
-    /// Returns the state before any node. The id has no meaning.
+    /// Returns the state before the first node. The id `blank` is only a placeholder.
     pub(crate) fn new(blank: Oid) -> Recent<'a> {
         Recent {
             last: blank,
@@ -39,7 +39,7 @@ impl<'a> Recent<'a> {
         }
     }
 
-    /// Stores the id of the last node, with its digits.
+    /// Stores the id of the node that was read last, with its digits.
     pub(crate) fn keep(&mut self, digits: &'a [u8], id: Oid)
         requires { digits.now ≡ id_text id }
     {
@@ -49,7 +49,7 @@ impl<'a> Recent<'a> {
         self.last_digits = digits;
     }
 
-    /// Returns the recent id at the front of the text, and the text after it.
+    /// Returns the recent id with whose digits the text begins, and the text after the digits.
     pub(crate) fn take_recent<'t>(&self, text: &'t [u8]) -> Option<(Oid, &'t [u8])>
         ensures { IfSome result (λ pair. text.now ≡ id_text pair.0 ++ pair.1.now) }
     {
@@ -63,7 +63,7 @@ impl<'a> Recent<'a> {
     }
 }
 
-// Returns the text after the digits, if there are digits and the text begins with them.
+// Returns the text after the digits, if the text begins with nonempty digits.
 fn after<'t>(digits: &[u8], text: &'t [u8]) -> Option<&'t [u8]>
     ensures { IfSome result (λ rest. (digits.now ≢ []) × (text.now ≡ digits.now ++ rest.now)) }
 {

@@ -1,4 +1,4 @@
-//! Writing a repository text.
+//! Writing of a repository text.
 
 ghost use Rattle.std.specs.Prelude.{◌≡◌, ◌++◌, All, IfOk, IsTrue, ◌↔◌, ◌∷◌, ◌<◌, [], MatchOption, MatchResult, OnOk, Some, length, map, slice_get};
 ghost use Rattle.gdag.specs.Graphs.{IsGraph};
@@ -17,9 +17,9 @@ use gobject::Entry;
 use grefs::{Head, Refs};
 use std::alloc::{AllocError, Allocator};
 
-/// Writes the one text of this repository, which `load` reads back under `Order::Any`.
+/// Returns the unique text of this repository, which `load` reads back under `Order::Any`.
 ///
-/// Fails with `OtherFormat` and the first id with another format than the graph. The refs are
+/// Fails with `OtherFormat` and the first id whose format is not that of the graph. The refs are
 /// checked in name order, and HEAD last. Otherwise fails only with `Memory`.
 pub fn save<A: Allocator + Copy>(
     alloc: A,
@@ -42,7 +42,7 @@ pub fn save<A: Allocator + Copy>(
     Ok(text)
 }
 
-// Returns the first id without the format, of the refs and then of HEAD.
+// Returns the first id that does not have the format, among the refs and then HEAD.
 fn other_id<A: Allocator + Copy>(
     format: Format,
     refs: &[(RefName<A>, Oid)],
@@ -70,7 +70,7 @@ fn other_ref<A: Allocator + Copy>(format: Format, refs: &[(RefName<A>, Oid)]) ->
     None
 }
 
-// Returns the id of HEAD, if it does not have the format.
+// Returns the id of a detached HEAD if that id does not have the format.
 fn other_head<A: Allocator + Copy>(format: Format, head: &Head<A>) -> Option<Oid>
     ensures { MatchOption result (All (IsIdOf format) (head_ids head.now))
         (IsFirstOther format (head_ids head.now)) }
@@ -81,7 +81,7 @@ fn other_head<A: Allocator + Copy>(format: Format, head: &Head<A>) -> Option<Oid
     }
 }
 
-// Whether the id has the format.
+// Returns whether the id has the format.
 fn is_of(format: Format, id: &Oid) -> bool
     ensures { IsTrue result ↔ IsIdOf format id.now }
 {

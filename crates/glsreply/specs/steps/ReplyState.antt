@@ -1,4 +1,4 @@
--- The steps of reading a reply: what is kept of the packets so far, and what a packet adds to it.
+-- Definitions for the proofs of reading a reply: the state after some packets, and how a packet changes it.
 use Rattle.std.specs.Prelude.{◌≡◌, ℕ, ◌+◌, Bool, true, List, [], ◌∷◌, ◌++◌, length, if◌then◌else◌, ◌==◌}
 use Rattle.std.specs.Prelude.{◌⊎◌, All, Some, Result, Ok, Err}
 use Rattle.gname.specs.Names.{Name}
@@ -10,18 +10,18 @@ use Rattle.glsreply.specs.RefTexts.{RefLine, line_of, FirstForm, UnbornForm, Ref
 use Rattle.glsreply.specs.LsReplies.{LsReply, is_over, reply_of}
 use Rattle.glsreply.specs.declared.reader.LsReplyReader.{LsReplyReader}
 
--- whether the flush has come, how many texts there were, and what they say
+-- the state of a reader: whether the flush was read, the number of text lines read, and the reply so far
 pub record State : Type 0 where
   pub over : Bool
   pub count : ℕ
   pub reply : LsReply
 
--- what is kept of these packets
+-- the state after these packets
 abbrev pub state_of : Format → List Packet → State
 state_of format packets =
     record { over = is_over packets; count = length (texts_of packets); reply = reply_of format packets }
 
--- what a reader keeps
+-- the state of a reader
 abbrev pub state_in : {A : Type 0} → LsReplyReader A → State
 state_in reader = record {
   over = reader.is_over;
@@ -29,11 +29,11 @@ state_in reader = record {
   reply = record { unborn = reader.unborn; lines = reader.lines.items };
 }
 
--- the format of its ids, and how it ends, stay
+-- the object format and the ending of the reader are unchanged
 abbrev pub KeepsKind : {A : Type 0} → LsReplyReader A → LsReplyReader A → Type 0
 KeepsKind old new = (new.format ≡ old.format) × (new.ends ≡ old.ends)
 
--- ---- what a packet adds
+-- ---- the effect of a packet
 
 abbrev pub with_line : State → Result RefLine Why → State
 with_line state (Ok line) = record {
@@ -67,9 +67,9 @@ with_packet format state (Data payload) = with_text format state (text payload)
 with_packet format state Flush = with_flush state
 with_packet format state packet = state
 
--- ---- what the reader holds
+-- ---- the state of the reader
 
--- a text is the line of a ref, or says that HEAD is unborn
+-- a text is the line of a ref or of an unborn HEAD
 abbrev pub IsLineText : Format → Bytes → Type 0
 IsLineText format line = ((target : Result Name Why) × (first_form line ≡ UnbornForm target))
     ⊎ ((ref : RefLine) × (line_of format line ≡ Ok ref))
@@ -77,7 +77,7 @@ IsLineText format line = ((target : Result Name Why) × (first_form line ≡ Unb
 abbrev pub AreLineTexts : Format → List Packet → Type 0
 AreLineTexts format packets = All (IsLineText format) (texts_of packets)
 
--- the reader keeps what these packets say, each text of which was accepted
+-- the state of the reader is the one after these packets, and each of their texts is an accepted line
 abbrev pub Holds : {A : Type 0} → LsReplyReader A → List Packet → Type 0
 Holds reader packets =
     (state_in reader ≡ state_of reader.format packets) × AreLineTexts reader.format packets

@@ -1,4 +1,4 @@
--- The steps of reading a plain pack: part by part, which may come, and what comes after it.
+-- Definitions for the proofs of reading a plain pack: the parts that are allowed next, and the state after each part.
 use Rattle.std.specs.Prelude.{◌≡◌, ◌==◌, if◌then◌else◌, ℕ, ◌+◌, List, [], ◌∷◌, ◌++◌, length, codes, decimal, Result, MatchResult, Vec}
 use Rattle.gname.specs.declared.formats.Format.{Format}
 use Rattle.gname.specs.declared.formats.Format.TheVariants.{Sha1, Sha256}
@@ -21,37 +21,37 @@ abbrev pub separator_byte : Separator → ℕ
 separator_byte Space = 32
 separator_byte LineFeed = 10
 
--- a text begins with this part, which this ends, and this follows
+-- the text is this part, then the byte of the separator, and then the rest
 pub record SplitsPart (text part : List ℕ) (separator : Separator) (rest : List ℕ) : Type 0 where
   pub whole : text ≡ part ++ separator_byte separator ∷ rest
   pub unbroken : IsPart part
 
--- the format of an id with so many digits
+-- the format of an id with `n` digits
 abbrev pub format_of_digits : ℕ → Format
 format_of_digits n = if n == id_text_length Sha256 then Sha256 else Sha1
 
--- a text is that of no id
+-- the text is not the text of an id
 abbrev pub NoId : List ℕ → Type 0
 NoId text = (id : Id) → IsIdText text id → ⊥
 
--- ---- what may come, and what comes after it
+-- ---- the parts that are allowed next, and the state after each
 
 -- the entry with one more parent
 abbrev pub with_parent : {A : Type 0} → Entry A → Id → Entry A
 with_parent entry id = entry_of entry.id (node_of entry.node.kind (entry.node.parents ++ id ∷ []))
 
--- the word that a line begins with, and what comes after it
+-- the first word of a line, and the part that it announces
 abbrev pub IsWord : {A : Type 0} → List ℕ → Next A → Type 0
 IsWord part (next_is.Id kind) = part ≡ letter kind ∷ []
 IsWord part next_is.Count = part ≡ codes "end"
 IsWord part _ = ⊥
 
--- after an id of the entry a space announces one more parent, and a line feed ends its line
+-- the state after an id of the entry: a space announces one more parent, and a line feed ends the line
 abbrev pub EndsId : {A : Type 0} → List (Entry A) → Entry A → Separator → Next A → List (Entry A) → Type 0
 EndsId old entry Space next new = (next ≡ next_is.Parent entry) × (new ≡ old)
 EndsId old entry LineFeed next new = (next ≡ next_is.Word) × (new ≡ old ++ entry ∷ [])
 
--- this part may come next, where these entries are read; what comes after it, and the entries then
+-- the part is allowed next, and the last two arguments are the part that it announces and the entries read by then
 abbrev pub Leads : {A : Type 0} → Next A → List (Entry A) → List ℕ → Separator → Next A → List (Entry A) → Type 0
 Leads next_is.Header old part LineFeed next new = (part ≡ header) × (next ≡ next_is.Word) × (new ≡ old)
 Leads next_is.Word old part Space next new = IsWord part next × (new ≡ old)
@@ -62,25 +62,25 @@ Leads (next_is.Parent entry) old part end next new =
 Leads next_is.Count old part LineFeed next new = (part ≡ decimal (length old)) × (next ≡ next_is.Nothing) × (new ≡ old)
 Leads _ old part end next new = ⊥
 
--- this part may not come next
+-- the part is not allowed next
 abbrev pub NeverLeads : {A : Type 0} → Next A → List (Entry A) → List ℕ → Separator → Type 0
 NeverLeads {A} next list part end = (after : Next A) (new : List (Entry A)) → Leads next list part end after new → ⊥
 
--- something is kept at the part: a parent, or an entry at the end of its line
+-- the part has contents to store: a parent, or an entry at the end of its line
 abbrev pub IsKept : {A : Type 0} → Next A → List ℕ → Separator → Type 0
 IsKept (next_is.Id kind) part LineFeed = (id : Id) × IsIdText part id
 IsKept (next_is.Parent entry) part end = (id : Id) × IsIdText part id
 IsKept _ part end = ⊥
 
--- ---- what was read
+-- ---- the bytes that were read
 
--- which line, counted from 1, the next part stands in, after so many entries
+-- the number of the line, counted from 1, that has the next part after `n` entries
 abbrev pub line_number : {A : Type 0} → Next A → ℕ → ℕ
 line_number next_is.Header n = 1
 line_number next_is.Nothing n = n + 3
 line_number _ n = n + 2
 
--- the part and what ends it are read after the bytes before them, or refused whatever follows
+-- the outcome of reading a part with its separator: the part is read, or the bytes are refused whatever bytes follow
 abbrev pub Reads : {A : Type 0} → Lines A → Lines A → Result (Unit {0}) IndexFault → List ℕ → Separator → Type 0
 Reads {A} old new result part end =
     MatchResult result
@@ -89,7 +89,7 @@ Reads {A} old new result part end =
     (λ fault. (before more : List ℕ) → IsPart part → HasRead old.next old.entries.items before →
     IndexRefuses A ((before ++ (part ++ separator_byte end ∷ [])) ++ more) fault)
 
--- the input ends with a part that has not ended: it is a pack of the entries, or refused
+-- the outcome at the end of the input: the bytes are a plain pack of the entries, or they are refused
 abbrev pub Finishes : {A : Type 0} → Lines A → Result (Vec (Entry A) A) IndexFault → List ℕ → Type 0
 Finishes {A} lines result part =
     MatchResult result
@@ -98,9 +98,10 @@ Finishes {A} lines result part =
     (λ fault. (before : List ℕ) → IsPart part → HasRead lines.next lines.entries.items before →
     IndexRefuses A (before ++ part) fault)
 
--- ---- what was fed
+-- ---- the bytes that were fed
 
--- a feed is fed the piece after what it was fed, or the piece is refused whatever follows
+-- the outcome of feeding a piece: the piece is added to the bytes fed before, or the bytes are refused whatever bytes
+-- follow
 abbrev pub Feeds : {A : Type 0} → PlainFeed A → PlainFeed A → Result (Unit {0}) IndexFault → List ℕ → Type 0
 Feeds {A} old new result piece =
     MatchResult result (λ _. (given : List ℕ) → Fed old given → Fed new (given ++ piece))

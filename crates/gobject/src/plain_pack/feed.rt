@@ -1,4 +1,4 @@
-//! Reading a plain pack in pieces.
+//! Reading of a plain pack in pieces.
 
 ghost use Rattle.std.specs.Prelude.{[], ◌++◌, ◌∷◌, ℕ, List, MatchResult};
 ghost use Rattle.gobject.specs.PlainPackText.{IsPack, IndexRefuses};
@@ -14,8 +14,8 @@ use gname::laws::id_texts_are_digits;
 use std::alloc::Allocator;
 use std::mem;
 
-/// The state of a plain pack that is read in pieces: the entries so far, and the bytes of an
-/// unfinished part.
+/// The state of reading a plain pack in pieces: the entries so far, and the bytes of an unfinished
+/// part.
 #[derive(Drop)]
 pub struct PlainFeed<A: Allocator + Copy> {
     lines: Lines<A>,
@@ -23,7 +23,7 @@ pub struct PlainFeed<A: Allocator + Copy> {
 }
 
 impl<A: Allocator + Copy> PlainFeed<A> {
-    /// Returns a feed to which nothing was fed. It does not allocate.
+    /// Returns a feed before the first piece. It does not allocate.
     #[tactic(auto, using(crate::proofs::PlainPackFeed::fed_new))]
     pub fn new(alloc: A) -> PlainFeed<A>
         ensures { Fed result [] }
@@ -34,7 +34,7 @@ impl<A: Allocator + Copy> PlainFeed<A> {
         }
     }
 
-    /// Stores some bytes of a part that does not end with them.
+    /// Stores bytes of a part whose end is not in the piece.
     #[tactic(auto, using(crate::proofs::PlainPackFeed::fed_keep, crate::proofs::PlainPackFeed::bad_line_kept))]
     fn keep(&mut self, text: &[u8]) -> Result<(), IndexFault>
         requires { IsPart text.now }
@@ -48,7 +48,7 @@ impl<A: Allocator + Copy> PlainFeed<A> {
         }
     }
 
-    /// Reads the part that ends with some bytes and a separator.
+    /// Reads the part that consists of the stored bytes and `text`, and ends with the separator.
     fn end_part(&mut self, text: &[u8], separator: Separator) -> Result<(), IndexFault>
         requires { IsPart text.now }
         ensures { Feeds self.old self.new result (text.now ++ separator_byte separator ∷ []) }
@@ -61,8 +61,8 @@ impl<A: Allocator + Copy> PlainFeed<A> {
         self.lines.take_part(part.as_slice(), separator)
     }
 
-    /// Reads the next piece. Fails with `Bad` at the first line that is wrong, and with `Memory` if
-    /// there is no memory for an entry. After a failure the feed can't be used further.
+    /// Reads the next piece. Fails with `Bad` at the first wrong line, and with `Memory` if an
+    /// entry can't be stored. After a failure the feed can't be used further.
     pub fn feed(&mut self, piece: &[u8]) -> Result<(), IndexFault>
         ensures { Feeds self.old self.new result piece.now }
     {
@@ -74,7 +74,7 @@ impl<A: Allocator + Copy> PlainFeed<A> {
         self.keep(rest)
     }
 
-    /// Returns the entries if a whole pack was fed. Otherwise fails with `Bad`.
+    /// Returns the entries if a complete pack was fed. Otherwise fails with `Bad`.
     #[tactic(auto, using(crate::proofs::PlainPackFeed::fed_finish))]
     pub fn finish(self) -> Result<Vec<Entry<A>, A>, IndexFault>
         ensures { MatchResult result

@@ -1,4 +1,4 @@
-//! Reading a plain pack part by part.
+//! Reading of a plain pack, part by part.
 
 ghost use Rattle.std.specs.Prelude.{◌≡◌, [], ℕ, ◌+◌, List, length, decimal, MatchOption, IfOk, OnErr, IsTrue, ◌↔◌};
 ghost use Rattle.gname.specs.Ids.{IsIdText};
@@ -22,24 +22,25 @@ pub enum Separator {
     LineFeed,
 }
 
-/// The expected next part.
+/// The part that is expected next.
 #[derive(Drop)]
 pub enum Next<A: Allocator + Copy> {
-    /// The header.
+    /// The first line, `GPK1`.
     Header,
     /// The first word of a line.
     Word,
     /// The id of an entry of this kind.
     Id(Kind),
-    /// One more parent of this entry.
+    /// Another parent of this entry.
     Parent(Entry<A>),
-    /// The number of entries.
+    /// The number of entries, in the last line.
     Count,
-    /// No part: the pack has ended.
+    /// No further part, because the pack is complete.
     Nothing,
 }
 
-/// Returns the first part of a text, its separator, and the rest.
+/// Returns the first part of a text, its separator, and the rest, or `None` if the text has no
+/// separator.
 pub fn split_part(text: &[u8]) -> Option<(&[u8], Separator, &[u8])>
     ensures { MatchOption result (IsPart text.now)
         (λ parts. SplitsPart text.now parts.0.now parts.1 parts.2.now) }
@@ -64,7 +65,7 @@ fn format_of(part: &[u8]) -> Format
     }
 }
 
-/// Returns the id that a part spells.
+/// Returns the id that a part encodes, or `None` if the part is not the text of an id.
 #[tactic(auto, using(crate::proofs::PlainPackLines::no_id_of_fault, crate::proofs::PlainPackLines::id_text_of_read))]
 fn id_of(part: &[u8]) -> Option<Oid>
     ensures { MatchOption result (NoId part.now) (IsIdText part.now) }
@@ -78,7 +79,7 @@ fn id_of(part: &[u8]) -> Option<Oid>
     }
 }
 
-/// Returns the next part after the header.
+/// Returns the part that is expected after the header, or `None` if the header is wrong.
 fn after_header<A: Allocator + Copy>(part: &[u8], separator: Separator) -> Option<Next<A>>
     ensures { ((list : List (Entry A)) → MatchOption result
         (NeverLeads {A = A} Next.Header list part.now separator)
@@ -90,7 +91,8 @@ fn after_header<A: Allocator + Copy>(part: &[u8], separator: Separator) -> Optio
     }
 }
 
-/// Returns the next part after the first word of a line.
+/// Returns the part that is expected after the first word of a line, or `None` if the word is
+/// wrong.
 fn after_word<A: Allocator + Copy>(part: &[u8], separator: Separator) -> Option<Next<A>>
     ensures { ((list : List (Entry A)) → MatchOption result
         (NeverLeads {A = A} Next.Word list part.now separator)
@@ -112,7 +114,7 @@ fn after_word<A: Allocator + Copy>(part: &[u8], separator: Separator) -> Option<
     }
 }
 
-/// Whether a part is the number of entries.
+/// Returns whether a part is the number of entries in decimal.
 fn is_count(part: &[u8], count: usize) -> bool
     ensures { IsTrue result ↔ (part.now ≡ decimal count) }
 {
@@ -139,8 +141,8 @@ fn push_parent<A: Allocator + Copy>(mut entry: Entry<A>, id: Oid) -> Result<Entr
     Ok(entry)
 }
 
-/// Returns the next part after an id of an entry: one more parent, or, at the end of its line,
-/// another line.
+/// Returns the part that is expected after an id of an entry: another parent after a space, or the
+/// first word of the next line after a line feed.
 fn after_id<A: Allocator + Copy>(
     entries: &mut Vec<Entry<A>, A>,
     entry: Entry<A>,
@@ -159,7 +161,7 @@ fn after_id<A: Allocator + Copy>(
     }
 }
 
-/// Returns the next part after a part, or `None` if the part is not allowed here.
+/// Returns the part that is expected after a part, or `None` if the part is not allowed.
 fn after_part<A: Allocator + Copy>(
     alloc: A,
     entries: &mut Vec<Entry<A>, A>,
@@ -199,7 +201,7 @@ fn after_part<A: Allocator + Copy>(
     }
 }
 
-/// The lines read so far, and the expected next part.
+/// The entries of the lines read so far, and the part that is expected next.
 #[derive(Drop)]
 pub struct Lines<A: Allocator + Copy> {
     alloc: A,
@@ -208,7 +210,7 @@ pub struct Lines<A: Allocator + Copy> {
 }
 
 impl<A: Allocator + Copy> Lines<A> {
-    /// Returns the state in which nothing was read. It does not allocate.
+    /// Returns the state before the first part. It does not allocate.
     pub fn new(alloc: A) -> Lines<A>
         ensures next { result.next ≡ Next.Header }
         ensures entries { result.entries.items ≡ [] }
@@ -240,8 +242,7 @@ impl<A: Allocator + Copy> Lines<A> {
     }
 
     /// Reads a part and its separator. Fails with `Bad` if the part is not allowed next, and with
-    /// `Memory` if there is no memory for an entry. After a failure the lines can't be used
-    /// further.
+    /// `Memory` if an entry can't be stored. After a failure the state can't be used further.
     pub fn take_part(&mut self, part: &[u8], separator: Separator) -> Result<(), IndexFault>
         ensures { Reads self.old self.new result part.now separator }
     {
@@ -258,15 +259,15 @@ impl<A: Allocator + Copy> Lines<A> {
         }
     }
 
-    /// Whether the pack has ended, and this part is empty.
+    /// Returns whether the pack is complete and `part` is empty.
     fn has_ended(&self, part: &[u8]) -> bool
         ensures { IsTrue result ↔ ((self.now.next ≡ Next.Nothing) × (part.now ≡ [])) }
     {
         matches!(self.next, Next::Nothing) && part.is_empty()
     }
 
-    /// Returns the entries if the pack has ended and the unfinished part is empty. Otherwise fails
-    /// with `Bad`.
+    /// Returns the entries if the pack is complete and the unfinished part is empty. Otherwise
+    /// fails with `Bad`.
     #[tactic(auto, using(crate::proofs::PlainPackReading::pack_is_read, crate::proofs::PlainPackReading::bad_line_at_end))]
     pub fn finish(self, part: &[u8]) -> Result<Vec<Entry<A>, A>, IndexFault>
         ensures { Finishes self result part.now }

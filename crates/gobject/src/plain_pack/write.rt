@@ -1,4 +1,4 @@
-//! Writing a plain pack. Its length is computed before memory is allocated.
+//! Writing of a plain pack. The length of the pack is computed before memory is allocated.
 
 ghost use Rattle.std.specs.Prelude.{◌≡◌, ◌≤◌, ◌++◌, ◌∷◌, [], length, IsTrue, ◌↔◌, OnOk, MatchResult, IfOk};
 ghost use Rattle.gname.specs.Limits.{max_pack};
@@ -12,7 +12,7 @@ use gname::{MAX_PACK, Oid};
 use itoa::Buffer;
 use std::alloc::{AllocError, Allocator};
 
-/// Returns the room that is left after an id and the space before it.
+/// Returns the room that is left after a space and an id, or `None` if there is not enough.
 fn room_after_id(room: usize, id: &Oid) -> Option<usize>
     ensures { Leaves room result (length (ids_text (id.now ∷ []))) }
 {
@@ -22,7 +22,8 @@ fn room_after_id(room: usize, id: &Oid) -> Option<usize>
     room.checked_sub(id.format().id_text_length() + 1)
 }
 
-/// Returns the room that is left after ids, a space before each.
+/// Returns the room that is left after ids with a space before each, or `None` if there is not
+/// enough.
 fn room_after_ids(room: usize, ids: &[Oid]) -> Option<usize>
     ensures { Leaves room result (length (ids_text ids.now)) }
 {
@@ -33,7 +34,7 @@ fn room_after_ids(room: usize, ids: &[Oid]) -> Option<usize>
     Some(left)
 }
 
-/// Returns the room that is left after the line of an entry.
+/// Returns the room that is left after the line of an entry, or `None` if there is not enough.
 fn room_after_node<A: Allocator + Copy>(room: usize, entry: &Entry<A>) -> Option<usize>
     ensures { Leaves room result (length (line (node_text entry.now))) }
 {
@@ -42,7 +43,7 @@ fn room_after_node<A: Allocator + Copy>(room: usize, entry: &Entry<A>) -> Option
     room_after_ids(left, entry.node.parents.as_slice())
 }
 
-/// Returns the room that is left after the lines of some entries.
+/// Returns the room that is left after the lines of some entries, or `None` if there is not enough.
 fn room_after_nodes<A: Allocator + Copy>(room: usize, entries: &[Entry<A>]) -> Option<usize>
     ensures { Leaves room result (length (nodes_text entries.now)) }
 {
@@ -53,7 +54,7 @@ fn room_after_nodes<A: Allocator + Copy>(room: usize, entries: &[Entry<A>]) -> O
     Some(left)
 }
 
-/// Whether the pack of some entries has at most `MAX_PACK` bytes.
+/// Returns whether the pack of some entries has at most `MAX_PACK` bytes.
 #[tactic(auto, using(crate::proofs::PlainPackWriting::length_pack))]
 fn fits<A: Allocator + Copy>(entries: &[Entry<A>]) -> bool
     ensures { IsTrue result ↔ (length (pack_text entries.now) ≤ max_pack) }
@@ -66,7 +67,7 @@ fn fits<A: Allocator + Copy>(entries: &[Entry<A>]) -> bool
     }
 }
 
-/// Writes the lines of some entries.
+/// Appends the lines of some entries to the text.
 #[tactic(auto, using(crate::proofs::PlainPackWriting::pieces_more))]
 fn put_nodes<A: Allocator + Copy>(
     text: &mut Vec<u8, A>,
@@ -80,7 +81,7 @@ fn put_nodes<A: Allocator + Copy>(
     Ok(())
 }
 
-/// Writes the last line.
+/// Appends the last line, with the number of entries.
 fn put_end<A: Allocator + Copy>(text: &mut Vec<u8, A>, count: usize) -> Result<(), AllocError>
     ensures { OnOk result (text.new.items ≡ text.old.items ++ line (end_text count)) }
 {
@@ -91,7 +92,7 @@ fn put_end<A: Allocator + Copy>(text: &mut Vec<u8, A>, count: usize) -> Result<(
     Ok(())
 }
 
-/// Writes the text of the pack of some entries, with any length.
+/// Returns the plain pack of some entries, whatever its length.
 #[tactic(auto, using(crate::proofs::PlainPackWriting::pack_text_is))]
 fn put_pack<A: Allocator + Copy>(alloc: A, entries: &[Entry<A>]) -> Result<Vec<u8, A>, AllocError>
     ensures { IfOk result (λ pack. pack.items ≡ pack_text entries.now) }
@@ -103,8 +104,8 @@ fn put_pack<A: Allocator + Copy>(alloc: A, entries: &[Entry<A>]) -> Result<Vec<u
     Ok(text)
 }
 
-/// Writes the pack of some entries. Fails with `TooLarge`, before it allocates, if the pack has
-/// more than `MAX_PACK` bytes. Otherwise fails only with `Memory`.
+/// Returns the plain pack of some entries. Fails with `TooLarge`, before it allocates, if the pack
+/// has more than `MAX_PACK` bytes. Otherwise fails only with `Memory`.
 pub fn write<A: Allocator + Copy>(alloc: A, entries: &[Entry<A>]) -> Result<Vec<u8, A>, PackFault>
     ensures packed { MatchResult result (λ pack. pack.items ≡ pack_text entries.now)
         (PackRefuses (pack_text entries.now)) }

@@ -1,4 +1,4 @@
--- The steps of look-ups and edits of refs: what a search finds in order, and what an edit at that position does.
+-- Definitions for the proofs of look-ups and edits of refs.
 use Rattle.std.specs.Cmp.Lexicographic.{slice_cmp}
 use Rattle.std.specs.Ordering.{nat_cmp}
 use Rattle.std.specs.Prelude.{◌≡◌, ⊤, ℕ, zero, suc, [], ◌∷◌}
@@ -6,13 +6,13 @@ use Rattle.std.specs.declared.cmp.Ordering.TheVariants.{Less}
 use Rattle.gname.specs.Names.{Name}
 use Rattle.grefs.specs.RefLists.{RefList}
 
--- the name is at the position, and each name before it is lower
+-- the ref at the position has the name, and all names before it are lower
 abbrev pub IsFound : RefList → Name → ℕ → Type 0
 IsFound [] name place = ⊥
 IsFound (ref ∷ refs) name zero = ref.0 ≡ name
 IsFound (ref ∷ refs) name (suc place) = (slice_cmp nat_cmp ref.0 name ≡ Less) × IsFound refs name place
 
--- the name would go at the position: lower names before it, and a higher one there
+-- the position at which the name would be inserted: all names before it are lower, and the name at it is higher
 abbrev pub IsGap : RefList → Name → ℕ → Type 0
 IsGap [] name zero = ⊤
 IsGap [] name (suc place) = ⊥

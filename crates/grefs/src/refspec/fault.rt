@@ -1,4 +1,4 @@
-//! Why a text is not a refspec.
+//! The faults of parsing a refspec.
 
 ghost use Rattle.std.specs.Prelude.{◌≡◌, Some};
 ghost use Rattle.grefs.specs.RefspecFaults.{spec_fault_row, spec_fault_text};
@@ -9,12 +9,12 @@ use std::alloc::{AllocError, AllocFailed};
 use std::error::Error;
 use std::fmt;
 
-/// Why a text was not read as a refspec.
+/// The reason why a refspec was not parsed.
 #[derive(Clone, Copy, Debug, PartialEq, Eq, Drop)]
 pub enum SpecFault {
     /// The text is not a refspec.
     BadSpec,
-    /// The text is a refspec, but there is no memory to store it.
+    /// The text is a refspec, but it could not be stored: out of memory.
     Memory,
 }
 

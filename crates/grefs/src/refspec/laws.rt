@@ -1,10 +1,10 @@
-//! The laws of refspecs: functions without effect whose contracts are the laws.
+//! The laws of refspecs. Each function does nothing at run time, and its contract states the law.
 
 ghost use Rattle.grefs.specs.Refspecs.{OneReading};
 
 use gname::laws::names_are_clean;
 
-/// A text is that of at most one refspec.
+/// A text describes at most one refspec.
 pub fn one_reading()
     ensures { OneReading }
 {

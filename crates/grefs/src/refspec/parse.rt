@@ -1,4 +1,4 @@
-//! Reading a refspec.
+//! Parsing of a refspec.
 
 ghost use Rattle.std.specs.Prelude.{◌≡◌, ◌<◌, IfSome, false, length, position, true};
 ghost use Rattle.grefs.specs.Refspecs.{IsSpec, Reads};
@@ -10,7 +10,7 @@ use crate::refspec::spec::Spec;
 use gname::laws::names_are_clean;
 use std::alloc::Allocator;
 
-/// Reads a refspec.
+/// Parses the text of a refspec.
 pub(crate) fn read_spec<A: Allocator + Copy>(alloc: A, text: &[u8]) -> Result<Spec<A>, SpecFault>
     ensures { Reads (IsSpec text.now) result }
 {
@@ -22,7 +22,7 @@ pub(crate) fn read_spec<A: Allocator + Copy>(alloc: A, text: &[u8]) -> Result<Sp
     }
 }
 
-// Reads the text after the optional `+`: the two sides with a `:` between them.
+// Parses the text after the optional `+`: the source, a `:`, and the destination.
 fn read_rest<A: Allocator + Copy>(alloc: A, forced: bool, text: &[u8]) -> Result<Spec<A>, SpecFault>
     ensures { Reads (IsRest forced text.now) result }
 {
@@ -42,7 +42,7 @@ fn first_colon(text: &[u8]) -> Option<usize>
     text.iter().position(|byte| *byte == b':')
 }
 
-// Reads the sides, which are patterns if both end in `*`.
+// Parses the source and the destination, which form a pattern if both end in `*`.
 fn read_sides<A: Allocator + Copy>(
     alloc: A,
     forced: bool,
@@ -62,7 +62,7 @@ fn read_sides<A: Allocator + Copy>(
     }
 }
 
-// Returns the refspec of two names.
+// Returns the refspec whose source and destination are ref names.
 fn names<A: Allocator + Copy>(
     alloc: A,
     forced: bool,
@@ -77,7 +77,7 @@ fn names<A: Allocator + Copy>(
     Err(SpecFault::BadSpec)
 }
 
-// Returns the refspec of two patterns, given the parts before their `*`.
+// Returns the refspec whose source and destination are patterns, given without their `*`.
 fn patterns<A: Allocator + Copy>(
     alloc: A,
     forced: bool,

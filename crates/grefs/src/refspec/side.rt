@@ -1,4 +1,4 @@
-//! The sides of a refspec.
+//! The source and the destination of a refspec.
 
 ghost use Rattle.std.specs.Prelude.{◌≡◌, ◌<◌, ◌↔◌, ◌++◌, IsTrue, MatchOption, length};
 ghost use Rattle.gname.specs.Names.{IsRefName, Owns, max_name, name_fault};
@@ -10,21 +10,21 @@ use gname::laws::names_are_clean;
 use gname::{MAX_NAME, NameFault, RefName};
 use std::alloc::Allocator;
 
-/// Whether a text is a ref name.
+/// Returns whether a text is a ref name.
 pub(crate) fn is_name(text: &[u8]) -> bool
     ensures { IsTrue result ↔ IsRefName text.now }
 {
     RefName::check(text).is_ok()
 }
 
-/// Whether a text is a ref name below `refs/`.
+/// Returns whether a text is a ref name below `refs/`.
 pub(crate) fn is_below_refs(text: &[u8]) -> bool
     ensures { IsTrue result ↔ IsBelowRefs text.now }
 {
     text.starts_with(b"refs/") && is_name(text)
 }
 
-/// Whether a text may precede the `*` of a pattern.
+/// Returns whether a text may precede the `*` of a pattern.
 pub(crate) fn is_stem(text: &[u8]) -> bool
     ensures { IsTrue result ↔ IsStem text.now }
 {
@@ -36,7 +36,8 @@ pub(crate) fn is_stem(text: &[u8]) -> bool
     }
 }
 
-/// Returns the two texts joined, or `None` if they have more than `MAX_NAME` bytes.
+/// Returns `front` followed by `back`, or `None` if the result would have more than `MAX_NAME`
+/// bytes.
 pub(crate) fn join(front: &[u8], back: &[u8]) -> Option<ArrayVec<u8, MAX_NAME>>
     ensures { MatchOption result (max_name < length (front.now ++ back.now))
         (λ text. text.items ≡ front.now ++ back.now) }
@@ -51,7 +52,7 @@ pub(crate) fn join(front: &[u8], back: &[u8]) -> Option<ArrayVec<u8, MAX_NAME>>
     Some(text)
 }
 
-/// Whether the two texts joined are a ref name.
+/// Returns whether `front` followed by `back` is a ref name.
 pub(crate) fn are_name(front: &[u8], back: &[u8]) -> bool
     ensures { IsTrue result ↔ IsRefName (front.now ++ back.now) }
 {
@@ -63,9 +64,9 @@ pub(crate) fn are_name(front: &[u8], back: &[u8]) -> bool
     }
 }
 
-/// Returns the ref name of the two texts joined.
+/// Returns the ref name that is `front` followed by `back`.
 ///
-/// Fails with the first fault of the joined text.
+/// Fails with the first fault of that text as a ref name.
 pub(crate) fn name_of<A: Allocator + Copy>(
     alloc: A,
     front: &[u8],

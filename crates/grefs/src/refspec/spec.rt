@@ -1,4 +1,4 @@
-//! Refspecs, and what they do with the names of refs.
+//! Refspecs, and their mapping of ref names.
 
 ghost use Rattle.std.specs.Prelude.{◌≡◌, ◌↔◌, IfOk, IfSome, IsTrue, MatchResult, true};
 ghost use Rattle.gname.specs.Names.{IsRefName, head_name};
@@ -14,13 +14,13 @@ use gname::{HEAD, NameFault, Prefix, RefName};
 use std::alloc::{AllocError, Allocator, Global};
 use std::marker::Model;
 
-/// A refspec: a source and a destination. Each is a ref name, or both are patterns, whose `*`
+/// A refspec: a source and a destination. Both are ref names, or both are patterns whose `*`
 /// matches the rest of a name.
 #[derive(Debug, Drop)]
 pub struct Spec<A: Allocator + Copy = Global> {
     forced: bool,
     pattern: bool,
-    // For a pattern, the part before its `*`.
+    // The source, for a pattern only its part before the `*`.
     source: Prefix<A>,
     destination: Prefix<A>,
 }
@@ -36,18 +36,19 @@ impl<A: Allocator + Copy> Model for Spec<A> {
 }
 
 impl<A: Allocator + Copy> Spec<A> {
-    /// Reads a refspec: an optional `+`, a source, a `:` and a destination. Either the source is a
-    /// ref name and the destination is one that begins with `refs/`. Or both end in `/*`, and each
-    /// is a ref name that begins with `refs/` if `x` replaces the `*`.
+    /// Reads a refspec: an optional `+`, a source, a `:` and a destination. Without `*`, the source
+    /// is a ref name, and the destination is a ref name below `refs/`. In a pattern both end in
+    /// `/*`, and are ref names below `refs/` with `x` in place of the `*`.
     ///
-    /// Fails with `BadSpec` if the text is not a refspec. Fails with `Memory` only if it is one.
+    /// Fails with `BadSpec` if the text is not a refspec. Fails with `Memory` only if the text is a
+    /// refspec.
     pub fn parse(alloc: A, text: &[u8]) -> Result<Spec<A>, SpecFault>
         ensures { Reads (IsSpec text.now) result }
     {
         read_spec(alloc, text)
     }
 
-    /// Returns the refspec with these sides.
+    /// Returns the refspec with the given source and destination.
     pub(crate) fn of_sides(
         alloc: A,
         forced: bool,
@@ -78,7 +79,7 @@ impl<A: Allocator + Copy> Spec<A> {
         })
     }
 
-    /// Returns the same refspec in another allocator. Fails only if out of memory.
+    /// Returns a copy of the refspec in memory of the given allocator. Fails only if out of memory.
     pub fn copy_in<B: Allocator + Copy>(&self, alloc: B) -> Result<Spec<B>, SpecFault>
         ensures { MatchResult result (λ copy. copy ≡ self.now) (λ fault. fault ≡ Memory) }
     {
@@ -91,7 +92,7 @@ impl<A: Allocator + Copy> Spec<A> {
         )
     }
 
-    /// Whether it forces updates, so that an update need not be a fast-forward: it has a `+`.
+    /// Returns whether the refspec has a `+`, so that its updates need not be fast-forwards.
     pub fn is_forced(&self) -> bool
         ensures forced { result ≡ self.now.forced }
         ensures spec { IsRefspec self.now }
@@ -99,7 +100,7 @@ impl<A: Allocator + Copy> Spec<A> {
         self.forced
     }
 
-    /// Whether the source is `HEAD`.
+    /// Returns whether the source is `HEAD`.
     pub fn is_head(&self) -> bool
         ensures { IsTrue result ↔ (self.now.source ≡ head_name) }
     {
@@ -114,8 +115,9 @@ impl<A: Allocator + Copy> Spec<A> {
         &self.source
     }
 
-    /// Whether the source matches a name. A source that is a name matches only that name. A pattern
-    /// matches each name that begins with the part before its `*`, and has at least one more byte.
+    /// Returns whether the source matches a name. A source without `*` matches only itself. A
+    /// pattern matches every name that begins with the part before the `*` and has at least one
+    /// more byte.
     pub fn matches<B: Allocator + Copy>(&self, name: &RefName<B>) -> bool
         ensures { result ≡ matches self.now name.now }
     {
@@ -128,8 +130,8 @@ impl<A: Allocator + Copy> Spec<A> {
         }
     }
 
-    /// Whether it can map a name to its destination: the destination is a ref name, or the source
-    /// does not match the name. It does not allocate.
+    /// Returns whether the destination of a name is a valid ref name. Also returns true if the
+    /// source does not match the name. It does not allocate.
     pub fn can_take<B: Allocator + Copy>(&self, name: &RefName<B>) -> bool
         ensures { IsTrue result ↔ (matches self.now name.now ≡ true
             → IsRefName (destination_of self.now name.now)) }
@@ -143,11 +145,11 @@ impl<A: Allocator + Copy> Spec<A> {
         are_name(self.destination.as_bytes(), rest)
     }
 
-    /// Returns the destination of a name. For a pattern, the rest of the name replaces the `*`.
-    /// Returns `None` if the source does not match the name. A destination is below `refs/`.
+    /// Returns the destination of a name, which is below `refs/`. In a pattern the rest of the name
+    /// replaces the `*`. Returns `None` if the source does not match the name.
     ///
-    /// Fails with the destination's first fault as a ref name. Fails with `Memory` only if it is a
-    /// ref name.
+    /// Fails with the first fault of the destination if it is not a valid ref name. Fails with
+    /// `Memory` only if the destination is a valid ref name.
     pub fn destination<B: Allocator + Copy, C: Allocator + Copy>(
         &self,
         alloc: C,

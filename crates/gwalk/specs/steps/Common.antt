@@ -1,4 +1,4 @@
--- The steps of finding common ids: what a walk looks for.
+-- Definitions for the proofs of the search for common ids.
 use Rattle.std.specs.Prelude.{◌≡◌, ◌↔◌, ℕ, Bool, true, false, List, length, slice_get, slice_index_or}
 use Rattle.std.specs.Prelude.{Contains, None, Some}
 use Rattle.std.specs.List.{filter_map}
@@ -11,7 +11,7 @@ use Rattle.gobject.specs.Objects.{node_at, position_of}
 abbrev pub ids_at : {A : Type 0} → List (Entry A) → List ℕ → List Id
 ids_at g numbers = filter_map (λ position. option_map (λ entry. entry.id) (slice_get g position)) numbers
 
--- what a walk looks for, by look-ups: a mark at the position of each id that is held, and the others
+-- the ids that a walk searches for: marks at the positions of those in the graph, and a list of the others
 pub record AreGoals {A : Type 0} (g : List (Entry A)) (ids : List Id) (marks : List Bool)
     (absent : List Id) : Type 0 where
   pub long : length marks ≡ length g

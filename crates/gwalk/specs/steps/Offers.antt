@@ -1,4 +1,4 @@
--- The steps of offering ids: what a tour from the tips answers, and where it is then.
+-- Definitions for the proofs of offering ids. A tour is a walk from the tips that can be resumed.
 use Rattle.std.specs.Prelude.{◌≡◌, ◌↔◌, ℕ, Bool, true, false, List, ◌++◌, slice_index_or, All, Contains, Some}
 use Rattle.gname.specs.Ids.{Id}
 use Rattle.gobject.specs.declared.node.Entry.{Entry}
@@ -7,13 +7,12 @@ use Rattle.gdag.specs.Offer.{IsOffer, MayBeOffered}
 use Rattle.gwalk.specs.Offers.{IsUnderway}
 use Rattle.gwalk.specs.declared.offer.Tour.{Tour}
 
--- the marked ids are these
+-- the marked ids are exactly the ids of the list
 abbrev pub HasMarks : {A : Type 0} → List (Entry A) → List Id → List Bool → Type 0
 HasMarks g ids marks =
     (a : Id) (position : ℕ) → position_of g a ≡ Some position → (slice_index_or marks position false ≡ true) ↔ Contains ids a
 
--- the list is the offer, and the tour goes on where it was: once the list is sent, it may offer none of the ids that it
--- has taken up
+-- the list is the offer, and the tour can be resumed: after the list is sent, no visited id may be offered any more
 pub record GoesOn {A : Type 0} (g : List (Entry A)) (tips commons sent : List Id) (n : ℕ) (list : List Id)
     (tour : Tour A) : Type 0 where
   pub offer : IsOffer g tips commons sent n list

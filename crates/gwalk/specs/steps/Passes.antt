@@ -1,5 +1,5 @@
--- The steps of passes over a graph in which parents come first: positions of objects in store order, marks at
--- positions, and what the marks say while a pass goes on and at its end.
+-- Definitions for the proofs of passes over a graph in which each object comes after its parents: positions, marks, and
+-- the meaning of the marks during and after a pass.
 use Rattle.std.specs.Prelude.{◌≡◌, ◌⊎◌, ℕ, zero, suc, ◌+◌, ◌<◌, ◌≤◌, Bool, true, false, not, ◌&&◌, Some}
 use Rattle.std.specs.Prelude.{List, length, slice_index_or, All, Contains}
 use Rattle.std.specs.List.{Any}
@@ -11,11 +11,11 @@ use Rattle.gdag.specs.Peeling.{IsTagOf, IsCommit, Tags}
 use Rattle.gdag.specs.Reach.{Reaches, SomeReaches}
 use Rattle.gdag.specs.Sending.{IsNew}
 
--- ids, one after the other
+-- a list of ids
 abbrev pub IdList : Type 0
 IdList = List Id
 
--- `b` is a parent of `a`, and they stand at these positions
+-- the object at position `p` has the object at position `q` as a parent
 pub record IsEdge {A : Type 0} (g : List (Entry A)) (p q : ℕ) : Type 0 where
   pub child : Id
   pub parent : Id
@@ -23,14 +23,14 @@ pub record IsEdge {A : Type 0} (g : List (Entry A)) (p q : ℕ) : Type 0 where
   pub child_at : position_of g child ≡ Some p
   pub parent_at : position_of g parent ≡ Some q
 
--- the entries of a graph in which parents come first
+-- a valid graph in which each entry comes after its parents
 pub record IsInOrder {A : Type 0} (g : List (Entry A)) : Type 0 where
   pub differ : IdsDiffer g
   pub shaped : All (λ entry. IsShaped entry.node) g
   pub few : length g ≤ max_nodes
   pub ordered : IsOrdered g
 
--- one of the ids stands at this position
+-- the position of one of the ids
 pub record IsPositionOf {A : Type 0} (g : List (Entry A)) (ids : IdList) (p : ℕ) : Type 0 where
   pub id : Id
   pub among : Contains ids id
@@ -48,7 +48,7 @@ pub record IsReachingAt {A : Type 0} (g : List (Entry A)) (ids : IdList) (p : �
   pub at : position_of g id ≡ Some p
   pub reaching : Any (Reaches g id) ids
 
--- the object at this position is new
+-- the object at this position is new: a want reaches it, and no common id does
 pub record IsNewAt {A : Type 0} (g : List (Entry A)) (wants commons : IdList) (p : ℕ) : Type 0 where
   pub id : Id
   pub at : position_of g id ≡ Some p
@@ -56,35 +56,35 @@ pub record IsNewAt {A : Type 0} (g : List (Entry A)) (wants commons : IdList) (p
 
 -- ---- marks by position
 
--- whether the position is marked; none is past the end
+-- whether the position is marked; a position past the end is unmarked
 abbrev pub is_marked : List Bool → ℕ → Bool
 is_marked marks p = slice_index_or marks p false
 
 abbrev pub IsMarked : List Bool → ℕ → Type 0
 IsMarked marks p = is_marked marks p ≡ true
 
--- the positions of the ids are marked too, those that the marks go to
+-- the positions of the ids, up to the end of the marks, are now also marked
 pub record MarksAll {A : Type 0} (g : List (Entry A)) (ids : IdList) (old new : List Bool) : Type 0 where
   pub long : length new ≡ length old
   pub kept : (p : ℕ) → IsMarked old p → IsMarked new p
   pub marked : (p : ℕ) → IsPositionOf g ids p → p < length old → IsMarked new p
   pub only : (p : ℕ) → IsMarked new p → IsMarked old p ⊎ IsPositionOf g ids p
 
--- wanted, and not known
+-- whether a position is open: marked as wanted and not as known
 abbrev pub is_open : List Bool → List Bool → ℕ → Bool
 is_open wanted known p = is_marked wanted p && not (is_marked known p)
 
--- what a position adds to a count
+-- the number 1 for `true`, and 0 for `false`
 abbrev pub one : Bool → ℕ
 one true = 1
 one false = 0
 
--- how many positions below `n` are open
+-- the number of open positions below `n`
 unfoldable pub open_below : List Bool → List Bool → ℕ → ℕ
 open_below wanted known zero = 0
 open_below wanted known (suc n) = open_below wanted known n + one (is_open wanted known n)
 
--- the count of the open positions below `next` is right; where it is not 0, a position comes next
+-- `pending` is the number of open positions below `next`
 pub record IsCounted (wanted known : List Bool) (next pending : ℕ) : Type 0 where
   pub long : length known ≡ length wanted
   pub inside : next ≤ length wanted
@@ -93,8 +93,8 @@ pub record IsCounted (wanted known : List Bool) (next pending : ℕ) : Type 0 wh
 
 -- ---- the pass down
 
--- the pass has been at the positions from `next` on: the wants and the common ids are marked; a marked object is one
--- that they reach; and the parents of a passed object are marked as it is, or are known
+-- The state of a pass down that has visited the positions from `next` up. The wants and the common ids are marked, and
+-- every marked object is reachable from them. The parents of a visited object are marked like that object, or as known.
 pub record IsPassed {A : Type 0} (g : List (Entry A)) (wants commons : IdList)
     (wanted known : List Bool) (next : ℕ) : Type 0 where
   pub wants_in : (p : ℕ) → IsPositionOf g wants p → IsMarked wanted p
@@ -104,7 +104,7 @@ pub record IsPassed {A : Type 0} (g : List (Entry A)) (wants commons : IdList)
   pub wanted_ahead : (p q : ℕ) → IsEdge g p q → next ≤ p → IsMarked wanted p → IsMarked wanted q ⊎ IsMarked known q
   pub known_ahead : (p q : ℕ) → IsEdge g p q → next ≤ p → IsMarked known p → IsMarked known q
 
--- the open positions are those of the new objects, and none is below `next`
+-- the open positions are exactly those of the new objects, and no position below `next` is open
 pub record IsDone {A : Type 0} (g : List (Entry A)) (wants commons : IdList)
     (wanted known : List Bool) (next : ℕ) : Type 0 where
   pub new : (p : ℕ) → is_open wanted known p ≡ true → IsNewAt g wants commons p
@@ -119,7 +119,7 @@ pub record HasMarked {A : Type 0} (g : List (Entry A)) (ids : IdList) (marks : L
   pub among : IsPositionOf g ids position
   pub marked : IsMarked marks position
 
--- of the positions below `n` those are marked whose objects reach one of the goals
+-- the marked positions below `n` are exactly those of objects that reach one of the goals
 pub record MarksReaching {A : Type 0} (g : List (Entry A)) (goals : IdList) (n : ℕ) (marks : List Bool) : Type 0 where
   pub sound : (p : ℕ) → IsMarked marks p → IsReachingAt g goals p
   pub all : (p : ℕ) → p < n → IsReachingAt g goals p → IsMarked marks p
@@ -132,7 +132,7 @@ pub record IsCommitAt {A : Type 0} (g : List (Entry A)) (p : ℕ) : Type 0 where
   pub at : position_of g id ≡ Some p
   pub commit : IsCommit g id
 
--- the object at the first position is a tag, and names the one at the second, an earlier one
+-- the object at position `p` is a tag of the object at the earlier position `q`
 pub record IsTagAt {A : Type 0} (g : List (Entry A)) (p q : ℕ) : Type 0 where
   pub id : Id
   pub at : position_of g id ≡ Some p
@@ -141,7 +141,7 @@ pub record IsTagAt {A : Type 0} (g : List (Entry A)) (p q : ℕ) : Type 0 where
   pub tag : IsTagOf g id named
   pub below : q < p
 
--- tags lead from the object at the first position to the one at the second
+-- a chain of tags leads from the object at position `p` to the object at position `q`
 pub record IsLedTo {A : Type 0} (g : List (Entry A)) (p q : ℕ) : Type 0 where
   pub id : Id
   pub at : position_of g id ≡ Some p
@@ -150,25 +150,25 @@ pub record IsLedTo {A : Type 0} (g : List (Entry A)) (p q : ℕ) : Type 0 where
   pub steps : ℕ
   pub leads : Tags g steps id end
 
--- the chain of tags from the first position ends at the commit at the second
+-- the object at position `p` peels to the commit at position `q`
 pub record IsPeeledAt {A : Type 0} (g : List (Entry A)) (p q : ℕ) : Type 0 where
   pub led : IsLedTo g p q
   pub commit : IsCommitAt g q
 
--- a tag on the chain from the first position stands at the second
+-- the object at position `q` is a tag in the chain of tags that begins at position `p`
 pub record IsOnChain {A : Type 0} (g : List (Entry A)) (p q : ℕ) : Type 0 where
   pub led : IsLedTo g p q
   pub next : Id
   pub tag : IsTagOf g led.end next
 
--- the tags on the chain from the position are marked too
+-- the tags in the chain that begins at `start` are now also marked
 pub record MarksChain {A : Type 0} (g : List (Entry A)) (start : ℕ) (old new : List Bool) : Type 0 where
   pub long : length new ≡ length old
   pub kept : (p : ℕ) → IsMarked old p → IsMarked new p
   pub marked : (p : ℕ) → IsOnChain g start p → IsMarked new p
   pub only : (p : ℕ) → IsMarked new p → IsMarked old p ⊎ IsOnChain g start p
 
--- a tag on the chain of one of the tips whose commit is open stands at this position
+-- the object at this position is a tag in the chain from a tip to an open commit
 pub record IsOpenTag {A : Type 0} (g : List (Entry A)) (tips : IdList) (wanted known : List Bool) (p : ℕ) : Type 0 where
   pub start : ℕ
   pub tip : IsPositionOf g tips start
@@ -177,7 +177,7 @@ pub record IsOpenTag {A : Type 0} (g : List (Entry A)) (tips : IdList) (wanted k
   pub peeled : IsPeeledAt g start commit
   pub open_there : is_open wanted known commit ≡ true
 
--- the marks are at the tags of the tips' chains whose commit is open
+-- the marked positions are exactly those of the tags in the chains from tips to open commits
 pub record MarksTags {A : Type 0} (g : List (Entry A)) (tips : IdList) (wanted known tagged : List Bool) : Type 0 where
   pub marked : (p : ℕ) → IsOpenTag g tips wanted known p → IsMarked tagged p
   pub only : (p : ℕ) → IsMarked tagged p → IsOpenTag g tips wanted known p

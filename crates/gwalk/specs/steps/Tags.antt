@@ -1,11 +1,11 @@
--- The steps of finding the tags to send, by marks.
+-- Definitions for the proofs of the search for the tags to send.
 use Rattle.std.specs.Prelude.{◌≡◌, ◌⊎◌, ◌↔◌, ℕ, Bool, true, false, Some, List, length, Contains, slice_index_or}
 use Rattle.gname.specs.Ids.{Id}
 use Rattle.gobject.specs.declared.node.Entry.{Entry}
 use Rattle.gobject.specs.Objects.{position_of}
 use Rattle.gdag.specs.Peeling.{IsTagOf, Tags, PeelsTo}
 
--- the id is a tag on the chain that begins at the tip
+-- the id is a tag in the chain of tags that begins at the tip
 pub record IsTagFrom {A : Type 0} (g : List (Entry A)) (tip a : Id) : Type 0 where
   pub steps : ℕ
   pub leads : Tags g steps tip a
@@ -20,14 +20,14 @@ pub record LeadsToMarked {A : Type 0} (g : List (Entry A)) (marks : List Bool) (
   pub is_at : position_of g commit ≡ Some position
   pub marked : slice_index_or marks position false ≡ true
 
--- the id is a tag on the chain from one of the tips, which leads to a marked commit
+-- the id is a tag in the chain of tags from one of the tips to a marked commit
 pub record IsTagAmong {A : Type 0} (g : List (Entry A)) (marks : List Bool) (tips : List Id) (a : Id) : Type 0 where
   pub tip : Id
   pub among : Contains tips tip
   pub lead : LeadsToMarked g marks tip
   pub from : IsTagFrom g tip a
 
--- the marks, and one at the position of each such tag
+-- the new marks, with additional marks for the tags in the chains from tips to marked commits
 pub record AreTagged {A : Type 0} (g : List (Entry A)) (new : List Bool) (tips : List Id)
     (marks : List Bool) : Type 0 where
   pub long : length marks ≡ length g

@@ -1,5 +1,5 @@
-//! The pass down. It starts at the last position that is wanted or known, and ends at the first
-//! position below which nothing is new.
+//! The pass down the insertion order. The pass starts at the last want or common id, and ends when
+//! no position below is new.
 
 ghost use Rattle.std.specs.Prelude.{◌≡◌, ◌≤◌, ◌<◌, ◌+◌, ℕ, List, IfErr, IfOk, ◌||◌, length, slice_set, true};
 ghost use Rattle.gname.specs.Ids.{Id};
@@ -12,7 +12,7 @@ use gdag::{Graph, GraphFault};
 use gname::Oid;
 use std::alloc::Allocator;
 
-// Goes down until nothing below is wanted and not known.
+// Passes down until no position below is open (wanted and not known).
 #[tactic(auto, using(crate::proofs::Positions::in_order))]
 pub(crate) fn pass_down<A: Allocator + Copy>(
     graph: &Graph<A>,
@@ -44,35 +44,36 @@ pub(crate) fn pass_down<A: Allocator + Copy>(
     Ok(pass)
 }
 
-// A pass down the positions.
+// The state of a pass down the positions.
 #[derive(Drop)]
 pub(crate) struct Pass<A: Allocator + Copy> {
-    // Whether a want reaches the object, as far as the pass knows.
+    // For each position, whether a want is known to reach its object.
     wanted: Vec<bool, A>,
-    // Whether a common id reaches it.
+    // For each position, whether a common id is known to reach its object.
     known: Vec<bool, A>,
-    // The positions below this one are not visited yet.
+    // The end of the unvisited positions: all positions below `next` are still unvisited.
     pub(crate) next: usize,
-    // The number of them that are wanted and not known.
+    // The number of unvisited positions that are wanted and not known.
     pending: usize,
 }
 
 impl<A: Allocator + Copy> Pass<A> {
-    // Whether the position is wanted and not known.
+    // Returns whether the position is open: wanted and not known.
     pub(crate) fn is_open(&self, position: usize) -> bool
         ensures { result ≡ is_open self.now.wanted.items self.now.known.items position }
     {
         is_marked(self.wanted.as_slice(), position) && !is_marked(self.known.as_slice(), position)
     }
 
-    // Returns the end of the marks.
+    // Returns the number of positions that can have marks.
     pub(crate) fn end(&self) -> usize
         ensures { result ≡ length self.now.wanted.items }
     {
         self.wanted.len()
     }
 
-    // Whether the position is open or tagged.
+    // Returns whether the object at the position is sent: the position is open or marked in
+    // `tagged`.
     pub(crate) fn is_sent(&self, tagged: &[bool], position: usize) -> bool
         ensures { result ≡ (is_open self.now.wanted.items self.now.known.items position || is_marked
             tagged.now position) }
@@ -80,14 +81,14 @@ impl<A: Allocator + Copy> Pass<A> {
         self.is_open(position) || is_marked(tagged, position)
     }
 
-    // Returns what the position adds to the count.
+    // Returns 1 if the position is open, and otherwise 0.
     fn count_at(&self, position: usize) -> usize
         ensures { result ≡ one (is_open self.now.wanted.items self.now.known.items position) }
     {
         if self.is_open(position) { 1 } else { 0 }
     }
 
-    // Moves to the next position down. Some position below must be open.
+    // Visits the next position down. At least one unvisited position must be open.
     fn step(&mut self, graph: &Graph<A>)
         requires order { IsInOrder graph.now.entries }
         requires counted { IsCounted self.old.wanted.items self.old.known.items self.old.next
@@ -152,7 +153,7 @@ impl<A: Allocator + Copy> Pass<A> {
         }
     }
 
-    // Marks a position that is not visited yet as wanted.
+    // Marks an unvisited position as wanted.
     fn want(&mut self, position: usize)
         requires counted { IsCounted self.old.wanted.items self.old.known.items self.old.next
             self.old.pending }
@@ -168,7 +169,7 @@ impl<A: Allocator + Copy> Pass<A> {
         self.pending += self.count_at(position);
     }
 
-    // Marks a position that is not visited yet as known.
+    // Marks an unvisited position as known.
     fn know(&mut self, position: usize)
         requires counted { IsCounted self.old.wanted.items self.old.known.items self.old.next
             self.old.pending }

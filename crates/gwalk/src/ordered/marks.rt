@@ -1,4 +1,4 @@
-//! Marks by position, and the positions of some ids.
+//! Helpers for marks by position, and for the positions of ids.
 
 ghost use Rattle.std.specs.Prelude.{◌≡◌, ◌≤◌, ◌<◌, ℕ, IfErr, IfOk, false, length, replicate, slice_set, true};
 ghost use Rattle.gwalk.specs.steps.Passes.{IsInOrder, IsPositionOf, MarksAll, is_marked};
@@ -8,14 +8,14 @@ use gdag::{Graph, GraphFault};
 use gname::Oid;
 use std::alloc::Allocator;
 
-// Whether the position has a mark. There is no mark after the end of the marks.
+// Returns whether the position is marked. A position after the end of the marks is unmarked.
 pub(crate) fn is_marked(marks: &[bool], position: usize) -> bool
     ensures { result ≡ is_marked marks.now position }
 {
     marks.get(position).copied().unwrap_or(false)
 }
 
-// Returns unset marks for the positions below the end.
+// Returns marks for the positions below `end`, all unset.
 pub(crate) fn no_marks<A: Allocator + Copy>(
     alloc: A,
     end: usize,
@@ -47,8 +47,8 @@ fn mark<A: Allocator + Copy>(marks: &mut Vec<bool, A>, position: usize)
     }
 }
 
-// Returns the position after the last of the ids' positions, or 0 if the graph contains none of
-// them.
+// Returns one more than the highest position of the ids, or 0 if the graph contains none of the
+// ids.
 pub(crate) fn end_of<A: Allocator + Copy>(graph: &Graph<A>, ids: &[Oid]) -> usize
     requires { IsInOrder graph.now.entries }
     ensures below { (p : ℕ) → IsPositionOf graph.now.entries ids.now p → p < result }
@@ -63,7 +63,7 @@ pub(crate) fn end_of<A: Allocator + Copy>(graph: &Graph<A>, ids: &[Oid]) -> usiz
     end
 }
 
-// Returns the first of the ids' positions, or the end if none is below it.
+// Returns the lowest position of the ids, or `end` if no id has a position below `end`.
 pub(crate) fn first_of<A: Allocator + Copy>(graph: &Graph<A>, ids: &[Oid], end: usize) -> usize
     ensures first { (p : ℕ) → IsPositionOf graph.now.entries ids.now p → result ≤ p }
     ensures most { result ≤ end }

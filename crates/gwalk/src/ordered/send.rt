@@ -12,18 +12,18 @@ use gname::Oid;
 use gobject::Entry;
 use std::alloc::Allocator;
 
-/// Returns the list to send for the wants to a receiver for whom the common ids are connected, in
-/// store order. It has each object that some want reaches and no common id does. It also has each
-/// tag on the chains of tags from the tips to such commits (gitprotocol-v2(5), "fetch": `want`,
-/// `have`, `include-tag`). Without `include-tag`, pass no tips. An id that is not in the graph adds
-/// nothing.
+/// Returns the objects to send for the wants to a receiver that has the common ids connected, in
+/// insertion order (gitprotocol-v2(5), "fetch": `want`, `have`, `include-tag`). The list has each
+/// object that some want reaches and no common id reaches. It also has each tag in the chains of
+/// tags from the tips to such commits. Without `include-tag`, pass no tips. An id that is not in
+/// the graph adds nothing to the list.
 ///
-/// Each object of the graph must have been inserted after its parents, as `Graph::is_ordered` says.
-/// The call goes down the store from the last of the wants and common ids. It stops when nothing
-/// below is wanted and not known to be reached by a common id.
+/// Each object of the graph must have been inserted after its parents (`Graph::is_ordered`). The
+/// call passes down the insertion order from the last of the wants and common ids. The pass stops
+/// when every wanted object below is known to be reachable from a common id.
 ///
-/// Fails only with `Memory`. It allocates from the graph's allocator: the list, and at most three
-/// bytes per object, up to the last of the ids.
+/// Fails only with `Memory`. The graph's allocator provides memory for the list, and at most three
+/// bytes for each object up to the last of the ids.
 #[tactic(auto, using(crate::proofs::Positions::in_order))]
 pub fn send_list<A: Allocator + Copy>(
     graph: &Graph<A>,

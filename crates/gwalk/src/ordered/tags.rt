@@ -1,4 +1,4 @@
-//! Tags to send: the tags on the chains of tags from tips to new commits.
+//! The tags to send: those in the chains of tags from tips to new commits.
 
 ghost use Rattle.std.specs.Prelude.{◌≡◌, ◌⊎◌, ◌≤◌, ◌<◌, ℕ, IfErr, IfOk, MatchOption, length, true};
 ghost use Rattle.gwalk.specs.steps.Passes.{IsCommitAt, IsInOrder, IsOnChain, IsPeeledAt, IsPositionOf, IsTagAt, MarksChain, MarksTags, is_open};
@@ -11,7 +11,7 @@ use gname::Oid;
 use gobject::Kind;
 use std::alloc::Allocator;
 
-// Returns marks at the tags of the tips' chains whose commits are open.
+// Returns marks at the tags in the chains from tips to open commits.
 pub(crate) fn tags_of<A: Allocator + Copy>(
     graph: &Graph<A>,
     pass: &Pass<A>,
@@ -37,7 +37,7 @@ pub(crate) fn tags_of<A: Allocator + Copy>(
     Ok(tagged)
 }
 
-// Marks the tags on the chain that begins at the position.
+// Marks the tags in the chain that begins at `start`.
 fn mark_chain<A: Allocator + Copy>(graph: &Graph<A>, start: usize, tagged: &mut Vec<bool, A>)
     requires order { IsInOrder graph.now.entries }
     requires held { start < length graph.now.entries }
@@ -51,7 +51,7 @@ fn mark_chain<A: Allocator + Copy>(graph: &Graph<A>, start: usize, tagged: &mut 
     }
 }
 
-// Returns the position of the commit at the end of the chain of tags that begins at the position.
+// Returns the position of the commit at the end of the chain of tags that begins at `start`.
 fn peel_position<A: Allocator + Copy>(graph: &Graph<A>, start: usize) -> usize
     requires order { IsInOrder graph.now.entries }
     requires held { start < length graph.now.entries }
@@ -64,7 +64,7 @@ fn peel_position<A: Allocator + Copy>(graph: &Graph<A>, start: usize) -> usize
     at
 }
 
-// Returns the position of the object that the tag at the position names, or `None` if it is a
+// Returns the position of the object of the tag at `position`, or `None` if `position` has a
 // commit.
 fn named_position<A: Allocator + Copy>(graph: &Graph<A>, position: usize) -> Option<usize>
     requires order { IsInOrder graph.now.entries }

@@ -1,4 +1,4 @@
-//! Reaching: one pass up from the first position of some ids, over the objects that reach them.
+//! Reachability by one pass up the insertion order, which marks the objects that reach some ids.
 
 ghost use Rattle.std.specs.Prelude.{◌≡◌, ◌↔◌, ◌≤◌, ◌<◌, ◌∷◌, [], ℕ, IfErr, IfOk, IsTrue, Ok, false, length, true};
 ghost use Rattle.std.specs.List.{Any};
@@ -13,14 +13,14 @@ use gdag::{Graph, GraphFault};
 use gname::Oid;
 use std::alloc::Allocator;
 
-/// Whether enough is common for a pack: there are common ids, and each want reaches one of them
-/// (gitprotocol-v2(5), "fetch": `ready`). An id that is not in the graph reaches only itself.
-/// Without common ids it returns false, and does not allocate.
+/// Returns whether the server is ready to send a pack: there are common ids, and each want reaches
+/// one of them (gitprotocol-v2(5), "fetch": `ready`). An id that is not in the graph reaches only
+/// itself. Without common ids the call returns `false`, and does not allocate.
 ///
-/// Each object of the graph must have been inserted after its parents, as `Graph::is_ordered` says.
-/// The call goes up the store from the first common id to the last want.
+/// Each object of the graph must have been inserted after its parents (`Graph::is_ordered`). The
+/// call passes up the insertion order from the first common id to the last want.
 ///
-/// Fails only with `Memory`. It allocates one byte per object, up to the last want.
+/// Fails only with `Memory`. The call allocates one byte for each object up to the last want.
 #[tactic(auto, using(crate::proofs::Positions::in_order))]
 pub fn ready<A: Allocator + Copy>(
     graph: &Graph<A>,
@@ -46,13 +46,13 @@ pub fn ready<A: Allocator + Copy>(
     Ok(true)
 }
 
-/// Whether the first id reaches the second: it is the second, or a parent of it reaches the second
+/// Returns whether the id `a` reaches the id `b`: both are the same, or a parent of `a` reaches `b`
 /// (gitglossary(7), "reachable").
 ///
-/// Each object of the graph must have been inserted after its parents, as `Graph::is_ordered` says.
-/// The call goes up the store from the second id to the first.
+/// Each object of the graph must have been inserted after its parents (`Graph::is_ordered`). The
+/// call passes up the insertion order from `b` to `a`.
 ///
-/// Fails only with `Memory`. It allocates one byte per object, up to the first id.
+/// Fails only with `Memory`. The call allocates one byte for each object up to `a`.
 #[tactic(auto, using(crate::proofs::Positions::in_order))]
 pub fn reaches<A: Allocator + Copy>(graph: &Graph<A>, a: &Oid, b: &Oid) -> Result<bool, GraphFault>
     requires { IsOrdered graph.now.entries }
@@ -65,7 +65,8 @@ pub fn reaches<A: Allocator + Copy>(graph: &Graph<A>, a: &Oid, b: &Oid) -> Resul
     Ok(is_good(graph, a, &[*b], good.as_slice()))
 }
 
-// Whether the id reaches one of the goals, by the marks of the positions that do.
+// Returns whether the id reaches one of the goals. `good` marks the positions of objects that reach
+// a goal.
 fn is_good<A: Allocator + Copy>(graph: &Graph<A>, id: &Oid, goals: &[Oid], good: &[bool]) -> bool
     requires order { IsInOrder graph.now.entries }
     requires good { MarksReaching graph.now.entries goals.now (length good.now) good.now }
@@ -78,7 +79,7 @@ fn is_good<A: Allocator + Copy>(graph: &Graph<A>, id: &Oid, goals: &[Oid], good:
     }
 }
 
-// Returns marks at the positions below the end whose objects reach one of the goals.
+// Returns marks at the positions below `end` whose objects reach one of the goals.
 fn marks_reaching<A: Allocator + Copy>(
     graph: &Graph<A>,
     goals: &[Oid],
@@ -101,7 +102,7 @@ fn marks_reaching<A: Allocator + Copy>(
     Ok(good)
 }
 
-// Whether the position of one of the ids is marked.
+// Returns whether the position of at least one of the ids is marked.
 fn has_marked<A: Allocator + Copy>(graph: &Graph<A>, ids: &[Oid], marks: &[bool]) -> bool
     ensures { IsTrue result ↔ HasMarked graph.now.entries ids.now marks.now }
 {
