@@ -7,10 +7,10 @@
 //! | `change 18 2-9 a-f = OUTCOME` | the byte at an offset, once per outcome, is one of these |
 //! | `change 18 other = OUTCOME` | the same for all other bytes |
 //!
-//! An outcome is `nothing`, `as it stands`, `use NAME` or `TEXT \| FAULT`. `use NAME` stands for the
-//! messages of a talk. In the last form, `TEXT` is the text of an error to the client, and `FAULT`
-//! the printed line of the fault. `{}` in both stands for the input bytes at the line's positions,
-//! in lower case.
+//! An outcome is `nothing`, `as it stands`, `use NAME` or `TEXT \| FAULT`. `use NAME` stands for
+//! the messages of a talk. In the last form, `TEXT` is the text of an error to the client, and
+//! `FAULT` the printed line of the fault. `{}` in both stands for the input bytes at the line's
+//! positions, in lower case.
 
 use crate::packets::packet;
 use crate::spell::{digit, number_of};
