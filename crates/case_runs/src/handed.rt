@@ -1,4 +1,5 @@
-//! The packers and indexers of a run, which fail or lie: each indexer watches how it is fed.
+//! Packers and indexers for one run that may fail or break their contracts. They record each call
+//! of an indexer.
 
 ghost use Rattle.std.specs.Prelude.{⊤};
 
@@ -8,7 +9,8 @@ use ggraph::{Entry, IndexFault, Indexer, PackFault, Packer};
 use gname::{Format, MAX_PACK};
 use std::alloc::Allocator;
 
-/// A packer or an indexer of ids of a format, and the input from which it is fed.
+/// A packer or an indexer for ids of one format. The bytes in `input` are those from which a pack
+/// is read.
 #[derive(Clone, Copy)]
 pub(crate) struct Handed<'i, 'w> {
     pub(crate) liar: Liar,
