@@ -1,4 +1,4 @@
-//! The runtime of a launch: arguments, standard streams and a clock of its own, and the system's
+//! The runtime of a launch: simulated arguments, standard streams and clock, and the system's
 //! files.
 
 use crate::file::NotedFile;

@@ -1,15 +1,15 @@
 //! Launches of the program `gitv2` for tests. A launch gives the program arguments and standard
 //! streams in memory, real files in a folder of its own, and sockets at 127.0.0.1.
 //!
-//! A [`Plan`] holds the arguments, files and peers of the program, and all expected results. It is
-//! made from a row, a pair of repositories, a command line, or a case that describes a launch. The
-//! function [`launch`] runs the program in a folder `launch`, which it creates and removes. The
-//! test itself acts as the peers. Its clients connect when the program prints
-//! its port. A server accepts when the program connects.
+//! A [`Plan`] holds the arguments, files and peers of the program, and all expected results. A plan
+//! is made from a row, a pair of repositories, a command line, or a case that describes a launch.
+//! The function [`launch`] runs the program in a folder `launch`, which it creates and removes. The
+//! test itself acts as the peers. The clients connect when the program prints its port. A server
+//! accepts when the program connects.
 //!
 //! # Proved
 //!
-//! Every call is safe and returns.
+//! Every call returns, with no index out of range, overflow or use after free.
 //!
 //! # What the contracts do not rule out
 //!

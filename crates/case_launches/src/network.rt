@@ -18,7 +18,7 @@ fn nobody() -> IpAddr {
     IpAddr::V4(Ipv4Addr::new(127, 0, 0, 2))
 }
 
-/// The program's listener. It accepts clients that have connected, and does not wait for more.
+/// The program's listener, which accepts clients that have connected, and does not wait for more.
 #[derive(Drop)]
 pub(crate) struct Listener<'a> {
     listener: TcpListener,

@@ -7,7 +7,7 @@ use std::io;
 use std::io::{ErrorKind, Read, Write};
 use std::net::{Shutdown, SocketAddr, TcpListener, TcpStream};
 
-/// The bytes that one peer writes, and those that it must read.
+/// The bytes that a peer writes, and the bytes that the peer must read.
 #[derive(Drop)]
 pub struct Exchange {
     pub says: Vec<u8>,

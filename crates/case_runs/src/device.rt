@@ -1,5 +1,5 @@
 //! In-memory devices that move a limited number of bytes in each call and fail at a chosen call.
-//! `AsStd` makes std readers and writers of them.
+//! `AsStd` turns a device into a std reader or writer.
 
 ghost use Rattle.std.specs.Prelude.{◌≡◌, is_err, None, []};
 ghost use Rattle.gpkt.specs.Devices.{AnswersDown};
@@ -78,7 +78,7 @@ pub struct Reader<'a, 'w> {
 }
 
 impl<'a, 'w> Reader<'a, 'w> {
-    /// Returns a source of these bytes.
+    /// Returns a source that yields these bytes.
     pub fn new(bytes: &'a [u8], hindrance: Hindrance, watch: &'w Watch) -> Reader<'a, 'w> {
         Reader {
             rest: bytes,

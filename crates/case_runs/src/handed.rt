@@ -1,5 +1,5 @@
-//! Packers and indexers for one run that may fail or break their contracts. They record each call
-//! of an indexer.
+//! Packers and indexers for one run that may fail or break their contracts. The indexers record
+//! each of their calls.
 
 ghost use Rattle.std.specs.Prelude.{⊤};
 
@@ -9,8 +9,7 @@ use ggraph::{Entry, IndexFault, Indexer, PackFault, Packer};
 use gname::{Format, MAX_PACK};
 use std::alloc::Allocator;
 
-/// A packer or an indexer for ids of one format. The bytes in `input` are those from which a pack
-/// is read.
+/// A packer or an indexer for ids of one format. A pack is read from the bytes in `input`.
 #[derive(Clone, Copy)]
 pub(crate) struct Handed<'i, 'w> {
     pub(crate) liar: Liar,

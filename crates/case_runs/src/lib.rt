@@ -2,24 +2,26 @@
 //! bytes of a call and fail at a chosen call. An allocation may fail. Packers and indexers may
 //! break their contracts, and the calls of each indexer are checked.
 //!
-//! [`run_command`] runs the command of a [`Job`] over [`Devices`]. It serves connections with their
-//! first line and lists refs, as `gitv2` does on the network. If the packer or the indexer is not
-//! `PlainPack`, this crate replaces the command of `gcmd`.
+//! [`run_command`] runs the command of a [`Job`] over [`Devices`]. This function serves connections
+//! with their first line and lists refs, as `gitv2` does on the network. If the packer or the
+//! indexer is not `PlainPack`, this crate replaces the command of `gcmd`.
 //!
 //! # Proved
 //!
-//! Every call is safe and returns. A device that has failed stays failed.
+//! Every call returns, with no index out of range, overflow or use after free. A device that has
+//! failed stays failed.
 //!
 //! # What the contracts do not rule out
 //!
-//! No contract states what a device does before it fails. The tests count its calls and bytes.
+//! No contract states the behavior of a device before its failure. The tests count calls and bytes
+//! of devices.
 //!
 //! # Stands on
 //!
 //! `case_text` defines commands, packers, indexers and an allocator that fails. `gcmd` defines the
-//! programs, `gserve` and `gclient` the network calls below them. `gpkt` defines devices, `ggraph`
-//! packs and the texts of repositories. `ghello`, `grequest`, `glsreply` and `gname` define the
-//! messages of a connection.
+//! programs, `gserve` and `gclient` the network calls of the programs. `gpkt` defines devices,
+//! `ggraph` packs and the texts of repositories. `ghello`, `grequest`, `glsreply` and `gname`
+//! define the messages of a connection.
 #![tactic(auto)]
 
 mod connected;

@@ -1,5 +1,6 @@
 //! Runs with a packer or an indexer other than `PlainPack`. The commands of `gcmd` use `PlainPack`
-//! only, so this module replaces them. It also returns the final state of the client's repository.
+//! only, so this module replaces them. The result also holds the final state of the client's
+//! repository.
 
 use crate::connected::{hello_of, outcome_of_served, serve_connection};
 use crate::files::{client_of, server_of};

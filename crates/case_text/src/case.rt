@@ -45,7 +45,7 @@ pub struct Case<'a> {
     pub line: usize,
     pub name: &'a str,
     pub runs: Vec<&'a str>,
-    /// The arguments and files of the program, for a case that launches it.
+    /// The arguments and files of a launch, for a case that launches the program itself.
     pub launch: Option<Launch<'a>>,
     pub said: Vec<Said>,
     pub file: Option<&'a str>,
@@ -86,7 +86,7 @@ impl<'a> Case<'a> {
         }
     }
 
-    /// Reads a line of the file if it is about the case, and returns whether it is.
+    /// Reads a line of the file, and returns whether the line is about the case.
     pub(crate) fn take_word(
         &mut self,
         alloc: Global,
@@ -127,7 +127,7 @@ pub struct Fact<'a> {
     /// The first word of the fact's line in the file.
     pub word: &'a str,
     pub format: Format,
-    /// The name of the text that holds the graph.
+    /// The name of the text block that holds the graph.
     pub graph: &'a str,
     pub due: Vec<u8>,
     pub text: Vec<u8>,

@@ -61,7 +61,7 @@ impl Program {
         }
     }
 
-    /// Returns whether each packet that the program reads is a message of its own.
+    /// Returns whether the program reads each packet as a separate message.
     pub fn reads_lines(self) -> bool {
         match self {
             Program::Lines => true,
@@ -80,7 +80,7 @@ impl Program {
 #[derive(Clone, Copy)]
 pub struct Invocation<'a> {
     pub program: Program,
-    /// The name of the text that holds the repository, or an empty string.
+    /// The name of the text block that holds the repository, or an empty string.
     pub repository: &'a str,
     /// The host and the path in the first line of a client's connection, or the path that is
     /// served. Both are empty if no connection has a first line.
@@ -172,7 +172,7 @@ pub fn first_of(words: &str) -> (&str, &str) {
     }
 }
 
-/// Returns the words of a text, each in an allocation of its own.
+/// Returns the words of a text, each in a separate allocation.
 pub fn words_of<A: Allocator + Copy>(memory: A, text: &str) -> Result<Vec<String<A>, A>, Trouble> {
     let mut words = Vec::new(memory);
     for word in text.split(' ') {
@@ -189,7 +189,7 @@ fn option_of<'a>(words: &'a str, option: &'static str) -> (&'a str, &'a str) {
     }
 }
 
-// Returns the words after the option if `words` begins with it, otherwise all of them.
+// Returns the words after the option if `words` begins with it, otherwise all words.
 fn after<'a>(words: &'a str, option: &'static str) -> &'a str {
     match words.strip_prefix(option) {
         Some(rest) => rest,

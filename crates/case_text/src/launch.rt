@@ -48,7 +48,7 @@ pub struct Launch<'a> {
     pub steps: Option<&'a str>,
     /// The indices of the messages with which a new connection begins.
     pub breaks: Vec<usize>,
-    /// The operation that fails each time the program performs it, if any.
+    /// An operation of the program that fails each time, if any.
     pub failing: Option<&'a str>,
 }
 
@@ -66,8 +66,8 @@ impl<'a> Launch<'a> {
         }
     }
 
-    /// Reads a line if it is about the launch, and returns whether it is. The case has `said`
-    /// messages before this line.
+    /// Reads a line, and returns whether the line is about the launch. The case has `said` messages
+    /// before this line.
     pub(crate) fn take_word(
         &mut self,
         word: &str,

@@ -58,7 +58,7 @@ impl Liar {
         }
     }
 
-    /// Returns whether the behavior is one of a packer.
+    /// Returns whether this behavior belongs to a packer.
     pub fn is_packer(self) -> bool {
         matches!(
             &self,
@@ -70,7 +70,7 @@ impl Liar {
         )
     }
 
-    /// Returns whether the behavior is one of an indexer that breaks its contract.
+    /// Returns whether this behavior belongs to an indexer other than `Watches`.
     pub(crate) fn is_indexer(self) -> bool {
         !self.is_packer() && self != Liar::Watches
     }

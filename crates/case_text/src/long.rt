@@ -84,7 +84,7 @@ fn add_late_chain(
     Ok(())
 }
 
-// Appends the commit with this number; the commit `count` has no parent.
+// Appends the commit with this number; the last commit, `count`, has no parent.
 fn add_commit(
     alloc: Global,
     number: usize,

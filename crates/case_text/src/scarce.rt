@@ -1,7 +1,7 @@
 //! An allocator that fails one chosen allocation and passes every other call to an inner allocator.
 //!
-//! The type is proved to be an allocator: each block belongs to the inner allocator, and is
-//! returned to it. Only tests check which allocation fails.
+//! The type is proved to be an allocator: each block is allocated and freed by the inner allocator.
+//! Only tests check which allocation fails.
 
 use std::alloc::{AllocError, Allocator};
 use std::cell::Cell;
@@ -27,7 +27,7 @@ impl<A: Allocator> Scarce<A> {
         self.countdown.set(number);
     }
 
-    /// Returns whether the allocation to refuse is still to come.
+    /// Returns whether the allocation to refuse was not yet reached.
     pub fn is_due(&self) -> bool {
         self.countdown.get() != 0
     }

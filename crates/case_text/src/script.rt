@@ -26,7 +26,7 @@ pub struct Script<'a> {
     talks: Vec<Shared<'a>>,
     open: Open,
     times: usize,
-    // The name of the text that holds the graph of the next facts.
+    // The name of the text block that holds the graph of the next facts.
     graph: &'a str,
     // Whether the next cases run with ids of both formats.
     is_both: bool,

@@ -130,7 +130,7 @@ fn add_braced(
     }
 }
 
-// Appends an id, a too long or too short id, or the text with this name.
+// Appends an id, an id of a wrong length, or the text with this name.
 fn add_named(
     texts: &[Text<'_>],
     inside: &[u8],

@@ -163,7 +163,7 @@ impl Talk {
         Ok(())
     }
 
-    // Appends the first line of a connection as a message of its own.
+    // Appends the first line of a connection as a separate message.
     fn add_hello(&mut self, bytes: &[u8]) -> Result<(), Trouble> {
         self.awaits_hello = false;
         self.add(Who::Client, bytes)?;

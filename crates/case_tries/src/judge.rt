@@ -419,7 +419,7 @@ fn parts_of(file: &[u8]) -> (&[u8], &[u8]) {
     file.split_at(len.min(file.len()))
 }
 
-// Returns whether the output is exactly `first` and then `last`, all of it flushed.
+// Returns whether the output is exactly `first` and then `last`, completely flushed.
 fn has_written(output: &Writer, first: &[u8], last: &[u8]) -> bool {
     output.is_passed_on() && output.written_bytes().strip_prefix(first) == Some(last)
 }

@@ -9,8 +9,7 @@ use std::alloc::Global;
 
 const FILE_FAILED: &[u8] = b"gitv2: fault 95 File\n";
 
-/// The number of file calls before the fetch sends anything to the server: it locks and reads the
-/// file.
+/// The number of file calls before the fetch sends anything: one to lock and one to read the file.
 const OPENING_CALLS: usize = 2;
 
 /// The failures in a fetch into a stored file.

@@ -112,8 +112,8 @@ impl<'a, 'b> Bench<'a, 'b> {
         self.play(row.talk.input.as_slice(), trial)
     }
 
-    // Returns whether a run was correct and left the repository as expected. Otherwise the bytes
-    // that it printed are stored.
+    // Returns whether a run was correct and left the repository as expected. Otherwise the printed
+    // bytes of the run are stored.
     fn is_well(&mut self, is_right: bool, played: &Played) -> Result<bool, Trouble> {
         if is_right && !played.was_misused && is_kept(self.alloc, self.row, played) {
             return Ok(true);
@@ -404,8 +404,8 @@ impl<'a, 'b> Bench<'a, 'b> {
         Ok(None)
     }
 
-    // Returns whether all runs with the byte at an offset changed are correct. `reach` determines
-    // the new values.
+    // Returns whether all runs with the byte at an offset changed are correct. The row's `reach`
+    // determines the new values.
     fn is_changed_well(
         &mut self,
         at: usize,
@@ -477,8 +477,8 @@ impl<'a, 'b> Bench<'a, 'b> {
         self.is_well(is_right, &played)
     }
 
-    // Tests the row with each allocation refused in turn. A simulation also runs in a world of its
-    // own.
+    // Tests the row with each allocation refused in turn. A simulation also runs in a separate
+    // world.
     fn scarce(&mut self) -> Result<Option<usize>, Trouble> {
         let wrong = self.scarce_in_turn()?;
         if wrong.is_some() || !self.has_world() {
@@ -509,7 +509,7 @@ impl<'a, 'b> Bench<'a, 'b> {
     }
 
     // Tests the row with each allocation refused in turn. The row's memory faults must occur in
-    // order. Once a server has reported a fault to the client, it must do so in each later run.
+    // order. Once a run has reported a fault to the client, each later run must report one.
     fn scarce_in_turn(&mut self) -> Result<Option<usize>, Trouble> {
         let mut refusals = Refusals {
             met: 0,

@@ -7,7 +7,7 @@
 //!
 //! # Proved
 //!
-//! Every call is safe and returns.
+//! Every call returns, with no index out of range, overflow or use after free.
 //!
 //! # What the contracts do not rule out
 //!

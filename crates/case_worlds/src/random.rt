@@ -32,7 +32,7 @@ const LIARS: [Liar; 12] = [
     Liar::FinishFails,
 ];
 
-/// The word after the count by which rounds of acknowledgments must occur.
+/// The word after the count that requires rounds of acknowledgments.
 const ROUNDS: &[u8] = b"rounds";
 
 /// The highest number of an allocation that may be refused.

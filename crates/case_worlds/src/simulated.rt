@@ -1,5 +1,5 @@
-//! Simulations in worlds of their own: with a faulty packer or indexer, with an allocation refused,
-//! and with a check after each event.
+//! Simulations in separate worlds: with a faulty packer or indexer, with an allocation refused, and
+//! with a check after each event.
 
 use crate::tools::Tools;
 use crate::world::{

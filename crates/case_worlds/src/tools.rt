@@ -1,4 +1,4 @@
-//! The packer and the indexer of a world. One of them may fail or break its contract.
+//! The packer and the indexer of a world, one of which may fail or break its contract.
 
 ghost use Rattle.std.specs.Prelude.{⊤};
 

@@ -1,10 +1,10 @@
 //! The request that a command line is parsed into, as one line.
 //!
 //! The text of an `asked` fact holds the arguments, separated by spaces; `""` is the empty
-//! argument. The result is `none` for arguments that do not match the usage. Otherwise it lists the
-//! command, the source or the address, the limit of a pack, and the number of connections. Then
-//! follow `plain` or `response-end` for the ends of replies, and the files, refspecs or prefixes in
-//! order.
+//! argument. The result is `none` for arguments that do not match the usage. Otherwise the result
+//! lists the command, the source or the address, the limit of a pack, and the number of
+//! connections. Then follow `plain` or `response-end` for the ends of replies, and the files,
+//! refspecs or prefixes in order.
 
 use case_launches::add_split;
 use case_text::Trouble;

@@ -69,7 +69,8 @@ where
     hold(&job, door)
 }
 
-// Runs a command on connections. The job's allocation fails, counted from the first call of `gtcp`.
+// Runs a command on connections. The job's chosen allocation fails, counted from the first call of
+// `gtcp`.
 fn hold<A, C, L, S>(job: &Job<'_, '_, '_, A>, door: Door<'_, C, L>) -> Result<Held, Trouble>
 where
     A: Allocator + Copy,

@@ -22,8 +22,8 @@ const SILENCE: u64 = 60;
 /// The seconds within which a server answers an honest client after two silent clients.
 const PATIENCE: u64 = 25;
 
-/// The milliseconds that a slow peer waits before each byte. Some gaps keep the deadlines of a
-/// first line and of a request, and others exceed one deadline or both. The last two gaps are just
+/// The milliseconds that a slow peer waits before each byte. Some gaps meet the deadlines of a
+/// first line and of a request, and others miss one deadline or both. The last two gaps are just
 /// below and at the limit for silence.
 const GAPS: [u64; 8] = [100, 240, 250, 400, 900, 6_000, 59_999, 60_000];
 

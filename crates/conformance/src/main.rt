@@ -1,5 +1,5 @@
-//! Tests of Git's fetch protocol from files. They run the programs of `gcmd` and the calls below
-//! these programs, and check how command lines are parsed.
+//! Tests of Git's fetch protocol from files. The tests run the programs of `gcmd` and the calls
+//! below these programs, and check the parsing of command lines.
 //!
 //! The arguments of the command line name test files; `case_text` parses them. The first argument
 //! may be `--quick` to leave out changed bytes, `--once` to run each case only unchanged, or
@@ -26,7 +26,7 @@
 //!
 //! # Proved
 //!
-//! Every call is safe and returns.
+//! Every call returns, with no index out of range, overflow or use after free.
 //!
 //! # What the contracts do not rule out
 //!

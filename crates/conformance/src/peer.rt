@@ -1,5 +1,5 @@
-//! The peer of a connection over a socket in the same process. It sends the messages of a row, and
-//! reads the output of the tested program.
+//! The peer of a connection over a socket in the same process. The peer sends the messages of a
+//! row, and reads the output of the tested program.
 
 use case_text::{Talk, Trouble};
 use std::alloc::Global;
@@ -31,8 +31,8 @@ impl Pace {
     }
 }
 
-// The seconds that the peer waits for bytes that were already written. Only a faulty program makes
-// it wait.
+// The seconds that the peer waits for bytes that were already written. The peer waits only for a
+// faulty program.
 const PATIENCE: u64 = 5;
 
 // The maximum number of bytes that the peer reads in one call.
@@ -44,7 +44,7 @@ pub struct Peer<'r> {
     talk: &'r Talk,
     far: TcpStream,
     pace: Pace,
-    // The number of bytes that the peer has sent, and the number of those that the program has
+    // The number of bytes that the peer has sent, and the number of bytes that the program has
     // read.
     said: Cell<usize>,
     read: Cell<usize>,
@@ -122,8 +122,8 @@ impl<'r> Peer<'r> {
         }
     }
 
-    // Returns the bytes that the peer sends next. They are empty if all bytes are sent, or if the
-    // reply is not complete.
+    // Returns the bytes that the peer sends next. The result is empty if all bytes are sent, or if
+    // the reply is not complete.
     fn next_part(&self) -> &'r [u8] {
         let said = self.said.get();
         if !self.may_say(said) {

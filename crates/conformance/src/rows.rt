@@ -160,7 +160,7 @@ fn add_texts<'b>(script: &'b Script<'b>, command: &mut Invocation<'b>) -> Result
 }
 
 // Returns whether response-end packets may be added to the replies of a case. A case may forbid
-// them, or contain them already.
+// these packets, or contain them already.
 fn may_add_ends(command: Invocation<'_>, case: &Case<'_>) -> bool {
     command.program.has_ends()
         && command.ends == Ends::Plain

@@ -56,8 +56,8 @@ where
 }
 
 // Returns whether the row is tested at this pace. The row must be a short connection with a first
-// line, without a faulty packer or indexer. A client that fails leaves input unread, which resets
-// the connection, so `AtOnce` skips it.
+// line, without a faulty packer or indexer. `AtOnce` skips clients that fail, because their unread
+// input resets the connection.
 fn is_tried(row: &Row<'_>, pace: Pace) -> bool {
     let command = row.command;
     let fits = row.talk.input.len() <= MOST_BYTES && row.talk.output.len() <= MOST_BYTES;

@@ -1,5 +1,5 @@
 //! Tests of Git's file formats, from files: packs, Git directories, refs, URLs and client paths.
-//! They run the crates that read these formats.
+//! The tests run the crates that read these formats.
 //!
 //! The arguments of the program name test files; FORMAT.md describes their lines. A row states the
 //! expected result for a pack, a store or a text. The input of a row is unchanged, truncated after
@@ -10,7 +10,7 @@
 //!
 //! # Proved
 //!
-//! Every call is safe and returns.
+//! Every call returns, with no index out of range, overflow or use after free.
 //!
 //! # What the contracts do not rule out
 //!
@@ -77,7 +77,7 @@ fn run_cases<R: AllocGlobal + Env + Files + Print>(rt: &R) -> io::Result<bool> {
     }
 }
 
-// Runs the tests of the files with these names. On failure it returns the file, the line and the
+// Runs the tests of the files with these names. A failure returns the file, the line and the
 // reason.
 fn try_files<'a, R: Files + Print + AllocGlobal>(
     rt: &R,

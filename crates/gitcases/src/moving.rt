@@ -18,7 +18,7 @@ const FOLDER: &str = "tried";
 
 const GIT_DIR: &str = "tried/r";
 
-// The branch of a clone's `HEAD`. `URL` is the URL in its configuration.
+// The branch of a clone's `HEAD`. `URL` is the URL in the clone's configuration.
 const BRANCH: &[u8] = b"refs/heads/main";
 
 const URL: &str = "git://h/r";

@@ -53,7 +53,7 @@ impl Tally {
         self.rows = self.rows.saturating_add(1);
     }
 
-    /// Counts a run, and a wrong result if it has one.
+    /// Counts a run, and its result if it is wrong.
     pub(crate) fn count(&mut self, way: Treatment, is_right: bool) {
         if let Some(tries) = self.tries.get_mut(way as usize) {
             *tries = tries.saturating_add(1);
