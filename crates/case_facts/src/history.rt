@@ -1,6 +1,6 @@
-//! Searches in the history of a repository: `missing`, `find_count`, `find_sent`, `find_sent-tags`,
-//! `find_sent-count`, `common`, `ready`, `reaches`, `find_offer` and `find_peeled`. ` / ` separates
-//! lists of ids; `none` means no id.
+//! Searches in the history of a repository: `missing`, `counted`, `sent`, `sent-tags`,
+//! `sent-count`, `common`, `ready`, `reaches`, `offered` and `peeled`. ` / ` separates lists of
+//! ids; `none` means no id.
 
 use crate::looking::RefusedAllocation;
 use crate::text::load_text;
@@ -13,7 +13,7 @@ use ggraph::{
 use gname::{Format, Oid};
 use std::alloc::{Allocator, Global};
 
-/// The arguments of a search.
+/// The arguments of a search: two lists of ids and a number.
 #[derive(Drop)]
 pub(crate) struct Asked {
     pub(crate) first: Vec<Oid>,
@@ -32,7 +32,8 @@ enum Found<A: Allocator + Copy> {
     Whether(bool),
 }
 
-/// Searches the history of a repository's text, with an allocation refused.
+/// Returns the result of a fact's search in the repository that `file` holds. One allocation of the
+/// search may fail.
 pub(crate) fn answer<A: Allocator + Copy>(
     alloc: Global,
     memory: A,
@@ -60,7 +61,7 @@ fn found_in<A: Allocator + Copy>(
     }
 }
 
-/// Returns the lists of ids in a text, and its number.
+/// Parses two lists of ids and a number, separated by `/`.
 pub(crate) fn asked_of(alloc: Global, text: &[u8]) -> Result<Asked, Trouble> {
     let mut parts = text.split(|byte| *byte == b'/');
     let first = ids_of(alloc, parts.next().unwrap_or(b""))?;
@@ -174,7 +175,7 @@ fn find_offer<A: Allocator + Copy>(
     Ok(Found::Ids(haves(graph, tips, commons, &[], count)?))
 }
 
-// Whether the first id reaches the second.
+// Returns whether the first id reaches the second.
 fn all_reach<A: Allocator + Copy>(graph: &Graph<A>, ids: &[Oid]) -> Result<Found<A>, GraphFault> {
     match ids {
         [from, to] => Ok(Found::Whether(reaches(graph, from, to)?)),
@@ -211,7 +212,7 @@ fn text_of_entries<A: Allocator + Copy>(
     text_of_ids(alloc, ids.as_slice())
 }
 
-/// Returns the text of a list of ids.
+/// Formats a list of ids, or `none` for an empty list.
 pub(crate) fn text_of_ids(alloc: Global, ids: &[Oid]) -> Result<String, Trouble> {
     if ids.is_empty() {
         return text_of_id(alloc, None);
@@ -226,7 +227,7 @@ pub(crate) fn text_of_ids(alloc: Global, ids: &[Oid]) -> Result<String, Trouble>
     Ok(text)
 }
 
-/// Returns the text of an id.
+/// Formats an id, or `none`.
 pub(crate) fn text_of_id(alloc: Global, id: Option<Oid>) -> Result<String, Trouble> {
     match id {
         Some(id) => id_text(alloc, &id),
@@ -234,7 +235,7 @@ pub(crate) fn text_of_id(alloc: Global, id: Option<Oid>) -> Result<String, Troub
     }
 }
 
-/// Returns the text of what is missing, and of how many objects were visited.
+/// Formats a missing id, and the numbers of visited ids and parents.
 pub(crate) fn text_of_count(
     alloc: Global,
     missing: Option<Oid>,

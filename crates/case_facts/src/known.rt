@@ -1,6 +1,7 @@
-//! The knowledge of a client whose refs have some ids. `marks` are the objects that it has marked.
-//! `unheld` and `find_count-past` are what is missing in the ancestry of other ids, and how many
-//! objects are visited. ` / ` separates lists of ids. The last list has the ids of the refs.
+//! The objects that a client with certain refs knows to be connected. `known` returns the ids that
+//! the client has marked. `unheld` and `counted-past` return an id missing from the ancestry of
+//! other ids; `counted-past` also counts the visited objects. ` / ` separates lists of ids, and the
+//! last list holds the ids of the refs.
 
 use crate::history::{Asked, asked_of, text_of_count, text_of_id, text_of_ids};
 use crate::looking::RefusedAllocation;
@@ -12,7 +13,8 @@ use ggraph::{Count, Graph, GraphFault, Order, Refs, missing_known};
 use gname::{Oid, RefName};
 use std::alloc::{Allocator, Global};
 
-/// Returns what is known of the history of a repository's text, with an allocation refused.
+/// Returns the result of a fact about a client whose repository has the graph that `file` holds.
+/// One allocation of the client may fail.
 pub(crate) fn answer<A: Allocator + Copy>(
     alloc: Global,
     memory: A,
@@ -44,7 +46,7 @@ fn open_repo<A: Allocator + Copy>(graph: Graph<A>, refs: Refs<A>) -> Result<Repo
     Repo::new(graph, refs)
 }
 
-// Returns the ids of the refs.
+// Returns the ids that the client's refs point to.
 fn tips_of<'b>(asked: &'b Asked, word: &str) -> &'b [Oid] {
     if word == "known" {
         asked.first.as_slice()
@@ -53,7 +55,7 @@ fn tips_of<'b>(asked: &'b Asked, word: &str) -> &'b [Oid] {
     }
 }
 
-// Returns refs with these ids, one for each.
+// Returns one ref for each id.
 fn refs_at<A: Allocator + Copy>(
     alloc: Global,
     memory: A,
@@ -104,7 +106,7 @@ fn look<A: Allocator + Copy>(
     }
 }
 
-// Returns the marked ids, in store order.
+// Returns the ids of the marked objects, in the order of the graph.
 fn marked_ids<A: Allocator + Copy>(alloc: Global, repo: &Repo<A>) -> Result<Vec<Oid>, Trouble> {
     let mut ids = Vec::new(alloc);
     for place in 0..repo.graph().len() {
@@ -116,7 +118,8 @@ fn marked_ids<A: Allocator + Copy>(alloc: Global, repo: &Repo<A>) -> Result<Vec<
     Ok(ids)
 }
 
-// Returns what is missing, by a walk that does not go on from marked objects.
+// Returns an id missing from the ancestry of `ids`, and the counts of visited objects. The walk
+// stops at marked objects.
 fn counted_past<A: Allocator + Copy>(
     repo: &Repo<A>,
     ids: &[Oid],

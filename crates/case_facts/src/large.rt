@@ -1,5 +1,5 @@
-//! Facts at the limits: a graph of as many objects as possible, and a pack of as many bytes as
-//! possible.
+//! Facts about the limits: a graph with the maximum number of objects, and a pack of the maximum
+//! size.
 
 use crate::told::{fault_words, told_at};
 use case_text::{Fact, Trouble, number_of};
@@ -10,7 +10,8 @@ use std::alloc::Global;
 // The maximum number of parents of a commit.
 const MOST_PARENTS: usize = 64;
 
-/// Returns the result of adding this many commits to a graph, or of packing this many.
+/// Returns the result of adding commits to a graph, or of packing commits; the fact's text holds
+/// their number.
 pub(crate) fn answer(alloc: Global, fact: &Fact<'_>) -> Result<String, Trouble> {
     let mut words = fact.text.split(|byte| *byte == b' ');
     let count = number_of(words.next().unwrap_or(b""));
@@ -24,8 +25,8 @@ pub(crate) fn answer(alloc: Global, fact: &Fact<'_>) -> Result<String, Trouble> 
     }
 }
 
-// Adds commits to a graph, one by one. Returns how many it then has, or the first fault and how
-// many it had before.
+// Adds commits to a graph, one by one. Returns the final number of objects, or the first fault and
+// the number of objects before it.
 fn grow_graph(alloc: Global, format: Format, count: usize) -> Result<String, Trouble> {
     let mut graph = Graph::new_in(alloc, format);
     for number in 0..count {
@@ -38,7 +39,8 @@ fn grow_graph(alloc: Global, format: Format, count: usize) -> Result<String, Tro
     Ok(format!(in alloc; "ok {count}")?)
 }
 
-// Returns how many bytes the pack of the commits has, if it can be read again.
+// Returns the size in bytes of a pack of the commits, after checking that it parses to as many
+// entries.
 fn pack_size(alloc: Global, commits: &[Entry]) -> Result<String, Trouble> {
     let pack = match PlainPack.pack(alloc, commits) {
         Ok(pack) => pack,
@@ -53,7 +55,7 @@ fn pack_size(alloc: Global, commits: &[Entry]) -> Result<String, Trouble> {
     }
 }
 
-// Returns `count` commits with the most parents possible, and one with `parents` parents.
+// Returns `count` commits with 64 parents each, and one commit with `parents` parents.
 fn wide_commits(
     alloc: Global,
     format: Format,
@@ -68,7 +70,7 @@ fn wide_commits(
     Ok(commits)
 }
 
-// Returns the commit of this number, whose parents have the numbers after it.
+// Returns the commit with this number; its parents have the next `count` numbers.
 fn commit(alloc: Global, format: Format, number: usize, count: usize) -> Result<Entry, Trouble> {
     let mut parents = Parents::new(alloc);
     for place in 1..=count {
@@ -83,7 +85,7 @@ fn commit(alloc: Global, format: Format, number: usize, count: usize) -> Result<
     })
 }
 
-// Returns the id of this number.
+// Returns the id whose first eight bytes are the number in big-endian order.
 fn id_of_number(format: Format, number: usize) -> Result<Oid, Trouble> {
     let mut bytes = [0; 32];
     bytes[..8].copy_from_slice(&number.to_be_bytes());

@@ -1,23 +1,23 @@
-//! Facts: expected results of reading a text, of searching a history, of a client's knowledge of a
+//! Facts: expected results of parsing a text, of searching a history, of a client's knowledge of a
 //! history, and of printing a fault.
 //!
-//! [`answer`] checks one of them, and returns the actual result, in the words in which the line of
-//! a fact gives the expected one.
+//! [`answer`] returns the actual result of one fact, in the form in which a test file states the
+//! expected result.
 //!
 //! # Proved
 //!
-//! It is safe and ends.
+//! Every call returns, with no index out of range, overflow or use after free.
 //!
 //! # What the contracts do not rule out
 //!
-//! The contracts say nothing of the results. Wrong facts were tried, to see that wrong results are
-//! noticed.
+//! No contract states the results of this crate. Deliberately wrong facts were run, to check that
+//! the tests reject them.
 //!
 //! # Stands on
 //!
-//! `case_text` for facts and for memory that ends; `gname`, `grefs`, `ghello`, `gpkt`, `gscenario`
-//! and `ggraph` for what is read from texts. `gclient` for a client's knowledge; `gcmd` for the
-//! lines of faults, which `ganswer`, `gclient`, `ggrammar` and others have.
+//! `case_text` defines facts and an allocator that fails. `gname`, `grefs`, `ghello`, `gpkt`,
+//! `gscenario` and `ggraph` parse texts. `gclient` defines a client's knowledge of a history, and
+//! `gcmd` prints faults. `ganswer`, `gclient`, `ggrammar` and other crates define the faults.
 #![tactic(auto)]
 
 mod history;

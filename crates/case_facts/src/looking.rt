@@ -1,28 +1,28 @@
-//! Checking a fact.
+//! The check of one fact.
 
 use crate::{history, known, large, made, shown};
 use case_text::{Fact, FactKind, Scarce, Trouble};
 use std::alloc::{Allocator, Global};
 
-/// The limits of a check: the most bytes of a read, and the refused allocation, if there is one.
+/// The limits of a check: the maximum size of a read, and the allocation that fails.
 #[derive(Clone, Copy)]
 pub struct Limits {
-    /// The maximum number of bytes in a call.
+    /// The maximum number of bytes in one read or write of a device.
     pub most: usize,
-    /// The number of the refused allocation, starting at 1; 0 for none.
+    /// The number of the allocation that fails, from 1, or 0 for none.
     pub refused: u64,
 }
 
-/// The actual result.
+/// The actual result of a fact.
 #[derive(Drop)]
 pub struct Finding {
-    /// The result, in the words of a fact.
+    /// The result, in the form used in test files.
     pub text: String,
-    /// Whether the allocation to refuse was reached.
+    /// Whether the run reached the allocation that fails.
     pub was_refused: bool,
 }
 
-/// The refused allocation after some call, if there is one.
+/// An allocation that fails, counted from the call of `begin`.
 #[derive(Clone, Copy)]
 pub(crate) struct RefusedAllocation<'m> {
     scarce: &'m Scarce<Global>,
@@ -30,14 +30,14 @@ pub(crate) struct RefusedAllocation<'m> {
 }
 
 impl RefusedAllocation<'_> {
-    /// Refuses it from now on.
+    /// Starts the count of allocations, so that a later one fails.
     pub(crate) fn begin(self) {
         self.scarce.refuse(self.number);
     }
 }
 
-/// Returns the actual result of a fact, whose graph is that of a repository's text. The fact is
-/// about a text, a history, a client or a fault.
+/// Returns the actual result of a fact. `graph` is the text of the repository that a fact on a
+/// history or a client searches.
 pub fn answer(
     alloc: Global,
     fact: &Fact<'_>,

@@ -1,11 +1,9 @@
-//! The results of reading a text: a name, a prefix, an id, a refspec, the first line of a `git://`
-//! connection, a repository, a pack, a scenario, a payload to write, and a payload read from a side
-//! band.
+//! Results of parsing or writing one text, such as a ref name, an id, a refspec, a repository, a
+//! pack, a scenario or a payload.
 //!
-//! The result is `ok`. A pack also has the number of its entries, a scenario that of its events, a
-//! first line its host and its path, and a payload its band and how many bytes are on it. Otherwise
-//! it is the number and the name of the fault, and its position or its line. For `name-text` it is
-//! just the text of the fault.
+//! The result of a valid text is `ok`, followed by counts or parts of the text for some kinds. The
+//! result of an invalid text is the number and the name of the fault, and its position or line. For
+//! `name-text` the result is only the printed text of the fault.
 
 use crate::text::{load_text, save_text};
 use crate::told::{fault_words, told_at};
@@ -20,7 +18,8 @@ use grefs::{Spec, SpecFault};
 use gscenario::{Scenario, ScenarioFault};
 use std::alloc::{Allocator, Global};
 
-/// Reads the text, in pieces of `most` bytes if it comes from a device, and returns the result.
+/// Returns the result of parsing the fact's text. A device delivers the text in pieces of at most
+/// `most` bytes.
 pub(crate) fn answer<A: Allocator + Copy>(
     alloc: Global,
     memory: A,
@@ -52,7 +51,7 @@ fn name<A: Allocator + Copy>(alloc: Global, memory: A, text: &[u8]) -> Result<St
     }
 }
 
-// Returns the text of the fault of a name.
+// Returns the printed text of the fault in a name.
 fn name_text(alloc: Global, text: &[u8]) -> Result<String, Trouble> {
     match RefName::check(text) {
         Ok(()) => read_back(alloc, true),
@@ -122,7 +121,7 @@ fn hello_text(alloc: Global, host: &[u8], path: &[u8]) -> Result<String, Trouble
     }
 }
 
-// Reads a repository, and writes its text again.
+// Parses a repository, and compares its text when written again.
 fn repository<A: Allocator + Copy>(
     alloc: Global,
     memory: A,
@@ -170,7 +169,7 @@ fn pack<A: Allocator + Copy>(
     }
 }
 
-// Feeds a pack in pieces, and returns how many entries it has.
+// Passes a pack to the indexer in pieces, and returns the number of its entries.
 fn count_entries<A: Allocator + Copy>(
     memory: A,
     text: &[u8],
@@ -189,7 +188,7 @@ fn count_entries<A: Allocator + Copy>(
     Ok(PlainPack.finish(feed)?.len())
 }
 
-// Returns how many events a scenario has.
+// Returns the number of events in a scenario.
 fn scenario<A: Allocator + Copy>(alloc: Global, memory: A, text: &[u8]) -> Result<String, Trouble> {
     match Scenario::read(memory, text) {
         Ok(events) => {
@@ -201,7 +200,7 @@ fn scenario<A: Allocator + Copy>(alloc: Global, memory: A, text: &[u8]) -> Resul
     }
 }
 
-// Writes a payload whole as a packet, or writes nothing.
+// Writes a payload as one packet, or fails without writing any byte.
 fn payload(alloc: Global, text: &[u8], most: usize) -> Result<String, Trouble> {
     let mut sink = Limited::new(VecSink::new(alloc)).with_most(most);
     let put = put_to(&mut sink, text);
@@ -224,7 +223,7 @@ fn put_to(sink: &mut Limited<VecSink>, text: &[u8]) -> Result<(), WriteFault> {
     put
 }
 
-// Returns the band of a payload, and the number of its bytes.
+// Returns the band of a payload and its number of bytes.
 fn band(alloc: Global, text: &[u8]) -> Result<String, Trouble> {
     let (word, bytes) = match band_of(text) {
         Ok(Band::Data(bytes)) => ("data", bytes),

@@ -1,4 +1,4 @@
-//! The printed line of a fault, and its short text.
+//! The printed line of a fault, and its `Display` text.
 
 use case_text::{Fact, Trouble, fault_text};
 use ganswer::{BuildFault, ServeFault};
@@ -11,22 +11,23 @@ use gpkt::memory::VecSink;
 use gpkt::{BandFault, PacketFault};
 use std::alloc::Global;
 
-/// The digits of the printed id, of one format and of the other.
+/// The digits of the ids in faults: `ID` for SHA-1, `LONG_ID` for SHA-256.
 const ID: &[u8] = b"00112233445566778899aabbccddeeff00112233";
 
 const LONG_ID: &[u8] = b"00112233445566778899aabbccddeeff00112233445566778899aabbccddeeff";
 
-/// The printed name.
+/// The ref name in faults.
 const NAME: &[u8] = b"refs/heads/a\x80";
 
-// A line without `gitv2: fault`, and a short text.
+// The expected line of a fault, without `gitv2: fault`, and its `Display` text.
 #[derive(Clone, Copy)]
 struct Look<'a> {
     line: &'a [u8],
     text: &'a [u8],
 }
 
-/// Returns the expected line, if a fault has it and this short text.
+/// Returns the expected line if a fault prints this line and has this `Display` text, otherwise `of
+/// no fault`.
 pub(crate) fn answer(alloc: Global, fact: &Fact<'_>) -> Result<String, Trouble> {
     let look = Look {
         line: fact.due.as_slice(),
@@ -39,7 +40,7 @@ pub(crate) fn answer(alloc: Global, fact: &Fact<'_>) -> Result<String, Trouble> 
     }
 }
 
-// Whether a fault has this line and this text. Those of messages are at packet 7.
+// Returns whether a fault has this line and this text. Faults in messages are at packet 7.
 fn is_known(alloc: Global, look: Look<'_>) -> Result<bool, Trouble> {
     Ok(
         is_of_line(alloc, look)?

@@ -1,9 +1,9 @@
-//! Texts of repositories, read and written.
+//! Loading and saving the text of a repository.
 
 use ggraph::{LoadFault, Order, Repository, SaveFault, load, save};
 use std::alloc::Allocator;
 
-/// Returns the repository of a text.
+/// Parses the text of a repository.
 pub(crate) fn load_text<A: Allocator + Copy>(
     memory: A,
     text: &[u8],

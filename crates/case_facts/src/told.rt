@@ -1,14 +1,14 @@
-//! Faults, in the words of facts.
+//! Formatting of faults for test files.
 
 use case_text::Trouble;
 use std::alloc::Global;
 
-/// Returns the number and the name of a fault.
+/// Formats the number and the name of a fault.
 pub(crate) fn fault_words(alloc: Global, code: u32, name: &str) -> Result<String, Trouble> {
     Ok(format!(in alloc; "{code} {name}")?)
 }
 
-/// Returns the same, and its position.
+/// Formats the number and the name of a fault, and its position.
 pub(crate) fn told_at(
     alloc: Global,
     code: u32,

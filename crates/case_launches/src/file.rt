@@ -1,14 +1,14 @@
-//! The files of a launch: they record each call on the system's files.
+//! The files of a launch, which record each call on the system's files.
 
 use crate::journal::Journal;
 use std::fs::{Metadata, OpenFile, Permissions};
 use std::io;
 use std::io::{Read, Seek, SeekFrom, Write};
 
-// The maximum number of bytes in one write.
+// The maximum number of bytes that one write accepts.
 const MOST_TAKEN: usize = 16;
 
-/// One of the system's files, with the name under which it was opened.
+/// A file of the system, with the name under which it was opened.
 #[derive(Drop)]
 pub(crate) struct NotedFile<'a, F> {
     pub(crate) file: F,
@@ -22,7 +22,7 @@ impl<F: Read> Read for NotedFile<'_, F> {
     }
 }
 
-// A write takes a few bytes at a time.
+// A write accepts at most `MOST_TAKEN` bytes.
 impl<F: Write> Write for NotedFile<'_, F> {
     fn write(&mut self, buf: &[u8]) -> io::Result<usize> {
         self.journal.note_file("write", self.name.as_str())?;

@@ -1,4 +1,4 @@
-//! The folder in which a program runs.
+//! The folder in which the launched program runs.
 
 use crate::system::System;
 use case_text::{Found, Script, Trouble};
@@ -6,26 +6,26 @@ use std::fs::Permissions;
 use std::os::unix::fs::{PermissionsExt, symlink};
 use std::{env, fs};
 
-/// Its name.
+/// The name of the folder.
 pub(crate) const FOLDER: &str = "launch";
 
-/// The permissions with which everything can be read and removed.
+/// The permissions with which every item can be read and removed.
 const ALL: u32 = 0o700;
 
-/// Makes the folder anew, and enters it.
+/// Makes an empty folder, and enters it.
 pub(crate) fn enter<R: System>(rt: &R) -> Result<(), Trouble> {
     let _ = fs::remove_dir_all(rt, FOLDER);
     fs::create_dir(rt, FOLDER)?;
     Ok(env::set_current_dir(rt, FOLDER)?)
 }
 
-/// Leaves the folder, and removes it with its contents.
+/// Leaves the folder, and removes it with all contents.
 pub(crate) fn leave<R: System>(rt: &R) -> Result<(), Trouble> {
     env::set_current_dir(rt, "..")?;
     Ok(fs::remove_dir_all(rt, FOLDER)?)
 }
 
-/// Makes the items that a program finds there.
+/// Creates the items that exist before the launch.
 pub(crate) fn fill<R: System>(
     rt: &R,
     script: &Script<'_>,
@@ -42,7 +42,7 @@ pub(crate) fn fill<R: System>(
     Ok(())
 }
 
-/// Makes everything readable and removable.
+/// Gives back the permissions to read and remove every item.
 pub(crate) fn unlock<R: System>(rt: &R, found: &[Found<'_>]) -> Result<(), Trouble> {
     for one in found {
         if let Found::Mode { name, mode: _ } = one {
@@ -56,7 +56,7 @@ fn set_mode<R: System>(rt: &R, name: &str, mode: u32) -> Result<(), Trouble> {
     Ok(fs::set_permissions(rt, name, Permissions::from_mode(mode))?)
 }
 
-/// Whether permissions do not apply to this process, such as to one of the superuser.
+/// Returns whether this process ignores file permissions, as the superuser does.
 pub(crate) fn passes_permissions<R: System>(rt: &R) -> Result<bool, Trouble> {
     let name = "probe";
     fs::write(rt, name, "")?;

@@ -1,4 +1,5 @@
-//! The runtime of a launch: its own arguments, standard streams and clock, and the system's files.
+//! The runtime of a launch: simulated arguments, standard streams and clock, and the system's
+//! files.
 
 use crate::file::NotedFile;
 use crate::journal::Journal;
@@ -16,7 +17,7 @@ use std::path::PathBuf;
 use std::rt::{Clock, Env, Files};
 use std::time::Duration;
 
-/// The runtime of a program.
+/// The runtime of a launched program.
 #[derive(Drop)]
 pub(crate) struct Host<'a, R> {
     pub(crate) rt: &'a R,
@@ -27,7 +28,7 @@ pub(crate) struct Host<'a, R> {
 }
 
 impl<'a, R: System> Host<'a, R> {
-    /// Returns the runtime of a program that follows the plan.
+    /// Returns the runtime of a program with this plan.
     pub(crate) fn new(
         rt: &'a R,
         plan: &'a Plan<'a>,
@@ -58,7 +59,7 @@ impl<'a, R: System> Host<'a, R> {
         }
     }
 
-    // Connects the clients once the whole output is a line with the port of the program's listener.
+    // Connects the clients once the program has printed only the line with its port.
     fn greet(&self) -> io::Result<()> {
         let written = self.written_bytes()?;
         match listening_port(written.as_slice()) {
@@ -68,7 +69,7 @@ impl<'a, R: System> Host<'a, R> {
     }
 }
 
-// Returns the port in the line that a server shows.
+// Returns the port in the line that a listening server prints.
 fn listening_port(output: &[u8]) -> Option<u16> {
     let line = std::str::from_utf8(output).ok()?;
     let digits = line.strip_prefix("listening ")?.strip_suffix("\n")?;
@@ -141,7 +142,7 @@ impl<R: System> Print for Host<'_, R> {
     }
 }
 
-// The clock always returns the same time.
+// The clock always returns zero.
 impl<R: System> Clock for Host<'_, R> {
     fn monotonic(&self) -> io::Result<Duration> {
         Ok(Duration::ZERO)
@@ -221,7 +222,7 @@ impl<'a, R: System> Files for Host<'a, R> {
     }
 }
 
-/// Standard error.
+/// The standard error of a launched program.
 #[derive(Drop)]
 pub(crate) struct Errors<'a> {
     journal: &'a Journal<'a>,
@@ -229,7 +230,7 @@ pub(crate) struct Errors<'a> {
 }
 
 impl<'a> Errors<'a> {
-    /// Returns an empty one.
+    /// Returns an empty standard error.
     pub(crate) fn new(alloc: Global, journal: &'a Journal<'a>) -> Errors<'a> {
         Errors {
             journal,

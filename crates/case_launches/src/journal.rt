@@ -1,24 +1,24 @@
-//! The steps of the program, and the step that fails.
+//! The recorded operations of the program, and the operation that fails.
 
 use std::alloc::{AllocError, Global};
 use std::cell::RefCell;
 use std::io;
 use std::io::ErrorKind;
 
-/// The steps so far, separated by commas.
+/// The operations so far, separated by commas.
 #[derive(Drop)]
 pub(crate) struct Journal<'a> {
     alloc: Global,
-    // The absolute name of the folder in which the program runs.
+    // The absolute path of the folder in which the program runs.
     folder: String,
-    // The step that fails, if there is one.
+    // The operation that fails each time, if any.
     failing: Option<&'a str>,
     steps: RefCell<String>,
 }
 
 impl<'a> Journal<'a> {
-    /// Returns the journal of a program in this folder, without steps yet. The step `failing`
-    /// fails.
+    /// Returns an empty journal of a program in this folder. The operation `failing` fails each
+    /// time.
     pub(crate) fn new(alloc: Global, folder: String, failing: Option<&'a str>) -> Journal<'a> {
         Journal {
             alloc,
@@ -28,7 +28,7 @@ impl<'a> Journal<'a> {
         }
     }
 
-    /// Records a step. Fails if the step is the one to fail.
+    /// Records an operation, and fails if it is the one that fails.
     pub(crate) fn note(&self, step: &str) -> io::Result<()> {
         if let Ok(mut steps) = self.steps.try_borrow_mut() {
             add_step(&mut steps, step)?;
@@ -36,7 +36,7 @@ impl<'a> Journal<'a> {
         self.permit(step)
     }
 
-    /// Records a step, unless it is the last one already. Fails if the step is the one to fail.
+    /// Records an operation unless it repeats the last one. Fails if the operation is `failing`.
     pub(crate) fn note_once(&self, step: &str) -> io::Result<()> {
         if self.is_last(step) {
             return self.permit(step);
@@ -44,8 +44,8 @@ impl<'a> Journal<'a> {
         self.note(step)
     }
 
-    /// Records a step on a file, unless it is the last one already. Fails if the step is the one to
-    /// fail.
+    /// Records an operation on a file unless it repeats the last one. Fails if the operation is
+    /// `failing`.
     pub(crate) fn note_file(&self, step: &str, path: &str) -> io::Result<()> {
         let name = match path.strip_prefix(self.folder.as_str()) {
             Some("") => ".",
@@ -56,7 +56,7 @@ impl<'a> Journal<'a> {
         self.note_once(line.as_str())
     }
 
-    /// Returns all steps.
+    /// Returns all recorded operations.
     pub(crate) fn text(&self) -> Result<String, AllocError> {
         match self.steps.try_borrow() {
             Ok(steps) => String::from_str(self.alloc, steps.as_str()),

@@ -1,26 +1,25 @@
-//! Runs of the program `gitv2` itself, by `gprogram`. The runtime belongs to the case. It has
-//! arguments and standard streams in memory, real files in a separate folder, and sockets at
-//! 127.0.0.1.
+//! Launches of the program `gitv2` for tests. A launch gives the program arguments and standard
+//! streams in memory, real files in a folder of its own, and sockets at 127.0.0.1.
 //!
-//! A [`Plan`] has the arguments, files and peers of the program, and all expected results. Its
-//! source is a row, a pair of repositories, a command line, or a case that describes the run.
-//! [`launch`] follows it in the folder `launch`, which it makes in the current folder, and removes.
-//! The test plays the peers: clients connect when the line `listening PORT` is printed, and a
-//! server is there when the program connects.
+//! A [`Plan`] holds the arguments, files and peers of the program, and all expected results. A plan
+//! is made from a row, a pair of repositories, a command line, or a case that describes a launch.
+//! The function [`launch`] runs the program in a folder `launch`, which it creates and removes. The
+//! test itself acts as the peers. The clients connect when the program prints its port. A server
+//! accepts when the program connects.
 //!
 //! # Proved
 //!
-//! It is safe and ends.
+//! Every call returns, with no index out of range, overflow or use after free.
 //!
 //! # What the contracts do not rule out
 //!
-//! The contracts say nothing of the results. Wrong cases and wrong programs were tried, to see that
-//! wrong results are noticed.
+//! No contract states the results of this crate. Deliberately wrong cases and programs were run, to
+//! check that the tests reject them.
 //!
 //! # Stands on
 //!
-//! `gprogram` for the program; `case_text` and `case_tries` for rows and cases; `gtcp` for
-//! locations.
+//! `gprogram` is the launched program. `case_text` and `case_tries` define rows and cases, and
+//! `gtcp` locations.
 #![tactic(auto)]
 
 mod file;

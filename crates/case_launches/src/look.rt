@@ -1,4 +1,4 @@
-//! The files that a program leaves in its folder.
+//! Checks of the files that a program leaves in its folder.
 
 use crate::plan::Plan;
 use crate::system::System;
@@ -6,17 +6,17 @@ use case_text::{Found, Left, Trouble};
 use std::fs;
 use std::os::unix::fs::{MetadataExt, PermissionsExt};
 
-// The bits of a mode that are permissions.
+// The bits of a file mode that are permissions.
 const PERMISSIONS: u32 = 0o7777;
 
-/// The numbers of files, which identify them.
+/// The inode numbers of files.
 #[derive(Drop)]
 pub(crate) struct Numbers<'b> {
     numbers: Vec<(&'b str, u64)>,
 }
 
 impl<'b> Numbers<'b> {
-    /// Returns those of the files that must be the same afterwards.
+    /// Returns the inode numbers of the files that the program must not replace.
     pub(crate) fn of<R: System>(rt: &R, plan: &Plan<'b>) -> Result<Numbers<'b>, Trouble> {
         let mut numbers = Vec::new(rt.alloc());
         for left in plan.left.as_slice() {
@@ -27,7 +27,7 @@ impl<'b> Numbers<'b> {
         Ok(Numbers { numbers })
     }
 
-    /// Returns the first that is another file.
+    /// Returns the first file whose inode number has changed.
     pub(crate) fn first_changed<R: System>(&self, rt: &R) -> Option<&'b str> {
         for &(name, number) in self.numbers.as_slice() {
             if number == 0 || number_of(rt, name) != number {
@@ -38,7 +38,7 @@ impl<'b> Numbers<'b> {
     }
 }
 
-// Returns the number of a file, or 0 if there is none.
+// Returns the inode number of a file, or 0 if there is no such file.
 fn number_of<R: System>(rt: &R, name: &str) -> u64 {
     match fs::symlink_metadata(rt, name) {
         Ok(metadata) => metadata.ino(),
@@ -46,7 +46,7 @@ fn number_of<R: System>(rt: &R, name: &str) -> u64 {
     }
 }
 
-/// Returns the first file with other permissions than expected.
+/// Returns the first file with unexpected permissions.
 pub(crate) fn first_wrong_mode<'b, R: System>(rt: &R, plan: &Plan<'b>) -> Option<&'b str> {
     for left in plan.left.as_slice() {
         if let Left::Mode { name, mode } = left {
@@ -65,8 +65,8 @@ fn has_mode<R: System>(rt: &R, name: &str, mode: u32) -> bool {
     }
 }
 
-/// Returns the first file with other contents than expected or, if the plan does not name it, than
-/// before. Also returns a file with a new lockfile.
+/// Returns the first file with unexpected contents, or with a new lockfile. Files that the plan
+/// does not list must be unchanged.
 pub(crate) fn first_wrong_file<'b, R: System>(
     rt: &R,
     plan: &Plan<'b>,
@@ -84,7 +84,7 @@ pub(crate) fn first_wrong_file<'b, R: System>(
     Ok(None)
 }
 
-// Returns the name if this item is not as expected.
+// Returns the name of the item if it is not as expected.
 fn wrong_left<'b, R: System>(
     rt: &R,
     plan: &Plan<'b>,
@@ -99,7 +99,7 @@ fn wrong_left<'b, R: System>(
     Ok(if is_right { None } else { Some(name) })
 }
 
-// Returns the name if this item has changed and the plan does not name it, or if it has a new
+// Returns the name of a file that changed although the plan does not list it, or that has a new
 // lockfile.
 fn wrong_found<'b, R: System>(
     rt: &R,
@@ -120,7 +120,7 @@ fn wrong_found<'b, R: System>(
     })
 }
 
-// Whether the plan names the text of this file, or its absence.
+// Returns whether the plan lists the expected text of this file, or its absence.
 fn is_named(left: &[Left<'_>], file: &str) -> bool {
     for one in left {
         match one {

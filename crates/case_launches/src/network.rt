@@ -10,15 +10,15 @@ use std::net::{IpAddr, Ipv4Addr, Net, OpenListener, SocketAddr, TcpListener, Tcp
 use std::os::fd::{AsRawFd, RawFd};
 use std::time::Duration;
 
-// The host with two addresses.
+// A host name that resolves to two addresses.
 const TWO_ADDRESSES: &str = "two";
 
-// Returns the first of them.
+// Returns the first of the two addresses, at which no server listens.
 fn nobody() -> IpAddr {
     IpAddr::V4(Ipv4Addr::new(127, 0, 0, 2))
 }
 
-/// The program's listener. It accepts clients that have connected, and does not wait for others.
+/// The program's listener, which accepts clients that have connected, and does not wait for more.
 #[derive(Drop)]
 pub(crate) struct Listener<'a> {
     listener: TcpListener,
@@ -80,7 +80,8 @@ impl<'a, R: System> Net for Host<'a, R> {
         self.peers.connect(self.rt, addr)
     }
 
-    // Each host is this one. One of them also has an address before it at which nobody listens.
+    // Each host name resolves to this host. The name `two` first resolves to an address at which no
+    // server listens.
     fn lookup_host(&self, host: &str, port: u16, found: &mut [SocketAddr]) -> io::Result<usize> {
         let here = SocketAddr::from((Ipv4Addr::LOCALHOST, port));
         match found {

@@ -1,4 +1,4 @@
-//! The other ends of the program's connections.
+//! The peers of the program's connections.
 
 use crate::system::System;
 use std::alloc::Global;
@@ -7,7 +7,7 @@ use std::io;
 use std::io::{ErrorKind, Read, Write};
 use std::net::{Shutdown, SocketAddr, TcpListener, TcpStream};
 
-/// The bytes that the other end of a connection writes, and those that it must read.
+/// The bytes that a peer writes, and the bytes that the peer must read.
 #[derive(Drop)]
 pub struct Exchange {
     pub says: Vec<u8>,
@@ -15,7 +15,7 @@ pub struct Exchange {
 }
 
 impl Exchange {
-    /// Returns an empty exchange.
+    /// Returns an exchange without bytes.
     pub(crate) fn new(alloc: Global) -> Exchange {
         Exchange {
             says: Vec::new(alloc),
@@ -24,19 +24,19 @@ impl Exchange {
     }
 }
 
-/// The other ends. Each sends all of its bytes as soon as it is connected.
+/// The peers of a launch. Each peer sends all its bytes as soon as it is connected.
 #[derive(Drop)]
 pub(crate) struct Peers<'a> {
     exchanges: &'a [Exchange],
     streams: RefCell<Vec<TcpStream>>,
-    // The port at which the program listens, or 0 if it does not.
+    // The port at which the program listens, or 0 if the program does not listen.
     port: Cell<u16>,
-    // How many have connected to it and are not yet accepted.
+    // The number of connections that the program has not yet accepted.
     waiting: Cell<usize>,
 }
 
 impl<'a> Peers<'a> {
-    /// Returns peers that are not connected yet.
+    /// Returns peers that are not yet connected.
     pub(crate) fn new(alloc: Global, exchanges: &'a [Exchange]) -> Peers<'a> {
         Peers {
             exchanges,
@@ -46,19 +46,19 @@ impl<'a> Peers<'a> {
         }
     }
 
-    /// Returns the port at which the program listens, or 0 if it does not.
+    /// Returns the port at which the program listens, or 0 if the program does not listen.
     pub(crate) fn port(&self) -> u16 {
         self.port.get()
     }
 
-    /// Records that the program listens.
+    /// Records the port of the program's listener.
     pub(crate) fn note_listener(&self, listener: &TcpListener) {
         if let Ok(address) = listener.local_addr() {
             self.port.set(address.port());
         }
     }
 
-    /// Connects all clients to the port.
+    /// Connects all clients to this port.
     pub(crate) fn visit<R: System>(&self, rt: &R, port: u16) -> io::Result<()> {
         for exchange in self.exchanges {
             let stream = TcpStream::connect(rt, ("127.0.0.1", port))?;
@@ -68,8 +68,8 @@ impl<'a> Peers<'a> {
         Ok(())
     }
 
-    /// Returns a stream to the address: to the program itself if it listens there, and otherwise to
-    /// the next server.
+    /// Returns a stream to the address. The stream leads to the program itself if the program
+    /// listens there, otherwise to the next server.
     pub(crate) fn connect<R: System>(&self, rt: &R, address: SocketAddr) -> io::Result<TcpStream> {
         if address.port() == self.port() {
             let stream = TcpStream::connect(rt, address)?;
@@ -90,14 +90,14 @@ impl<'a> Peers<'a> {
         self.waiting.set(self.waiting.get().saturating_add(1));
     }
 
-    /// Whether one waits to be accepted. It no longer waits after the call.
+    /// Returns whether a connection waits to be accepted, and counts it as accepted.
     pub(crate) fn take_waiting(&self) -> bool {
         let waiting = self.waiting.get();
         self.waiting.set(waiting.saturating_sub(1));
         waiting > 0
     }
 
-    // Returns how many are connected.
+    // Returns the number of connected peers.
     fn count(&self) -> usize {
         match self.streams.try_borrow() {
             Ok(streams) => streams.len(),
@@ -105,7 +105,7 @@ impl<'a> Peers<'a> {
         }
     }
 
-    // Writes the bytes of one end of a connection, and shuts down writing.
+    // Writes the bytes of a peer, and shuts down writing.
     fn keep(&self, stream: TcpStream, exchange: &Exchange) -> io::Result<()> {
         let mut stream = stream;
         stream.write_all(exchange.says.as_slice())?;
@@ -116,8 +116,8 @@ impl<'a> Peers<'a> {
         }
     }
 
-    /// Whether each is connected, and reads its expected bytes, after the program has ended. A
-    /// connection that is reset may have only a prefix of them.
+    /// Returns whether every peer was connected and reads its expected bytes to the end. A
+    /// connection that was reset may yield only a prefix of the bytes.
     pub(crate) fn have_heard(&self, alloc: Global) -> bool {
         let Ok(mut streams) = self.streams.try_borrow_mut() else {
             return false;

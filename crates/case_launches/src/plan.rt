@@ -7,10 +7,10 @@ use case_text::{Case, Found, Launch, Left, Program, Said, Script, Trouble, Who, 
 use case_tries::Row;
 use std::alloc::Global;
 
-/// The line of a server that listens.
+/// The line that a listening server prints.
 const LISTENING: &[u8] = b"listening PORT\n";
 
-/// The exit status if the arguments do not match the usage, and the line then printed.
+/// The exit status for arguments that do not match the usage. `USAGE` is the line then printed.
 pub(crate) const WRONG_USAGE: u8 = 2;
 
 const NOTHING: &[u8] = b"";
@@ -25,22 +25,22 @@ pub struct Plan<'b> {
     pub(crate) words: Vec<String>,
     pub(crate) found: Vec<Found<'b>>,
     pub(crate) left: Vec<Left<'b>>,
-    /// Standard input.
+    /// The bytes of standard input.
     pub(crate) input: Vec<u8>,
     pub(crate) exchanges: Vec<Exchange>,
-    /// The expected standard output. `PORT` is the port at which the program listens.
+    /// The expected standard output. `PORT` stands for the port at which the program listens.
     pub(crate) output: Vec<u8>,
     /// The expected standard error, if it is known.
     pub(crate) errors: Option<Vec<u8>>,
-    /// The expected exit status. If it is not known, any status except that of wrong usage.
+    /// The expected exit status. `None` accepts any status except that of wrong usage.
     pub(crate) status: Option<u8>,
     pub(crate) steps: Option<&'b str>,
-    /// The step that fails, if there is one.
+    /// The operation that fails each time, if any.
     pub(crate) failing: Option<&'b str>,
 }
 
 impl<'b> Plan<'b> {
-    // Returns a plan with arguments, an empty folder, and nothing expected.
+    // Returns a plan with these arguments, an empty folder, and no expected results.
     fn new(alloc: Global, script: &'b Script<'b>, words: Vec<String>) -> Plan<'b> {
         Plan {
             script,
@@ -57,8 +57,8 @@ impl<'b> Plan<'b> {
         }
     }
 
-    /// Returns a plan with these arguments, starting with the program's name, in an empty folder
-    /// without input and without peers. It tests whether they match the usage.
+    /// Returns a plan that tests whether the arguments match the usage. The arguments start with
+    /// the program's name, and the folder is empty.
     pub fn of_words(
         alloc: Global,
         script: &'b Script<'b>,
@@ -73,7 +73,7 @@ impl<'b> Plan<'b> {
         Ok(plan)
     }
 
-    /// Returns the plan for the command of a row, over the file of its repository.
+    /// Returns the plan for the command of a row, with a file for its repository.
     pub fn of_row(
         alloc: Global,
         script: &'b Script<'b>,
@@ -97,14 +97,14 @@ impl<'b> Plan<'b> {
         Ok(plan)
     }
 
-    // Adds the file of a text, under the name of the text.
+    // Adds a file with the named text, under the same name.
     fn add_file(&mut self, text: &'b str) -> Result<(), Trouble> {
         let name = name_of_file(text);
         self.found.push(Found::File { name, text })?;
         Ok(())
     }
 
-    // Expects another text in the file afterwards, if there is one.
+    // Expects the named text in the file afterwards, if a name is given.
     fn expect_file(&mut self, file: &'b str, text: Option<&'b str>) -> Result<(), Trouble> {
         if let Some(text) = text {
             let name = name_of_file(file);
@@ -113,7 +113,7 @@ impl<'b> Plan<'b> {
         Ok(())
     }
 
-    // Expects the talk of a row on standard streams, or over a socket.
+    // Expects the messages of a row on standard streams, or over a socket.
     fn expect_talk(&mut self, alloc: Global, row: &Row<'_>) -> Result<(), Trouble> {
         let talk = &row.talk;
         let is_remote = row.command.has_hello();
@@ -141,7 +141,7 @@ impl<'b> Plan<'b> {
         Ok(())
     }
 
-    // Expects the talk of a row over a socket. A client that asks for nothing opens none.
+    // Expects the messages of a row over a socket. A client that sends no message opens no socket.
     fn expect_exchange(&mut self, alloc: Global, row: &Row<'_>) -> Result<(), Trouble> {
         let talk = &row.talk;
         if row.command.program == Program::Serve || !talk.output.is_empty() {
@@ -153,8 +153,8 @@ impl<'b> Plan<'b> {
         Ok(())
     }
 
-    /// Returns a plan of both ends in one process: the names of both texts and the refspecs,
-    /// separated by blanks.
+    /// Returns a plan for a server and a client in one process. `words` holds the names of both
+    /// repositories and the refspecs, separated by spaces.
     pub fn of_pair(
         alloc: Global,
         script: &'b Script<'b>,
@@ -172,7 +172,7 @@ impl<'b> Plan<'b> {
         Ok(plan)
     }
 
-    /// Returns the plan for a run of the program that a case describes.
+    /// Returns the plan for a launch that a case describes.
     pub fn of_launch(
         alloc: Global,
         script: &'b Script<'b>,
@@ -203,7 +203,7 @@ impl<'b> Plan<'b> {
         add_split(alloc, text, &mut self.words)
     }
 
-    // Expects a talk on standard streams, or on one connection after the other.
+    // Expects messages on standard streams, or on one connection after another.
     fn expect_said(
         &mut self,
         alloc: Global,
@@ -225,7 +225,7 @@ impl<'b> Plan<'b> {
         Ok(())
     }
 
-    // Adds bytes to read, or expected bytes, on this stream.
+    // Adds bytes to the input or to the expected output of this stream.
     fn expect_one(
         &mut self,
         bytes: &[u8],
@@ -244,7 +244,7 @@ impl<'b> Plan<'b> {
     }
 }
 
-// Whether a fault is expected.
+// Returns whether a printed fault is expected.
 fn has_fault(said: &[Said]) -> bool {
     for one in said {
         if one.who == Who::Errors {

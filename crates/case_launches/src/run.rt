@@ -1,4 +1,4 @@
-//! A launch, and its result.
+//! The launch of a program, and the comparison with its plan.
 
 use crate::folder::{enter, fill, leave, passes_permissions, unlock};
 use crate::host::{Errors, Host};
@@ -18,8 +18,8 @@ const PORT: &str = "PORT";
 // The permissions of a file's owner to read and to write.
 const OWN: u32 = 0o600;
 
-/// Runs the program as planned, in a separate folder. Returns what differs from the plan, or `None`
-/// if nothing does.
+/// Runs the program in a folder of its own. Returns a text with the unexpected results, or `None`
+/// if all results match the plan.
 pub fn launch<R: System>(rt: &R, plan: &Plan<'_>) -> Result<Option<String>, Trouble> {
     enter(rt)?;
     let wrong = launch_here(rt, plan);
@@ -43,7 +43,7 @@ fn launch_here<R: System>(rt: &R, plan: &Plan<'_>) -> Result<Option<String>, Tro
     wrong_file(rt, plan, &numbers)
 }
 
-// Whether an item can't be read, or can't be written.
+// Returns whether the owner may not read or not write one of the items.
 fn is_barred(found: &[Found<'_>]) -> bool {
     for one in found {
         match one {
@@ -54,8 +54,7 @@ fn is_barred(found: &[Found<'_>]) -> bool {
     false
 }
 
-// Runs the program. Returns its results if its status, its streams or its steps differ from the
-// plan.
+// Runs the program. Returns its results if the status, streams or operations differ from the plan.
 fn wrong_print<R: System>(
     rt: &R,
     plan: &Plan<'_>,
@@ -95,7 +94,7 @@ fn is_status(plan: &Plan<'_>, status: u8) -> bool {
     }
 }
 
-// Whether this is the expected standard output of a program that listens at the port.
+// Returns whether this is the expected standard output of a program that listens at the port.
 fn is_output(alloc: Global, plan: &Plan<'_>, port: u16, output: &[u8]) -> Result<bool, Trouble> {
     let due = plan.output.as_slice();
     let text = match std::str::from_utf8(due) {
@@ -125,7 +124,7 @@ fn is_steps(plan: &Plan<'_>, steps: &str) -> bool {
     }
 }
 
-// Returns the first file that differs from the plan.
+// Returns a text with the first file that differs from the plan.
 fn wrong_file<R: System>(
     rt: &R,
     plan: &Plan<'_>,

@@ -1,13 +1,13 @@
-//! The streams on which a program reads and writes a case's talk.
+//! The streams of a program that carry the messages of a case.
 
 use case_text::Who;
 
 /// A stream of the program.
 #[derive(Clone, Copy, PartialEq, Eq)]
 pub(crate) enum Stream {
-    /// The stream that is read: standard input, or a socket.
+    /// The input of the conversation: standard input, or a socket.
     Read,
-    /// The stream that leads back to the peer: standard output, or a socket.
+    /// The output of the conversation: standard output, or a socket.
     Written,
     /// Standard output.
     Output,
@@ -18,16 +18,17 @@ pub(crate) enum Stream {
 /// The streams of a command.
 #[derive(Clone, Copy)]
 pub(crate) struct Streams {
-    /// Whether it reads the messages of a client.
+    /// Whether the command reads the messages of a client.
     reads_client: bool,
-    /// Whether its peers are at sockets.
+    /// Whether the peers are connected over sockets.
     pub(crate) is_remote: bool,
-    /// Whether it reports on standard error, since standard output leads to a server.
+    /// Whether the command reports on standard error, because standard output carries the
+    /// conversation.
     reports_on_errors: bool,
 }
 
 impl Streams {
-    /// Returns those of the command with these arguments.
+    /// Returns the streams of the command with these arguments.
     pub(crate) fn of(words: &str) -> Streams {
         let is_fetch = has_word(words, "--stdio");
         let asks = has_word(words, "--tcp");

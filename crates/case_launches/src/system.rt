@@ -1,4 +1,4 @@
-//! The parts of the system that a launch uses.
+//! The parts of the runtime that a launch uses.
 
 use std::net::{Net, TcpListener, TcpStream};
 use std::rt::{Clock, Env, Files};

@@ -7,11 +7,11 @@ use gname::MAX_PACK;
 use gtcp::Location;
 use std::alloc::Global;
 
-/// The maximum number of bytes that fit into a socket that nobody reads.
+/// The maximum number of bytes that a test writes to a socket without a reader.
 const MOST_BYTES: usize = 16_384;
 
-/// Whether the program can run with the arguments of a row: with the program's packer and indexer,
-/// and, over a socket, with all bytes fitting into it and a valid location.
+/// Returns whether the program can run the row. The packer and the indexer must be `PlainPack`.
+/// Over a socket, all bytes must fit into the socket, and the location must be valid.
 pub fn is_launched(alloc: Global, row: &Row<'_>) -> Result<bool, Trouble> {
     let command = row.command;
     if command.liar.is_some() {
@@ -26,7 +26,7 @@ pub fn is_launched(alloc: Global, row: &Row<'_>) -> Result<bool, Trouble> {
     Ok(has_place && talk.input.len() <= MOST_BYTES && talk.output.len() <= MOST_BYTES)
 }
 
-// Returns the address at which a server listens, or which a client names.
+// Returns the address at which a server listens, or to which a client connects.
 fn address_of(alloc: Global, command: Invocation<'_>) -> Result<String, Trouble> {
     if command.program == Program::Serve {
         return Ok(String::from_str(alloc, "127.0.0.1:0")?);
@@ -110,7 +110,7 @@ fn add_word(alloc: Global, word: &str, words: &mut Vec<String>) -> Result<(), Tr
     Ok(())
 }
 
-/// Appends arguments that are separated by blanks; `""` is the empty argument.
+/// Appends arguments that are separated by spaces; `""` is the empty argument.
 pub fn add_split(alloc: Global, text: &str, words: &mut Vec<String>) -> Result<(), Trouble> {
     for word in text.split(' ') {
         match word {
@@ -122,7 +122,7 @@ pub fn add_split(alloc: Global, text: &str, words: &mut Vec<String>) -> Result<(
     Ok(())
 }
 
-// The name of a file for a text without a name.
+// The file name for a text without a name.
 const NO_NAME: &str = "none";
 
 /// Returns the name of the file for a text.

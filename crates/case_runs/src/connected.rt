@@ -1,6 +1,5 @@
-//! The network work of `gitv2`, over devices in memory: it serves a connection starting at its
-//! first line, and lists the refs of a server. The rest of the program's work is also here: loading
-//! the repository, and printing a fault.
+//! The network commands of `gitv2` over devices in memory: serving a connection with its first
+//! line, and listing the refs of a server.
 
 use crate::files::server_of;
 use crate::program::{Devices, Job};
@@ -16,8 +15,8 @@ use grequest::{LsRefsFlag, LsRefsRequest};
 use gserve::{End, Export, GitEnd, OnePack, Served, serve_git};
 use std::alloc::{AllocError, Allocator};
 
-/// Serves a connection starting at its first line. Returns 1 if the connection had a fault, which
-/// is printed.
+/// Serves a connection, including its first line. Returns 1 and prints the fault if the connection
+/// fails, otherwise 0.
 pub(crate) fn serve_connection<A: Allocator + Copy, K, I: Source, O: Sink, R: Sink, E: Sink>(
     job: &Job<'_, '_, '_, A>,
     packer: &K,
@@ -45,7 +44,7 @@ fn run_serving<A: Allocator + Copy, K: Packer<A>, I: Source, O: Sink>(
     outcome_of(serve_git(&export, &mut OnePack::new(packer), input, output))
 }
 
-// Returns the outcome of a connection. A client that asks for another path is not a fault of it.
+// Returns the outcome of a connection. A request for another path is not a fault.
 fn outcome_of<A: Allocator + Copy>(ended: GitEnd) -> Result<(), ProgramFault<A>> {
     match ended {
         GitEnd::Served(served) => outcome_of_served(served),
@@ -55,7 +54,7 @@ fn outcome_of<A: Allocator + Copy>(ended: GitEnd) -> Result<(), ProgramFault<A>>
     }
 }
 
-/// Returns the outcome of a served connection.
+/// Returns the outcome of a served connection as that of the program.
 pub(crate) fn outcome_of_served<A: Allocator + Copy>(
     served: Served,
 ) -> Result<(), ProgramFault<A>> {
@@ -66,8 +65,8 @@ pub(crate) fn outcome_of_served<A: Allocator + Copy>(
     }
 }
 
-/// Lists the refs of a server that begin with one of the words, or all if there are none. Reports a
-/// line for each, and returns the exit status.
+/// Lists the server's refs that begin with one of the words, or all refs if there are no words.
+/// Reports a line for each ref, and returns the exit status.
 pub(crate) fn list_refs<A: Allocator + Copy, I: Source, O: Sink, R: Sink, E: Sink>(
     job: &Job<'_, '_, '_, A>,
     words: &[String<A>],
@@ -92,7 +91,7 @@ fn run_listing<A: Allocator + Copy, I: Source, O: Sink, R: Sink, E: Sink>(
     end_listing(job, listed, &mut devices.report)
 }
 
-/// Ends a listing as its program does: writes the lines of the reply, or returns the fault.
+/// Ends a listing like the program: writes the lines of the reply, or returns the fault.
 pub fn end_listing<A: Allocator + Copy, R: Sink>(
     job: &Job<'_, '_, '_, A>,
     listed: Result<LsReply<A>, FetchFault<A>>,
@@ -104,7 +103,7 @@ pub fn end_listing<A: Allocator + Copy, R: Sink>(
     }
 }
 
-/// Returns the prefixes of words, or none if the command has none.
+/// Parses the ref prefixes, or returns none if the command names none.
 pub fn prefixes_of<A: Allocator + Copy>(
     job: &Job<'_, '_, '_, A>,
     words: &[String<A>],
@@ -145,7 +144,7 @@ pub(crate) fn hello_of<A: Allocator + Copy>(
     Hello::new(job.memory, command.path.as_bytes(), command.host.as_bytes())
 }
 
-// Returns a request for refs, with their targets and peeled ids.
+// Returns an ls-refs request with `symrefs` and `peel`.
 fn request_for<A: Allocator + Copy>(
     memory: A,
     prefixes: &[Prefix<A>],
@@ -159,7 +158,7 @@ fn request_for<A: Allocator + Copy>(
     Ok(asked)
 }
 
-// Returns the lines of a reply: the ref that an unborn `HEAD` points at, and then each ref.
+// Formats an ls-refs reply: the target of an unborn `HEAD`, then each ref.
 fn text_of<A: Allocator + Copy>(memory: A, reply: &LsReply<A>) -> Result<Vec<u8, A>, AllocError> {
     let mut text = Vec::new(memory);
     if let Some(target) = reply.unborn() {

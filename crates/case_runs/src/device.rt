@@ -1,5 +1,5 @@
-//! Devices in memory that move some bytes a call and fail at a chosen one, and std's readers and
-//! writers over them.
+//! In-memory devices that move a limited number of bytes in each call and fail at a chosen call.
+//! `AsStd` turns a device into a std reader or writer.
 
 ghost use Rattle.std.specs.Prelude.{◌≡◌, is_err, None, []};
 ghost use Rattle.gpkt.specs.Devices.{AnswersDown};
@@ -10,7 +10,7 @@ use std::alloc::{AllocError, Global};
 use std::io;
 use std::io::{ErrorKind, Read, Write};
 
-/// The limits of a device: the most bytes of a call, and the call that fails, starting at 1.
+/// The limits of a device: the maximum number of bytes in a call, and the call that fails, from 1.
 #[derive(Clone, Copy)]
 pub struct Hindrance {
     most: usize,
@@ -18,18 +18,18 @@ pub struct Hindrance {
 }
 
 impl Hindrance {
-    /// All bytes at once, and no failure.
+    /// No limit on the bytes of a call, and no failure.
     pub const NONE: Hindrance = Hindrance {
         most: usize::MAX,
         fails_at: 0,
     };
 
-    /// Returns limits of `most` bytes a call, without a failure.
+    /// Returns a limit of `most` bytes a call, without a failure.
     pub fn pieces(most: usize) -> Hindrance {
         Hindrance { most, fails_at: 0 }
     }
 
-    /// Returns limits of a byte a call, with a failure at this one.
+    /// Returns a limit of one byte a call, with a failure at this call.
     pub fn fail_call(call: usize) -> Hindrance {
         Hindrance {
             most: 1,
@@ -38,13 +38,13 @@ impl Hindrance {
     }
 }
 
-// Counts calls, and fails starting at the chosen one.
+// A counter of calls that fails at the chosen call and at each later call.
 #[derive(Drop)]
 struct Turns {
     hindrance: Hindrance,
     calls: usize,
     down: bool,
-    // Whether there was a call after the one that failed, or a read of no bytes.
+    // Whether a call followed the failed call, or a read asked for no bytes.
     again: bool,
 }
 
@@ -69,7 +69,7 @@ impl Turns {
     }
 }
 
-/// The bytes that are not yet read.
+/// A source of bytes in memory.
 #[derive(Drop)]
 pub struct Reader<'a, 'w> {
     rest: &'a [u8],
@@ -78,7 +78,7 @@ pub struct Reader<'a, 'w> {
 }
 
 impl<'a, 'w> Reader<'a, 'w> {
-    /// Returns a device that yields these bytes.
+    /// Returns a source that yields these bytes.
     pub fn new(bytes: &'a [u8], hindrance: Hindrance, watch: &'w Watch) -> Reader<'a, 'w> {
         Reader {
             rest: bytes,
@@ -87,17 +87,17 @@ impl<'a, 'w> Reader<'a, 'w> {
         }
     }
 
-    /// Returns how many bytes are left.
+    /// Returns the number of bytes not yet read.
     pub fn bytes_left(&self) -> usize {
         self.rest.len()
     }
 
-    /// Whether a call failed.
+    /// Returns whether a call of the source failed.
     pub fn has_failed(&self) -> bool {
         self.turns.down
     }
 
-    /// Whether it was called again after it had failed, or for no bytes.
+    /// Returns whether a read followed the failure, or asked for no bytes.
     pub fn was_called_again(&self) -> bool {
         self.turns.again
     }
@@ -126,7 +126,7 @@ impl Source for Reader<'_, '_> {
     }
 }
 
-/// The written bytes, and how many of them were flushed.
+/// A sink in memory that counts the flushed bytes.
 #[derive(Drop)]
 pub struct Writer {
     written: Vec<u8>,
@@ -135,7 +135,7 @@ pub struct Writer {
 }
 
 impl Writer {
-    /// Returns a device without written bytes.
+    /// Returns a sink without any bytes.
     pub fn new(alloc: Global, hindrance: Hindrance) -> Writer {
         Writer {
             written: Vec::new(alloc),
@@ -144,7 +144,7 @@ impl Writer {
         }
     }
 
-    /// Returns a device with these written bytes, flushed or not.
+    /// Returns a sink that already holds these bytes, flushed or not.
     pub fn with_bytes(
         alloc: Global,
         bytes: &[u8],
@@ -160,22 +160,22 @@ impl Writer {
         Ok(writer)
     }
 
-    /// Returns the written bytes.
+    /// Returns all bytes written so far.
     pub fn written_bytes(&self) -> &[u8] {
         self.written.as_slice()
     }
 
-    /// Whether all of them were flushed.
+    /// Returns whether all written bytes are flushed.
     pub fn is_passed_on(&self) -> bool {
         self.passed_on == self.written.len()
     }
 
-    /// Whether a call failed.
+    /// Returns whether a call of the sink failed.
     pub fn has_failed(&self) -> bool {
         self.turns.down
     }
 
-    /// Whether it was called again after it had failed.
+    /// Returns whether a call followed the failed call.
     pub fn was_called_again(&self) -> bool {
         self.turns.again
     }
@@ -209,19 +209,19 @@ impl Sink for Writer {
     }
 }
 
-// The failure of one of std's readers or writers.
+// The form in which a std reader or writer fails.
 #[derive(Clone, Copy)]
 enum Failure {
-    // Errors after which callers try again, or which they take for the end.
+    // Errors after which std callers often retry, or which they mistake for the end of the input.
     Interrupted,
     WouldBlock,
     UnexpectedEof,
-    // A write that takes no bytes.
+    // A write that returns 0.
     TakesNone,
 }
 
 impl Failure {
-    // Returns the failure of the chosen call: the kinds alternate.
+    // Returns the form of the failure for the chosen call: the four forms alternate.
     fn of(hindrance: Hindrance) -> Failure {
         match hindrance.fails_at % 4 {
             0 => Failure::TakesNone,
@@ -240,7 +240,7 @@ impl Failure {
     }
 }
 
-/// One of std's readers or writers over a device, with the failures that those may have.
+/// A std reader or writer over a device that reports failures in one of four forms.
 #[derive(Drop)]
 pub struct AsStd<D> {
     device: D,
@@ -248,7 +248,7 @@ pub struct AsStd<D> {
 }
 
 impl<D> AsStd<D> {
-    /// Returns one over this device, with these limits.
+    /// Wraps a device with these limits.
     pub fn new(device: D, hindrance: Hindrance) -> AsStd<D> {
         AsStd {
             device,
@@ -256,7 +256,7 @@ impl<D> AsStd<D> {
         }
     }
 
-    /// Returns the device, in the state after the calls.
+    /// Returns the device after all calls.
     pub fn into_inner(self) -> D {
         let AsStd { device, failure: _ } = self;
         device

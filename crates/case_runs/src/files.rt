@@ -1,12 +1,12 @@
-//! The inputs of programs, from files and words: a server, a client's repository, and refspecs.
-//! None has a clause, so that no proof of a run has the long contracts of these calls.
+//! The inputs of programs: a server, a client's repository, and refspecs. These wrappers have no
+//! contracts, which keeps the proofs of their callers short.
 
 use gclient::Repo;
 use gcmd::{ProgramFault, Spec, load_server, open_client, read_specs};
 use gserve::Server;
 use std::alloc::Allocator;
 
-/// Returns the server of a repository's text.
+/// Parses the text of a server's repository.
 pub fn server_of<A: Allocator + Copy>(
     memory: A,
     file: &[u8],
@@ -14,12 +14,12 @@ pub fn server_of<A: Allocator + Copy>(
     load_server(memory, file)
 }
 
-/// Returns the client's repository of its text.
+/// Parses the text of a client's repository.
 pub fn client_of<A: Allocator + Copy>(memory: A, file: &[u8]) -> Result<Repo<A>, ProgramFault<A>> {
     open_client(memory, file)
 }
 
-/// Returns the refspecs of words.
+/// Parses the refspecs of a command line.
 pub fn specs_of<A: Allocator + Copy>(
     memory: A,
     words: &[String<A>],

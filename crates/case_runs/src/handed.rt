@@ -1,4 +1,5 @@
-//! The packers and indexers of a run, which fail or lie: each indexer watches how it is fed.
+//! Packers and indexers for one run that may fail or break their contracts. The indexers record
+//! each of their calls.
 
 ghost use Rattle.std.specs.Prelude.{⊤};
 
@@ -8,7 +9,7 @@ use ggraph::{Entry, IndexFault, Indexer, PackFault, Packer};
 use gname::{Format, MAX_PACK};
 use std::alloc::Allocator;
 
-/// A packer or an indexer of ids of a format, and the input from which it is fed.
+/// A packer or an indexer for ids of one format. A pack is read from the bytes in `input`.
 #[derive(Clone, Copy)]
 pub(crate) struct Handed<'i, 'w> {
     pub(crate) liar: Liar,

@@ -1,25 +1,27 @@
-//! Runs of the programs of `gcmd`, and of the calls below them. They use devices that move some
-//! bytes a call and fail at a chosen one, memory that ends, and packers and indexers that lie or
-//! watch how they are fed.
+//! Runs of the commands in `gcmd` and of their network calls, for tests. The devices limit the
+//! bytes of a call and fail at a chosen call. An allocation may fail. Packers and indexers may
+//! break their contracts, and the calls of each indexer are checked.
 //!
-//! A [`Job`] is the command to run, [`Devices`] are its devices, and [`run_command`] runs it. As
-//! `gitv2` does on the network, it serves connections starting at their first line, and lists refs.
-//! If a packer or an indexer is not the plain one, this crate does the rest of the program's work.
+//! [`run_command`] runs the command of a [`Job`] over [`Devices`]. This function serves connections
+//! with their first line and lists refs, as `gitv2` does on the network. If the packer or the
+//! indexer is not `PlainPack`, this crate replaces the command of `gcmd`.
 //!
 //! # Proved
 //!
-//! It is safe and ends. A device that has failed stays failed.
+//! Every call returns, with no index out of range, overflow or use after free. A device that has
+//! failed stays failed.
 //!
 //! # What the contracts do not rule out
 //!
-//! Anything else: the counts of the cases show that a device is hindered as requested.
+//! No contract states the behavior of a device before its failure. The tests count calls and bytes
+//! of devices.
 //!
 //! # Stands on
 //!
-//! `case_text` for commands, packers, indexers and memory that ends; `gcmd` for the programs.
-//! `gserve` and `gclient` for connections, and for the calls below the programs; `gpkt` for
-//! devices, `ggraph` for packs and repositories' texts. `ghello`, `grequest`, `glsreply` and
-//! `gname` for the messages of a connection.
+//! `case_text` defines commands, packers, indexers and an allocator that fails. `gcmd` defines the
+//! programs, `gserve` and `gclient` the network calls of the programs. `gpkt` defines devices,
+//! `ggraph` packs and the texts of repositories. `ghello`, `grequest`, `glsreply` and `gname`
+//! define the messages of a connection.
 #![tactic(auto)]
 
 mod connected;

@@ -1,6 +1,6 @@
-//! Runs with a packer or an indexer that is not the plain one. No program of `gcmd` has another, so
-//! the rest of its work is here: reading the file, printing a fault, writing the file, and the
-//! report of a fetch. The client's repository at the end is shown, too.
+//! Runs with a packer or an indexer other than `PlainPack`. The commands of `gcmd` use `PlainPack`
+//! only, so this module replaces them. The result also holds the final state of the client's
+//! repository.
 
 use crate::connected::{hello_of, outcome_of_served, serve_connection};
 use crate::files::{client_of, server_of};
@@ -15,7 +15,7 @@ use gpkt::{Sink, Source};
 use gserve::{ExchangeEnd, OnePack, serve, serve_one};
 use std::alloc::Allocator;
 
-/// Serves one request, or a connection, from a repository's text. Returns the exit status.
+/// Serves one request or a connection from the job's repository. Returns the exit status.
 pub(crate) fn serve_with<A: Allocator + Copy, I: Source, O: Sink, R: Sink, E: Sink>(
     job: &Job<'_, '_, '_, A>,
     liar: Liar,
@@ -76,7 +76,7 @@ fn outcome_of_exchange<A: Allocator + Copy>(ended: ExchangeEnd) -> Result<(), Pr
     }
 }
 
-/// Fetches into a repository's text, and returns the result.
+/// Fetches into the job's repository, and returns the result.
 pub(crate) fn fetch_with<A: Allocator + Copy, K, I: Source, O: Sink, R: Sink, E: Sink>(
     job: &Job<'_, '_, '_, A>,
     indexer: &K,
@@ -118,8 +118,8 @@ where
     )
 }
 
-/// Ends a fetch as its program does: makes the new text of the file and reports, or prints the
-/// fault.
+/// Ends a fetch like the program: returns the new text of the file and writes the report, or prints
+/// the fault.
 pub fn end_fetch<A: Allocator + Copy, R: Sink, E: Sink>(
     job: &Job<'_, '_, '_, A>,
     repo: &Repo<A>,
@@ -133,7 +133,7 @@ pub fn end_fetch<A: Allocator + Copy, R: Sink, E: Sink>(
     }
 }
 
-// Fetches, starting at the first line of a connection, if it has one.
+// Fetches over the devices, and begins with the first line of a connection if the command has one.
 fn converse<A: Allocator + Copy, K: Indexer<A>, I: Source, O: Sink>(
     job: &Job<'_, '_, '_, A>,
     repo: &mut Repo<A>,
@@ -157,7 +157,7 @@ fn converse<A: Allocator + Copy, K: Indexer<A>, I: Source, O: Sink>(
     fetch_git(repo, input, output, indexer, &fetch)
 }
 
-/// Ends a run with a fault, and prints the fault.
+/// Prints a fault, and returns the result of the run.
 pub fn end_with_fault<A: Allocator + Copy, E: Sink>(
     job: &Job<'_, '_, '_, A>,
     fault: ProgramFault<A>,
@@ -167,7 +167,7 @@ pub fn end_with_fault<A: Allocator + Copy, E: Sink>(
     ran_without_file(job, status)
 }
 
-// Ends a fetch with a fault. The file is unchanged, and the repository is shown as it is.
+// Ends a failed fetch. The file is unchanged, and the result holds the repository as it is.
 fn give_up<A: Allocator + Copy, E: Sink>(
     job: &Job<'_, '_, '_, A>,
     repo: &Repo<A>,
@@ -179,8 +179,8 @@ fn give_up<A: Allocator + Copy, E: Sink>(
     Ok(ran)
 }
 
-// Ends a fetch that settled the refs: makes the new text of the file, and reports. If no memory is
-// left for the text, the local refs have moved, and the file is unchanged.
+// Ends a fetch that has updated the refs: returns the new text of the file, and writes the report.
+// If memory for the text runs out, the refs in memory have moved but the file is unchanged.
 fn conclude<A: Allocator + Copy, R: Sink, E: Sink>(
     job: &Job<'_, '_, '_, A>,
     repo: &Repo<A>,
@@ -200,7 +200,7 @@ fn conclude<A: Allocator + Copy, R: Sink, E: Sink>(
     }
 }
 
-// Reports, and returns the exit status.
+// Writes the report, and returns the exit status.
 fn tell<A: Allocator + Copy, R: Sink, E: Sink>(
     job: &Job<'_, '_, '_, A>,
     fetched: &Fetched<A>,
@@ -216,8 +216,7 @@ fn text_of<A: Allocator + Copy>(memory: A, repo: &Repo<A>) -> Result<Vec<u8, A>,
     save(memory, repo.graph(), repo.refs(), &Head::None)
 }
 
-// Returns the text of the repository as it is, in memory that does not end. Refuses no allocation
-// from now on.
+// Returns the text of the current repository. From this call on, no allocation is refused.
 fn state_of<A: Allocator + Copy>(
     job: &Job<'_, '_, '_, A>,
     repo: &Repo<A>,

@@ -1,4 +1,4 @@
-//! The programs of `gcmd`, run over devices: a command, the text of its repository, and its input.
+//! Runs of the commands in `gcmd`: a command line, the text of a repository, and the input.
 
 use crate::connected::{list_refs, serve_connection};
 use crate::files::specs_of;
@@ -12,18 +12,18 @@ use ggraph::PlainPack;
 use gpkt::{Sink, Source};
 use std::alloc::{Allocator, Global};
 
-/// A command to run, the text of its repository, its input, and its memory.
+/// A command to run, the text of its repository, its input, and its allocators.
 #[derive(Clone, Copy)]
 pub struct Job<'b, 'i, 'm, A: Allocator + Copy> {
     pub alloc: Global,
-    /// The allocator of the command, and the one that refuses an allocation of it.
+    /// The allocator of the command. `scarce` is the same allocator, and makes an allocation fail.
     pub memory: A,
     pub scarce: &'m Scarce<Global>,
     pub watch: &'m Watch,
     pub command: Invocation<'b>,
     pub file: &'b [u8],
     pub input: &'i [u8],
-    /// The refused allocation.
+    /// The number of the allocation that fails, from 1, or 0 for none.
     pub refused: u64,
 }
 
@@ -31,11 +31,11 @@ pub struct Job<'b, 'i, 'm, A: Allocator + Copy> {
 #[derive(Drop)]
 pub struct Ran {
     pub status: u8,
-    /// The new text of the client's file.
+    /// The new text of the client's file, if the command writes the file.
     pub file: Option<Vec<u8>>,
-    /// The client's repository at the end, if it is known.
+    /// The text of the client's repository at the end, if it is known.
     pub state: Option<Vec<u8>>,
-    /// Whether the allocation to refuse was reached.
+    /// Whether the run reached the allocation that fails.
     pub was_refused: bool,
 }
 
@@ -48,7 +48,7 @@ pub struct Devices<I, O, R, E> {
     pub errors: E,
 }
 
-/// Runs a command that is not a simulation.
+/// Runs any command except a simulation.
 pub fn run_command<A: Allocator + Copy, I: Source, O: Sink, R: Sink, E: Sink>(
     job: &Job<'_, '_, '_, A>,
     devices: &mut Devices<I, O, R, E>,
@@ -82,7 +82,7 @@ fn run_without_words<A: Allocator + Copy, I: Source, O: Sink, R: Sink, E: Sink>(
     ran_without_file(job, status)
 }
 
-/// Returns the result of a command without a file to write.
+/// Returns the result of a command that writes no file.
 pub fn ran_without_file<A: Allocator + Copy>(job: &Job<'_, '_, '_, A>, status: u8) -> Ran {
     Ran {
         status,
@@ -92,7 +92,7 @@ pub fn ran_without_file<A: Allocator + Copy>(job: &Job<'_, '_, '_, A>, status: u
     }
 }
 
-// Runs a command that does not change its file.
+// Runs a command that does not change its file, with `PlainPack`.
 fn run_plainly<A: Allocator + Copy, I: Source, O: Sink, R: Sink, E: Sink>(
     job: &Job<'_, '_, '_, A>,
     devices: &mut Devices<I, O, R, E>,
@@ -210,7 +210,7 @@ fn fetch_file<A: Allocator + Copy, I: Source, O: Sink, R: Sink, E: Sink>(
     )
 }
 
-/// Returns the limit of a pack, or the default limit of a fetch if this one is too large.
+/// Returns the limit of a pack, or the default limit if this one is too large.
 pub fn limit_of(limit: usize) -> PackLimit {
     match PackLimit::new(limit) {
         Some(limit) => limit,
@@ -218,7 +218,7 @@ pub fn limit_of(limit: usize) -> PackLimit {
     }
 }
 
-// Copies a text into memory that does not end.
+// Copies a text to the global allocator.
 fn copy_text<A: Allocator + Copy>(
     alloc: Global,
     text: &Option<Vec<u8, A>>,

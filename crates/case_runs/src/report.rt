@@ -1,12 +1,11 @@
-//! The report of a fetch, written apart from the program's.
+//! A second implementation of the report on a fetch, to compare with that of the program.
 
 use case_text::Trouble;
 use gclient::{Fetched, RefUpdate};
 use gname::{MAX_ID_TEXT, Oid, RefName};
 use std::alloc::{Allocator, Global};
 
-/// Returns a line for the outcome of each asked ref, and one for the target of an unborn HEAD of
-/// the server.
+/// Returns one line for each requested ref, and one for the target of the server's unborn `HEAD`.
 pub(crate) fn report_of<A: Allocator + Copy>(
     alloc: Global,
     fetched: &Fetched<A>,
@@ -39,7 +38,7 @@ fn add_update<A: Allocator + Copy>(
     }
 }
 
-// Appends a line of a word, a name and perhaps an id.
+// Appends a line with a word, a ref name and an optional id.
 fn add_report_line<A: Allocator + Copy>(
     text: &mut Vec<u8>,
     word: &[u8],

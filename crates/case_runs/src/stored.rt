@@ -1,4 +1,4 @@
-//! A fetch into a stored file in memory, which fails or stops at a chosen call.
+//! A fetch into an in-memory file that fails or stops at a chosen call.
 
 ghost use Rattle.std.specs.Prelude.{◌≡◌, IfOk};
 ghost use Rattle.glockfile.specs.declared.storage.Lockfile.TheVariants.{Absent};
@@ -11,18 +11,18 @@ use glockfile::MemoryFile;
 use gpkt::{Sink, Source};
 use std::alloc::{Allocator, Global};
 
-/// A mishap of a stored file.
+/// A failure of the stored file during a fetch.
 #[derive(Clone, Copy, PartialEq, Eq)]
 pub enum Mishap {
-    /// Nothing.
+    /// No failure.
     None,
-    /// Another process holds its lock.
+    /// Another process holds the lock on the file.
     Locked,
-    /// This call fails, starting at 1.
+    /// The call with this number fails, from 1.
     Fails(usize),
-    /// The run stops before this call: the call fails, and so does each later one.
+    /// The run stops before this call: this call and each later one fail without effect.
     Stops(usize),
-    /// The run stops after this call: the call does its work and fails, and each later one fails.
+    /// The run stops after this call: the call takes effect but fails, and each later call fails.
     StopsAfter(usize),
 }
 
@@ -31,11 +31,11 @@ pub enum Mishap {
 pub struct Stored {
     pub status: u8,
     pub file: MemoryFile<Global>,
-    /// Whether the allocation to refuse was reached.
+    /// Whether the run reached the allocation that fails.
     pub was_refused: bool,
 }
 
-/// Fetches into a stored file that has the job's text, with plain packs.
+/// Fetches into a stored file that holds the job's repository, with `PlainPack`.
 pub fn fetch_into_stored<A: Allocator + Copy, I: Source, O: Sink, R: Sink, E: Sink>(
     job: &Job<'_, '_, '_, A>,
     mishap: Mishap,

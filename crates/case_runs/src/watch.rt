@@ -1,20 +1,20 @@
-//! A check that an indexer is fed correctly: with the pieces of a pack as they arrive, in their
-//! order, each once, none of them empty, and none after a refusal.
+//! A check of the pieces of a pack that an indexer receives. Each input piece arrives once and in
+//! order, none is empty, and none follows a failure.
 
 use std::cell::Cell;
 
-/// How many bytes a reader returned, and how many of them an indexer was fed.
+/// The numbers of bytes that a reader has returned and that an indexer has received.
 #[derive(Drop)]
 pub struct Watch {
     given: Cell<usize>,
-    // How many bytes were returned when the indexer was fed last.
+    // The number of bytes that the reader had returned at the last piece of the indexer.
     fed: Cell<usize>,
     has_refused: Cell<bool>,
     is_wrong: Cell<bool>,
 }
 
 impl Watch {
-    /// Returns a watch without returned or fed bytes.
+    /// Returns a watch with no bytes.
     pub fn new() -> Watch {
         Watch {
             given: Cell::new(0),
@@ -34,8 +34,8 @@ impl Watch {
         self.has_refused.set(false);
     }
 
-    /// Records that the indexer is fed a piece. It must be the last input that the reader returned,
-    /// and not yet fed.
+    /// Records a piece that the indexer receives. The piece must be the end of the bytes returned
+    /// so far, and must begin after all earlier pieces.
     pub(crate) fn feed(&self, input: &[u8], piece: &[u8]) {
         let given = self.given.get();
         let start = given.saturating_sub(piece.len());
@@ -48,22 +48,22 @@ impl Watch {
         self.ask();
     }
 
-    /// Records that the indexer is asked for its entries.
+    /// Records that the pack ends and the indexer must return its entries.
     pub(crate) fn finish(&self) {
         self.ask();
     }
 
-    /// Records that the indexer refuses its input.
+    /// Records that the indexer fails.
     pub(crate) fn refuse(&self) {
         self.has_refused.set(true);
     }
 
-    /// Whether the indexer was fed in another way.
+    /// Returns whether any call of the indexer broke a rule of this check.
     pub fn is_wrong(&self) -> bool {
         self.is_wrong.get()
     }
 
-    // Checks that an indexer is not used after a refusal.
+    // Checks that an indexer is not used after it has failed.
     fn ask(&self) {
         if self.has_refused.get() {
             self.is_wrong.set(true);

@@ -1,4 +1,4 @@
-//! The contents of a file of cases: cases, and facts.
+//! The cases and the facts of one test file.
 
 use crate::kind::FactKind;
 use crate::launch::Launch;
@@ -8,21 +8,21 @@ use crate::trouble::Trouble;
 use gname::Format;
 use std::alloc::Global;
 
-/// The speaker of a message.
+/// The sender or the output stream of a test message.
 #[derive(Clone, Copy, PartialEq, Eq)]
 pub enum Who {
     Client,
     Server,
-    /// The program, on standard output, in lines that are not packets.
+    /// The standard output of the program, for lines that are not packets.
     Output,
-    /// The program, on standard error.
+    /// The standard error of the program.
     Errors,
-    /// The client, about the outcomes of its refs.
+    /// The report of a client on the updates of its refs.
     Report,
 }
 
 impl Who {
-    /// Whether it is one of the ends of a connection.
+    /// Returns whether the speaker is the client or the server.
     pub fn is_peer(self) -> bool {
         match self {
             Who::Client | Who::Server => true,
@@ -31,7 +31,7 @@ impl Who {
     }
 }
 
-/// A message of one speaker.
+/// The bytes that one speaker sends or prints.
 #[derive(Drop)]
 pub struct Said {
     pub who: Who,
@@ -45,17 +45,18 @@ pub struct Case<'a> {
     pub line: usize,
     pub name: &'a str,
     pub runs: Vec<&'a str>,
-    /// How it runs the program itself, if it does.
+    /// The arguments and files of a launch, for a case that launches the program itself.
     pub launch: Option<Launch<'a>>,
     pub said: Vec<Said>,
     pub file: Option<&'a str>,
-    /// The packer or the indexer, if it is not the plain one.
+    /// The packer or the indexer, unless it is `PlainPack`.
     pub liar: Option<Liar>,
-    /// The printed lines if an allocation is refused, one after the other.
+    /// The fault lines expected when an allocation fails, in order.
     pub memory: Vec<Vec<u8>>,
-    /// The offsets of the packets of the last message read, if the case gives them.
+    /// The expected packet offsets in the last message that the program reads, if the case lists
+    /// them.
     pub packets: Vec<usize>,
-    /// The expected results if the request is cut or changed.
+    /// The expected results when the request is truncated or one of its bytes is changed.
     pub table: Vec<TableLine<'a>>,
     pub is_long: bool,
     pub is_deep: bool,
@@ -64,7 +65,7 @@ pub struct Case<'a> {
 }
 
 impl<'a> Case<'a> {
-    /// Returns an empty case.
+    /// Returns a case without lines.
     pub(crate) fn new(alloc: Global, source: &'a str, line: usize, name: &'a str) -> Case<'a> {
         Case {
             source,
@@ -85,7 +86,7 @@ impl<'a> Case<'a> {
         }
     }
 
-    /// Takes a line if it is about the case, and returns whether it was.
+    /// Reads a line of the file, and returns whether the line is about the case.
     pub(crate) fn take_word(
         &mut self,
         alloc: Global,
@@ -107,7 +108,7 @@ impl<'a> Case<'a> {
         Ok(true)
     }
 
-    // Takes a line about running the program itself.
+    // Reads a line about a launch of the program.
     fn take_launch_word(&mut self, word: &str, rest: &'a str) -> Result<bool, Trouble> {
         let said = self.said.len();
         match &mut self.launch {
@@ -117,16 +118,16 @@ impl<'a> Case<'a> {
     }
 }
 
-/// An expected result for a text, or for ids of a graph.
+/// One expected result of a call on a text, or on the ids of a graph.
 #[derive(Drop)]
 pub struct Fact<'a> {
     pub source: &'a str,
     pub line: usize,
     pub kind: FactKind,
-    /// The first word of the line.
+    /// The first word of the fact's line in the file.
     pub word: &'a str,
     pub format: Format,
-    /// The name of the graph's text.
+    /// The name of the text block that holds the graph.
     pub graph: &'a str,
     pub due: Vec<u8>,
     pub text: Vec<u8>,

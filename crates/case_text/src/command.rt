@@ -1,4 +1,4 @@
-//! The command lines in cases.
+//! Parsing of the command lines in test cases.
 
 use crate::liars::Liar;
 use crate::trouble::Trouble;
@@ -6,7 +6,7 @@ use ggrammar::Ends;
 use gname::{Format, MAX_PACK};
 use std::alloc::Allocator;
 
-/// A program.
+/// A program that a case runs.
 #[derive(Clone, Copy, PartialEq, Eq)]
 pub enum Program {
     Ls,
@@ -15,14 +15,14 @@ pub enum Program {
     Check,
     Lines,
     Simulate,
-    /// A served connection, starting at its first line.
+    /// A server that answers one connection, including its first line.
     Serve,
-    /// A listing of a server's refs.
+    /// A client that lists the refs of a server.
     List,
 }
 
 impl Program {
-    /// Whether it reads the client's messages.
+    /// Returns whether the program reads the client's messages.
     pub fn reads_client(self) -> bool {
         match self {
             Program::Ls | Program::Upload | Program::Lines | Program::Serve => true,
@@ -30,7 +30,7 @@ impl Program {
         }
     }
 
-    /// Whether it refuses a request by a line to the client.
+    /// Returns whether the program reports a rejected request to the client.
     pub fn serves(self) -> bool {
         match self {
             Program::Ls | Program::Upload | Program::Serve => true,
@@ -39,7 +39,7 @@ impl Program {
         }
     }
 
-    /// Whether its replies may end with a response-end packet.
+    /// Returns whether the replies in the conversation may end with a response-end packet.
     pub fn has_ends(self) -> bool {
         match self {
             Program::Upload | Program::Fetch | Program::Serve => true,
@@ -48,7 +48,7 @@ impl Program {
         }
     }
 
-    /// Whether it has a report.
+    /// Returns whether the program prints a report.
     pub fn reports(self) -> bool {
         match self {
             Program::Fetch | Program::List => true,
@@ -61,7 +61,7 @@ impl Program {
         }
     }
 
-    /// Whether each packet that it reads is a message.
+    /// Returns whether the program reads each packet as a separate message.
     pub fn reads_lines(self) -> bool {
         match self {
             Program::Lines => true,
@@ -76,38 +76,38 @@ impl Program {
     }
 }
 
-/// A program and its arguments, and the format of the ids.
+/// A program with its arguments and the format of its object ids.
 #[derive(Clone, Copy)]
 pub struct Invocation<'a> {
     pub program: Program,
-    /// The name of the repository's text; empty if there is none.
+    /// The name of the text block that holds the repository, or an empty string.
     pub repository: &'a str,
-    /// The host and the path in the first line of a client's connection, or the served path. Empty
-    /// if no connection has such a line.
+    /// The host and the path in the first line of a client's connection, or the path that is
+    /// served. Both are empty if no connection has a first line.
     pub host: &'a str,
     pub path: &'a str,
-    /// The refspecs, or the prefixes. For a simulation, the names of its client's text and of its
-    /// scenario.
+    /// The refspecs of a fetch, or the ref prefixes of a listing. A simulation stores the names of
+    /// its client's text and of its scenario here.
     pub specs: &'a str,
     /// The maximum size of a pack in bytes.
     pub limit: usize,
     pub ends: Ends,
     pub format: Format,
-    /// The packer or the indexer, if it is not the plain one.
+    /// The packer or the indexer, unless it is `PlainPack`.
     pub liar: Option<Liar>,
-    /// The texts of a simulation's client and of its scenario; empty if there are none.
+    /// The client's text and the scenario of a simulation; both are empty for other programs.
     pub client: &'a [u8],
     pub scenario: &'a [u8],
 }
 
 impl Invocation<'_> {
-    /// Whether the client's first packet is the first line of a connection.
+    /// Returns whether the client's first packet is the first line of a connection.
     pub fn has_hello(&self) -> bool {
         !self.path.is_empty()
     }
 }
 
-/// Reads a command line. The packer and the indexer are the plain ones.
+/// Parses a command line. The packer and the indexer are `PlainPack`.
 pub fn command_of(line: &str, format: Format) -> Result<Invocation<'_>, Trouble> {
     let (name, words) = first_of(line);
     let words = after(words, "--stdio-server ");
@@ -164,7 +164,7 @@ fn limit_of(words: &str) -> Result<(usize, &str), Trouble> {
     }
 }
 
-/// Returns the first word, and the text after it.
+/// Returns the first word of the text and the words after it.
 pub fn first_of(words: &str) -> (&str, &str) {
     match words.split_once(' ') {
         Some((first, rest)) => (first, rest),
@@ -172,7 +172,7 @@ pub fn first_of(words: &str) -> (&str, &str) {
     }
 }
 
-/// Returns the words of a text, each in its own memory.
+/// Returns the words of a text, each in a separate allocation.
 pub fn words_of<A: Allocator + Copy>(memory: A, text: &str) -> Result<Vec<String<A>, A>, Trouble> {
     let mut words = Vec::new(memory);
     for word in text.split(' ') {
@@ -181,7 +181,7 @@ pub fn words_of<A: Allocator + Copy>(memory: A, text: &str) -> Result<Vec<String
     Ok(words)
 }
 
-// Returns the value of the option, if it is first, and the text after it.
+// Returns the value of the option if `words` begins with it, and the words after the value.
 fn option_of<'a>(words: &'a str, option: &'static str) -> (&'a str, &'a str) {
     match words.strip_prefix(option) {
         Some(words) => first_of(words),
@@ -189,7 +189,7 @@ fn option_of<'a>(words: &'a str, option: &'static str) -> (&'a str, &'a str) {
     }
 }
 
-// Returns the text after the option, if it is first.
+// Returns the words after the option if `words` begins with it, otherwise all words.
 fn after<'a>(words: &'a str, option: &'static str) -> &'a str {
     match words.strip_prefix(option) {
         Some(rest) => rest,

@@ -1,26 +1,26 @@
-//! The kinds of facts.
+//! The kinds of facts in a test file.
 
 /// The subject of a fact.
 #[derive(Clone, Copy, PartialEq, Eq)]
 pub enum FactKind {
-    /// The value that is read from a text.
+    /// The value or the fault of parsing a text.
     Text,
-    /// The results of searches in a history.
+    /// The results of searches in a history of commits.
     History,
-    /// The client's knowledge of a history.
+    /// The objects that a client knows of a history.
     Client,
-    /// The printed line of a fault.
+    /// The line printed for a fault.
     Shown,
-    /// The behavior near the limits.
+    /// The behavior of functions near their size limits.
     Large,
-    /// The command of a command line.
+    /// The request that a command line is parsed into.
     Asked,
-    /// The results of random events.
+    /// The results of random simulations.
     Random,
 }
 
 impl FactKind {
-    /// Returns the kind of a fact whose line begins with this word, or `None` if it is not a fact.
+    /// Returns the kind of a fact whose line begins with this word, or `None` for any other line.
     pub(crate) fn of(word: &str) -> Option<FactKind> {
         match word {
             "name" | "prefix" | "id" | "id64" | "spec" | "hello" | "put" | "band" => Some(

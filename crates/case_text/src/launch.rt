@@ -1,60 +1,59 @@
-//! Runs of the program itself, with their own arguments, files and standard streams.
+//! Launches of the program itself, with their arguments, files and standard streams.
 
 use crate::command::first_of;
 use crate::trouble::Trouble;
 use std::alloc::Global;
 
-/// An item that is made in the folder before a run.
+/// A file, folder or link that the test creates before a launch.
 #[derive(Clone, Copy)]
 pub enum Found<'a> {
-    /// A file that contains the text of this name.
+    /// A file that holds the named text of the test file.
     File { name: &'a str, text: &'a str },
     /// A folder.
     Folder { name: &'a str },
-    /// A symbolic link, and its target.
+    /// A symbolic link to `target`.
     Link { name: &'a str, target: &'a str },
-    /// The permissions of an item made before.
+    /// The permissions of a file or folder that was created before.
     Mode { name: &'a str, mode: u32 },
 }
 
-/// An item that is expected in the folder after a run. A file that was made before, and is not
-/// named here, is expected unchanged.
+/// An item that is expected in the folder after a launch. A file that existed before and is not
+/// listed here must keep its contents.
 #[derive(Clone, Copy)]
 pub enum Left<'a> {
-    /// A file that contains the text of this name.
+    /// A file that holds the named text of the test file.
     File { name: &'a str, text: &'a str },
-    /// No file of this name.
+    /// The absence of any file with this name.
     Nothing { name: &'a str },
     /// A file or a folder with these permissions.
     Mode { name: &'a str, mode: u32 },
     /// A symbolic link.
     Link { name: &'a str },
-    /// The very file that was made before: it was neither written nor replaced.
+    /// The same inode as before the launch, so the file was neither written nor replaced.
     Same { name: &'a str },
 }
 
-/// How a case runs the program, and the expected files and status. The case's talk uses standard
-/// streams and sockets.
+/// The arguments of a launch, and the files and exit status expected afterwards. The messages of
+/// the case use standard streams or sockets.
 #[derive(Drop)]
 pub struct Launch<'a> {
-    /// The arguments after the program's name, with blanks between them; `""` is the empty
-    /// argument.
+    /// The arguments after the program's name, separated by spaces; `""` is the empty argument.
     pub words: &'a str,
     pub found: Vec<Found<'a>>,
     pub left: Vec<Left<'a>>,
-    /// The exit status, if the case gives it.
+    /// The expected exit status, if the case states it.
     pub status: Option<u8>,
-    /// All steps of the program in order, if the case gives them: its work on files, sockets and
-    /// standard streams.
+    /// The expected operations on files, sockets and standard streams, in order, if the case lists
+    /// them.
     pub steps: Option<&'a str>,
-    /// The indices of the messages before which the next connection begins.
+    /// The indices of the messages with which a new connection begins.
     pub breaks: Vec<usize>,
-    /// The step that fails each time, if one does.
+    /// An operation of the program that fails each time, if any.
     pub failing: Option<&'a str>,
 }
 
 impl<'a> Launch<'a> {
-    /// Returns a run with these arguments, in an empty folder.
+    /// Returns a launch with these arguments, in an empty folder.
     pub(crate) fn new(alloc: Global, words: &'a str) -> Launch<'a> {
         Launch {
             words,
@@ -67,8 +66,8 @@ impl<'a> Launch<'a> {
         }
     }
 
-    /// Takes a line if it is about the run, after `said` messages of the case. Returns whether it
-    /// was.
+    /// Reads a line, and returns whether the line is about the launch. The case has `said` messages
+    /// before this line.
     pub(crate) fn take_word(
         &mut self,
         word: &str,
@@ -85,7 +84,7 @@ impl<'a> Launch<'a> {
         Ok(true)
     }
 
-    // Takes a line that names an item of the folder.
+    // Reads a line that names an item of the folder.
     fn take_name(&mut self, word: &str, rest: &'a str) -> Result<bool, Trouble> {
         let (name, rest) = first_of(rest);
         match word {
@@ -101,7 +100,7 @@ impl<'a> Launch<'a> {
         Ok(true)
     }
 
-    // Takes a line about an expected item.
+    // Reads a line about an item expected after the launch.
     fn take_left(&mut self, word: &str, name: &'a str, rest: &'a str) -> Result<bool, Trouble> {
         match word {
             "left" => self.left.push(Left::File { name, text: rest })?,
@@ -125,7 +124,7 @@ fn status_of(text: &str) -> Result<u8, Trouble> {
     }
 }
 
-// Returns the permissions of octal digits.
+// Parses permissions from octal digits.
 fn mode_of(text: &str) -> Result<u32, Trouble> {
     match u32::from_str_radix(text, 8) {
         Ok(mode) => Ok(mode),

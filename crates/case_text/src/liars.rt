@@ -1,37 +1,37 @@
-//! Packers and indexers that fail, and that break their contracts.
+//! Packers and indexers that fail, or that break their contracts.
 
 use ggraph::{Entry, IndexFault, Indexer, Kind, Node, PackFault, Packer, Parents, PlainPack};
 use gname::{Format, MAX_ID_TEXT, Oid};
 use std::alloc::Allocator;
 
-/// The behavior of a packer or an indexer.
+/// The behavior of a packer or an indexer for tests.
 #[derive(Clone, Copy, PartialEq, Eq)]
 pub enum Liar {
     /// A packer that writes an empty pack.
     PacksNothing,
-    /// A packer that leaves out the last entry.
+    /// A packer that omits the last entry.
     PacksShort,
-    /// Packers that fail.
+    /// A packer that fails with `Other`; the next two fail with `TooLarge` and `Memory`.
     PackFails,
     PackTooLarge,
     PackMemory,
-    /// An indexer that leaves out the first entry.
+    /// An indexer that omits the first entry.
     DropsFirst,
-    /// Indexers that return one entry: the commit of all `a` with a parent, a commit of 65 parents,
-    /// and a tag of two.
+    /// Indexers that return one entry: a commit with the id of all `a` and one parent, a commit
+    /// with 65 parents, and a tag with two.
     OtherParent,
     ManyParents,
     TwoParentTag,
-    /// Indexers that fail: at the start, at a piece, and at the end.
+    /// Indexers that fail at the start, at a piece of the pack, and at the end.
     IndexFails,
     FeedFails,
     FinishFails,
-    /// An indexer that keeps its contract.
+    /// An indexer that fulfills its contract.
     Watches,
 }
 
 impl Liar {
-    /// Returns the packer of this name.
+    /// Returns the packer with this name in test files.
     pub fn packer(name: &str) -> Option<Liar> {
         match name {
             "empty" => Some(Liar::PacksNothing),
@@ -43,7 +43,7 @@ impl Liar {
         }
     }
 
-    /// Returns the indexer of this name.
+    /// Returns the indexer with this name in test files.
     pub fn indexer(name: &str) -> Option<Liar> {
         match name {
             "drops-first" => Some(Liar::DropsFirst),
@@ -58,7 +58,7 @@ impl Liar {
         }
     }
 
-    /// Whether it is a packer.
+    /// Returns whether this behavior belongs to a packer.
     pub fn is_packer(self) -> bool {
         matches!(
             &self,
@@ -70,12 +70,12 @@ impl Liar {
         )
     }
 
-    /// Whether it is an indexer that breaks its contract.
+    /// Returns whether this behavior belongs to an indexer other than `Watches`.
     pub(crate) fn is_indexer(self) -> bool {
         !self.is_packer() && self != Liar::Watches
     }
 
-    /// Returns the pack that the packer writes for these entries.
+    /// Returns the pack that this packer writes for the entries.
     pub fn pack<A: Allocator + Copy>(
         self,
         alloc: A,
@@ -93,7 +93,7 @@ impl Liar {
         }
     }
 
-    /// Starts a pack, or refuses it.
+    /// Starts the indexing of a pack, or fails.
     pub fn start<A: Allocator + Copy>(self, alloc: A) -> Result<Pieces<A>, IndexFault> {
         match self {
             Liar::IndexFails => Err(IndexFault::Other),
@@ -101,7 +101,7 @@ impl Liar {
         }
     }
 
-    /// Takes a piece of a pack, or refuses it.
+    /// Appends a piece of the pack, or fails.
     pub fn feed<A: Allocator + Copy>(
         self,
         pieces: &mut Pieces<A>,
@@ -113,7 +113,7 @@ impl Liar {
         }
     }
 
-    /// Returns the entries that the indexer finds in a pack, with ids of this format.
+    /// Returns the entries that this indexer reports for a pack with ids of this format.
     pub fn index<A: Allocator + Copy>(
         self,
         format: Format,
@@ -127,7 +127,7 @@ impl Liar {
     }
 }
 
-/// The bytes that an indexer was fed.
+/// The pieces of a pack that an indexer has received.
 #[derive(Drop)]
 pub struct Pieces<A: Allocator + Copy> {
     alloc: A,
@@ -135,7 +135,7 @@ pub struct Pieces<A: Allocator + Copy> {
 }
 
 impl<A: Allocator + Copy> Pieces<A> {
-    /// Returns no bytes.
+    /// Returns an empty buffer for a pack.
     pub fn new(alloc: A) -> Pieces<A> {
         Pieces {
             alloc,
@@ -143,18 +143,18 @@ impl<A: Allocator + Copy> Pieces<A> {
         }
     }
 
-    /// Appends a piece.
+    /// Appends a piece of the pack.
     pub fn add(&mut self, piece: &[u8]) -> Result<(), IndexFault> {
         Ok(self.bytes.extend_from_slice(piece)?)
     }
 
-    /// Returns the pack.
+    /// Returns the received bytes of the pack.
     pub fn bytes(&self) -> &[u8] {
         self.bytes.as_slice()
     }
 }
 
-// Returns the one entry of the indexer, whatever it was fed.
+// Returns the one entry that the indexer reports for every pack.
 fn made_up<A: Allocator + Copy>(
     liar: Liar,
     format: Format,
@@ -181,7 +181,7 @@ fn entry_of<A: Allocator + Copy>(
     }
 }
 
-// Returns the entries of a pack except the first.
+// Returns the entries of a pack without the first.
 fn without_first<A: Allocator + Copy>(
     alloc: A,
     pack: &[u8],
@@ -194,7 +194,7 @@ fn without_first<A: Allocator + Copy>(
     Ok(list)
 }
 
-// Returns the id of this digit alone.
+// Returns the id whose hexadecimal digits are all `digit`.
 fn id(format: Format, digit: u8) -> Result<Oid, IndexFault> {
     let digits = [digit; MAX_ID_TEXT];
     let Some(digits) = digits.get(..format.id_text_length()) else {

@@ -1,24 +1,24 @@
-//! The contents of files of cases: rows with their messages, facts, texts, and the programs,
-//! packers and indexers that they name.
+//! The parser of test files: rows with their messages, facts, texts, and the programs, packers and
+//! indexers that rows name.
 //!
-//! A [`Script`] reads files, one after the other, for ids of one format. Its [`Case`]s are the
-//! rows, its [`Fact`]s the facts. An [`Invocation`] is the command line of a row. A [`Talk`] has
-//! the input and the expected output of its program. A [`Launch`] is how a row runs the program
-//! itself. A [`TableLine`] is a line of a row's table. A [`Liar`] is a packer or an indexer that
-//! fails, or that breaks its contract.
+//! A [`Script`] parses files in sequence, for ids of one format. A [`Case`] is a row of a file, and
+//! a [`Fact`] one expected result of a call. An [`Invocation`] is the command line of a row. A
+//! [`Talk`] holds the input and the expected output of a program. A [`Launch`] holds the arguments
+//! and files of a row that launches the program itself. A [`TableLine`] is a line of a row's table.
+//! A [`Liar`] is a packer or an indexer that fails, or that breaks its contract.
 //!
 //! # Proved
 //!
-//! It is safe and ends.
+//! Every call returns, with no index out of range, overflow or use after free.
 //!
 //! # What the contracts do not rule out
 //!
-//! Anything else: no clause gives the meaning of a line. All cases test that they are read as
-//! crates/conformance/FORMAT.md says.
+//! No contract states how a line is parsed. The cases test that the parser follows
+//! crates/conformance/FORMAT.md.
 //!
 //! # Stands on
 //!
-//! `gname` for ids and their formats, `ggrammar` for how replies end, `ggraph` for objects, packers
+//! `gname` defines ids and their formats, `ggrammar` the ends of replies, `ggraph` objects, packers
 //! and indexers.
 #![tactic(auto)]
 

@@ -1,16 +1,16 @@
-//! Long texts: a chain of commits as a repository or as a pack, each commit the parent of the one
-//! before it.
+//! Large generated texts: a chain of commits as a repository or as a pack.
 //!
-//! `long 2000` makes the repository `2000`. Its commits are numbered from 1 and follow their
-//! parents. Its one ref, `refs/heads/main`, is the first commit. In `2000-late` each commit
-//! precedes its parent. `pack-2000` is the pack of `2000`.
+//! `long 2000` makes the repository `2000`. Its commits are numbered from 1, and the parent of
+//! commit N is commit N + 1. Each commit follows its parent in the text. The one ref,
+//! `refs/heads/main`, points to commit 1. In `2000-late` each commit precedes its parent.
+//! `pack-2000` is the pack of `2000`.
 
 use crate::spell::{add_number, number_of};
 use crate::trouble::Trouble;
 use gname::Format;
 use std::alloc::Global;
 
-/// Returns the text of this name.
+/// Returns the generated text with this name.
 pub(crate) fn long_text(alloc: Global, name: &str, format: Format) -> Result<Vec<u8>, Trouble> {
     let count = number_of(name.as_bytes());
     let mut text = Vec::new(alloc);
@@ -58,7 +58,7 @@ fn add_repository(
     Ok(())
 }
 
-// Appends the commits, each after its parent.
+// Appends a chain of commits, each after its parent.
 fn add_chain(
     alloc: Global,
     count: usize,
@@ -71,7 +71,7 @@ fn add_chain(
     Ok(())
 }
 
-// Appends the commits, each before its parent.
+// Appends a chain of commits, each before its parent.
 fn add_late_chain(
     alloc: Global,
     count: usize,
@@ -84,7 +84,7 @@ fn add_late_chain(
     Ok(())
 }
 
-// Appends the commit of a number; the last has no parent.
+// Appends the commit with this number; the last commit, `count`, has no parent.
 fn add_commit(
     alloc: Global,
     number: usize,

@@ -1,4 +1,4 @@
-//! Packets, from the lines of a case.
+//! Packets from the lines of a test case.
 
 use crate::case::Who;
 use crate::trouble::Trouble;
@@ -7,7 +7,7 @@ use std::alloc::Global;
 /// The maximum number of side-band bytes in one packet.
 const MAX_ON_BAND: usize = 65_515;
 
-/// Returns the speaker and the message of a line that begins with this word.
+/// Returns the speaker and the bytes of a line that begins with this word.
 pub(crate) fn read_said(
     alloc: Global,
     word: &str,
@@ -34,14 +34,13 @@ pub(crate) fn read_said(
     Ok(Some((who, written)))
 }
 
-/// Returns a packet of side band 1 with as many of these bytes as it can hold, and the remaining
-/// bytes.
+/// Returns a packet of side band 1 with as many of the bytes as fit, and the bytes after them.
 pub(crate) fn full_packet(alloc: Global, bytes: &[u8]) -> Result<(Vec<u8>, &[u8]), Trouble> {
     let (part, rest) = bytes.split_at(bytes.len().min(MAX_ON_BAND));
     Ok((packet(alloc, b"\x01", part, b"")?, rest))
 }
 
-/// Returns a mark, or the packet of a text and a line feed.
+/// Returns a flush, delimiter or response-end packet, or a pkt-line of the text and a line feed.
 pub fn text_line(alloc: Global, text: &[u8]) -> Result<Vec<u8>, Trouble> {
     match text {
         b"0000" | b"0001" | b"0002" => join_lines(alloc, text, b""),
@@ -49,7 +48,7 @@ pub fn text_line(alloc: Global, text: &[u8]) -> Result<Vec<u8>, Trouble> {
     }
 }
 
-/// Returns the packet of three parts. One that is too long has a length field of all `f`.
+/// Returns a pkt-line with three parts. The length field of an oversized packet is `ffff`.
 pub fn packet(alloc: Global, first: &[u8], text: &[u8], last: &[u8]) -> Result<Vec<u8>, Trouble> {
     let len = first
         .len()

@@ -1,20 +1,19 @@
-//! An allocator that refuses one allocation, or none, and passes each other call to the inner
-//! allocator.
+//! An allocator that fails one chosen allocation and passes every other call to an inner allocator.
 //!
-//! It is proved that it is an allocator: each of its blocks belongs to the inner allocator, and is
-//! returned to it. It is only tested which allocation it refuses.
+//! The type is proved to be an allocator: each block is allocated and freed by the inner allocator.
+//! Only tests check which allocation fails.
 
 use std::alloc::{AllocError, Allocator};
 use std::cell::Cell;
 
-/// An allocator that counts allocations down, and refuses the one at which the count ends.
+/// An allocator that counts allocations down, and fails the one at which the count ends.
 pub struct Scarce<A: Allocator> {
     inner: A,
     countdown: Cell<u64>,
 }
 
 impl<A: Allocator> Scarce<A> {
-    /// Returns an allocator over this one. It refuses nothing yet.
+    /// Wraps an allocator; no allocation fails until `refuse` is called.
     pub fn new(inner: A) -> Scarce<A> {
         Scarce {
             inner,
@@ -22,13 +21,13 @@ impl<A: Allocator> Scarce<A> {
         }
     }
 
-    /// Refuses one allocation: the next for 1, the second for 2, and so on. It fails with
-    /// [`AllocError`], and the inner allocator is not asked. For 0 it refuses none.
+    /// Makes one later allocation fail: the next for 1, the second for 2, none for 0. The failing
+    /// call returns [`AllocError`] without a call to the inner allocator.
     pub fn refuse(&self, number: u64) {
         self.countdown.set(number);
     }
 
-    /// Whether the allocation to refuse is still in the future.
+    /// Returns whether the allocation to refuse was not yet reached.
     pub fn is_due(&self) -> bool {
         self.countdown.get() != 0
     }

@@ -1,6 +1,6 @@
-//! Reading a file of cases.
+//! The parser of test files.
 //!
-//! `crates/conformance/FORMAT.md` has the format of rows, facts, texts and talks.
+//! `crates/conformance/FORMAT.md` describes the format of rows, facts, texts and talks.
 
 use crate::case::{Case, Fact, Said};
 use crate::command::first_of;
@@ -13,35 +13,35 @@ use crate::trouble::Trouble;
 use gname::Format;
 use std::alloc::Global;
 
-/// The contents of a file, and of those before it, for ids of one format.
+/// The contents of the test files parsed so far, for ids of one format.
 #[derive(Drop)]
 pub struct Script<'a> {
     pub format: Format,
     pub cases: Vec<Case<'a>>,
     pub facts: Vec<Fact<'a>>,
-    /// The file and the line that were read last.
+    /// The file and the number of the line parsed last.
     pub source: &'a str,
     pub line: usize,
     texts: Vec<Text<'a>>,
     talks: Vec<Shared<'a>>,
     open: Open,
     times: usize,
-    // The text of the graph for facts.
+    // The name of the text block that holds the graph of the next facts.
     graph: &'a str,
-    // Whether cases are tried with ids of both formats.
+    // Whether the next cases run with ids of both formats.
     is_both: bool,
-    // Whether the lines belong to a case that is only for the other format.
+    // Whether the next lines belong to a case that runs only with SHA-1 ids.
     is_skipped: bool,
 }
 
-// Lines that several cases use.
+// Lines that several cases use by name.
 #[derive(Drop)]
 struct Shared<'a> {
     name: &'a str,
     lines: Vec<&'a str>,
 }
 
-// The part that an empty line ends.
+// The text or talk that continues until an empty line.
 #[derive(Clone, Copy)]
 enum Open {
     Nothing,
@@ -50,7 +50,7 @@ enum Open {
 }
 
 impl<'a> Script<'a> {
-    /// Returns a script for ids of this format, which has read nothing yet.
+    /// Returns a script for ids of this format, without any file.
     pub fn new(alloc: Global, format: Format) -> Script<'a> {
         Script {
             format,
@@ -68,7 +68,7 @@ impl<'a> Script<'a> {
         }
     }
 
-    /// Reads the file of this name.
+    /// Parses the text of the file with this name.
     pub fn read(&mut self, alloc: Global, source: &'a str, text: &'a str) -> Result<(), Trouble> {
         self.source = source;
         self.line = 0;
@@ -81,7 +81,7 @@ impl<'a> Script<'a> {
         self.end_case()
     }
 
-    /// Returns the text of this name. The empty name has the empty text.
+    /// Returns the text with this name, or an empty text for an empty name.
     pub fn text(&self, name: &str) -> Result<&[u8], Trouble> {
         if name.is_empty() {
             return Ok(b"");
@@ -105,7 +105,7 @@ impl<'a> Script<'a> {
         }
     }
 
-    // Takes a line that begins a part, or a line about the case.
+    // Parses the first line of a text, talk or row, or a line of another kind.
     fn begin(&mut self, alloc: Global, line: &'a str) -> Result<(), Trouble> {
         let (word, rest) = first_of(line);
         match word {
@@ -120,7 +120,7 @@ impl<'a> Script<'a> {
         }
     }
 
-    // Takes a line of a fact, or of a case.
+    // Parses a line of a fact or of a case.
     fn begin_other(&mut self, alloc: Global, word: &'a str, rest: &'a str) -> Result<(), Trouble> {
         match FactKind::of(word) {
             Some(kind) => self.add_fact(alloc, kind, word, rest),
@@ -140,7 +140,7 @@ impl<'a> Script<'a> {
         Ok(())
     }
 
-    // Whether the next lines are not for the ids of this script.
+    // Returns whether the next rows are only for ids of the other format.
     fn is_for_others(&self) -> bool {
         self.format == Format::Sha256 && !self.is_both
     }
@@ -222,14 +222,14 @@ impl<'a> Script<'a> {
         Ok(())
     }
 
-    // Returns how often the next line counts; the one after it counts once.
+    // Returns how often the next line is repeated, and resets the count to 1.
     fn take_times(&mut self) -> usize {
         let times = self.times;
         self.times = 1;
         times
     }
 
-    // Checks that each case names a program.
+    // Fails with `NoRun` if the last case names no program.
     fn end_case(&self) -> Result<(), Trouble> {
         match self.cases.last() {
             Some(case) if case.runs.is_empty() && case.launch.is_none() => Err(Trouble::NoRun),
@@ -278,7 +278,7 @@ impl<'a> Script<'a> {
         Ok(())
     }
 
-    // Returns the text of a fact. The first line of a repository is that of the format.
+    // Returns the text of a fact. The first line of a repository is adapted to the format.
     fn fact_text(&self, alloc: Global, line: &str) -> Result<Vec<u8>, Trouble> {
         let form = self.form(1);
         let mut text = Vec::new(alloc);
@@ -317,7 +317,7 @@ impl<'a> Script<'a> {
         }
     }
 
-    // Adds a message, as often as it counts.
+    // Appends a message as often as its line is repeated.
     fn say_times(&mut self, alloc: Global, word: &'a str, rest: &'a str) -> Result<(), Trouble> {
         let times = self.take_times();
         let Some(case) = self.cases.last_mut() else {
@@ -353,7 +353,7 @@ impl<'a> Script<'a> {
         Ok(())
     }
 
-    // Adds a line of the table of results for a cut or changed request.
+    // Adds a line to the table of results for a truncated or changed request.
     fn add_outcome(&mut self, alloc: Global, is_cut: bool, line: &'a str) -> Result<(), Trouble> {
         let Some((places, due)) = line.split_once(" = ") else {
             return Err(Trouble::UnknownLine);
@@ -382,7 +382,7 @@ impl<'a> Script<'a> {
         }
     }
 
-    // Returns the bytes of a talk.
+    // Returns the bytes of all messages in the talk with this name.
     fn talk_bytes(&self, alloc: Global, name: &str) -> Result<Vec<u8>, Trouble> {
         let Some(lines) = lines_named(self.talks.as_slice(), name) else {
             return Err(Trouble::NoName);
@@ -408,7 +408,7 @@ fn all_bytes(alloc: Global, said: &[Said]) -> Result<Vec<u8>, Trouble> {
     Ok(bytes)
 }
 
-// Returns the lines of the talk of this name.
+// Returns the lines of the talk with this name.
 fn lines_named<'b, 'a>(talks: &'b [Shared<'a>], name: &str) -> Option<&'b [&'a str]> {
     for talk in talks {
         if talk.name == name {

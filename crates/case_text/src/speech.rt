@@ -1,4 +1,4 @@
-//! The messages of the lines of a case.
+//! Messages from the lines of a test case.
 
 use crate::case::{Said, Who};
 use crate::command::first_of;
@@ -8,17 +8,17 @@ use crate::trouble::Trouble;
 use gname::Format;
 use std::alloc::Global;
 
-/// The spelling of a message.
+/// The parameters for parsing a message.
 #[derive(Clone, Copy)]
 pub(crate) struct Speech<'b, 'a> {
     pub(crate) texts: &'b [Text<'a>],
     pub(crate) format: Format,
-    /// How often the line has counted, including this time.
+    /// The number of this repetition of the line, from 1.
     pub(crate) time: usize,
 }
 
 impl Speech<'_, '_> {
-    /// Adds the messages of a line.
+    /// Appends the messages of a line.
     pub(crate) fn say(
         &self,
         alloc: Global,
@@ -29,7 +29,7 @@ impl Speech<'_, '_> {
         self.say_by(alloc, word, rest, said)
     }
 
-    /// Adds the messages of a line with this word.
+    /// Appends the messages of a line that begins with this word.
     pub(crate) fn say_by(
         &self,
         alloc: Global,
@@ -57,7 +57,7 @@ impl Speech<'_, '_> {
     }
 }
 
-// Adds packets of side band 1 with these bytes.
+// Appends packets of side band 1 that carry the bytes, each as full as possible.
 fn say_all(alloc: Global, bytes: &[u8], said: &mut Vec<Said>) -> Result<(), Trouble> {
     let mut rest = bytes;
     for _ in 0..bytes.len() {
@@ -74,8 +74,8 @@ fn say_all(alloc: Global, bytes: &[u8], said: &mut Vec<Said>) -> Result<(), Trou
     Ok(())
 }
 
-// Adds the line of a request that names the format of its ids, in the spelling of the line before
-// it.
+// Appends the `object-format` line of a SHA-256 request, with a line feed for `C:` and without one
+// for `C.`.
 fn say_format(alloc: Global, word: &str, said: &mut Vec<Said>) -> Result<(), Trouble> {
     let bytes = match word {
         "C:" => text_line(alloc, b"object-format=sha256")?,
@@ -89,8 +89,7 @@ fn say_format(alloc: Global, word: &str, said: &mut Vec<Said>) -> Result<(), Tro
     Ok(())
 }
 
-/// Returns the line for ids of this format: the first line of a repository, or one that names the
-/// format, may change.
+/// Adapts a line to this format: the first line of a repository, or an advertised format.
 pub(crate) fn in_format<'a>(format: Format, line: &'a str) -> &'a str {
     match (format, line) {
         (Format::Sha256, "gitv2 1") => "gitv2 2 sha256",

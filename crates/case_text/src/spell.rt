@@ -1,23 +1,23 @@
-//! The spelling of bytes in a file of cases.
+//! Escapes in the lines of a test file.
 //!
 //! `\n` is a line feed, `\0` the byte 0, `\x1f` the byte 31. A backslash before any other character
-//! is that character. `{a}` is the id of forty `a`, or of sixty-four for SHA-256. `{a+1}` has one
-//! digit more than an id, `{a-4}` four less. `{a*64}` is sixty-four of them, `{ab*3}` is `ababab`.
-//! `{NAME}`, of at least two characters, is the text of that name. In a line that counts several
-//! times, `{#4}` is the number of the time, from 1, with four digits. `{#4+16}` is sixteen more,
-//! and `{#4*2+16}` sixteen more than twice it. `{#}` and `{#+16}` are these numbers with as many
-//! digits as an id, and `{#=17}` is the number 17 in this form. `{@2}` is the index of a packet: 2,
-//! or 3 for SHA-256, since a line that names the format then precedes it.
+//! stands for that character. `{a}` is an id of forty `a`, or of sixty-four for SHA-256. `{a+1}` is
+//! one digit longer than an id, `{a-4}` four digits shorter. `{a*64}` is sixty-four `a`, `{ab*3}`
+//! is `ababab`. `{NAME}` is the text with this name of at least two characters. In a repeated line,
+//! `{#4}` is the number of the repetition, from 1, with four digits. `{#4+16}` adds sixteen to this
+//! number, and `{#4*2+16}` adds sixteen to twice this number. `{#}` and `{#+16}` are the same
+//! numbers with as many digits as an id, and `{#=17}` is the number 17 in this form. `{@2}` is the
+//! index of a packet: 2, or 3 for SHA-256, whose requests have an extra `object-format` line.
 
 use crate::trouble::Trouble;
 use gname::{Format, MAX_ID_TEXT, Oid};
 use std::alloc::Global;
 
-/// The parameters of a line's spelling.
+/// The parameters of the escapes in a line.
 #[derive(Clone, Copy)]
 pub(crate) struct Form {
     pub(crate) format: Format,
-    /// How often the line has counted, including this time.
+    /// The number of this repetition of the line, from 1.
     pub(crate) time: usize,
 }
 
@@ -28,7 +28,7 @@ pub(crate) struct Text<'a> {
     pub(crate) bytes: Vec<u8>,
 }
 
-/// Returns the text of this name.
+/// Returns the text with this name.
 pub(crate) fn text_named<'b>(texts: &'b [Text<'_>], name: &[u8]) -> Option<&'b [u8]> {
     for text in texts {
         if text.name == name {
@@ -38,7 +38,7 @@ pub(crate) fn text_named<'b>(texts: &'b [Text<'_>], name: &[u8]) -> Option<&'b [
     None
 }
 
-/// Returns the bytes that a line spells.
+/// Returns the bytes of a line after all escapes are replaced.
 pub(crate) fn spell_line(
     alloc: Global,
     texts: &[Text<'_>],
@@ -56,7 +56,7 @@ pub(crate) fn spell_line(
     Ok(bytes)
 }
 
-// Appends the bytes of the first character, escape or brace, and returns the text after it.
+// Appends the bytes of the first character, escape or brace, and returns the remaining text.
 fn add_next<'a>(
     alloc: Global,
     texts: &[Text<'_>],
@@ -109,7 +109,7 @@ pub(crate) fn digit(letter: u8) -> u8 {
     }
 }
 
-// Appends the bytes of the text in braces.
+// Appends the bytes that the text in braces stands for.
 fn add_braced(
     alloc: Global,
     texts: &[Text<'_>],
@@ -130,7 +130,7 @@ fn add_braced(
     }
 }
 
-// Appends an id, one that is too long or too short, or the text of a name.
+// Appends an id, an id of a wrong length, or the text with this name.
 fn add_named(
     texts: &[Text<'_>],
     inside: &[u8],
@@ -150,7 +150,7 @@ fn add_named(
     }
 }
 
-// Returns how many lines of a request name the format of its ids.
+// Returns the number of `object-format` lines in a request with ids of this format.
 fn format_lines(format: Format) -> usize {
     match format {
         Format::Sha1 => 0,
@@ -165,8 +165,8 @@ fn add_text(texts: &[Text<'_>], name: &[u8], bytes: &mut Vec<u8>) -> Result<(), 
     }
 }
 
-// Appends the number of the time plus an offset, or a given number, with the given count of digits
-// or with as many as an id.
+// Appends the number of the repetition, scaled and shifted, or a fixed number. The width is the
+// given count of digits, or that of an id.
 fn add_counted(
     alloc: Global,
     inside: &[u8],
@@ -194,7 +194,7 @@ fn add_counted(
     add_number(alloc, width, number, bytes)
 }
 
-/// Appends a number with `width` digits.
+/// Appends a number in decimal, padded with zeros to `width` digits.
 pub fn add_number(
     alloc: Global,
     width: usize,
@@ -207,7 +207,7 @@ pub fn add_number(
     Ok(())
 }
 
-// Returns the text before the first such byte, and after it.
+// Splits the text at the first such byte.
 fn split_at_byte(text: &[u8], byte: u8) -> Option<(&[u8], &[u8])> {
     let mut parts = text.splitn(2, |other| *other == byte);
     let before = parts.next()?;
@@ -222,7 +222,7 @@ fn add_times(part: &[u8], times: usize, bytes: &mut Vec<u8>) -> Result<(), Troub
     Ok(())
 }
 
-/// Returns the number of these decimal digits, ignoring other characters.
+/// Returns the number with these decimal digits, ignoring other characters.
 pub fn number_of(digits: &[u8]) -> usize {
     let mut number = 0usize;
     for letter in digits {
@@ -234,7 +234,7 @@ pub fn number_of(digits: &[u8]) -> usize {
     number
 }
 
-/// Returns the digits of an id.
+/// Returns the hexadecimal digits of an id.
 pub fn id_text(alloc: Global, id: &Oid) -> Result<String, Trouble> {
     let mut digits = [0; MAX_ID_TEXT];
     let count = id.to_hex(&mut digits);

@@ -1,5 +1,5 @@
-//! Tables of the expected results if a request is cut, or a byte of it is changed. A line of a row
-//! covers some positions:
+//! Tables of the expected results when a request is truncated, or when one of its bytes is changed.
+//! A line of a table covers a range of positions:
 //!
 //! | Line | Meaning |
 //! |---|---|
@@ -7,36 +7,37 @@
 //! | `change 18 2-9 a-f = OUTCOME` | the byte at an offset, once per outcome, is one of these |
 //! | `change 18 other = OUTCOME` | the same for all other bytes |
 //!
-//! An outcome is `nothing`; `as it stands`; `use NAME`, the messages of a talk; or `TEXT \| FAULT`.
-//! The last is the text of an error to the client and the line of the fault, in which `{}` is the
-//! bytes at these offsets in lower case.
+//! An outcome is `nothing`, `as it stands`, `use NAME` or `TEXT \| FAULT`. `use NAME` stands for
+//! the messages of a talk. In the last form, `TEXT` is the text of an error to the client, and
+//! `FAULT` the printed line of the fault. `{}` in both stands for the input bytes at the line's
+//! positions, in lower case.
 
 use crate::packets::packet;
 use crate::spell::{digit, number_of};
 use crate::trouble::Trouble;
 use std::alloc::Global;
 
-/// The change to the input.
+/// A change to the input of a case.
 #[derive(Clone, Copy, PartialEq, Eq)]
 pub enum Change {
-    /// It is cut after this many bytes.
+    /// The input is truncated to this many bytes.
     Cut(usize),
-    /// The byte at the offset is replaced by this one.
+    /// The byte at this offset is replaced by this value.
     Byte(usize, u8),
 }
 
-/// The ending of such a run.
+/// The kind of result expected for a changed input.
 #[derive(Clone, Copy, PartialEq, Eq)]
 pub enum Ending {
-    /// The same ending as without the change.
+    /// The same result as for the unchanged input.
     AsItStands,
-    /// With these bytes, and no fault.
+    /// These bytes as output, and no fault.
     Said,
-    /// With an error of this text, and the line of this fault.
+    /// An error packet with this text, and the printed line of this fault.
     Refused,
 }
 
-/// The expected output, after the output before the request.
+/// The expected output for a changed request, without the output before the request.
 #[derive(Drop)]
 pub struct Due<'a> {
     pub ending: Ending,
@@ -46,7 +47,7 @@ pub struct Due<'a> {
 }
 
 impl<'a> Due<'a> {
-    /// Returns the result of the unchanged row.
+    /// Expects the result of the unchanged row.
     pub(crate) fn as_it_stands(alloc: Global) -> Due<'a> {
         Due {
             ending: Ending::AsItStands,
@@ -56,7 +57,7 @@ impl<'a> Due<'a> {
         }
     }
 
-    /// Returns these bytes as the result.
+    /// Expects these bytes as output.
     pub(crate) fn due_bytes(bytes: Vec<u8>) -> Due<'a> {
         Due {
             ending: Ending::Said,
@@ -66,7 +67,7 @@ impl<'a> Due<'a> {
         }
     }
 
-    /// Returns an error as the result.
+    /// Expects an error to the client and a printed fault.
     pub(crate) fn due_fault(alloc: Global, text: &'a str, fault: &'a str) -> Due<'a> {
         Due {
             ending: Ending::Refused,
@@ -77,19 +78,19 @@ impl<'a> Due<'a> {
     }
 }
 
-/// A line of the table.
+/// A line of a table, for a range of positions.
 #[derive(Drop)]
 pub struct TableLine<'a> {
     is_cut: bool,
     first: usize,
     last: usize,
-    // The bytes, or `other`.
+    // The bytes that a change may have, or `other`.
     bytes: &'a str,
     pub due: Due<'a>,
 }
 
 impl<'a> TableLine<'a> {
-    /// Returns the line for these positions and bytes.
+    /// Parses the positions and bytes of a line.
     pub(crate) fn new(is_cut: bool, places: &'a str, due: Due<'a>) -> TableLine<'a> {
         let (places, bytes) = match places.split_once(' ') {
             Some((places, bytes)) => (places, bytes),
@@ -108,7 +109,7 @@ impl<'a> TableLine<'a> {
         }
     }
 
-    /// Whether the line covers this change.
+    /// Returns whether the line covers this change.
     pub fn is_of(&self, change: Change) -> bool {
         match change {
             Change::Cut(place) => self.is_cut && self.has_place(place),
@@ -122,7 +123,7 @@ impl<'a> TableLine<'a> {
         self.first <= place && place <= self.last
     }
 
-    /// Returns a text, filled in with the bytes of the input at the line's positions.
+    /// Returns the text, with `{}` replaced by the input bytes at the line's positions.
     pub fn fill_in(&self, alloc: Global, text: &str, input: &[u8]) -> Result<Vec<u8>, Trouble> {
         let mut bytes = Vec::new(alloc);
         let Some((before, after)) = text.split_once("{}") else {
@@ -140,8 +141,8 @@ impl<'a> TableLine<'a> {
     }
 }
 
-// Whether the byte is among these: `other`, or bytes and ranges of them, each a character or two
-// hexadecimal digits.
+// Returns whether `byte` is in the list: `other`, or bytes and ranges of bytes. Each byte is a
+// character or `x` with two hexadecimal digits.
 fn has_byte(bytes: &str, byte: u8) -> bool {
     for token in bytes.split(' ') {
         let (first, last) = match token.split_once('-') {
@@ -155,7 +156,7 @@ fn has_byte(bytes: &str, byte: u8) -> bool {
     false
 }
 
-// Returns the byte of a character, or of `x` and two hexadecimal digits.
+// Parses a single character, or `x` and two hexadecimal digits.
 fn byte_of(token: &str) -> u8 {
     match token.as_bytes() {
         [byte] => *byte,
@@ -164,12 +165,12 @@ fn byte_of(token: &str) -> u8 {
     }
 }
 
-/// Returns an error packet to the client.
+/// Returns an error packet for the client.
 pub fn error_packet(alloc: Global, text: &[u8]) -> Result<Vec<u8>, Trouble> {
     packet(alloc, b"ERR upload-pack: ", text, b"\n")
 }
 
-/// Whether this is an error packet.
+/// Returns whether the bytes are one error packet.
 pub fn is_error(written: &[u8]) -> bool {
     let Some(digits) = written.get(..4) else {
         return false;

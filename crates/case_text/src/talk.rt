@@ -10,7 +10,7 @@ const FLUSH: &[u8] = b"0000";
 
 const RESPONSE_END: &[u8] = b"0002";
 
-/// Whether a case has replies, and leaves their response-end packets to the talk.
+/// Returns whether the case has replies, none of which ends with an explicit response-end packet.
 pub fn has_open_replies(case: &Case<'_>, has_hello: bool) -> bool {
     let mut awaits_hello = has_hello;
     let mut has_asked = false;
@@ -29,32 +29,32 @@ pub fn has_open_replies(case: &Case<'_>, has_hello: bool) -> bool {
     has_reply
 }
 
-/// The beginning of a packet of the input.
+/// The position of a packet in the input.
 #[derive(Clone, Copy)]
 pub struct PacketStart {
     pub start: usize,
-    /// Its index in its message.
+    /// The index of the packet in its message.
     pub frame: usize,
-    /// How many bytes are written before its message is read.
+    /// The number of output bytes that precede the message.
     pub before: usize,
 }
 
-/// The input, the output, and the printed lines of a program.
+/// The input and the expected output of a program.
 #[derive(Drop)]
 pub struct Talk {
     pub input: Vec<u8>,
-    /// The packets of the input; the last entry is its end.
+    /// The packets of the input; the last entry marks the end of the input.
     pub places: Vec<PacketStart>,
     pub output: Vec<u8>,
-    /// The offsets at which the messages of the output end.
+    /// The offsets at which messages of the output end.
     pub ends: Vec<usize>,
     pub errors: Vec<u8>,
-    /// The report of a fetch.
+    /// The expected report of a fetch.
     pub report: Vec<u8>,
     frame: usize,
     before: usize,
     program: Program,
-    // How each reply ends, and whether the talk adds that end.
+    // How each reply ends, and whether the response-end packets are added here.
     reply_ends: Ends,
     adds_ends: bool,
     // Whether the client has sent a message, so that the server's next message is a reply.
@@ -64,7 +64,7 @@ pub struct Talk {
 }
 
 impl Talk {
-    /// Returns the messages to and from the program.
+    /// Returns the input and the expected output for one program of the case.
     pub fn of(
         alloc: Global,
         command: &Invocation<'_>,
@@ -93,7 +93,7 @@ impl Talk {
         Ok(talk)
     }
 
-    /// Returns the packet in which, or at whose beginning, an input of `len` bytes ends.
+    /// Returns the packet that contains offset `len` of the input, or that begins there.
     pub fn place_at(&self, len: usize) -> Option<PacketStart> {
         let mut found = None;
         for place in self.places.as_slice() {
@@ -104,8 +104,8 @@ impl Talk {
         found
     }
 
-    /// Returns the message of the input, or its end, that begins at offset `len`, or `None` within
-    /// a message.
+    /// Returns the packet at offset `len` if a message begins or the input ends there, otherwise
+    /// `None`.
     pub fn message_at(&self, len: usize) -> Option<PacketStart> {
         let place = self.place_at(len)?;
         if place.start == len && place.frame == 0 {
@@ -115,7 +115,7 @@ impl Talk {
         }
     }
 
-    /// Returns the offset at which the message ends that begins at offset `start` of the input.
+    /// Returns the end offset of the input message that begins at offset `start`.
     pub fn message_end(&self, start: usize) -> usize {
         for place in self.places.as_slice() {
             if place.start > start && place.frame == 0 {
@@ -125,13 +125,13 @@ impl Talk {
         self.input.len()
     }
 
-    /// Whether a message of the output ends at offset `len`.
+    /// Returns whether a message of the output ends at offset `len`.
     pub fn is_end(&self, len: usize) -> bool {
         len == 0 || len == self.output.len() || self.ends.as_slice().contains(&len)
     }
 
-    /// Whether the packets of the last message read begin at these offsets, counted from its
-    /// beginning. The last offset is the message's end.
+    /// Returns whether the packets of the last message read begin at these offsets in the message.
+    /// The last offset in `due` is the end of the message.
     pub fn has_places(&self, due: &[usize]) -> bool {
         let mut base = 0usize;
         let mut count = 0usize;
@@ -149,8 +149,8 @@ impl Talk {
         is_right && count == due.len()
     }
 
-    // Adds a response-end packet after the flush packet of a reply, if the case leaves that to the
-    // talk.
+    // Appends a message, and a response-end packet after the flush packet of a reply if `adds_ends`
+    // is set.
     fn add_said(&mut self, who: Who, bytes: &[u8]) -> Result<(), Trouble> {
         if who == Who::Client && self.awaits_hello {
             return self.add_hello(bytes);
@@ -163,7 +163,7 @@ impl Talk {
         Ok(())
     }
 
-    // Adds the first line of a connection as a message.
+    // Appends the first line of a connection as a separate message.
     fn add_hello(&mut self, bytes: &[u8]) -> Result<(), Trouble> {
         self.awaits_hello = false;
         self.add(Who::Client, bytes)?;
@@ -199,8 +199,7 @@ impl Talk {
         Ok(())
     }
 
-    // Begins a packet of the message before, such as a response-end packet, or of the current or
-    // next message.
+    // Records where a packet begins. A response-end packet belongs to the previous message.
     fn begin_packet(&mut self, is_of_last: bool) -> Result<(), Trouble> {
         if is_of_last {
             self.frame = match self.places.last() {
@@ -226,7 +225,7 @@ impl Talk {
         Ok(())
     }
 
-    // Returns the last packet of a message.
+    // Returns the packet that ends each message of this speaker.
     fn last_packet(&self, who: Who) -> &'static [u8] {
         let is_reply = who == Who::Server && self.has_asked;
         if is_reply && self.reply_ends == Ends::Response {
@@ -237,8 +236,7 @@ impl Talk {
     }
 }
 
-/// Returns the printed text of a fault, without the common beginning of each line, or `None` if no
-/// fault is printed.
+/// Returns the printed fault without `gitv2: fault ` before it, or `None` if no fault is printed.
 pub fn fault_text(errors: &[u8]) -> Option<&[u8]> {
     errors.strip_prefix(b"gitv2: fault ")?.strip_suffix(b"\n")
 }

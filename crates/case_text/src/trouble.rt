@@ -1,43 +1,43 @@
-//! Reasons why there is no verdict.
+//! Reasons why a test run has no verdict.
 
 use std::alloc::{AllocError, AllocFailed};
 use std::io;
 
-/// The reason the cases can't be tried.
+/// The reason why the cases can't run.
 #[derive(Clone, Copy)]
 pub enum Trouble {
-    /// Out of memory for the harness itself.
+    /// The harness itself is out of memory.
     Memory,
     /// A brace is not closed.
     OpenBrace,
-    /// No text or talk has this name.
+    /// No text or talk has the name in a line.
     NoName,
     /// A line of a row precedes the first row.
     NoRow,
     /// A row names no program.
     NoRun,
-    /// No line begins in this way.
+    /// A line has no known form.
     UnknownLine,
-    /// No program has this name.
+    /// No program has the name in a `run` line.
     UnknownProgram,
-    /// No packer or indexer has this name.
+    /// No packer or indexer has the name in a line.
     NoLiar,
-    /// A limit is not a number.
+    /// The limit of a pack is not a number.
     BadLimit,
     /// The text of a fact's graph is not a repository.
     NoGraph,
-    /// A text is not an id.
+    /// The text is not an id.
     NoId,
-    /// Two texts are not the server and the client of one world.
+    /// The two texts are not a server and a client of one simulated world.
     NoWorld,
-    /// A text is not a scenario.
+    /// The text is not a scenario.
     NoScenario,
     /// A socket or a file of the test itself failed.
     NoSocket,
 }
 
 impl Trouble {
-    /// Returns its printed text.
+    /// Returns the printed text of the reason.
     pub fn text(self) -> &'static str {
         match self {
             Trouble::Memory => "out of memory",

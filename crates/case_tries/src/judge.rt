@@ -1,4 +1,4 @@
-//! Judging the result of a run.
+//! Checks of the result of a run against the expected results of its row.
 
 use crate::play::Played;
 use case_runs::{Hindrance, Writer};
@@ -21,59 +21,59 @@ const PACK_FAILED: &[u8] = b"0021ERR upload-pack: pack failed\n";
 
 const WRITE_FAILED: &[u8] = b"gitv2: fault 27 Io\n";
 
-/// The numbers of the memory faults: before a connection is served, and in the making of a pack.
+/// The numbers of the memory faults: `NO_MEMORY_FAULT` before a connection is served, `PACK_FAULT`
+/// in the creation of a pack.
 const NO_MEMORY_FAULT: usize = 64;
 
 const PACK_FAULT: usize = 65;
 
-/// The numbers of the faults that may be reported if an allocation was refused.
+/// The numbers of the faults that a run may report after a refused allocation.
 const MEMORY_FAULTS: [usize; 7] = [18, 28, 53, 64, 65, 66, 91];
 
-/// A program's input, and its expected results.
+/// A program with its input and its expected results.
 #[derive(Drop)]
 pub struct Row<'b> {
     pub command: Invocation<'b>,
-    /// The text of the repository.
+    /// The text of the server's or client's repository.
     pub file: &'b [u8],
-    /// The expected text of the client's file, if it changes.
+    /// The expected new text of the client's file, if the file changes.
     pub new_file: Option<&'b [u8]>,
     pub talk: Talk,
-    /// The printed lines if an allocation is refused, one after the other; empty if the row does
-    /// not give them.
+    /// The fault lines expected when an allocation fails, in order; empty if the row lists none.
     pub memory: &'b [Vec<u8>],
-    /// The offsets of the packets of the last message read; empty if the row does not give them.
+    /// The packet offsets in the last message that the program reads; empty if the row lists none.
     pub packets: &'b [usize],
-    /// The expected results if the request is cut or changed; empty if the row does not give them.
+    /// The expected results of a truncated or changed request; empty if the row lists none.
     pub table: &'b [TableLine<'b>],
     pub reach: Reach,
-    /// Whether its connection is tried with a late peer, and over a socket with allocations
+    /// Whether the connection is also tested with a late peer, and over a socket with allocations
     /// refused.
     pub is_late: bool,
-    /// Whether it is only tried whole and in pieces.
+    /// Whether the row is tested only with the whole input and with the input in pieces.
     pub is_long: bool,
 }
 
-/// The range of the changes of bytes.
+/// The changes that are made to each byte of the input.
 #[derive(Clone, Copy, PartialEq, Eq)]
 pub enum Reach {
-    /// Each byte to each other value.
+    /// Each byte is changed to each other value.
     Deep,
-    /// Each byte in each bit.
+    /// Each bit of each byte is flipped.
     Bits,
-    /// Each byte in one of its bits, the next byte in the next.
+    /// One bit of each byte is flipped: the bit after that of the previous byte.
     OneBit,
 }
 
-/// The way in which the input stops.
+/// How the input stops early.
 #[derive(Clone, Copy, PartialEq, Eq)]
 pub enum Stop {
-    /// It ends.
+    /// The input ends.
     Ended,
     /// A read fails.
     Failed,
 }
 
-/// Whether the run had the results of the row, and flushed all of them.
+/// Returns whether the run had exactly the row's results, and flushed its output.
 pub fn is_as_due(row: &Row<'_>, played: &Played) -> bool {
     (played.status == 1) != row.talk.errors.is_empty()
         && has_written(&played.output, row.talk.output.as_slice(), NOTHING)
@@ -82,7 +82,8 @@ pub fn is_as_due(row: &Row<'_>, played: &Played) -> bool {
         && has_file(played, row.new_file)
 }
 
-// Whether just the row's report was written, by a program that has one.
+// Returns whether the run reported exactly the row's report, or nothing for programs without a
+// report.
 fn has_reported(row: &Row<'_>, played: &Played) -> bool {
     let due = if row.command.program.reports() {
         row.talk.report.as_slice()
@@ -92,7 +93,7 @@ fn has_reported(row: &Row<'_>, played: &Played) -> bool {
     has_written(&played.report, due, NOTHING)
 }
 
-/// Whether the run stopped as expected if the input stops after `len` bytes.
+/// Returns whether the run ended as expected for an input that stops after `len` bytes.
 pub fn is_stopped(
     alloc: Global,
     row: &Row<'_>,
@@ -119,7 +120,8 @@ pub fn is_stopped(
     Ok(is_refused(played, before, told, line.as_bytes()))
 }
 
-// Returns the fault if the input stops, between packets or within one, and the line to the client.
+// Returns the fault for an input that stops, and the error for the client. An input may stop
+// between packets or within a packet.
 fn fault_at(stop: Stop, is_between: bool) -> (&'static str, &'static [u8]) {
     match stop {
         Stop::Failed => ("24 Io", READ_FAILED),
@@ -128,7 +130,7 @@ fn fault_at(stop: Stop, is_between: bool) -> (&'static str, &'static [u8]) {
     }
 }
 
-// Whether the run ended without a fault.
+// Returns whether the run succeeded with exactly this output.
 fn is_done(played: &Played, written: &[u8]) -> bool {
     played.status == 0
         && has_written(&played.output, written, NOTHING)
@@ -136,7 +138,7 @@ fn is_done(played: &Played, written: &[u8]) -> bool {
         && played.file.is_none()
 }
 
-// Whether the run ended with a fault.
+// Returns whether the run failed with exactly this output, error and fault line.
 fn is_refused(played: &Played, written: &[u8], told: &[u8], printed: &[u8]) -> bool {
     played.status == 1
         && has_written(&played.output, written, told)
@@ -144,7 +146,7 @@ fn is_refused(played: &Played, written: &[u8], told: &[u8], printed: &[u8]) -> b
         && played.file.is_none()
 }
 
-// Returns the line of a fault at a packet.
+// Returns the printed line of a fault at a packet.
 fn fault_line(
     alloc: Global,
     program: Program,
@@ -159,7 +161,7 @@ fn fault_line(
     }
 }
 
-/// Whether the run stopped at a failed write.
+/// Returns whether the run stopped at a failed write.
 pub fn is_write_failed(row: &Row<'_>, played: &Played) -> bool {
     played.status == 1
         && row.talk.output.starts_with(played.output.written_bytes())
@@ -167,7 +169,8 @@ pub fn is_write_failed(row: &Row<'_>, played: &Played) -> bool {
         && played.file.is_none()
 }
 
-/// Whether all was done except the report, of which a beginning was written.
+/// Returns whether the run had all expected results, except that only a prefix of the report was
+/// written.
 pub(crate) fn is_report_failed(row: &Row<'_>, played: &Played) -> bool {
     played.status == 1
         && has_written(&played.output, row.talk.output.as_slice(), NOTHING)
@@ -176,7 +179,8 @@ pub(crate) fn is_report_failed(row: &Row<'_>, played: &Played) -> bool {
         && has_file(played, row.new_file)
 }
 
-/// Whether all was done, and a prefix of the fault's line was printed.
+/// Returns whether the run had all expected results, except that only a prefix of the fault line
+/// was printed.
 pub(crate) fn is_errors_failed(row: &Row<'_>, played: &Played) -> bool {
     played.status == 1
         && has_written(&played.output, row.talk.output.as_slice(), NOTHING)
@@ -185,9 +189,9 @@ pub(crate) fn is_errors_failed(row: &Row<'_>, played: &Played) -> bool {
         && has_file(played, row.new_file)
 }
 
-/// Whether the run went well, or ended as expected if an allocation is refused. It then reports
-/// this, after a prefix of the output up to the end of a message. A server that serves also reports
-/// it to the client.
+/// Returns whether the run succeeded, or ended as expected after a refused allocation. A run that
+/// stops reports the fault after complete messages of the expected output. A server also reports
+/// the fault to the client.
 pub fn is_scarce(row: &Row<'_>, played: &Played) -> bool {
     is_as_due(row, played)
         || is_unserved(row, played)
@@ -195,7 +199,7 @@ pub fn is_scarce(row: &Row<'_>, played: &Played) -> bool {
         || (is_out_of_memory(played) && has_stopped(row, played))
 }
 
-// Whether the events of a simulation had the outcomes of the row, up to one without memory.
+// Returns whether the outcomes of a simulation match the row up to a memory fault.
 fn has_event_without_memory(row: &Row<'_>, played: &Played) -> bool {
     if row.command.program != Program::Simulate || played.status != 0 {
         return false;
@@ -217,8 +221,7 @@ fn is_refusal_of_memory(line: &[u8]) -> bool {
     }
 }
 
-/// Whether the run was out of memory before anything was written: there was none for the repository
-/// itself.
+/// Returns whether memory ran out before the server wrote anything, while it loaded the repository.
 pub(crate) fn is_unserved(row: &Row<'_>, played: &Played) -> bool {
     row.command.program.serves()
         && is_out_of_memory(played)
@@ -226,7 +229,7 @@ pub(crate) fn is_unserved(row: &Row<'_>, played: &Played) -> bool {
         && fault_of(played.errors.written_bytes()) == NO_MEMORY_FAULT
 }
 
-// Whether just one memory fault is reported.
+// Returns whether the run printed and reported only one memory fault.
 fn is_out_of_memory(played: &Played) -> bool {
     let errors = played.errors.written_bytes();
     played.status == 1
@@ -237,8 +240,9 @@ fn is_out_of_memory(played: &Played) -> bool {
         && has_written(&played.report, NOTHING, NOTHING)
 }
 
-// Whether a prefix of the output was written, up to the end of a message, and then, by a server,
-// the line of the fault. If there is a new file, memory ran out only for the report.
+// Returns whether the run wrote complete messages of the expected output, and then, for a server,
+// the error for the client. With a new file, the output must be complete, because only the report
+// can then fail.
 fn has_stopped(row: &Row<'_>, played: &Played) -> bool {
     let told = if row.command.program.serves() {
         refusal_of(fault_of(played.errors.written_bytes()))
@@ -255,7 +259,7 @@ fn has_stopped(row: &Row<'_>, played: &Played) -> bool {
     is_kept && played.output.is_passed_on()
 }
 
-// Returns the line to the client for a memory fault.
+// Returns the error packet for the client after a memory fault.
 fn refusal_of(fault: usize) -> &'static [u8] {
     if fault == PACK_FAULT {
         PACK_FAILED
@@ -264,7 +268,7 @@ fn refusal_of(fault: usize) -> &'static [u8] {
     }
 }
 
-/// Whether the run had the result that the row's table gives for the changed input.
+/// Returns whether the run had the result that the row's table lists for the changed input.
 pub(crate) fn is_in_table(
     alloc: Global,
     row: &Row<'_>,
@@ -283,7 +287,7 @@ pub(crate) fn is_in_table(
     Ok(false)
 }
 
-// Returns the output before the request is read.
+// Returns the expected output before the request is read.
 fn written_before<'b>(row: &'b Row<'_>) -> Option<&'b [u8]> {
     let place = row.talk.place_at(0)?;
     row.talk.output.as_slice().get(..place.before)
@@ -317,12 +321,12 @@ fn is_outcome(
     }
 }
 
-/// Whether the fault of this number may be reported if an allocation was refused.
+/// Returns whether a run may report the fault with this number after a refused allocation.
 pub(crate) fn is_memory_fault(fault: usize) -> bool {
     MEMORY_FAULTS.contains(&fault)
 }
 
-/// Returns the number of the printed fault, or 0 if there is none.
+/// Returns the number of the printed fault, or 0 if no fault is printed.
 pub(crate) fn fault_of(errors: &[u8]) -> usize {
     let Some(text) = fault_text(errors) else {
         return 0;
@@ -333,16 +337,16 @@ pub(crate) fn fault_of(errors: &[u8]) -> usize {
     }
 }
 
-/// Whether the run of a changed input ended within bounds: with at most one line of a fault, and
-/// with the advertisement first if it is a server.
+/// Returns whether the run of a changed input printed a fault exactly if it failed. A server's
+/// output must begin with the advertisement.
 pub(crate) fn is_sound(row: &Row<'_>, played: &Played) -> bool {
     let is_told = (played.status == 1)
         == played.errors.written_bytes().starts_with(b"gitv2: fault ");
     is_told && advertises(row, played)
 }
 
-// Whether the output of a connection begins with the advertisement, if the row has one. A
-// connection with a first line may have just an error.
+// Returns whether the output of a server begins with the advertisement, if the row has one. A
+// connection with a first line may have an error packet instead.
 fn advertises(row: &Row<'_>, played: &Played) -> bool {
     match row.command.program {
         Program::Upload => has_advert(row, played),
@@ -362,9 +366,9 @@ fn has_advert(row: &Row<'_>, played: &Played) -> bool {
     }
 }
 
-/// Whether the client's repository is safe after the run, and no object is lost. It checks the new
-/// text of its file, and its state at the end. The state differs from the file only if there is no
-/// new text, and then only in new objects.
+/// Returns whether the client's repository still holds all its objects, and each ref is connected.
+/// The new text of the file, if any, must equal the final state in memory. Without a new text the
+/// state may have new objects, but no other refs.
 pub fn is_kept(alloc: Global, row: &Row<'_>, played: &Played) -> bool {
     match (&played.state, &played.file) {
         (Some(state), Some(text)) => {
@@ -378,20 +382,20 @@ pub fn is_kept(alloc: Global, row: &Row<'_>, played: &Played) -> bool {
     }
 }
 
-// Whether a text has the same refs as the row's.
+// Returns whether a repository's text has the same refs as the row's text.
 fn has_same_refs(row: &Row<'_>, text: &[u8]) -> bool {
     let (_, old_refs) = parts_of(row.file);
     let (_, refs) = parts_of(text);
     refs == old_refs
 }
 
-// Whether a text has all objects of the row's, and connected refs.
+// Returns whether a repository's text has connected refs and all objects of the row's text.
 fn is_grown(alloc: Global, row: &Row<'_>, text: &[u8]) -> bool {
     let (objects, _) = parts_of(row.file);
     text.starts_with(objects) && is_safe(alloc, text)
 }
 
-// Whether each ref is connected.
+// Returns whether each ref of a repository's text is connected.
 fn is_safe(alloc: Global, file: &[u8]) -> bool {
     let mut output = Writer::new(alloc, Hindrance::NONE);
     let mut errors = Writer::new(alloc, Hindrance::NONE);
@@ -403,7 +407,7 @@ fn check(alloc: Global, file: &[u8], output: &mut Writer, errors: &mut Writer) -
     cmd_check(alloc, file, output, errors)
 }
 
-// Returns the objects of a repository's text, and the text after them.
+// Splits a repository's text after its objects.
 fn parts_of(file: &[u8]) -> (&[u8], &[u8]) {
     let mut len = 0usize;
     for line in file.split_inclusive(|byte| *byte == b'\n') {
@@ -415,12 +419,12 @@ fn parts_of(file: &[u8]) -> (&[u8], &[u8]) {
     file.split_at(len.min(file.len()))
 }
 
-// Whether just these two were written, and flushed.
+// Returns whether the output is exactly `first` and then `last`, completely flushed.
 fn has_written(output: &Writer, first: &[u8], last: &[u8]) -> bool {
     output.is_passed_on() && output.written_bytes().strip_prefix(first) == Some(last)
 }
 
-// Whether just this was printed, and nothing reported.
+// Returns whether `errors` is all that was printed, and nothing was reported.
 fn has_printed(played: &Played, errors: &[u8]) -> bool {
     has_written(&played.report, NOTHING, NOTHING) && has_written(&played.errors, errors, NOTHING)
 }

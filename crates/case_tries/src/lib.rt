@@ -1,31 +1,32 @@
-//! How a row of a case is tried over devices in memory, and how the result of each try is judged.
+//! Tests of one row over devices in memory, and checks of their results.
 //!
-//! A [`Row`] is a program, its input, and its expected results. A [`Bench`] tries it in each
-//! [`Way`]:
+//! A [`Row`] is a program with its input and its expected results. A [`Bench`] tests the row in
+//! each [`Way`].
 //!
-//! - unchanged, in pieces, and over std's devices;
-//! - with an indexer that watches, and by its table;
-//! - with each call of each device failing in turn;
-//! - cut after each byte, and with each byte changed;
-//! - with each allocation refused in turn;
-//! - over a stored file that fails or stops at each of its calls.
+//! - The input is unchanged, whole or in pieces, also over the readers and writers of std.
+//! - The calls of the indexer are checked.
+//! - The request is changed as the row's table lists.
+//! - Each call of each device fails in turn.
+//! - The input is truncated after each byte, or one of its bytes is changed.
+//! - Each allocation is refused in turn.
+//! - A stored file fails or stops at each of its calls.
 //!
-//! A [`Played`] is the result of a run. The functions that judge one also judge runs on connections.
+//! A [`Played`] is the result of a run. Most of the checks also serve for runs over sockets.
 //!
 //! # Proved
 //!
-//! It is safe and ends.
+//! Every call returns, with no index out of range, overflow or use after free.
 //!
 //! # What the contracts do not rule out
 //!
-//! The contracts say nothing of the results. Wrong cases and wrong programs were tried, to see that
-//! wrong results are noticed.
+//! No contract states the results of this crate. Deliberately wrong cases and programs were run, to
+//! check that the tests reject them.
 //!
 //! # Stands on
 //!
-//! `case_text` for rows, for their messages, and for memory that ends; `case_runs` for runs over
-//! devices, `case_worlds` for events. `gsimulate` for the program of simulations, `gcmd` for the
-//! check of a repository, `glockfile` for stored files, `gpkt` for devices.
+//! `case_text` defines rows, their messages, and an allocator that fails. `case_runs` runs programs
+//! over devices, and `case_worlds` runs simulations. `gsimulate` is the program for simulations,
+//! and `gcmd` checks a repository. `glockfile` defines stored files, and `gpkt` devices.
 #![tactic(auto)]
 
 mod judge;

@@ -1,4 +1,4 @@
-//! A run over devices in memory, and its result.
+//! A run over devices in memory, and the result of the run.
 
 use case_runs::{AsStd, Devices, Hindrance, Job, Ran, Reader, Watch, Writer, ran_without_file};
 use case_text::{Invocation, Program, Scarce, Trouble};
@@ -7,7 +7,7 @@ use gpkt::{FromRead, Sink, Source, ToWrite};
 use gsimulate::{Simulation, cmd_simulate};
 use std::alloc::{Allocator, Global};
 
-/// The limits of a run: those of its devices, and the refused allocation, if there is one.
+/// The limits of the devices in a run, and the number of the allocation to refuse, if any.
 #[derive(Clone, Copy)]
 pub(crate) struct Trial {
     pub(crate) read: Hindrance,
@@ -15,7 +15,7 @@ pub(crate) struct Trial {
     pub(crate) report: Hindrance,
     pub(crate) errors: Hindrance,
     pub(crate) refused: u64,
-    /// Whether the devices are std's.
+    /// Whether the devices are wrapped in readers and writers of std.
     pub(crate) is_std: bool,
 }
 
@@ -29,7 +29,7 @@ impl Trial {
         is_std: false,
     };
 
-    /// Returns a trial with an input of `most` bytes a call, and an output of one.
+    /// Returns a trial that reads at most `most` bytes a call, and writes one byte a call.
     pub(crate) fn in_pieces(most: usize) -> Trial {
         let mut trial = Trial::FREE;
         trial.read = Hindrance::pieces(most);
@@ -37,7 +37,7 @@ impl Trial {
         trial
     }
 
-    /// Returns a trial with a device that fails at this call.
+    /// Returns a trial in which this call of the device fails.
     pub(crate) fn fail_call(device: Device, call: usize) -> Trial {
         let mut trial = Trial::FREE;
         let hindrance = Hindrance::fail_call(call);
@@ -50,7 +50,7 @@ impl Trial {
         trial
     }
 
-    /// Returns a trial with the allocation of this number refused.
+    /// Returns a trial that refuses the allocation with this number.
     pub(crate) fn refuse_at(number: usize) -> Trial {
         let mut trial = Trial::FREE;
         trial.refused = number as u64;
@@ -58,7 +58,7 @@ impl Trial {
     }
 }
 
-/// A device of a run.
+/// A device that may fail during a run.
 #[derive(Clone, Copy)]
 pub(crate) enum Device {
     Input,
@@ -71,25 +71,25 @@ pub(crate) enum Device {
 #[derive(Drop)]
 pub struct Played {
     pub(crate) status: u8,
-    /// The new text of the client's file.
+    /// The new text of the client's file, if the run changed the file.
     pub(crate) file: Option<Vec<u8>>,
-    /// The client's repository at the end, if it is known.
+    /// The text of the client's repository at the end, if it is known.
     pub(crate) state: Option<Vec<u8>>,
     pub(crate) output: Writer,
     pub(crate) report: Writer,
     pub(crate) errors: Writer,
-    /// The bytes that were not read.
+    /// The number of input bytes that were not read.
     pub(crate) left: usize,
     pub(crate) read_failed: bool,
-    /// Whether a device was called again after it had failed, or an indexer fed incorrectly.
+    /// Whether a device was called after its failure, or an indexer was called incorrectly.
     pub(crate) was_misused: bool,
-    /// Whether the allocation to refuse was reached.
+    /// Whether the run reached the allocation to refuse.
     pub(crate) was_refused: bool,
 }
 
 impl Played {
-    /// Returns the result of a run on a connection: its repository, and its output to the peer, to
-    /// the report and to standard error.
+    /// Returns the result of a run on a connection, with the writers for the peer, the report and
+    /// standard error.
     pub fn on_connection(ran: Ran, output: Writer, report: Writer, errors: Writer) -> Played {
         Played {
             status: ran.status,
@@ -105,7 +105,7 @@ impl Played {
         }
     }
 
-    /// Whether the allocation to refuse was reached.
+    /// Returns whether the run reached the allocation to refuse.
     pub fn was_refused(&self) -> bool {
         self.was_refused
     }
@@ -115,7 +115,7 @@ impl Played {
         self.errors.written_bytes()
     }
 
-    /// Whether the device failed.
+    /// Returns whether a call of the device failed.
     pub(crate) fn has_failed(&self, device: Device) -> bool {
         match device {
             Device::Input => self.read_failed,
@@ -126,7 +126,7 @@ impl Played {
     }
 }
 
-/// Runs a command over a repository's text and an input.
+/// Runs a command with the text of a repository and an input.
 pub(crate) fn play(
     alloc: Global,
     command: Invocation<'_>,
@@ -192,7 +192,7 @@ fn play_over_std<A: Allocator + Copy>(
     Ok(left_by(job, ran, devices))
 }
 
-// Returns the result of a run, from its devices.
+// Returns the result of a run and the final state of its devices.
 fn left_by<A: Allocator + Copy>(
     job: &Job<'_, '_, '_, A>,
     ran: Ran,
@@ -223,7 +223,7 @@ fn left_by<A: Allocator + Copy>(
     }
 }
 
-// Runs the command.
+// Runs the command of a job, which may be a simulation.
 fn run_command<A: Allocator + Copy, I: Source, O: Sink, R: Sink, E: Sink>(
     job: &Job<'_, '_, '_, A>,
     devices: &mut Devices<I, O, R, E>,

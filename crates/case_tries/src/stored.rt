@@ -1,4 +1,4 @@
-//! A fetch into a stored file that fails or stops at one of its calls, and the check of its result.
+//! A fetch into a stored file that fails or stops at a call, and checks of the result.
 
 use crate::judge::{Row, fault_of, is_memory_fault};
 use case_runs::{
@@ -9,10 +9,10 @@ use std::alloc::Global;
 
 const FILE_FAILED: &[u8] = b"gitv2: fault 95 File\n";
 
-/// The calls of a fetch before it sends anything to the server: it locks the file and reads it.
+/// The number of file calls before the fetch sends anything: one to lock and one to read the file.
 const OPENING_CALLS: usize = 2;
 
-/// The limits of a fetch into a stored file.
+/// The failures in a fetch into a stored file.
 #[derive(Clone, Copy)]
 pub(crate) struct Hindered {
     pub(crate) mishap: Mishap,
@@ -33,9 +33,9 @@ impl Hindered {
 pub(crate) struct Fetched {
     stored: Stored,
     output: Writer,
-    // The report, and the line of a fault.
+    // The printed report, or the printed line of a fault.
     errors: Writer,
-    // Whether nothing was read.
+    // Whether no byte of the input was read.
     is_unread: bool,
 }
 
@@ -44,12 +44,12 @@ impl Fetched {
         self.stored.file.calls()
     }
 
-    /// Whether the allocation to refuse was reached.
+    /// Returns whether the fetch reached the allocation to refuse.
     pub(crate) fn was_refused(&self) -> bool {
         self.stored.was_refused
     }
 
-    /// Whether standard error failed.
+    /// Returns whether a write to standard error failed.
     pub(crate) fn has_failed(&self) -> bool {
         self.errors.has_failed()
     }
@@ -58,24 +58,25 @@ impl Fetched {
         self.errors.written_bytes()
     }
 
-    // Whether nothing was sent to the server, and nothing read from it.
+    // Returns whether the fetch neither wrote to the server nor read from it.
     fn is_silent(&self) -> bool {
         self.is_unread && self.output.written_bytes().is_empty()
     }
 
-    // Whether just this was printed, with this status.
+    // Returns whether the fetch ended with this status and printed exactly these bytes.
     fn ends_with(&self, status: u8, printed: &[u8]) -> bool {
         self.stored.status == status && self.errors.written_bytes() == printed
     }
 }
 
-/// Whether a row is a fetch into a file, by its program.
+/// Returns whether the row's program is a fetch into a file over standard streams, with
+/// `PlainPack`.
 pub(crate) fn has_stored_file(row: &Row<'_>) -> bool {
     let command = row.command;
     command.program == Program::Fetch && !command.has_hello() && command.liar.is_none()
 }
 
-/// Fetches into a stored file that has the row's text.
+/// Fetches into a stored file that holds the row's repository.
 pub(crate) fn fetch_stored(
     alloc: Global,
     row: &Row<'_>,
@@ -115,8 +116,8 @@ pub(crate) fn fetch_stored(
     })
 }
 
-/// Whether a fetch without a mishap had the expected results: the new text, if there is one, and
-/// then the report.
+/// Returns whether a fetch without a failure had the expected results: the new text, if any, and
+/// the report.
 pub(crate) fn is_stored(row: &Row<'_>, fetched: &Fetched) -> bool {
     let talk = &row.talk;
     let status = !talk.errors.is_empty() as u8;
@@ -128,15 +129,15 @@ pub(crate) fn is_stored(row: &Row<'_>, fetched: &Fetched) -> bool {
         && !fetched.stored.file.is_locked()
 }
 
-/// Whether a fetch had the expected results if its file fails or stops at a call, of `calls`
-/// without a mishap.
+/// Returns whether a fetch had the expected results for a file that fails or stops at a call. A
+/// fetch without a failure makes `calls` calls.
 pub(crate) fn is_failed(row: &Row<'_>, fetched: &Fetched, mishap: Mishap, calls: usize) -> bool {
     let (call, stops) = match mishap {
         Mishap::Fails(call) => (call, false),
         Mishap::Stops(call) | Mishap::StopsAfter(call) => (call, true),
         Mishap::None | Mishap::Locked => (1, false),
     };
-    // The last call of a fetch that writes nothing removes the lockfile, and returns nothing.
+    // The last call of an unchanged file removes the lockfile. Its failure is not reported.
     let is_unlock = call == calls && !has_change(row);
     let is_ended = if is_unlock {
         is_ended_as_due(row, fetched)
@@ -151,15 +152,15 @@ pub(crate) fn is_failed(row: &Row<'_>, fetched: &Fetched, mishap: Mishap, calls:
         && (may_be_locked || !fetched.stored.file.is_locked())
 }
 
-// Whether a fetch that writes nothing ended as the row says.
+// Returns whether a fetch that does not change the file had the row's status, report and fault.
 fn is_ended_as_due(row: &Row<'_>, fetched: &Fetched) -> bool {
     let printed = fetched.errors.written_bytes();
     (fetched.stored.status == 1) != row.talk.errors.is_empty()
         && printed.strip_prefix(row.talk.report.as_slice()) == Some(row.talk.errors.as_slice())
 }
 
-/// Whether a fetch had the expected results if an allocation is refused, or standard error fails.
-/// The status says so, and a part of the report is printed only after the new text.
+/// Returns whether a fetch ended as expected after a refused allocation or a failure of standard
+/// error. The status is 1, and no part of the report precedes the new text of the file.
 pub(crate) fn is_cut_short(row: &Row<'_>, fetched: &Fetched) -> bool {
     let printed = fetched.errors.written_bytes();
     let is_memory = is_memory_fault(fault_of(printed));
@@ -177,7 +178,7 @@ pub(crate) fn is_cut_short(row: &Row<'_>, fetched: &Fetched) -> bool {
         && !fetched.stored.file.is_locked()
 }
 
-// Whether the file changes without a mishap.
+// Returns whether a fetch without a failure changes the file.
 fn has_change(row: &Row<'_>) -> bool {
     match row.new_file {
         Some(text) => text != row.file,
@@ -185,7 +186,7 @@ fn has_change(row: &Row<'_>) -> bool {
     }
 }
 
-// Whether the file has had the old text, or the old text and then the whole new one.
+// Returns whether the file held only the old text, or the old text and then the complete new text.
 fn is_whole(row: &Row<'_>, fetched: &Fetched) -> bool {
     match fetched.stored.file.states() {
         [old] => old.as_slice() == row.file,
@@ -196,8 +197,7 @@ fn is_whole(row: &Row<'_>, fetched: &Fetched) -> bool {
     }
 }
 
-// Whether the file has its expected text without a mishap, and was replaced only if that is another
-// text.
+// Returns whether the file has its expected text. An unchanged file must not be replaced.
 fn has_new_text(row: &Row<'_>, fetched: &Fetched) -> bool {
     let states = if has_change(row) { 2 } else { 1 };
     is_whole(row, fetched) && fetched.stored.file.states().len() == states

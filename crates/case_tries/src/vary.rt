@@ -1,4 +1,4 @@
-//! Trying a row in each way. Each way returns the first of its tries that went wrong.
+//! Tests of a row in each way. Each function returns the number of the first run that failed.
 
 use crate::judge::{
     Reach, Row, Stop, is_as_due, is_errors_failed, is_in_table, is_kept, is_report_failed,
@@ -14,18 +14,18 @@ use case_text::{Change, Liar, Program, Trouble, fault_text};
 use case_worlds::{Files, Happened, run_one_by_one, run_scarcely};
 use std::alloc::Global;
 
-/// More calls of a device, and more allocations, than any row has.
+/// An upper bound on the calls of a device and on the allocations in any row.
 const MOST_TRIES: usize = 1_000_000;
 
-/// The values of one bit.
+/// The eight bits of a byte.
 const BITS: [u8; 8] = [1, 2, 4, 8, 16, 32, 64, 128];
 
-// The result of a try.
+// The result of one run in a series.
 #[derive(Clone, Copy, PartialEq, Eq)]
 enum Tried {
-    // All was right, and there is more to try.
+    // The run was correct, and more runs follow.
     Right,
-    // All was right, and nothing is left to try.
+    // The run was correct, and is the last of its series.
     Last,
     Wrong,
 }
@@ -42,16 +42,16 @@ impl Tried {
     }
 }
 
-// The refusals so far, of one allocation after the other.
+// The state of a series of runs, each of which refuses the next allocation.
 #[derive(Clone, Copy)]
 struct Refusals {
-    // How many of the row's faults occurred.
+    // How many of the row's memory faults were printed so far.
     met: usize,
-    // Whether a server has reported a fault to the client.
+    // Whether a server has reported a fault to the client in an earlier run.
     has_served: bool,
 }
 
-/// A row to try, and how often it was tried.
+/// A row to test, and the number of runs so far.
 #[derive(Drop)]
 pub struct Bench<'a, 'b> {
     alloc: Global,
@@ -60,7 +60,7 @@ pub struct Bench<'a, 'b> {
     is_std: bool,
     liar: Option<Liar>,
     pub runs: u64,
-    /// The printed bytes of the run that went wrong.
+    /// The printed bytes of the run that failed.
     pub printed: Vec<u8>,
 }
 
@@ -76,8 +76,8 @@ impl<'a, 'b> Bench<'a, 'b> {
         }
     }
 
-    /// Tries the row in this way, and returns the first try that went wrong. The ways over a
-    /// socket, by the program, and with a late peer try nothing here.
+    /// Tests the row in this way, and returns the number of the first run that failed. The ways
+    /// over a socket, by the program and with a late peer are not tested here.
     pub fn try_way(&mut self, way: Way) -> Result<Option<usize>, Trouble> {
         match way {
             Way::Whole => self.whole(),
@@ -112,8 +112,8 @@ impl<'a, 'b> Bench<'a, 'b> {
         self.play(row.talk.input.as_slice(), trial)
     }
 
-    // Whether a run went right, and left the repository as expected. Otherwise its printed bytes
-    // are kept.
+    // Returns whether a run was correct and left the repository as expected. Otherwise the printed
+    // bytes of the run are stored.
     fn is_well(&mut self, is_right: bool, played: &Played) -> Result<bool, Trouble> {
         if is_right && !played.was_misused && is_kept(self.alloc, self.row, played) {
             return Ok(true);
@@ -124,21 +124,21 @@ impl<'a, 'b> Bench<'a, 'b> {
         Ok(false)
     }
 
-    // Whether a run of the whole input has the results of the row.
+    // Returns whether a run of the whole input has the results of the row.
     fn goes_as_due(&mut self, trial: Trial) -> Result<bool, Trouble> {
         let played = self.play_whole(trial)?;
         let is_right = is_as_due(self.row, &played);
         self.is_well(is_right, &played)
     }
 
-    // Tries it unchanged.
+    // Tests the row unchanged.
     fn whole(&mut self) -> Result<Option<usize>, Trouble> {
         let is_right = self.goes_as_due(Trial::FREE)?;
         Ok(wrong_at(is_right, 0))
     }
 
-    // Tries it with the input in pieces of one byte and of three, and with an output that takes a
-    // byte a call. Also runs the events of a simulation one by one.
+    // Tests the row with the input in pieces of one byte and of three bytes, and with one byte
+    // written a call. The events of a simulation also run one by one.
     fn in_pieces(&mut self) -> Result<Option<usize>, Trouble> {
         for most in [1usize, 3] {
             if !self.goes_as_due(Trial::in_pieces(most))? {
@@ -152,12 +152,12 @@ impl<'a, 'b> Bench<'a, 'b> {
         Ok(wrong_at(is_right, 0))
     }
 
-    // Whether the row is a simulation that begins.
+    // Returns whether the row is a simulation that starts without a fault.
     fn has_world(&self) -> bool {
         self.row.command.program == Program::Simulate && self.row.talk.errors.is_empty()
     }
 
-    // Whether events have the outcomes of the row in a world whose client is checked after each.
+    // Returns whether a simulation with a check after each event has the outcomes of the row.
     fn goes_one_by_one(&mut self) -> Result<bool, Trouble> {
         let row = self.row;
         self.runs = self.runs.saturating_add(1);
@@ -165,8 +165,8 @@ impl<'a, 'b> Bench<'a, 'b> {
         Ok(happened.has_connected_refs && happened.text.as_bytes() == row.talk.output.as_slice())
     }
 
-    // Tries it over std's readers and writers: unchanged, and in pieces if the row is not long. If
-    // each of its bytes is changed in each bit, also with each read and each write failing in turn.
+    // Tests the row over readers and writers of std: unchanged, and in pieces if the row is not
+    // long. For thorough rows, each read and each write also fails in turn.
     fn over_std(&mut self) -> Result<Option<usize>, Trouble> {
         self.is_std = true;
         let wrong = self.with_devices()?;
@@ -186,7 +186,7 @@ impl<'a, 'b> Bench<'a, 'b> {
         Ok(wrong)
     }
 
-    // Tries it unchanged, and in pieces if the row is not long.
+    // Tests the row unchanged, and in pieces if the row is not long.
     fn whole_and_in_pieces(&mut self) -> Result<Option<usize>, Trouble> {
         let wrong = self.whole()?;
         if wrong.is_some() || self.row.is_long {
@@ -195,16 +195,16 @@ impl<'a, 'b> Bench<'a, 'b> {
         self.in_pieces()
     }
 
-    // Whether the row is tried with everything in a way. Its variants with response-end packets are
-    // not.
+    // Returns whether the row is tested completely. Long rows and variants with response-end
+    // packets are not.
     fn is_thorough(&self) -> bool {
         let row = self.row;
         !row.is_long && row.reach != Reach::OneBit
     }
 
-    // Tries a fetch with an indexer that watches how it is fed, if the row has no other. Also
-    // checks the client's repository at the end. Tries it unchanged and in pieces. If each of its
-    // bytes is changed in each bit, also cut and with each allocation refused.
+    // Tests a fetch with an indexer whose calls are checked, if the row names no other indexer:
+    // unchanged and in pieces. For thorough rows, the input is also truncated and each allocation
+    // refused.
     fn try_watched(&mut self) -> Result<Option<usize>, Trouble> {
         let row = self.row;
         let is_fetch = row.command.program == Program::Fetch && !row.talk.input.is_empty();
@@ -229,7 +229,7 @@ impl<'a, 'b> Bench<'a, 'b> {
         Ok(wrong)
     }
 
-    // Tries it with each call of a device failing in turn, one byte at a time.
+    // Tests the row with each call of a device failing in turn, one byte a call.
     fn try_failures(&mut self, device: Device) -> Result<Option<usize>, Trouble> {
         for call in 1..MOST_TRIES {
             match self.fail_at(device, call)? {
@@ -253,7 +253,7 @@ impl<'a, 'b> Bench<'a, 'b> {
         Ok(Tried::of(is_right, !has_failed))
     }
 
-    // Whether the run had the expected results if the device failed.
+    // Returns whether the run had the expected results after the failure of a device.
     fn is_failed(&mut self, device: Device, played: &Played) -> Result<bool, Trouble> {
         let row = self.row;
         match device {
@@ -267,10 +267,9 @@ impl<'a, 'b> Bench<'a, 'b> {
         }
     }
 
-    // Tries a fetch into a stored file: unchanged, with another process that holds the lock, and
-    // with the file failing or stopping before or after each of its calls. If each byte is changed
-    // in each bit, also with each call of standard error failing in turn. If each byte is changed
-    // to each other value, also with each allocation refused.
+    // Tests a fetch into a stored file: unchanged, with a lock of another process, and with a
+    // failure or stop at each call. For thorough rows, each write to standard error also fails in
+    // turn. For deep rows, each allocation is also refused in turn.
     fn try_stored(&mut self) -> Result<Option<usize>, Trouble> {
         if !has_stored_file(self.row) {
             return Ok(None);
@@ -294,15 +293,15 @@ impl<'a, 'b> Bench<'a, 'b> {
         fetch_stored(self.alloc, self.row, hindered)
     }
 
-    // Keeps the printed bytes of a run that went wrong.
+    // Stores the bytes printed by a run that failed.
     fn wrong_store(&mut self, fetched: &Fetched, number: usize) -> Result<Option<usize>, Trouble> {
         self.printed.clear();
         self.printed.extend_from_slice(fetched.printed_bytes())?;
         Ok(Some(number))
     }
 
-    // Tries it with a mishap at each of `calls` calls, and with another process that holds the
-    // lock.
+    // Tests the row with a failure or stop at each of `calls` calls, and with a lock of another
+    // process.
     fn with_mishaps(&mut self, calls: usize) -> Result<Option<usize>, Trouble> {
         for call in 1..=calls {
             let mishaps = [
@@ -355,7 +354,7 @@ impl<'a, 'b> Bench<'a, 'b> {
         Ok(Some(MOST_TRIES))
     }
 
-    // Tries it with the input cut after each of its bytes.
+    // Tests the row with the input truncated after each of its bytes.
     fn cut(&mut self) -> Result<Option<usize>, Trouble> {
         let row = self.row;
         if !row.packets.is_empty() && !row.talk.has_places(row.packets) {
@@ -370,14 +369,14 @@ impl<'a, 'b> Bench<'a, 'b> {
         Ok(None)
     }
 
-    // Returns how many bytes of the input are read.
+    // Returns the number of input bytes that are read.
     fn count_read(&mut self) -> Result<usize, Trouble> {
         let whole = self.play_whole(Trial::FREE)?;
         Ok(self.row.talk.input.len().saturating_sub(whole.left))
     }
 
-    // Whether the run of the first `len` bytes of the input has the expected results. The run of
-    // the whole input reads `read` bytes.
+    // Returns whether a run of the first `len` input bytes has the expected results. A run of the
+    // whole input reads `read` bytes.
     fn is_cut_well(&mut self, len: usize, read: usize) -> Result<bool, Trouble> {
         let row = self.row;
         let Some(part) = row.talk.input.as_slice().get(..len) else {
@@ -392,7 +391,7 @@ impl<'a, 'b> Bench<'a, 'b> {
         self.is_well(is_right, &played)
     }
 
-    // Tries it with each byte of the input changed.
+    // Tests the row with each byte of the input changed.
     fn try_changes(&mut self) -> Result<Option<usize>, Trouble> {
         let row = self.row;
         let mut input = Vec::from_slice(self.alloc, row.talk.input.as_slice())?;
@@ -405,8 +404,8 @@ impl<'a, 'b> Bench<'a, 'b> {
         Ok(None)
     }
 
-    // Whether all goes well with the byte at an offset changed in each of its bits, in one of them,
-    // or to each other value.
+    // Returns whether all runs with the byte at an offset changed are correct. The row's `reach`
+    // determines the new values.
     fn is_changed_well(
         &mut self,
         at: usize,
@@ -430,8 +429,8 @@ impl<'a, 'b> Bench<'a, 'b> {
         self.is_well(is_right, &played)
     }
 
-    // Tries it with the request cut after each of its bytes, and each byte changed to each other
-    // value, if the row has a table.
+    // Tests the row with the request truncated after each byte, and with each byte changed to each
+    // other value. Rows without a table are skipped.
     fn by_table(&mut self) -> Result<Option<usize>, Trouble> {
         let row = self.row;
         if row.table.is_empty() {
@@ -471,14 +470,15 @@ impl<'a, 'b> Bench<'a, 'b> {
         Ok(true)
     }
 
-    // Whether the run of a changed input has the results of the table.
+    // Returns whether the run of a changed input has the result in the table.
     fn goes_by_table(&mut self, input: &[u8], change: Change) -> Result<bool, Trouble> {
         let played = self.play(input, Trial::FREE)?;
         let is_right = is_in_table(self.alloc, self.row, &played, input, change)?;
         self.is_well(is_right, &played)
     }
 
-    // Tries it with each allocation refused in turn; a simulation also in a separate world.
+    // Tests the row with each allocation refused in turn. A simulation also runs in a separate
+    // world.
     fn scarce(&mut self) -> Result<Option<usize>, Trouble> {
         let wrong = self.scarce_in_turn()?;
         if wrong.is_some() || !self.has_world() {
@@ -490,8 +490,8 @@ impl<'a, 'b> Bench<'a, 'b> {
         self.scarce_in_world(files, &ample)
     }
 
-    // Tries it in one world: the run stops or goes on, and the remaining events are done with
-    // memory in the same world.
+    // Tests a simulation with each allocation refused. If memory runs out, the remaining events run
+    // with enough memory in the same world.
     fn scarce_in_world(
         &mut self,
         files: Files<'_>,
@@ -508,8 +508,8 @@ impl<'a, 'b> Bench<'a, 'b> {
         Ok(Some(MOST_TRIES))
     }
 
-    // Tries it with each allocation refused in turn. The faults of the row must occur in their
-    // order. Once a server has reported a fault to the client, it does so at each later allocation.
+    // Tests the row with each allocation refused in turn. The row's memory faults must occur in
+    // order. Once a run has reported a fault to the client, each later run must report one.
     fn scarce_in_turn(&mut self) -> Result<Option<usize>, Trouble> {
         let mut refusals = Refusals {
             met: 0,
@@ -537,8 +537,8 @@ impl<'a, 'b> Bench<'a, 'b> {
         Ok(Tried::of(is_right, !played.was_refused))
     }
 
-    // Whether the run had the expected results if an allocation is refused, with the faults of the
-    // row.
+    // Returns whether the run ended as expected after a refused allocation, with a fault that the
+    // row lists.
     fn is_scarce(&self, played: &Played, refusals: &mut Refusals) -> bool {
         let row = self.row;
         let is_unserved = is_unserved(row, played);
@@ -549,8 +549,8 @@ impl<'a, 'b> Bench<'a, 'b> {
         is_right
     }
 
-    // Whether the row names the memory faults. They may be others for an indexer that it does not
-    // name.
+    // Returns whether the row lists the memory faults of this run. An indexer that the row does not
+    // name may cause others.
     fn names_faults(&self) -> bool {
         !self.row.memory.is_empty() && self.liar == self.row.command.liar
     }
@@ -559,7 +559,8 @@ impl<'a, 'b> Bench<'a, 'b> {
         !self.names_faults() || met == self.row.memory.len()
     }
 
-    // Whether the fault is the one that the row named last, or names next, if it names any.
+    // Returns whether the fault is the last or the next one in the row's list, or the row lists
+    // none.
     fn is_named(&self, played: &Played, met: &mut usize) -> bool {
         let named = self.row.memory;
         if !self.names_faults() || is_as_due(self.row, played) {
@@ -576,12 +577,12 @@ impl<'a, 'b> Bench<'a, 'b> {
     }
 }
 
-// Returns the number of a try that went wrong.
+// Returns the number of a run that failed, or `None` if it was correct.
 fn wrong_at(is_right: bool, number: usize) -> Option<usize> {
     if is_right { None } else { Some(number) }
 }
 
-// Whether the events of a world may have these outcomes if an allocation is refused.
+// Returns whether a simulation with an allocation refused has outcomes consistent with `ample`.
 fn happens_scarcely(
     alloc: Global,
     files: Files<'_>,
@@ -593,7 +594,7 @@ fn happens_scarcely(
     Ok(Tried::of(is_right, !happened.was_refused))
 }
 
-// Whether this text is named at the index.
+// Returns whether the list has this text at the index.
 fn is_at(named: &[Vec<u8>], place: usize, text: &[u8]) -> bool {
     match named.get(place) {
         Some(name) => name.as_slice() == text,
@@ -601,7 +602,7 @@ fn is_at(named: &[Vec<u8>], place: usize, text: &[u8]) -> bool {
     }
 }
 
-// Whether this change of the byte at an offset is tried.
+// Returns whether this change of the byte at an offset is tested.
 fn is_tried(reach: Reach, at: usize, change: u8) -> bool {
     match reach {
         Reach::Deep => true,

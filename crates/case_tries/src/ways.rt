@@ -1,6 +1,6 @@
-//! The ways in which a row is tried.
+//! The ways in which a row is tested.
 
-/// A way of trying a row.
+/// A way of testing a row.
 #[derive(Clone, Copy)]
 pub enum Way {
     Whole,
@@ -63,12 +63,12 @@ impl Way {
         }
     }
 
-    /// Whether it takes many more tries than the others.
+    /// Returns whether the way needs many more runs than the others.
     pub fn is_long(self) -> bool {
         matches!(&self, Way::Changed)
     }
 
-    /// Whether it tries a connection's ends, or a stored file.
+    /// Returns whether the way tests the ends of a connection, or a stored file.
     pub fn is_edge(self) -> bool {
         matches!(
             &self,
@@ -76,7 +76,7 @@ impl Way {
         )
     }
 
-    /// Whether a long row is also tried in this way.
+    /// Returns whether long rows are also tested in this way.
     pub fn is_short(self) -> bool {
         matches!(
             &self,

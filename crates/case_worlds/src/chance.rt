@@ -1,6 +1,6 @@
 //! Random events, each as a line of a scenario. Most are the next step of an honest session. The
-//! others are messages that are late, repeated, cut or forged, and changes and restarts of both
-//! ends.
+//! others are late, repeated, truncated or forged messages, and changes or restarts of the server
+//! or the client.
 
 use crate::dice::Dice;
 use crate::forgery::Forger;
@@ -9,7 +9,7 @@ use gworld::Outcome;
 use std::alloc::{AllocError, Global};
 use std::ops::Range;
 
-// The numbers of new ids, which are not those of the repositories.
+// The numbers of ids that no repository uses yet.
 const NEW_IDS: Range<usize> = 900..924;
 
 const NAMES: [&str; 5] = [
@@ -29,33 +29,33 @@ const SPECS: [&str; 6] = [
     "refs/heads/x:refs/heads/x +refs/heads/main:refs/heads/y",
 ];
 
-// A step of a session.
+// A step of a fetch session.
 #[derive(Clone, Copy)]
 enum SessionStep {
     Begin,
     Ask,
     Serve(usize),
     Deliver(usize),
-    // A number of bytes of a reply.
+    // The index of a reply, and the number of its bytes to deliver.
     DeliverPart(usize, usize),
     Settle,
 }
 
-/// The next events of a world.
+/// A generator of the next event in a world.
 #[derive(Drop)]
 pub(crate) struct Chance {
     alloc: Global,
     dice: Dice,
     forger: Forger,
     step: SessionStep,
-    // Whether the last line was the next step.
+    // Whether the last event was the next step of the session.
     was_step: bool,
     sent: usize,
     kept: usize,
 }
 
 impl Chance {
-    /// Returns the events of a world of these two repositories.
+    /// Returns a generator of events for the server and the client of `files`.
     pub(crate) fn new(alloc: Global, seed: usize, files: Files<'_>) -> Result<Chance, AllocError> {
         let ids = ids_of(alloc, files)?;
         Ok(Chance {
@@ -75,7 +75,7 @@ impl Chance {
         })
     }
 
-    /// Returns a random number below this one.
+    /// Returns a random number below `sides`.
     pub(crate) fn roll(&mut self, sides: usize) -> usize {
         self.dice.roll(sides)
     }
@@ -93,7 +93,7 @@ impl Chance {
         }
     }
 
-    // Appends the next step of an honest session.
+    // Appends the next step of the session, or sometimes a forged reply.
     fn add_next(&mut self, line: &mut String) -> Result<(), AllocError> {
         match self.step {
             SessionStep::Serve(_) if self.dice.is_one_of(3) => self.add_forged(line),
@@ -101,7 +101,7 @@ impl Chance {
         }
     }
 
-    // Appends a step out of its order.
+    // Appends a session step out of order.
     fn add_other(&mut self, roll: usize, line: &mut String) -> Result<(), AllocError> {
         let request = self.dice.roll(self.sent.saturating_add(1));
         let reply = self.dice.roll(self.kept.saturating_add(1));
@@ -138,14 +138,14 @@ impl Chance {
         add_bytes("forge ", bytes.as_slice(), line)
     }
 
-    // Appends a stranger's request.
+    // Appends a request from another client, the stranger.
     fn add_stranger(&mut self, line: &mut String) -> Result<(), AllocError> {
         let mut bytes = Vec::new(self.alloc);
         self.forger.add_request(&mut bytes)?;
         add_bytes("stranger ", bytes.as_slice(), line)
     }
 
-    // Appends a change of one of the ends.
+    // Appends a change or a restart of the server or the client.
     fn add_change(&mut self, roll: usize, line: &mut String) -> Result<(), AllocError> {
         match roll {
             90 => line.push_str("restart-client\n"),
@@ -170,7 +170,7 @@ impl Chance {
         write!(line, " {name}\n")
     }
 
-    /// Takes the outcome of the line.
+    /// Updates the state of the session from the outcome of the event in `line`.
     pub(crate) fn learn(&mut self, line: &str, outcome: Outcome) {
         match outcome {
             Outcome::Done if line.starts_with("begin") => self.await_refs(),
@@ -214,7 +214,7 @@ impl Chance {
     }
 }
 
-// Returns one of these at random.
+// Returns a random word of the list.
 fn pick(words: &[&'static str], dice: &mut Dice) -> &'static str {
     match words.get(dice.roll(words.len())) {
         Some(word) => word,
@@ -222,7 +222,7 @@ fn pick(words: &[&'static str], dice: &mut Dice) -> &'static str {
     }
 }
 
-// Appends a word, the hexadecimal digits of bytes, `-` for none, and the end of the line.
+// Appends a line of a word and the bytes in hexadecimal, or `-` for no bytes.
 fn add_bytes(word: &str, bytes: &[u8], line: &mut String) -> Result<(), AllocError> {
     line.push_str(word)?;
     if bytes.is_empty() {
@@ -234,7 +234,7 @@ fn add_bytes(word: &str, bytes: &[u8], line: &mut String) -> Result<(), AllocErr
     line.push('\n')
 }
 
-// Returns the ids of the objects of both repositories, and new ones.
+// Returns the ids of all objects in both repositories, and unused ids.
 fn ids_of(alloc: Global, files: Files<'_>) -> Result<Vec<String>, AllocError> {
     let mut ids = Vec::new(alloc);
     add_ids(alloc, files.server, &mut ids)?;
@@ -243,7 +243,7 @@ fn ids_of(alloc: Global, files: Files<'_>) -> Result<Vec<String>, AllocError> {
     Ok(ids)
 }
 
-// Appends the ids of the objects of a repository's text.
+// Appends the ids of the objects in a repository's text.
 fn add_ids(alloc: Global, text: &[u8], ids: &mut Vec<String>) -> Result<(), AllocError> {
     for line in text.split(|byte| *byte == b'\n') {
         if let Some(id) = id_of(line) {
@@ -253,7 +253,7 @@ fn add_ids(alloc: Global, text: &[u8], ids: &mut Vec<String>) -> Result<(), Allo
     Ok(())
 }
 
-// Returns the id of the object of a line.
+// Returns the id of the object that a line of a repository holds, if any.
 fn id_of(line: &[u8]) -> Option<&str> {
     let line = std::str::from_utf8(line).ok()?;
     let mut words = line.split(' ');

@@ -1,18 +1,18 @@
-//! Numbers that look random, the same for each run.
+//! Pseudorandom numbers that are the same in each run.
 
-/// Numbers from a seed.
+/// A generator of pseudorandom numbers.
 #[derive(Drop)]
 pub(crate) struct Dice {
     state: usize,
 }
 
 impl Dice {
-    /// Starts at this seed.
+    /// Returns a generator with this seed.
     pub(crate) fn new(seed: usize) -> Dice {
         Dice { state: seed }
     }
 
-    /// Returns the next number below this one, or 0 if it is 0.
+    /// Returns the next number below `sides`, or 0 if `sides` is 0.
     pub(crate) fn roll(&mut self, sides: usize) -> usize {
         self.state = self
             .state
@@ -21,7 +21,7 @@ impl Dice {
         (self.state >> 33).checked_rem(sides).unwrap_or(0)
     }
 
-    /// Returns `true` once in `sides` times on average.
+    /// Returns `true` in one of `sides` calls on average.
     pub(crate) fn is_one_of(&mut self, sides: usize) -> bool {
         self.roll(sides) == 0
     }

@@ -1,24 +1,24 @@
-//! Random replies that no server sent, requests of strangers, and objects.
+//! Random forged replies, requests from other clients, and objects.
 
 use crate::dice::Dice;
 use case_text::{packet, text_line};
 use gname::Format;
 use std::alloc::{AllocError, Global};
 
-/// Makes them of some ids.
+/// A generator of random messages and objects with the given ids.
 #[derive(Drop)]
 pub(crate) struct Forger {
     pub(crate) alloc: Global,
     pub(crate) format: Format,
     pub(crate) dice: Dice,
-    /// The ids of objects.
+    /// The ids of objects to choose from.
     pub(crate) ids: Vec<String>,
-    /// Whether the client knows the refs of the server, so that it waits for objects.
+    /// Whether the client has read the server's refs and now waits for objects.
     pub(crate) awaits_objects: bool,
 }
 
 impl Forger {
-    /// Appends one of the ids.
+    /// Appends one of the ids at random.
     pub(crate) fn add_id(&mut self, text: &mut String) -> Result<(), AllocError> {
         let place = self.dice.roll(self.ids.len());
         match self.ids.get(place) {
@@ -27,7 +27,7 @@ impl Forger {
         }
     }
 
-    /// Appends an object, as a line of a pack.
+    /// Appends a random object in the form of a pack's line.
     pub(crate) fn add_entry(&mut self, text: &mut String) -> Result<(), AllocError> {
         let is_tag = self.dice.is_one_of(5);
         let count = if is_tag { 1 } else { self.dice.roll(3) };
@@ -39,7 +39,7 @@ impl Forger {
         Ok(())
     }
 
-    /// Appends a reply, which mostly has the awaited form.
+    /// Appends a random reply, mostly of the form that the client expects.
     pub(crate) fn add_reply(&mut self, bytes: &mut Vec<u8>) -> Result<(), AllocError> {
         if self.dice.is_one_of(8) {
             self.add_noise(bytes)?;
@@ -58,7 +58,7 @@ impl Forger {
         self.add_lines(&[line.as_str(), "0000"], bytes)
     }
 
-    // Appends an id, and the name of a ref.
+    // Appends an id and a ref name.
     fn add_ref(&mut self, line: &mut String) -> Result<(), AllocError> {
         self.add_id(line)?;
         let name = if self.dice.is_one_of(3) {
@@ -81,7 +81,7 @@ impl Forger {
         self.add_lines(&["0000"], bytes)
     }
 
-    // Appends an acknowledgment, or the line that there is none.
+    // Appends an `acknowledgments` section with a `NAK` or one `ACK`.
     fn add_answer(&mut self, bytes: &mut Vec<u8>) -> Result<(), AllocError> {
         self.add_lines(&["acknowledgments"], bytes)?;
         if self.dice.is_one_of(2) {
@@ -91,7 +91,7 @@ impl Forger {
         }
     }
 
-    // Appends a pack, in its channel.
+    // Appends a `packfile` section with a pack on side band 1.
     fn add_pack(&mut self, bytes: &mut Vec<u8>) -> Result<(), AllocError> {
         let mut pack = String::new(self.alloc);
         self.add_objects(&mut pack)?;
@@ -102,7 +102,7 @@ impl Forger {
         }
     }
 
-    // Appends the text of a pack.
+    // Appends a random pack in text form.
     fn add_objects(&mut self, pack: &mut String) -> Result<(), AllocError> {
         let count = self.dice.roll(5);
         pack.push_str("GPK1\n")?;
@@ -113,7 +113,7 @@ impl Forger {
         write!(pack, "end {count}\n")
     }
 
-    /// Appends a stranger's request.
+    /// Appends a random request from another client.
     pub(crate) fn add_request(&mut self, bytes: &mut Vec<u8>) -> Result<(), AllocError> {
         match self.dice.roll(3) {
             0 => self.add_noise(bytes)?,
@@ -148,14 +148,14 @@ impl Forger {
         }
     }
 
-    // Appends a word and an id.
+    // Appends a packet with a word and an id.
     fn add_named(&mut self, word: &str, bytes: &mut Vec<u8>) -> Result<(), AllocError> {
         let mut line = String::from_str(self.alloc, word)?;
         self.add_id(&mut line)?;
         self.add_lines(&[line.as_str()], bytes)
     }
 
-    // Appends packets of lines, and marks.
+    // Appends a packet for each line; `0000` and `0001` are a flush and a delimiter.
     fn add_lines(&self, lines: &[&str], bytes: &mut Vec<u8>) -> Result<(), AllocError> {
         for line in lines {
             self.add_packet(line, bytes)?;
@@ -188,7 +188,7 @@ impl Forger {
         byte
     }
 
-    // Changes a byte, or cuts the end off, of one in six.
+    // Changes a byte or removes the end, in one of six messages on average.
     fn spoil(&mut self, bytes: &mut Vec<u8>) {
         let place = self.dice.roll(bytes.len());
         match self.dice.roll(12) {

@@ -1,23 +1,24 @@
-//! Worlds of a server and a client, in which the events of a scenario happen, or random events.
+//! Simulations of a server and a client, with the events of a scenario or with random events.
 //!
-//! [`simulate_with`] runs a simulation with a packer or an indexer that lies. [`run_one_by_one`]
-//! checks the client after each event, and [`run_scarcely`] refuses an allocation.
-//! [`answer_by_chance`] runs many random events, and checks the client after each.
+//! - [`simulate_with`] runs a simulation with a packer or an indexer that may fail.
+//! - [`run_one_by_one`] checks the client after each event.
+//! - [`run_scarcely`] refuses an allocation.
+//! - [`answer_by_chance`] runs many random events, and checks the client after each event.
 //!
 //! # Proved
 //!
-//! It is safe and ends.
+//! Every call returns, with no index out of range, overflow or use after free.
 //!
 //! # What the contracts do not rule out
 //!
-//! The contracts say nothing of the results. Wrong programs were tried, to see that a client whose
-//! refs are not connected is noticed.
+//! No contract states the results of this crate. Deliberately wrong programs were run, to check
+//! that the tests detect a client whose refs are not connected.
 //!
 //! # Stands on
 //!
-//! `gworld` for worlds; `gcmd` for the ends of a world, `ggraph` for packers and indexers, `gpkt`
-//! for sinks, `gname` for the formats of ids; `case_text` for packers and indexers that lie, for
-//! packets, and for memory that ends.
+//! `gworld` defines worlds and their events. `gcmd` loads the server and the client, `ggraph`
+//! defines packers and indexers, `gpkt` sinks, and `gname` the formats of ids. `case_text` defines
+//! faulty packers and indexers, packets, and an allocator that fails.
 #![tactic(auto)]
 
 mod chance;

@@ -1,8 +1,8 @@
-//! Worlds with random events: `random whole: SEED COUNT / CLIENT`, with the text of the client's
-//! repository, and that of the server as its graph. COUNT events happen, with plain packers and
-//! indexers, with allocations refused, and with each of those that lie. Each time, the client's
-//! refs must be connected after each event. With plain packs, each kind of outcome must occur;
-//! rounds of acknowledgments only if `rounds` follows the count.
+//! Simulations with random events: `random whole: SEED COUNT / CLIENT`. CLIENT is the text of the
+//! client's repository, and the graph of the fact is that of the server. COUNT events run with
+//! `PlainPack`, and again with allocations refused. A fourth of COUNT runs with each faulty packer
+//! and indexer. The client's refs must be connected after each event. With `PlainPack`, each kind
+//! of outcome must occur; rounds of acknowledgments only if `rounds` follows COUNT.
 
 use crate::chance::Chance;
 use crate::simulated::run_scarcely;
@@ -16,7 +16,7 @@ use gname::Format;
 use gworld::{Event, Outcome, World};
 use std::alloc::{Allocator, Global};
 
-/// The packers and indexers.
+/// All faulty packers and indexers.
 const LIARS: [Liar; 12] = [
     Liar::PacksNothing,
     Liar::PacksShort,
@@ -32,25 +32,26 @@ const LIARS: [Liar; 12] = [
     Liar::FinishFails,
 ];
 
-/// The word that may follow a count.
+/// The word after the count that requires rounds of acknowledgments.
 const ROUNDS: &[u8] = b"rounds";
 
-/// The greatest number of an allocation that may be refused.
+/// The highest number of an allocation that may be refused.
 const MOST_REFUSED: usize = 30;
 
-// The parameters of the events.
+// The parameters of a run of random events.
 #[derive(Clone, Copy)]
 struct Setting<'b> {
     files: Files<'b>,
     seed: usize,
     count: usize,
-    // Whether an allocation is sometimes refused.
+    // Whether some events run with a refused allocation.
     is_scarce: bool,
     // Whether rounds of acknowledgments must occur.
     has_rounds: bool,
 }
 
-/// Returns the result of random events for the server of a repository's text.
+/// Runs random events between a client and the server that `server` describes. Returns `whole`, or
+/// a text about the first failure.
 pub fn answer_by_chance(alloc: Global, fact: &Fact<'_>, server: &[u8]) -> Result<String, Trouble> {
     let setting = setting_of(fact.text.as_slice(), server, fact.format);
     match found_in(alloc, setting)? {
@@ -76,7 +77,7 @@ fn found_scarcely(alloc: Global, setting: Setting<'_>) -> Result<Option<String>,
     }
 }
 
-// Runs the events with each packer and indexer that lies.
+// Runs the events with each faulty packer and indexer.
 fn found_with_liars(alloc: Global, setting: Setting<'_>) -> Result<Option<String>, Trouble> {
     let mut seed = setting.seed;
     for liar in LIARS {
@@ -88,7 +89,7 @@ fn found_with_liars(alloc: Global, setting: Setting<'_>) -> Result<Option<String
     Ok(None)
 }
 
-// Returns the parameters for a fourth of the events, with a packer or an indexer that lies.
+// Returns the parameters for a fourth of the events, with this faulty packer or indexer.
 fn setting_with(setting: Setting<'_>, liar: Liar, seed: usize) -> Setting<'_> {
     let tools = Tools {
         liar: Some(liar),
@@ -129,7 +130,7 @@ fn setting_of<'b>(text: &'b [u8], server: &'b [u8], format: Format) -> Setting<'
     }
 }
 
-// Returns an error text if the events go wrong, one after the other.
+// Runs the events in sequence. Returns a text about the first failure, if any.
 fn happen(alloc: Global, setting: Setting<'_>) -> Result<Option<String>, Trouble> {
     let scarce = Scarce::new(alloc);
     let events = ByChance {
@@ -141,7 +142,7 @@ fn happen(alloc: Global, setting: Setting<'_>) -> Result<Option<String>, Trouble
     play_in_world(&scarce, setting.files, &events)
 }
 
-// Events by chance.
+// A run of random events in a world.
 #[derive(Drop)]
 struct ByChance<'s, A: Allocator + Copy> {
     alloc: Global,
@@ -176,7 +177,8 @@ impl<A: Allocator + Copy> ByChance<'_, A> {
         }
     }
 
-    // Does the events, up to one after which the client's refs are not connected.
+    // Runs the events until the client has a ref that is not connected. Returns `false` in that
+    // case.
     fn keeps_connected_refs(
         &self,
         chance: &mut Chance,
@@ -195,7 +197,7 @@ impl<A: Allocator + Copy> ByChance<'_, A> {
         Ok(true)
     }
 
-    // Does the event of a line, and returns whether the client's refs are connected after it.
+    // Runs the event of a line, and returns whether the client's refs are connected afterwards.
     fn step(
         &self,
         chance: &mut Chance,
@@ -227,8 +229,8 @@ impl<A: Allocator + Copy> ByChance<'_, A> {
         }
     }
 
-    // Returns an error text at the end, if one run of all events has another result or some outcome
-    // never occurred.
+    // Returns a text if a second run of all events has another result, or if a required kind of
+    // outcome never occurred.
     fn conclude(
         &self,
         log: &str,
@@ -245,7 +247,7 @@ impl<A: Allocator + Copy> ByChance<'_, A> {
         }
     }
 
-    // Returns the text of all events in one run, if it differs from this one.
+    // Returns the result of a second run of all events if it differs from `text`.
     fn other_text(&self, text: &str, log: &str) -> Result<Option<String>, Trouble> {
         let files = Files {
             server: self.setting.files.server,
@@ -261,7 +263,7 @@ impl<A: Allocator + Copy> ByChance<'_, A> {
         }
     }
 
-    // Returns the first kind of outcome that never occurred, as text.
+    // Returns a text with the first kind of outcome that never occurred.
     fn never_came(&self, outcomes: &[Outcome]) -> Result<Option<String>, Trouble> {
         match self.missing_kind(outcomes) {
             Some(kind) => Ok(Some(format!(in self.alloc; "never {kind}")?)),
@@ -269,7 +271,7 @@ impl<A: Allocator + Copy> ByChance<'_, A> {
         }
     }
 
-    // Returns a kind that is missing: with plain packs each kind must occur.
+    // Returns a kind of outcome that never occurred, or `None` with a faulty packer or indexer.
     fn missing_kind(&self, outcomes: &[Outcome]) -> Option<&'static str> {
         match self.setting.files.tools.liar {
             Some(_) => None,
@@ -278,7 +280,7 @@ impl<A: Allocator + Copy> ByChance<'_, A> {
     }
 }
 
-// Returns the number of the refused allocation, or 0 for none.
+// Returns the number of the allocation to refuse, or 0 for none.
 fn refused_number(chance: &mut Chance, is_scarce: bool) -> u64 {
     if is_scarce && chance.roll(3) == 0 {
         (chance.roll(MOST_REFUSED) as u64).saturating_add(1)
@@ -287,7 +289,7 @@ fn refused_number(chance: &mut Chance, is_scarce: bool) -> u64 {
     }
 }
 
-// Does events. Repeats them with memory if they did not begin without it.
+// Runs the events with an allocation refused, and again with enough memory if that run stopped.
 fn do_events<A: Allocator + Copy>(
     refusal: &RefusedAllocation<'_>,
     world: &mut World<Tools, A>,
@@ -303,7 +305,7 @@ fn do_events<A: Allocator + Copy>(
     Ok(())
 }
 
-// Returns the first kind without an outcome. Rounds only count if they must occur.
+// Returns the first kind that no outcome has. Rounds are required only if `has_rounds` is set.
 fn first_missing(outcomes: &[Outcome], has_rounds: bool) -> Option<&'static str> {
     for kind in KINDS {
         let is_due = has_rounds || kind != ROUND;
@@ -324,7 +326,7 @@ const KINDS: [&str; 8] = [
 
 const ROUND: &str = "round";
 
-// Returns the kind of an outcome in the list, or an empty text for others.
+// Returns the kind of an outcome in `KINDS`, or an empty text for other outcomes.
 fn kind_of(outcome: Outcome) -> &'static str {
     match outcome {
         Outcome::Asked { .. } => "asked",

@@ -1,5 +1,5 @@
-//! Simulations in separate worlds: with a packer or an indexer that lies, with an allocation
-//! refused, and one event at a time.
+//! Simulations in separate worlds: with a faulty packer or indexer, with an allocation refused, and
+//! with a check after each event.
 
 use crate::tools::Tools;
 use crate::world::{
@@ -16,8 +16,8 @@ const NO_MEMORY: &[u8] = b"gitv2: fault 91 Memory\n";
 
 const WRITE_FAILED: &[u8] = b"gitv2: fault 27 Io\n";
 
-/// Runs a simulation in a separate world, and returns the exit status, as the program does with
-/// plain packs.
+/// Runs a simulation like the program, but with the packer and indexer of `files`. Returns the exit
+/// status.
 pub fn simulate_with<A: Allocator + Copy, O: Sink, E: Sink>(
     alloc: Global,
     memory: A,
@@ -36,7 +36,7 @@ pub fn simulate_with<A: Allocator + Copy, O: Sink, E: Sink>(
     }
 }
 
-// A scenario that results in a text, or in `None` if memory ends.
+// A run of a scenario, which returns the printed text, or `None` if memory runs out.
 #[derive(Drop)]
 struct ScenarioPlay<'b, A: Allocator + Copy> {
     alloc: Global,
@@ -55,7 +55,7 @@ impl<A: Allocator + Copy> Play<A> for ScenarioPlay<'_, A> {
     }
 }
 
-// Returns the text after events in a world, or `None` if memory ends.
+// Returns the text printed after the events, or `None` if memory runs out.
 fn text_after<A: Allocator + Copy>(
     alloc: Global,
     world: &mut World<Tools, A>,
@@ -69,7 +69,7 @@ fn text_after<A: Allocator + Copy>(
     }
 }
 
-// Writes the result of a simulation, or that memory ended, and returns the exit status.
+// Writes the result of a simulation, or the memory fault, and returns the exit status.
 fn tell<O: Sink, E: Sink>(
     text: Result<Option<String>, Trouble>,
     output: &mut O,
@@ -94,7 +94,7 @@ fn print_failure<E: Sink>(text: &[u8], errors: &mut E) -> u8 {
     1
 }
 
-// Writes a text and flushes it. Returns whether the output did not fail.
+// Writes and flushes a text. Returns whether both calls succeeded.
 fn is_sent<O: Sink>(text: &[u8], output: &mut O) -> bool {
     match send_text::<Global, O>(text, output) {
         Ok(()) => true,
@@ -102,21 +102,21 @@ fn is_sent<O: Sink>(text: &[u8], output: &mut O) -> bool {
     }
 }
 
-/// The result of the events of a simulation.
+/// The result of the events in a scenario.
 #[derive(Drop)]
 pub struct Happened {
     pub outcomes: Vec<Outcome>,
-    /// The lines of the outcomes, and of the client's refs at the end.
+    /// The lines of the outcomes and of the client's final refs.
     pub text: String,
     /// Whether the client's refs were connected at each check.
     pub has_connected_refs: bool,
-    /// Whether the allocation to refuse was reached.
+    /// Whether the run reached the allocation to refuse.
     pub was_refused: bool,
 }
 
 impl Happened {
-    /// Whether this result with a refused allocation fits `other`, the result with memory: it is
-    /// the same, up to the first event that was out of memory.
+    /// Returns whether this result with a refused allocation is consistent with `other`, the result
+    /// with enough memory. The outcomes must agree up to the first memory fault.
     pub fn may_become(&self, other: &Happened) -> bool {
         self.has_connected_refs
             && self.outcomes.len() == other.outcomes.len()
@@ -124,7 +124,7 @@ impl Happened {
     }
 }
 
-// Whether the outcomes are the same up to the first that was out of memory.
+// Returns whether the outcomes agree up to the first memory fault.
 fn agree(outcomes: &[Outcome], others: &[Outcome]) -> bool {
     for (outcome, other) in outcomes.iter().zip(others) {
         if outcome != other {
@@ -134,8 +134,8 @@ fn agree(outcomes: &[Outcome], others: &[Outcome]) -> bool {
     true
 }
 
-/// Runs the events in a world, with the allocation of this number refused. If the run stops, the
-/// remaining events run with memory in the same world.
+/// Runs the events in a world with the allocation of this number refused. If memory runs out, the
+/// remaining events run with enough memory in the same world.
 pub fn run_scarcely(alloc: Global, files: Files<'_>, refused: u64) -> Result<Happened, Trouble> {
     let memory = Scarce::new(alloc);
     let refusal = RefusedAllocation {
@@ -145,13 +145,13 @@ pub fn run_scarcely(alloc: Global, files: Files<'_>, refused: u64) -> Result<Hap
     happen(alloc, &memory, files, EventPace::Scarcely(refusal))
 }
 
-/// Runs the events one by one in a world, and checks the client's refs after each.
+/// Runs the events one by one, and checks the client's refs after each event.
 pub fn run_one_by_one(alloc: Global, files: Files<'_>) -> Result<Happened, Trouble> {
     let memory = Scarce::new(alloc);
     happen(alloc, &memory, files, EventPace::OneByOne)
 }
 
-// Runs the events in this way.
+// Runs the events of the scenario, one by one or with a refused allocation.
 fn happen<A: Allocator + Copy>(
     alloc: Global,
     memory: A,
@@ -167,14 +167,14 @@ fn happen<A: Allocator + Copy>(
     }
 }
 
-// The way in which events happen.
+// How the events of a scenario run.
 #[derive(Drop)]
 enum EventPace<'m> {
     Scarcely(RefusedAllocation<'m>),
     OneByOne,
 }
 
-// Events, and the way in which they happen.
+// Events, and how they run.
 #[derive(Drop)]
 struct Happening<'e, A: Allocator + Copy> {
     alloc: Global,
@@ -234,7 +234,7 @@ impl<A: Allocator + Copy> Happening<'_, A> {
         Ok(())
     }
 
-    // Runs the remaining events.
+    // Runs the remaining events of the scenario.
     fn finish(
         &self,
         world: &mut World<Tools, A>,

@@ -7,7 +7,7 @@ use ggraph::{Entry, IndexFault, Indexer, PackFault, Packer, PlainPack};
 use gname::{Format, MAX_PACK};
 use std::alloc::Allocator;
 
-/// A packer and an indexer of ids of a format. Both are plain if there is no liar.
+/// A packer and an indexer for ids of one format. Without a `liar`, both fulfill their contracts.
 #[derive(Clone, Copy, Drop)]
 pub struct Tools {
     pub liar: Option<Liar>,
@@ -54,7 +54,7 @@ impl<A: Allocator + Copy> Indexer<A> for Tools {
 }
 
 impl Tools {
-    // Returns the indexer: one that keeps its contract if there is no liar.
+    // Returns the indexer, or one that fulfills its contract if `liar` is `None`.
     fn indexer(&self) -> Liar {
         match self.liar {
             Some(liar) => liar,

@@ -1,4 +1,4 @@
-//! Worlds of a server and a client, their events, and the outcomes.
+//! Worlds of a simulated server and client, their events, and the outcomes.
 
 use crate::tools::Tools;
 use case_text::{Invocation, Scarce, Trouble, id_text};
@@ -9,7 +9,7 @@ use gname::Oid;
 use gworld::{Event, Outcome, RunFault, Scenario, ScenarioFault, World, WorldFault};
 use std::alloc::{AllocError, Allocator, Global};
 
-/// The texts of the repositories of a world and of its events; its packer and indexer.
+/// The texts of a simulation's repositories and scenario, with its packer and indexer.
 #[derive(Clone, Copy)]
 pub struct Files<'b> {
     pub server: &'b [u8],
@@ -19,7 +19,7 @@ pub struct Files<'b> {
 }
 
 impl<'b> Files<'b> {
-    /// Returns those of a simulation, whose server's text is this one.
+    /// Returns the files of a simulation for this text of the server's repository.
     pub fn of(command: Invocation<'b>, server: &'b [u8]) -> Files<'b> {
         Files {
             server,
@@ -33,7 +33,7 @@ impl<'b> Files<'b> {
     }
 }
 
-/// The refused allocation, or none if the number is 0.
+/// The allocation to refuse, or none if `number` is 0.
 #[derive(Drop)]
 pub(crate) struct RefusedAllocation<'m> {
     pub(crate) scarce: &'m Scarce<Global>,
@@ -41,27 +41,27 @@ pub(crate) struct RefusedAllocation<'m> {
 }
 
 impl RefusedAllocation<'_> {
-    /// Counts allocations from here on.
+    /// Starts the count of allocations.
     pub(crate) fn begin(&self) {
         self.scarce.refuse(self.number);
     }
 
-    /// Refuses none from here on.
+    /// Refuses no allocation from now on.
     pub(crate) fn end(&self) {
         self.scarce.refuse(0);
     }
 }
 
-/// An action in a world.
+/// An action on a world.
 pub(crate) trait Play<A: Allocator + Copy> {
-    /// The result of the action.
+    /// The type of the action's result.
     type Came;
 
-    /// Does the action.
+    /// Runs the action on the world.
     fn play(&self, world: &mut World<Tools, A>) -> Result<Self::Came, Trouble>;
 }
 
-/// Does the action in the world of two repositories.
+/// Runs the action on a world of the two repositories.
 pub(crate) fn play_in_world<A: Allocator + Copy, P: Play<A>>(
     memory: A,
     files: Files<'_>,
@@ -73,8 +73,8 @@ pub(crate) fn play_in_world<A: Allocator + Copy, P: Play<A>>(
     }
 }
 
-/// Does the same, or returns why one of the ends can't be made. If they do not fit one world, it
-/// acts as if out of memory.
+/// Runs the action, or returns the fault in the text of a repository. Repositories that do not fit
+/// one world result in `ProgramFault::Memory`.
 pub(crate) fn play_or_fault<A: Allocator + Copy, P: Play<A>>(
     memory: A,
     files: Files<'_>,
@@ -86,7 +86,7 @@ pub(crate) fn play_or_fault<A: Allocator + Copy, P: Play<A>>(
     }
 }
 
-// Drops a world. This needs a long proof, so only this function does it.
+// Runs the action and drops the world. Only this function drops a world, since the proof is long.
 fn lend<A: Allocator + Copy, P: Play<A>>(
     world: World<Tools, A>,
     play: &P,
@@ -105,7 +105,7 @@ fn world_of<A: Allocator + Copy>(
     }
 }
 
-// Returns the server's world with the client.
+// Returns the world of this server and the client of `files`.
 fn meet<A: Allocator + Copy>(
     memory: A,
     server: Server<A>,
@@ -126,7 +126,7 @@ fn or_fault<A: Allocator + Copy>(
     }
 }
 
-/// Returns the events of a scenario.
+/// Parses the events of a scenario.
 pub(crate) fn events_of<A: Allocator + Copy>(
     memory: A,
     scenario: &[u8],
@@ -143,7 +143,7 @@ fn or_trouble<A: Allocator + Copy>(
     }
 }
 
-/// Does events, appends the outcomes of those that were done, and returns whether all were.
+/// Runs the events and appends their outcomes. Returns `false` if memory ran out before the last.
 pub(crate) fn run_events<A: Allocator + Copy>(
     world: &mut World<Tools, A>,
     events: &[Event<A>],
@@ -164,7 +164,8 @@ fn add_done<A: Allocator + Copy>(
     Ok(are_all)
 }
 
-/// Whether each ref of the client is connected. Memory must not be refused here.
+/// Returns whether each ref of the client is connected. No allocation may be refused during the
+/// call.
 pub(crate) fn has_connected_refs<A: Allocator + Copy>(
     alloc: Global,
     world: &World<Tools, A>,
@@ -182,7 +183,7 @@ fn ids_of<A: Allocator + Copy>(alloc: Global, refs: &Refs<A>) -> Result<Vec<Oid>
         .collect(alloc)
 }
 
-// Whether the graph has everything that these ids reach.
+// Returns whether the graph holds all objects that the ids reach.
 fn has_all<A: Allocator + Copy>(graph: &Graph<A>, ids: &[Oid]) -> Result<bool, Trouble> {
     match missing(graph, ids) {
         Ok(lost) => Ok(lost.is_none()),
@@ -190,7 +191,7 @@ fn has_all<A: Allocator + Copy>(graph: &Graph<A>, ids: &[Oid]) -> Result<bool, T
     }
 }
 
-/// Whether the outcome of an event is out of memory.
+/// Returns whether the outcome of an event is a memory fault.
 pub(crate) fn is_out_of_memory(outcome: Outcome) -> bool {
     match outcome {
         Outcome::Fault { code } => matches!(code, 18 | 28 | 53 | 64 | 65 | 66),
@@ -198,7 +199,7 @@ pub(crate) fn is_out_of_memory(outcome: Outcome) -> bool {
     }
 }
 
-/// Returns a line for the outcome of each event, and then one for each ref of the client.
+/// Returns a line for the outcome of each event, and a line for each ref of the client.
 pub(crate) fn text_of<A: Allocator + Copy>(
     alloc: Global,
     outcomes: &[Outcome],
@@ -209,7 +210,7 @@ pub(crate) fn text_of<A: Allocator + Copy>(
     Ok(text)
 }
 
-/// Appends these lines.
+/// Appends a line for the outcome of each event, and a line for each ref of the client.
 pub(crate) fn add_text<A: Allocator + Copy>(
     alloc: Global,
     outcomes: &[Outcome],
@@ -246,7 +247,7 @@ fn add_ref(id: &str, name: &[u8], text: &mut String) -> Result<(), Trouble> {
     }
 }
 
-// Appends the outcome of an event, as a line.
+// Appends the line of an outcome.
 fn add_outcome(outcome: Outcome, text: &mut String) -> Result<(), AllocError> {
     match outcome {
         Outcome::Done => text.push_str("done\n"),

@@ -1,9 +1,10 @@
-//! The command of a command line, as one line.
+//! The request that a command line is parsed into, as one line.
 //!
-//! The text of such a fact is the arguments, separated by blanks; `""` is the empty argument. The
-//! expected result is `none` if the arguments do not match the usage. Otherwise it is the command;
-//! the source or the address; the limit of a pack; the number of connections; `plain` or
-//! `response-end` for how replies end; and the files, refspecs or prefixes in their order.
+//! The text of an `asked` fact holds the arguments, separated by spaces; `""` is the empty
+//! argument. The result is `none` for arguments that do not match the usage. Otherwise the result
+//! lists the command, the source or the address, the limit of a pack, and the number of
+//! connections. Then follow `plain` or `response-end` for the ends of replies, and the files,
+//! refspecs or prefixes in order.
 
 use case_launches::add_split;
 use case_text::Trouble;
@@ -12,10 +13,10 @@ use gcmd::Ends;
 use gtcp::Location;
 use std::alloc::Global;
 
-// The spelling of the empty argument.
+// The empty argument in a test file.
 const EMPTY: &str = "\"\"";
 
-/// Returns the command of the arguments.
+/// Returns the request that the arguments are parsed into.
 pub fn answer(alloc: Global, text: &[u8]) -> Result<String, Trouble> {
     let Ok(text) = std::str::from_utf8(text) else {
         return Ok(String::from_str(alloc, "no text")?);
@@ -98,7 +99,7 @@ fn simulate_shown(alloc: Global, asked: &Simulate) -> Result<String, Trouble> {
     command_text(alloc, "simulate", &files, &[])
 }
 
-// Returns the address and the path, which is ASCII.
+// Returns the address and the path; the path is ASCII.
 fn place_shown(alloc: Global, place: &Location) -> Result<String, Trouble> {
     let address = place.address();
     let path = match std::str::from_utf8(place.hello().path()) {
@@ -115,7 +116,7 @@ fn ends_shown(ends: Ends) -> &'static str {
     }
 }
 
-// Returns a line with this beginning, followed by the files and the arguments.
+// Returns a line with this start, the files and the arguments.
 fn command_text(
     alloc: Global,
     start: &str,

@@ -1,4 +1,4 @@
-//! The calls of `gtcp` on a connection, for any streams, and their results.
+//! Calls of `gtcp` over any type of stream, and the results of the calls.
 
 use case_runs::{
     Hindrance, Job, Ran, Watch, Writer, client_of, end_fetch, end_listing, end_with_fault,
@@ -17,7 +17,7 @@ use std::io::{Read, Write};
 use std::net::{OpenListener, OpenStream};
 use std::time::Clock;
 
-/// The result of a run on connections, and its printed lines.
+/// The result of a run on connections, with the printed lines.
 #[derive(Drop)]
 pub struct Held {
     pub ran: Ran,
@@ -32,7 +32,8 @@ struct Printed {
     errors: Writer,
 }
 
-/// The listener, how many connections are served, and the clock of their time. A client takes one.
+/// A listener, the number of connections to serve, and the clock for their deadlines. A client uses
+/// one connection of the listener.
 #[derive(Drop)]
 pub struct Door<'c, C, L> {
     pub clock: &'c C,
@@ -40,7 +41,8 @@ pub struct Door<'c, C, L> {
     pub connections: u32,
 }
 
-/// Runs a row on connections. An allocation may be refused, counted from the row's first call.
+/// Runs a row on connections. The allocation with number `refused` fails, counted from the first
+/// call of `gtcp`.
 pub fn hold_row<C, L, S>(
     alloc: Global,
     row: &Row<'_>,
@@ -67,8 +69,8 @@ where
     hold(&job, door)
 }
 
-// Runs a command of a connection. The allocation of the job is refused, counted from the command's
-// first call.
+// Runs a command on connections. The job's chosen allocation fails, counted from the first call of
+// `gtcp`.
 fn hold<A, C, L, S>(job: &Job<'_, '_, '_, A>, door: Door<'_, C, L>) -> Result<Held, Trouble>
 where
     A: Allocator + Copy,
@@ -110,7 +112,7 @@ where
     }
 }
 
-// Serves. Prints the faults of connections; if there is one, the status of the row is 1.
+// Serves all connections, and prints their faults. The status is 1 if any fault is printed.
 fn serve_from<A, C, L, S>(
     job: &Job<'_, '_, '_, A>,
     server: &Server<A>,

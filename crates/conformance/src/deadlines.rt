@@ -1,8 +1,8 @@
-//! Connections with a late peer, and a separate clock.
+//! Tests of deadlines: connections with a late peer and a simulated clock.
 //!
-//! The limits are repeated here. A client has 10 seconds for its whole first line, and 60 for each
-//! whole request. A server may send nothing for 60 seconds, and a client may accept nothing for as
-//! long.
+//! These tests state the deadlines again. A server waits 10 seconds for the first line of a client,
+//! and 60 seconds for each request. A client waits 60 seconds for the next bytes of a server. A
+//! server waits 60 seconds for a client to accept bytes.
 
 use crate::connection::{Door, Held, hold_row};
 use crate::late::{LateListener, Line, Manner, OwnClock, Pulse};
@@ -12,33 +12,33 @@ use case_tries::{Played, Row, Stop, is_as_due, is_kept, is_stopped, is_write_fai
 use std::alloc::Global;
 use std::time::Duration;
 
-/// The seconds for a first line, for a request, and for silence.
+/// The limits in seconds for a first line, for a request, and for silence.
 const FIRST_LINE: u64 = 10;
 
 const REQUEST: u64 = 60;
 
 const SILENCE: u64 = 60;
 
-/// The seconds within which an honest client gets a reply if it comes after two silent ones.
+/// The seconds within which a server answers an honest client after two silent clients.
 const PATIENCE: u64 = 25;
 
-/// How long a slow peer waits before each byte, in milliseconds: in time for a first line and for a
-/// request, for one of them, and for none; just in time, and just too late, for the limit of
-/// silence.
+/// The milliseconds that a slow peer waits before each byte. Some gaps meet the deadlines of a
+/// first line and of a request, and others miss one deadline or both. The last two gaps are just
+/// below and at the limit for silence.
 const GAPS: [u64; 8] = [100, 240, 250, 400, 900, 6_000, 59_999, 60_000];
 
-// The fate of a connection.
+// The expected result of a connection.
 #[derive(Clone, Copy)]
 struct Due {
-    // The byte before which the peer is late, if it is.
+    // The index of the byte for which the peer is late, if any.
     late_at: Option<usize>,
-    // How much time passes.
+    // The expected duration of the connection.
     time: Duration,
 }
 
-/// Tries a row that says so with late peers: silent from some byte on, or slow from each message
-/// on. A server's client may also accept no more from some byte on. The next client of a server is
-/// in time. Counts its runs, and returns the byte at which the first went wrong.
+/// Tests a `late` row with peers that are silent after some byte, or slow after some message. A
+/// client may also stop accepting bytes. The next client of a server must be served. Counts the
+/// runs in `runs`, and returns the index of the byte at which the first run failed.
 pub fn first_wrong(alloc: Global, row: &Row<'_>, runs: &mut u64) -> Result<Option<usize>, Trouble> {
     if !row.is_late || !row.command.has_hello() {
         return Ok(None);
@@ -53,7 +53,7 @@ pub fn first_wrong(alloc: Global, row: &Row<'_>, runs: &mut u64) -> Result<Optio
     Ok(wrong)
 }
 
-// Tries peers that are silent from each packet on, and from the second and the sixth byte of each.
+// Tests the row with peers that are silent before the first, second or sixth byte of each packet.
 fn wrong_where_silent(
     alloc: Global,
     row: &Row<'_>,
@@ -81,7 +81,7 @@ fn is_silent_as_due(
     is_late_as_due(alloc, row, manner, runs)
 }
 
-// Tries peers that are slow from the beginning of each message on.
+// Tests the row with peers that are slow from the beginning of each message.
 fn wrong_where_slow(
     alloc: Global,
     row: &Row<'_>,
@@ -112,8 +112,8 @@ fn is_slow_as_due(
     Ok(true)
 }
 
-// Tries a server's client that accepts no more from the end of each message on, or from the byte
-// before that.
+// Tests a server with clients that accept only the output up to the end of a message, or one byte
+// less.
 fn wrong_where_full(
     alloc: Global,
     row: &Row<'_>,
@@ -131,7 +131,8 @@ fn wrong_where_full(
     Ok(None)
 }
 
-// Tries the peers that only a server has.
+// Tests a server with clients that stop accepting bytes, with faulty clocks, and with two silent
+// clients.
 fn wrong_server(alloc: Global, row: &Row<'_>, runs: &mut u64) -> Result<Option<usize>, Trouble> {
     let wrong = wrong_where_full(alloc, row, runs)?;
     if wrong.is_some() {
@@ -148,8 +149,8 @@ fn wrong_server(alloc: Global, row: &Row<'_>, runs: &mut u64) -> Result<Option<u
     Ok(if is_right { None } else { Some(0) })
 }
 
-// Whether a connection with a peer that is late in this manner has the expected results, and a
-// server's next client is served.
+// Returns whether a connection with this late peer has the expected results. The next client of a
+// server must be served.
 fn is_late_as_due(
     alloc: Global,
     row: &Row<'_>,
@@ -167,8 +168,8 @@ fn is_late_as_due(
     Ok(is_right && is_next_served && met.time == due.time && is_kept(alloc, row, &met.first))
 }
 
-// Returns the byte before which the peer is late: no time is left for the message that it sends, or
-// since its last byte.
+// Returns the index of the byte for which the peer is late, and the expected duration. A peer is
+// late if the time for its message, or since its last byte, runs out.
 fn due_of(row: &Row<'_>, manner: Manner) -> Due {
     let mut time = Duration::ZERO;
     let mut left = Duration::from_secs(SILENCE);
@@ -191,7 +192,7 @@ fn due_of(row: &Row<'_>, manner: Manner) -> Due {
     }
 }
 
-// Returns how much time the peer has for this byte, if `left` is left.
+// Returns the time that the peer has for this byte; `left` is the rest of the message's time.
 fn time_at(row: &Row<'_>, at: usize, left: Duration) -> Duration {
     if row.command.program != Program::Serve {
         Duration::from_secs(SILENCE)
@@ -204,7 +205,7 @@ fn time_at(row: &Row<'_>, at: usize, left: Duration) -> Duration {
     }
 }
 
-// Whether a server drops a client that accepts `takes` bytes and no more.
+// Returns whether a server drops a client that accepts only `takes` bytes.
 fn is_left_as_due(alloc: Global, row: &Row<'_>, takes: usize) -> Result<bool, Trouble> {
     let mut manner = Manner::PROMPT;
     manner.takes = takes;
@@ -213,13 +214,13 @@ fn is_left_as_due(alloc: Global, row: &Row<'_>, takes: usize) -> Result<bool, Tr
     Ok(is_write_failed(row, &met.first) && met.is_last_served && is_in_time)
 }
 
-// Whether a server reads nothing by a clock that does not go on.
+// Returns whether a server reads nothing if its clock fails or goes back.
 fn is_refused_by_clock(alloc: Global, row: &Row<'_>, pulse: Pulse) -> Result<bool, Trouble> {
     let met = meet(alloc, row, &[Manner::PROMPT], pulse)?;
     is_stopped(alloc, row, &met.first, 0, Stop::Failed)
 }
 
-// Whether a server replies soon to an honest client that comes after two silent ones.
+// Returns whether a server answers an honest client in time after two silent clients.
 fn is_answered_after_two(alloc: Global, row: &Row<'_>) -> Result<bool, Trouble> {
     let mut silent = Manner::PROMPT;
     silent.silent = 0;
@@ -227,17 +228,18 @@ fn is_answered_after_two(alloc: Global, row: &Row<'_>) -> Result<bool, Trouble> 
     Ok(met.is_last_served && met.time <= Duration::from_secs(PATIENCE))
 }
 
-// The results of connections.
+// The results of a row's connections.
 #[derive(Drop)]
 struct Met {
-    // The output of the first of them, and the printed lines of all.
+    // The output of the first connection, and the printed lines of all connections.
     first: Played,
-    // Whether the last was served as the row says.
+    // Whether the last connection had the output of the row.
     is_last_served: bool,
     time: Duration,
 }
 
-// Runs the row on connections with peers of these manners; a client takes the first.
+// Runs the row on one connection for each manner, with a peer of that manner. A client uses only
+// the first connection.
 fn meet(alloc: Global, row: &Row<'_>, manners: &[Manner], pulse: Pulse) -> Result<Met, Trouble> {
     let Ok(connections) = u32::try_from(manners.len()) else {
         return Err(Trouble::NoSocket);

@@ -1,4 +1,4 @@
-//! Connections in memory with a late peer, and a separate clock. Time passes only while a read or a
+//! Connections in memory with a late peer and a simulated clock. Time passes only while a read or a
 //! write waits.
 
 ghost use Rattle.std.specs.Io.{ReadsAtMost, WritesAtMost};
@@ -11,27 +11,27 @@ use std::io::{self, ErrorKind, Read, Write};
 use std::net::{Ipv4Addr, OpenListener, OpenStream, Shutdown, SocketAddr};
 use std::time::{Clock, Duration};
 
-/// The behavior of a clock.
+/// The behavior of a simulated clock.
 #[derive(Clone, Copy, PartialEq, Eq)]
 pub enum Pulse {
-    /// It goes on while something waits.
+    /// The clock advances while a call waits.
     Even,
-    /// It goes back a second at each reading.
+    /// The clock goes back one second at each reading.
     GoesBack,
-    /// It can't be read.
+    /// Each reading of the clock fails.
     Fails,
 }
 
-/// A clock that goes on only while something waits.
+/// A simulated clock that advances only while a call waits.
 #[derive(Drop)]
 pub struct OwnClock {
     now: Cell<Duration>,
     pulse: Pulse,
-    // How much it went back.
+    // The time by which the clock went back.
     back: Cell<Duration>,
 }
 
-// The seconds that it shows at first.
+// The first reading of the clock, in seconds.
 const DAY: u64 = 86_400;
 
 impl OwnClock {
@@ -43,7 +43,7 @@ impl OwnClock {
         }
     }
 
-    /// Returns how much time has passed.
+    /// Returns the time that has passed.
     pub fn time_passed(&self) -> Duration {
         self.now.get()
     }
@@ -72,21 +72,21 @@ impl Clock for OwnClock {
     }
 }
 
-/// The manner in which a peer is late.
+/// The delays and limits of a peer.
 #[derive(Clone, Copy)]
 pub struct Manner {
     /// The index of the first byte that is sent alone.
     pub from: usize,
-    /// How long the peer waits before each of these.
+    /// The delay before each byte that is sent alone.
     pub gap: Duration,
     /// The index of the first byte that is never sent.
     pub silent: usize,
-    /// How many bytes the peer accepts.
+    /// The number of bytes that the peer accepts.
     pub takes: usize,
 }
 
 impl Manner {
-    /// In time: the peer sends all at once, and accepts all.
+    /// A prompt peer, which sends everything at once and accepts everything.
     pub const PROMPT: Manner = Manner {
         from: usize::MAX,
         gap: Duration::ZERO,
@@ -94,7 +94,7 @@ impl Manner {
         takes: usize::MAX,
     };
 
-    /// Returns how long the peer waits before it sends this byte, or `None` if it never does.
+    /// Returns the peer's delay before this byte, or `None` if the byte is never sent.
     pub fn gap_before(&self, at: usize) -> Option<Duration> {
         if at >= self.silent {
             None
@@ -105,7 +105,7 @@ impl Manner {
         }
     }
 
-    // Returns the end of the input that arrives at once, starting at this byte.
+    // Returns the end of the piece that starts at this byte and arrives at once.
     fn piece_end(&self, at: usize) -> usize {
         if at >= self.from {
             at.saturating_add(1)
@@ -125,12 +125,12 @@ pub struct Line<'r> {
     read_limit: Cell<Option<Duration>>,
     write_limit: Cell<Option<Duration>>,
     is_nonblocking: Cell<bool>,
-    // Whether a call waited without a limit.
+    // Whether a call waited without a timeout.
     is_stuck: Cell<bool>,
 }
 
 impl<'r> Line<'r> {
-    /// Returns a connection to a peer that sends its part of the talk in this manner.
+    /// Returns a connection to a peer that sends the input of the talk in this manner.
     pub fn new(alloc: Global, talk: &'r Talk, manner: Manner) -> Line<'r> {
         Line {
             talk,
@@ -144,8 +144,8 @@ impl<'r> Line<'r> {
         }
     }
 
-    /// Returns the bytes that the peer accepted. If a call waited without a limit, they count as
-    /// not flushed.
+    /// Returns the bytes that the peer accepted. If a call waited without a timeout, the bytes
+    /// count as not flushed.
     pub fn taken_bytes(&self, alloc: Global) -> Result<Writer, Trouble> {
         match self.taken.try_borrow() {
             Ok(taken) => Ok(Writer::with_bytes(alloc, taken.as_slice(), !self.is_stuck.get())?),
@@ -153,7 +153,7 @@ impl<'r> Line<'r> {
         }
     }
 
-    // Waits for this time, or forever, but no longer than the limit.
+    // Waits for this time, or forever for `None`, but at most until the limit.
     fn wait(
         &self,
         clock: &OwnClock,
@@ -181,7 +181,7 @@ impl<'r> Line<'r> {
         Ok(())
     }
 
-    // Writes the next bytes into the buffer, and returns how many.
+    // Writes the next bytes into the buffer, and returns their number.
     fn give(&self, clock: &OwnClock, buf: &mut [u8]) -> io::Result<usize>
         ensures { ReadsAtMost result buf.new }
     {
@@ -201,7 +201,7 @@ impl<'r> Line<'r> {
         Ok(count)
     }
 
-    // Accepts some of the bytes, and returns how many.
+    // Accepts a prefix of the bytes, and returns its length.
     fn take_bytes(&self, clock: &OwnClock, buf: &[u8]) -> io::Result<usize>
         ensures { WritesAtMost result buf.now }
     {
@@ -220,7 +220,7 @@ impl<'r> Line<'r> {
     }
 }
 
-/// The near end of a connection to a late peer.
+/// The tested program's end of a connection to a late peer.
 #[derive(Drop)]
 pub struct LateStream<'c, 'r> {
     clock: &'c OwnClock,
@@ -266,7 +266,7 @@ impl OpenStream for LateStream<'_, '_> {
     }
 }
 
-// A limit of zero is refused, as for a socket.
+// Sets a timeout; a timeout of zero is an error, as for a socket.
 fn set_limit(limit: &Cell<Option<Duration>>, dur: Option<Duration>) -> io::Result<()> {
     if dur == Some(Duration::ZERO) {
         return Err(io::Error::from(ErrorKind::InvalidInput));
@@ -275,7 +275,7 @@ fn set_limit(limit: &Cell<Option<Duration>>, dur: Option<Duration>) -> io::Resul
     Ok(())
 }
 
-/// Accepts these connections, one after the other.
+/// A listener that accepts the given connections in order.
 #[derive(Drop)]
 pub struct LateListener<'c, 'r> {
     clock: &'c OwnClock,

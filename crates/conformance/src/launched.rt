@@ -1,11 +1,11 @@
-//! Cases on which the program itself is run.
+//! Test cases that launch the program itself.
 
 use case_launches::{Plan, System, add_split, is_launched, launch};
 use case_text::{Case, Fact, Script, Trouble};
 use case_tries::{Bench, Row};
 
-/// Runs the program with the arguments of a row, over a file of its repository, if that is
-/// possible. Returns a number if it went wrong, and keeps the printed lines.
+/// Launches the program with the arguments of a row and a file of its repository, if the program
+/// can run the row. Returns 0 after unexpected results, and stores the printed lines.
 pub fn wrong_row<R: System>(
     rt: &R,
     script: &Script<'_>,
@@ -27,7 +27,8 @@ pub fn wrong_row<R: System>(
     }
 }
 
-/// Runs it with both ends in one process. Returns what went wrong.
+/// Launches the program with a server and a client in one process. Returns a text with the
+/// unexpected results, if any.
 pub fn wrong_pair<R: System>(
     rt: &R,
     script: &Script<'_>,
@@ -37,7 +38,7 @@ pub fn wrong_pair<R: System>(
     launch(rt, &Plan::of_pair(rt.alloc(), script, case, words)?)
 }
 
-/// Runs it as a case says. Returns what went wrong.
+/// Launches the program as described by a case. Returns a text with the unexpected results, if any.
 pub fn wrong_launch<R: System>(
     rt: &R,
     script: &Script<'_>,
@@ -49,8 +50,9 @@ pub fn wrong_launch<R: System>(
     }
 }
 
-/// Runs it with the arguments of a fact, in an empty folder. Returns what went wrong: it must
-/// report wrong usage exactly for arguments without a command.
+/// Launches the program with the arguments of a fact, in an empty folder. Returns a text with the
+/// unexpected results, if any. The program must report wrong usage exactly if the fact expects no
+/// command.
 pub fn wrong_words<R: System>(
     rt: &R,
     script: &Script<'_>,

@@ -1,4 +1,4 @@
-//! Checks of facts: whole, in pieces, and with each allocation refused.
+//! Checks of facts: with the whole text, in pieces, and with each allocation refused.
 
 use crate::asked;
 use crate::launched::wrong_words;
@@ -10,7 +10,7 @@ use case_worlds::answer_by_chance;
 use std::alloc::Global;
 use std::io;
 
-/// Checks a fact, and reports each unexpected result.
+/// Checks a fact, and prints each unexpected result.
 pub fn try_fact<R: System>(
     rt: &R,
     script: &Script<'_>,
@@ -26,7 +26,7 @@ pub fn try_fact<R: System>(
     }
 }
 
-// Runs the program with the arguments of a fact.
+// Launches the program with the arguments of a fact.
 fn try_asked<R: System>(
     rt: &R,
     script: &Script<'_>,
@@ -54,13 +54,14 @@ fn tell_wrong_fact<R: Print>(
     println!(rt; "{source}:{line}: {kind} {answer}")
 }
 
-// Texts of more bytes are read without refused allocations, and longer histories are searched once.
+// The maximum size of a text for runs with refused allocations. Longer graphs than `LONG_GRAPH` are
+// searched only once.
 const LONG_TEXT: usize = 10_000;
 
 const LONG_GRAPH: usize = 150_000;
 
-// Returns the first unexpected result: whole, in pieces of one byte and of three, and with each
-// allocation refused.
+// Returns the first unexpected result. The text is read whole, in pieces of one byte and of three
+// bytes, and with each allocation refused.
 fn wrong_answer(
     alloc: Global,
     script: &Script<'_>,
@@ -86,7 +87,8 @@ fn wrong_answer(
     wrong_without_memory(alloc, fact, graph, tally)
 }
 
-// Returns the first result, with an allocation refused, that is neither expected nor out of memory.
+// Returns the first result that is neither the expected result nor a memory fault. Each run refuses
+// the next allocation.
 fn wrong_without_memory(
     alloc: Global,
     fact: &Fact<'_>,

@@ -1,45 +1,45 @@
-//! Cases of Git's fetch protocol, from files, tried on the programs of `gcmd` and on the calls
-//! below them; also command lines, with their commands.
+//! Tests of Git's fetch protocol from files. The tests run the programs of `gcmd` and the calls
+//! below these programs, and check the parsing of command lines.
 //!
-//! The arguments of the command line name files of cases; `case_text` has their format. The first
-//! argument may be `--quick`, to leave out changed bytes, `--once`, to try each case only
-//! unchanged, or `--edge`, for connections and stored files.
+//! The arguments of the command line name test files; `case_text` parses them. The first argument
+//! may be `--quick` to leave out changed bytes, `--once` to run each case only unchanged, or
+//! `--edge` to run only connections and stored files.
 //!
-//! Each case is run through its programs, with ids of both formats and with response-end packets
-//! after replies, unless it says otherwise:
+//! Each case runs with its programs, and with ids of both formats. Replies also run with
+//! response-end packets added. A case may exclude one format or the added packets.
 //!
-//! - unchanged; in pieces; over std's devices; with an indexer that watches;
-//! - by the program `gitv2` itself, over files, standard streams and sockets;
-//! - over a socket of this process, starting at the first line of a connection, with both ends
-//!   taking turns;
-//! - with a late peer, and a separate clock;
-//! - with each call of each device failing in turn, and with a stored file that fails at each of
-//!   its calls;
-//! - cut after each byte; with each byte changed; by a table of the expected results, if it has
-//!   one;
-//! - with each allocation refused in turn.
+//! - The input is unchanged, whole or in pieces, also over the readers and writers of std.
+//! - The calls of the indexer are checked.
+//! - The program `gitv2` itself runs over files, standard streams and sockets.
+//! - A connection with its first line runs over a socket in this process, and both ends take turns.
+//! - A peer is late, by a simulated clock.
+//! - Each call of each device fails in turn.
+//! - A stored file fails or stops at each of its calls.
+//! - The input is truncated after each byte, or one of its bytes is changed.
+//! - The request is changed as the case's table lists.
+//! - Each allocation is refused in turn.
 //!
-//! Facts about texts are also tried in pieces, and with each allocation refused. Simulations are
-//! also tried in separate worlds, and in others with random events. Only the program itself tries
-//! both ends of a pair, and cases about its runs. A try that goes wrong is a line on standard
-//! output, and the last lines count the tries.
+//! Facts about texts are also checked in pieces, and with each allocation refused. Simulations also
+//! run in worlds of their own, and in worlds with random events. Pairs of a server and a client,
+//! and cases that describe a launch, run only in the program itself. Each failure is a line on
+//! standard output, and the last lines count the runs.
 //!
 //! # Proved
 //!
-//! It is safe and ends.
+//! Every call returns, with no index out of range, overflow or use after free.
 //!
 //! # What the contracts do not rule out
 //!
-//! The contracts say nothing of the results. Wrong cases and wrong programs were tried, to see that
-//! wrong results are noticed.
+//! No contract states the results of this crate. Deliberately wrong cases and programs were run, to
+//! check that the tests reject them.
 //!
 //! # Stands on
 //!
-//! `case_text` for the contents of the files and for memory that ends; `case_tries` for the tries
-//! of a row; `case_launches` for runs of the program itself. `case_facts`, `case_runs` and
-//! `case_worlds` for facts, for runs over devices, and for events. `gtcp` for sockets, `gargs` for
-//! command lines, `gcmd` for the shared parts of programs. `gclient`, `glsreply`, `ggraph`,
-//! `ggrammar`, `gpkt` and `gname` for the types of these.
+//! `case_text` parses the files and defines an allocator that fails. `case_tries` tests rows,
+//! `case_launches` launches the program, and `case_facts` checks facts. `case_runs` runs programs
+//! over devices, and `case_worlds` runs simulations. `gtcp` defines sockets, `gargs` command lines,
+//! and `gcmd` the shared parts of programs. `gclient`, `glsreply`, `ggraph`, `ggrammar`, `gpkt` and
+//! `gname` define the types in use.
 #![tactic(auto)]
 
 mod asked;
@@ -73,7 +73,7 @@ fn main(rt: HostRuntime) -> ExitCode {
     }
 }
 
-// Tries all cases of the files in the arguments. Returns whether nothing went wrong.
+// Runs all tests of the files in the arguments. Returns whether all succeeded.
 fn run_cases<R>(rt: &R) -> io::Result<bool>
 where
     R: AllocGlobal + Clock + Env + Files + Print + Net<Stream = TcpStream, Listener = TcpListener>,
@@ -84,7 +84,7 @@ where
     try_all(rt, (names, files.as_slice()), &mut Tally::new(depth))
 }
 
-// Tries the cases with ids of each format.
+// Runs the tests with ids of each format.
 fn try_all<R: System>(
     rt: &R,
     files: (&[String], &[String]),
@@ -107,7 +107,7 @@ fn read_files<R: Files + AllocGlobal>(rt: &R, names: &[String]) -> io::Result<Ve
     Ok(files)
 }
 
-// Tries the cases of one format of ids. Returns whether they could be read.
+// Runs the tests with ids of one format. Returns whether the files could be parsed.
 fn try_files<R: System>(
     rt: &R,
     format: Format,
@@ -139,7 +139,7 @@ fn read_all<'a>(
     Ok(())
 }
 
-// Returns how much is tried, and the names of the files.
+// Returns the depth of the tests, and the names of the files.
 fn depth_of(words: &[String]) -> (Depth, &[String]) {
     let Some((first, names)) = words.split_first() else {
         return (Depth::Full, words);
@@ -150,7 +150,7 @@ fn depth_of(words: &[String]) -> (Depth, &[String]) {
     }
 }
 
-// Tries the facts and the cases.
+// Checks the facts and runs the cases.
 fn try_script<R: System>(rt: &R, script: &Script<'_>, tally: &mut Tally) -> io::Result<()> {
     for fact in script.facts.as_slice() {
         try_fact(rt, script, fact, tally)?;

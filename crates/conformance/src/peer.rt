@@ -1,5 +1,5 @@
-//! The other end of a connection over a socket of this process: it sends the messages of a row, and
-//! reads the rest.
+//! The peer of a connection over a socket in the same process. The peer sends the messages of a
+//! row, and reads the output of the tested program.
 
 use case_text::{Talk, Trouble};
 use std::alloc::Global;
@@ -8,14 +8,14 @@ use std::io::{self, ErrorKind, Read, Write};
 use std::net::{Net, OpenListener, OpenStream, Shutdown, SocketAddr, TcpListener, TcpStream};
 use std::time::Duration;
 
-/// The way in which both ends take turns.
+/// How the peer and the tested program take turns.
 #[derive(Clone, Copy, PartialEq, Eq)]
 pub enum Pace {
-    /// The peer sends all at once, before it reads anything.
+    /// The peer sends everything at once, before it reads anything.
     AtOnce,
-    /// The peer sends a message after it has read the whole reply to the one before.
+    /// The peer sends a message after it has read the whole reply to the previous message.
     Turns,
-    /// The same, and each end moves one byte a call.
+    /// The ends take turns, and each of them moves one byte a call.
     Bytes,
 }
 
@@ -31,11 +31,11 @@ impl Pace {
     }
 }
 
-// The seconds that the peer waits for bytes that were already written. It waits only if something
-// is wrong.
+// The seconds that the peer waits for bytes that were already written. The peer waits only for a
+// faulty program.
 const PATIENCE: u64 = 5;
 
-// The bytes that it reads in one call.
+// The maximum number of bytes that the peer reads in one call.
 const HEARD_BYTES: usize = 4_096;
 
 /// The peer of a connection.
@@ -44,15 +44,17 @@ pub struct Peer<'r> {
     talk: &'r Talk,
     far: TcpStream,
     pace: Pace,
-    // How many bytes the peer sent, and how many of them the near end read.
+    // The number of bytes that the peer has sent, and the number of bytes that the program has
+    // read.
     said: Cell<usize>,
     read: Cell<usize>,
-    // How many bytes the near end wrote, and those of them that the peer read.
+    // The number of bytes that the program has written, and the bytes that the peer has read.
     written: Cell<usize>,
     heard: RefCell<Vec<u8>>,
     // Whether the peer has shut down writing.
     has_ended: Cell<bool>,
-    // Whether the near end waited for a message before its reply was whole.
+    // Whether the program waited for a message before it had sent the whole reply to the previous
+    // one.
     was_awaited_early: Cell<bool>,
 }
 
@@ -89,7 +91,7 @@ impl<'r> Peer<'r> {
         Ok(peer)
     }
 
-    /// Whether the near end never waited for a message before its reply was whole.
+    /// Returns whether the program always sent a whole reply before it waited for the next message.
     pub fn was_heard_in_turn(&self) -> bool {
         !self.was_awaited_early.get()
     }
@@ -99,14 +101,14 @@ impl<'r> Peer<'r> {
         self.heard.into_inner()
     }
 
-    /// Whether the near end is closed without an error.
+    /// Returns whether the program closed its end without an error.
     pub fn is_closed(&self) -> bool {
         let mut byte = [0; 1];
         let mut far = &self.far;
         matches!(far.read(&mut byte), Ok(0))
     }
 
-    // Gives the peer a turn, if the near end has read all that was sent.
+    // Lets the peer read and then send, if the program has read all bytes sent so far.
     fn take_turn(&self) -> io::Result<()> {
         if self.has_ended.get() || self.read.get() < self.said.get() {
             return Ok(());
@@ -120,8 +122,8 @@ impl<'r> Peer<'r> {
         }
     }
 
-    // Returns the bytes that the peer sends next: none if all are sent, or if the reply is not
-    // whole.
+    // Returns the bytes that the peer sends next. The result is empty if all bytes are sent, or if
+    // the reply is not complete.
     fn next_part(&self) -> &'r [u8] {
         let said = self.said.get();
         if !self.may_say(said) {
@@ -139,8 +141,8 @@ impl<'r> Peer<'r> {
         }
     }
 
-    // Whether a message that begins here may be sent: the peer has read exactly the output before
-    // it.
+    // Returns whether the peer may send the message that begins at this offset. The peer must have
+    // read exactly the output before the message.
     fn may_say(&self, said: usize) -> bool {
         match self.talk.message_at(said) {
             Some(place) => self.count_heard() == place.before,
@@ -167,7 +169,7 @@ impl<'r> Peer<'r> {
         self.far.shutdown(Shutdown::Write)
     }
 
-    /// Reads all that the near end has written. Fails if the connection is reset.
+    /// Reads all bytes that the program has written. Fails if the connection is reset.
     pub fn hear(&self) -> io::Result<()> {
         for _ in 0..u64::MAX {
             let left = self.written.get().saturating_sub(self.count_heard());
@@ -178,7 +180,7 @@ impl<'r> Peer<'r> {
         Ok(())
     }
 
-    // Reads at most `most` bytes, and returns how many.
+    // Reads at most `most` bytes, and returns their number.
     fn hear_some(&self, most: usize) -> io::Result<usize> {
         let mut bytes = [0; HEARD_BYTES];
         let mut far = &self.far;
@@ -193,7 +195,7 @@ impl<'r> Peer<'r> {
     }
 }
 
-/// The near end of a connection: its peer has a turn before each read.
+/// The tested program's end of a connection. The peer takes a turn before each read.
 #[derive(Drop)]
 pub struct Turned<'p, 'r> {
     near: TcpStream,
@@ -234,7 +236,7 @@ impl OpenStream for Turned<'_, '_> {
         self.near.set_nodelay(nodelay)
     }
 
-    // A read that does not wait gives the peer no turn.
+    // A nonblocking read gives the peer no turn.
     fn set_nonblocking(&self, nonblocking: bool) -> io::Result<()> {
         self.peer.has_ended.set(nonblocking);
         self.near.set_nonblocking(nonblocking)
@@ -249,7 +251,7 @@ impl OpenStream for Turned<'_, '_> {
     }
 }
 
-/// Accepts near ends of one peer.
+/// A listener for connections from one peer.
 #[derive(Drop)]
 pub struct TurnedListener<'p, 'r> {
     listener: TcpListener,
@@ -257,7 +259,7 @@ pub struct TurnedListener<'p, 'r> {
 }
 
 impl<'p, 'r> TurnedListener<'p, 'r> {
-    /// Accepts the connections of the listener, to which the peer connected.
+    /// Returns a listener for the connections that the peer has made.
     pub fn new(listener: TcpListener, peer: &'p Peer<'r>) -> TurnedListener<'p, 'r> {
         TurnedListener { listener, peer }
     }

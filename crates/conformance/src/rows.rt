@@ -1,4 +1,4 @@
-//! Trying cases by each of their programs in each way.
+//! Tests of each case, with each of its programs, in each way.
 
 use crate::tally::{Tally, tell_trouble};
 use crate::{deadlines, launched, socket};
@@ -11,10 +11,10 @@ use ggrammar::Ends;
 use std::alloc::Global;
 use std::io;
 
-// The first word of the command line for both ends in one process.
+// The first word of a command line for a server and a client in one process.
 const PAIR: &str = "pair ";
 
-// A case and one of its command lines, and whether response-end packets are added to its replies.
+// A case with one of its command lines. `adds_ends` adds response-end packets to the replies.
 #[derive(Clone, Copy)]
 struct Attempt<'b> {
     script: &'b Script<'b>,
@@ -23,8 +23,8 @@ struct Attempt<'b> {
     adds_ends: bool,
 }
 
-/// Tries a case by each of its programs, and again with response-end packets after its replies, if
-/// they may have them.
+/// Tests a case with each of its programs. Replies that may end with a response-end packet are
+/// tested with and without that packet.
 pub fn try_case<'b, R: System>(
     rt: &R,
     script: &'b Script<'b>,
@@ -47,7 +47,7 @@ pub fn try_case<'b, R: System>(
     Ok(())
 }
 
-// Tries a command line of a case.
+// Tests a case with one of its command lines.
 fn try_words<R: System>(rt: &R, plain: Attempt<'_>, tally: &mut Tally) -> io::Result<()> {
     if plain.words.starts_with(PAIR) {
         return try_launch(rt, plain, tally);
@@ -58,8 +58,8 @@ fn try_words<R: System>(rt: &R, plain: Attempt<'_>, tally: &mut Tally) -> io::Re
     try_run(rt, ended, tally)
 }
 
-// Tries a case that only the program itself runs: one that describes its run, or both ends in one
-// process.
+// Tests a case by a launch of the program: a case that describes the launch, or a server and a
+// client in one process.
 fn try_launch<R: System>(rt: &R, run: Attempt<'_>, tally: &mut Tally) -> io::Result<()> {
     tally.count_row();
     tally.count_runs(Way::ByProgram, 1);
@@ -82,7 +82,7 @@ fn try_run<R: System>(rt: &R, run: Attempt<'_>, tally: &mut Tally) -> io::Result
     }
 }
 
-// Returns the row of a run, or `None` if its replies may not have response-end packets.
+// Returns the row of a run, or `None` if response-end packets can't be added.
 fn row_of<'b>(
     alloc: Global,
     script: &'b Script<'b>,
@@ -94,7 +94,7 @@ fn row_of<'b>(
     }
 }
 
-// Returns the command of a run, or `None` if its replies may not have response-end packets.
+// Returns the command of a run, or `None` if response-end packets can't be added.
 fn command_in<'b>(
     script: &'b Script<'b>,
     run: Attempt<'b>,
@@ -136,7 +136,7 @@ fn row_for<'b>(
     })
 }
 
-// Returns the expected text of the client's file after a fetch, if it changes.
+// Returns the expected text of the client's file after a fetch, if the file changes.
 fn new_file_of<'b>(
     script: &'b Script<'b>,
     case: &Case<'b>,
@@ -148,7 +148,7 @@ fn new_file_of<'b>(
     }
 }
 
-// Sets the texts of the client and of the scenario of a simulation.
+// Sets the client's text and the scenario of a simulation.
 fn add_texts<'b>(script: &'b Script<'b>, command: &mut Invocation<'b>) -> Result<(), Trouble> {
     if command.program != Program::Simulate {
         return Ok(());
@@ -159,8 +159,8 @@ fn add_texts<'b>(script: &'b Script<'b>, command: &mut Invocation<'b>) -> Result
     Ok(())
 }
 
-// Whether the replies of a case may have response-end packets, and the case does not add them
-// itself.
+// Returns whether response-end packets may be added to the replies of a case. A case may forbid
+// these packets, or contain them already.
 fn may_add_ends(command: Invocation<'_>, case: &Case<'_>) -> bool {
     command.program.has_ends()
         && command.ends == Ends::Plain
@@ -168,8 +168,8 @@ fn may_add_ends(command: Invocation<'_>, case: &Case<'_>) -> bool {
         && has_open_replies(case, command.has_hello())
 }
 
-// Returns the range of the changes. In a row with added response-end packets, each byte is changed
-// in one bit.
+// Returns the changes made to each byte. With added response-end packets, only one bit of each byte
+// is flipped.
 fn reach_of(case: &Case<'_>, adds_ends: bool) -> Reach {
     if adds_ends {
         Reach::OneBit
@@ -180,7 +180,7 @@ fn reach_of(case: &Case<'_>, adds_ends: bool) -> Reach {
     }
 }
 
-// Tries a row in each way. If it is wrong unchanged, the other ways would show no more.
+// Tests a row in each way, up to the first way in which the row fails.
 fn try_row<R: System>(
     rt: &R,
     run: Attempt<'_>,
@@ -207,7 +207,7 @@ fn try_row<R: System>(
     Ok(())
 }
 
-// Tries a row in a way, and returns the first try that went wrong.
+// Tests a row in one way, and returns the number of the first run that failed.
 fn try_way<R: System>(
     rt: &R,
     run: Attempt<'_>,

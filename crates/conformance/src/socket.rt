@@ -1,5 +1,5 @@
-//! Connections over a socket of this process: `gtcp` is at one end, and a peer with the messages of
-//! a case at the other.
+//! Tests over a socket in one process, with `gtcp` at one end and a peer with the messages of a
+//! case at the other.
 
 use crate::connection::{Door, hold_row};
 use crate::peer::{Pace, Peer, TurnedListener};
@@ -10,22 +10,22 @@ use std::alloc::Global;
 use std::net::{Net, TcpListener, TcpStream};
 use std::time::Clock;
 
-/// The maximum number of bytes that fit into a socket that nobody reads.
+/// The maximum number of bytes that a test writes to a socket without a reader.
 const MOST_BYTES: usize = 16_384;
 
-/// More allocations than any row has.
+/// An upper bound on the allocations in any row.
 const MOST_TRIES: u64 = 1_000_000;
 
-// A run over a socket: the way in which both ends take turns, and the refused allocation.
+// The parameters of a run over a socket: how the ends take turns, and the allocation to refuse.
 #[derive(Clone, Copy)]
 struct Trial {
     pace: Pace,
     refused: u64,
 }
 
-/// Tries a row over a socket: all messages of the peer at once, turn by turn, and a byte at a time.
-/// If the row says so, also with each allocation refused. Counts its runs, and returns the first
-/// that went wrong.
+/// Tests a row over a socket: with all messages of the peer at once, in turns, and one byte at a
+/// time. A `late` row is also tested with each allocation refused. Counts the runs in `runs`, and
+/// returns the number of the first run that failed.
 pub fn first_wrong<R>(
     rt: &R,
     alloc: Global,
@@ -55,9 +55,9 @@ where
     Ok(None)
 }
 
-// Whether a row is tried in this way: a connection starting at its first line, with few bytes, and
-// with plain packers and indexers. All at once is tried only if a client reaches the end of its
-// conversation, since unread input resets the connection.
+// Returns whether the row is tested at this pace. The row must be a short connection with a first
+// line, without a faulty packer or indexer. `AtOnce` skips clients that fail, because their unread
+// input resets the connection.
 fn is_tried(row: &Row<'_>, pace: Pace) -> bool {
     let command = row.command;
     let fits = row.talk.input.len() <= MOST_BYTES && row.talk.output.len() <= MOST_BYTES;
@@ -65,7 +65,7 @@ fn is_tried(row: &Row<'_>, pace: Pace) -> bool {
     command.has_hello() && command.liar.is_none() && fits && (ends_well || pace != Pace::AtOnce)
 }
 
-// Tries it turn by turn, with each allocation refused in turn.
+// Tests a row in turns, with each allocation refused.
 fn wrong_without_memory<R>(
     rt: &R,
     alloc: Global,
@@ -109,8 +109,8 @@ where
     Ok(Played::on_connection(held.ran, output, held.report, held.errors))
 }
 
-// Returns the bytes that the peer read. If the ends did not keep their turns, or a server did not
-// close the connection well, they count as not flushed.
+// Returns the bytes that the peer read. The bytes count as not flushed if the ends did not take
+// turns, or if a server closed the connection with an error.
 fn heard_bytes(alloc: Global, row: &Row<'_>, peer: Peer<'_>) -> Result<Writer, Trouble> {
     peer.hear()?;
     let is_closed = row.command.program != Program::Serve || peer.is_closed();

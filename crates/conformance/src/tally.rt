@@ -1,23 +1,24 @@
-//! How much is tried, how often each way was tried, and what went wrong.
+//! The depth of a test run, and the counts of runs and failures.
 
 use case_text::Trouble;
 use case_tries::Way;
 use std::io;
 
-/// How much is tried.
+/// The selection of tests to run.
 #[derive(Clone, Copy, PartialEq, Eq)]
 pub enum Depth {
-    /// Each case unchanged.
+    /// Each case is run only unchanged.
     Once,
-    /// Unchanged, by the program, over sockets, with late peers, and with files that fail.
+    /// Cases are run unchanged, as the program, over sockets, with late peers, and with failing
+    /// files.
     Edge,
-    /// All except the changed bytes, which take most of the time.
+    /// All tests run except those with changed bytes, which need most of the time.
     Quick,
     Full,
 }
 
 impl Depth {
-    /// Returns the depth that an argument asks for, if it does not name a file.
+    /// Returns the depth that an argument selects, or `None` for a file name.
     pub fn of(word: &str) -> Option<Depth> {
         match word {
             "--once" => Some(Depth::Once),
@@ -27,7 +28,7 @@ impl Depth {
         }
     }
 
-    /// Whether a case is tried in this way.
+    /// Returns whether this depth includes tests in this way.
     pub fn has(self, way: Way) -> bool {
         match self {
             Depth::Once => matches!(&way, Way::Whole | Way::ByProgram),
@@ -38,13 +39,13 @@ impl Depth {
     }
 }
 
-/// How often each way was tried, and what went wrong.
+/// The counts of runs and failures.
 #[derive(Drop)]
 pub struct Tally {
     pub depth: Depth,
     pub rows: u64,
     pub facts: u64,
-    /// How often facts were tried.
+    /// The number of runs for facts.
     pub tries: u64,
     pub runs: [u64; Way::ALL.len()],
     pub wrong: u64,
@@ -85,7 +86,7 @@ impl Tally {
     }
 }
 
-/// Counts a line of a file that can't be tried, and prints why.
+/// Prints the reason why a line of a file can't be tested, and counts a failure.
 pub fn tell_trouble<R: Print>(
     rt: &R,
     source: &str,

@@ -1,4 +1,4 @@
-//! The results of the crates under test, as texts.
+//! The results of the tested crates, as texts.
 
 use crate::arrivals::of_arrival;
 use crate::asked::{of_served, of_url};
@@ -14,14 +14,14 @@ use gname::Oid;
 use std::alloc::{Allocator, Global};
 use std::rt::Files;
 
-/// The answer if nothing is wrong.
+/// The text for a success.
 pub(crate) const OK: &str = "ok";
 
-/// The answer if out of memory.
+/// The text for a memory fault.
 pub(crate) const MEMORY: &str = "out of memory";
 
-/// The subject of a try, with the pack, the files of the store, and the files that replace them
-/// after some calls.
+/// The inputs of one test run: the subject, the pack, the files of the store, and the files that
+/// replace the store after `calls` calls.
 #[derive(Clone, Copy)]
 pub(crate) struct Trial<'t, 'a> {
     pub(crate) row: &'t Row<'a>,
@@ -42,7 +42,7 @@ impl ObjectVisitor for Anything {
     }
 }
 
-/// Returns the answer, with this allocator.
+/// Returns the result of a test run whose calls use the allocator `memory`.
 pub(crate) fn answer_of<R: Files + AllocGlobal, A: Allocator + Copy>(
     rt: &R,
     memory: A,
@@ -61,7 +61,7 @@ pub(crate) fn answer_of<R: Files + AllocGlobal, A: Allocator + Copy>(
     }
 }
 
-// Indexes a pack, and returns `ok` and the number of its objects, or the fault.
+// Indexes a pack. Returns `ok` and the number of objects, or the fault.
 fn of_index<A: Allocator + Copy>(
     alloc: Global,
     memory: A,
@@ -75,7 +75,7 @@ fn of_index<A: Allocator + Copy>(
     }
 }
 
-// Returns the number of objects in an index, if these are among them.
+// Returns the number of objects in an index, if the index holds all the ids.
 fn told_index<A: Allocator + Copy>(
     alloc: Global,
     index: &IndexedPack<A>,
@@ -90,7 +90,7 @@ fn told_index<A: Allocator + Copy>(
     Ok(format!(in alloc; "{OK} {count}")?)
 }
 
-// Opens or reads the files, and returns `ok`, or the fault.
+// Opens the store, and reads the object if the subject has an id. Returns `ok` or the fault.
 fn of_reading<A: Allocator + Copy>(
     alloc: Global,
     memory: A,

@@ -1,4 +1,4 @@
-//! Packs that a Git directory receives.
+//! Tests of a Git directory that receives a pack.
 
 use crate::answers::{MEMORY, OK, Trial};
 use crate::stores::{GIT_DIR, in_memory};
@@ -9,22 +9,22 @@ use gitrepository::{RepositoryFault, StoreIndexer, Tips};
 use gname::Oid;
 use std::alloc::{Allocator, Global};
 
-// The size of the pieces of a pack.
+// The size in bytes of the pieces of a pack.
 const PIECE: usize = 1_000;
 
-// Why a pack is refused.
+// The reason why a pack is rejected.
 #[derive(Drop)]
 enum Refused<A: Allocator + Copy> {
-    // The indexer refused it.
+    // The indexer rejected the pack.
     Repository(RepositoryFault<A>),
-    // The graph of commits and tags refused it.
+    // The graph of commits and tags rejected the pack.
     Graph(GraphFault),
-    // The indexer refused it, but kept a part of it.
+    // The indexer rejected the pack but kept a part of it.
     Kept,
 }
 
-/// Returns the answer to an incoming pack, with this allocator: `ok` and the number of its commits
-/// and tags, or the fault.
+/// Returns the result of receiving a pack: `ok` and the number of its commits and tags, or the
+/// fault.
 pub(crate) fn of_arrival<A: Allocator + Copy>(
     alloc: Global,
     memory: A,
@@ -42,7 +42,7 @@ pub(crate) fn of_arrival<A: Allocator + Copy>(
     }
 }
 
-// Adds a pack to the store of these files, and returns its number of commits and tags.
+// Adds a pack to the store in `files`, and returns the number of its commits and tags.
 fn arrive<F: ObjectFiles, A: Allocator + Copy>(
     files: &F,
     memory: A,
@@ -69,7 +69,7 @@ fn prepare<'f, F: ObjectFiles, A: Allocator + Copy>(
     Ok((reader, Tips::new(memory, tips)?))
 }
 
-// Feeds a pack to an indexer, piece by piece.
+// Passes a pack to an indexer in pieces.
 fn feed_all<A: Allocator + Copy, I: Indexer<A>>(
     indexer: &I,
     memory: A,
@@ -82,7 +82,7 @@ fn feed_all<A: Allocator + Copy, I: Indexer<A>>(
     indexer.finish(feed)
 }
 
-// Returns the fault of a refused pack. The indexer must not keep a part of the pack.
+// Returns the fault of a rejected pack. The indexer must not keep a part of the pack.
 fn refusal_of<F: ObjectFiles, A: Allocator + Copy>(
     indexer: &StoreIndexer<'_, '_, F, A>,
     fault: IndexFault,

@@ -1,14 +1,14 @@
-//! URLs from a user, and paths from a client.
+//! Tests of URLs that a user enters, and of paths that a client requests.
 
 use crate::answers::{MEMORY, OK};
 use crate::trouble::Trouble;
 use gitwords::{Ending, GitUrl, ServedPath};
 use std::alloc::{Allocator, Global};
 
-// The answer to a path that does not name a repository.
+// The text for a path that names no repository.
 const NONE: &str = "none";
 
-/// Returns the answer to a URL: `ok`, its host, its port and its path, or the fault.
+/// Returns the result of parsing a URL: `ok`, the host, the port and the path, or the fault.
 pub(crate) fn of_url(alloc: Global, text: &[u8]) -> Result<String, Trouble> {
     let Ok(text) = str::from_utf8(text) else {
         return Err(Trouble::NoText);
@@ -22,7 +22,7 @@ pub(crate) fn of_url(alloc: Global, text: &[u8]) -> Result<String, Trouble> {
     }
 }
 
-/// Returns the answer to the path of a client: `ok` and the last candidate directory below the
+/// Returns the result of parsing a client's path: `ok` and the last candidate directory below the
 /// base, or `none`.
 pub(crate) fn of_served<A: Allocator + Copy>(
     alloc: Global,

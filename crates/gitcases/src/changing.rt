@@ -1,10 +1,10 @@
-//! Files that change while they are read.
+//! Files that change while a test reads them.
 
 use gitobjects::{Cause, FolderTime, MemoryFiles, MemoryPack, ObjectFiles};
 use std::alloc::Allocator;
 use std::cell::Cell;
 
-/// Files that are replaced by others after some calls.
+/// Files that are replaced by other files after some calls.
 #[derive(Drop)]
 pub(crate) struct Changing<'f, A: Allocator + Copy> {
     before: &'f MemoryFiles<A>,
@@ -13,7 +13,7 @@ pub(crate) struct Changing<'f, A: Allocator + Copy> {
 }
 
 impl<'f, A: Allocator + Copy> Changing<'f, A> {
-    /// Files that are replaced by others after some calls.
+    /// Returns files that `after` replaces after this number of calls.
     pub(crate) fn new(
         before: &'f MemoryFiles<A>,
         after: &'f MemoryFiles<A>,
@@ -26,7 +26,7 @@ impl<'f, A: Allocator + Copy> Changing<'f, A> {
         }
     }
 
-    // Returns the files of the next call.
+    // Returns the files that the next call reads.
     fn files(&self) -> &'f MemoryFiles<A> {
         match self.calls.get().checked_sub(1) {
             Some(calls) => {

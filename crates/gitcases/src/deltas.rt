@@ -6,7 +6,7 @@ use std::alloc::Global;
 // The maximum number of bytes that one instruction inserts.
 const MAX_INSERT: usize = 127;
 
-/// Appends a size: seven bits per byte, the lowest first.
+/// Appends a size in groups of seven bits, the lowest group first.
 pub(crate) fn put_size(out: &mut Vec<u8>, size: usize) -> Result<(), Trouble> {
     let mut rest = size;
     for _ in 0..usize::BITS {
@@ -21,12 +21,12 @@ pub(crate) fn put_size(out: &mut Vec<u8>, size: usize) -> Result<(), Trouble> {
     Ok(())
 }
 
-// Returns the lowest seven bits.
+// Returns the lowest seven bits of a number.
 pub(crate) fn low_bits(number: usize) -> u8 {
     number.to_le_bytes()[0] & 0x7f
 }
 
-/// Returns the instruction that copies `size` bytes of the base starting at `offset`.
+/// Returns the instruction that copies `size` bytes of the base from `offset`.
 pub(crate) fn copy_of(alloc: Global, offset: usize, size: usize) -> Result<Vec<u8>, Trouble> {
     let size = if size == 0x10000 { 0 } else { size };
     let [one, two, three, four, ..] = offset.to_le_bytes();
@@ -47,7 +47,7 @@ pub(crate) fn copy_of(alloc: Global, offset: usize, size: usize) -> Result<Vec<u
     Ok(instruction)
 }
 
-// Appends a byte unless it is 0, and sets its bit in the first byte.
+// Appends a byte unless it is 0, and sets the bit for this byte in the first byte.
 fn put_byte(instruction: &mut Vec<u8>, bit: u8, byte: u8) -> Result<(), Trouble> {
     if byte != 0 {
         instruction.push(byte)?;

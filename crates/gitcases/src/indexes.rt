@@ -1,4 +1,4 @@
-//! Wrong pack indexes (gitformat-pack(5), "Version 2 pack-*.idx files").
+//! Pack indexes that may be wrong (gitformat-pack(5), "Version 2 pack-*.idx files").
 
 use crate::packs::{Pack, TRAILER};
 use crate::trouble::Trouble;
@@ -6,7 +6,7 @@ use gname::Oid;
 use sha1::Sha1;
 use std::alloc::Global;
 
-/// An entry of an index.
+/// An entry of a pack index.
 #[derive(Clone, Copy, Drop)]
 struct Line {
     id: Oid,
@@ -14,11 +14,11 @@ struct Line {
     offset: u64,
 }
 
-/// The entries of the index of a pack.
+/// The entries of a pack index.
 #[derive(Drop)]
 pub(crate) struct Lines<'a> {
     pub(crate) name: &'a str,
-    /// The name of the pack.
+    /// The name of the pack that the index describes.
     pub(crate) pack: &'a str,
     lines: Vec<Line>,
     is_unsorted: bool,
@@ -35,18 +35,18 @@ impl<'a> Lines<'a> {
         }
     }
 
-    /// Adds an entry.
+    /// Adds an entry to the index.
     pub(crate) fn push(&mut self, id: Oid, crc: u32, offset: u64) -> Result<(), Trouble> {
         self.lines.push(Line { id, crc, offset })?;
         Ok(())
     }
 
-    /// Leaves the entries unsorted, in the order of addition.
+    /// Keeps the entries in the order of addition, not sorted by id.
     pub(crate) fn set_unsorted(&mut self) {
         self.is_unsorted = true;
     }
 
-    /// Returns the text of the index.
+    /// Returns the bytes of the index.
     pub(crate) fn bytes(&self, alloc: Global, pack: &Pack<'_>) -> Result<Vec<u8>, Trouble> {
         let mut lines = self.lines.as_slice().to_vec(alloc)?;
         if !self.is_unsorted {
@@ -68,7 +68,8 @@ impl<'a> Lines<'a> {
     }
 }
 
-// Appends, for each byte, the number of ids that begin with it or a lower byte.
+// Appends the fan-out table: for each byte, the number of ids whose first byte is at most that
+// byte.
 fn put_fan_out(text: &mut Vec<u8>, lines: &[Line]) -> Result<(), Trouble> {
     for first in 0..=u8::MAX {
         let count = count_up_to(lines, first);
@@ -101,7 +102,7 @@ fn put_crcs(text: &mut Vec<u8>, lines: &[Line]) -> Result<(), Trouble> {
     Ok(())
 }
 
-// The bit which means that the other bits are an index into the table of 64-bit offsets.
+// The bit that marks an index into the table of 64-bit offsets.
 const IS_LONG: u32 = 0x8000_0000;
 
 fn put_offsets(text: &mut Vec<u8>, lines: &[Line]) -> Result<(), Trouble> {

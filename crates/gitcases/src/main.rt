@@ -1,25 +1,27 @@
-//! Test cases from files: packs, Git directories, refs, URLs and client paths, tried on the crates
-//! that read them.
+//! Tests of Git's file formats, from files: packs, Git directories, refs, URLs and client paths.
+//! The tests run the crates that read these formats.
 //!
-//! The arguments name case files; FORMAT.md describes their lines. A row gives the expected answer
-//! for a pack, a store or a text. It is tried unchanged, truncated after each byte, with each bit
-//! changed, while its files change, and with each allocation refused in turn. Packs and stores are
-//! in memory. Refs are files in a folder, which each try recreates. Each wrong answer is a line on
-//! standard output. The last lines count the tries.
+//! The arguments of the program name test files; FORMAT.md describes their lines. A row states the
+//! expected result for a pack, a store or a text. The input of a row is unchanged, truncated after
+//! each byte, or changed in one bit. Files of a row may also change during a run, and each
+//! allocation is refused in turn. Packs and stores are in memory. Refs are files in a folder, which
+//! each run creates again. Each wrong result is a line on standard output, and the last lines count
+//! the runs.
 //!
 //! # Proved
 //!
-//! The program is safe and terminates.
+//! Every call returns, with no index out of range, overflow or use after free.
 //!
 //! # What the contracts do not rule out
 //!
-//! Anything else. Wrong cases and wrong crates showed that wrong answers are noticed.
+//! No contract states the results of this program. Deliberately wrong rows and crates were run, to
+//! check that the tests reject them.
 //!
 //! # Stands on
 //!
-//! `gitpack`, `gitobjects`, `gitrefs`, `gitrepository` and `gitwords`, which it tests. `gitobject`,
-//! `gname`, `gzlib` and `sha1` make packs and stores. `ggraph` has graphs, refs and indexers, and
-//! `case_text` provides limited memory.
+//! The program tests `gitpack`, `gitobjects`, `gitrefs`, `gitrepository` and `gitwords`.
+//! `gitobject`, `gname`, `gzlib` and `sha1` create packs and stores. `ggraph` defines graphs, refs
+//! and indexers, and `case_text` an allocator that fails.
 #![tactic(auto)]
 
 mod answers;
@@ -54,7 +56,7 @@ fn main(rt: HostRuntime) -> ExitCode {
     }
 }
 
-// Tries the cases of the files that the arguments name. Returns whether all answers were right.
+// Runs the tests of the files in the arguments. Returns whether all results were right.
 fn run_cases<R: AllocGlobal + Env + Files + Print>(rt: &R) -> io::Result<bool> {
     let names: Vec<String> = env::args(rt)?.skip(1).collect(rt.alloc())?;
     let mut files = Vec::new(rt.alloc());
@@ -75,8 +77,8 @@ fn run_cases<R: AllocGlobal + Env + Files + Print>(rt: &R) -> io::Result<bool> {
     }
 }
 
-// Tries the cases of the files with these names. On failure it returns the file, the line and the
-// cause.
+// Runs the tests of the files with these names. A failure returns the file, the line and the
+// reason.
 fn try_files<'a, R: Files + Print + AllocGlobal>(
     rt: &R,
     names: &'a [String],

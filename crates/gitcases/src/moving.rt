@@ -1,4 +1,4 @@
-//! Reading and moving refs, in a folder that each try recreates.
+//! Tests of reading and updating refs, in a folder that each run creates again.
 
 use crate::answers::{MEMORY, OK, Trial};
 use crate::row::{Row, Update};
@@ -13,17 +13,17 @@ use std::fs;
 use std::path::Path;
 use std::rt::Files;
 
-// The folder, and the Git directory in it.
+// The folder of a test run. `GIT_DIR` is the Git directory in the folder.
 const FOLDER: &str = "tried";
 
 const GIT_DIR: &str = "tried/r";
 
-// The HEAD branch of a clone, and the URL in its configuration.
+// The branch of a clone's `HEAD`. `URL` is the URL in the clone's configuration.
 const BRANCH: &[u8] = b"refs/heads/main";
 
 const URL: &str = "git://h/r";
 
-// Why refs are refused.
+// The reason why refs are rejected.
 #[derive(Drop)]
 enum Refused<A: Allocator + Copy> {
     Memory,
@@ -44,7 +44,7 @@ impl<T: Drop, A: Allocator + Copy> From<AllocFailed<T>> for Refused<A> {
     }
 }
 
-/// Returns the answer to reading the refs: `ok` and their names, or the fault.
+/// Returns the result of reading the refs: `ok` and their names, or the fault.
 pub(crate) fn of_refs<R: Files + AllocGlobal, A: Allocator + Copy>(
     rt: &R,
     memory: A,
@@ -59,7 +59,7 @@ pub(crate) fn of_refs<R: Files + AllocGlobal, A: Allocator + Copy>(
     Ok(answer)
 }
 
-// Returns the refs below `refs/`.
+// Returns all refs below `refs/`.
 fn read_refs<'r, R: Files, A: Allocator + Copy>(
     memory: A,
     rt: &'r R,
@@ -84,8 +84,8 @@ fn names_of<R: AllocGlobal, A: Allocator + Copy>(
     Ok(text)
 }
 
-/// Returns the answer to moving refs: `ok`, or the fault. After a fault no ref may have moved, and
-/// no lock may be left.
+/// Returns the result of updating refs: `ok` or the fault. After a fault, no ref may have moved and
+/// no lockfile may remain.
 pub(crate) fn of_moving<R: Files + AllocGlobal, A: Allocator + Copy>(
     rt: &R,
     memory: A,
@@ -159,7 +159,7 @@ fn name_of<A: Allocator + Copy>(memory: A, update: &Update) -> Result<RefName<A>
     }
 }
 
-// Returns all refs, read with enough memory.
+// Returns all refs, or no refs if they can't be read.
 fn all_refs<R: Files + AllocGlobal>(rt: &R) -> Result<Refs, Trouble> {
     match read_refs(rt.alloc(), rt, GIT_DIR) {
         Ok(refs) => Ok(refs),
@@ -167,7 +167,7 @@ fn all_refs<R: Files + AllocGlobal>(rt: &R) -> Result<Refs, Trouble> {
     }
 }
 
-// Whether each ref has its new id.
+// Returns whether each updated ref has its new id.
 fn has_all(refs: &Refs, updates: &[Update]) -> bool {
     updates.iter().all(|update| is_at(refs, update))
 }
@@ -177,7 +177,7 @@ fn is_at(refs: &Refs, update: &Update) -> bool {
         && pair.1 == update.new)
 }
 
-// Whether the refs are equal.
+// Returns whether both lists of refs are equal.
 fn is_same(before: &Refs, after: &Refs) -> bool {
     before.len() == after.len()
         && before.as_slice().iter().zip(after.as_slice()).all(|(one, other)| one.0.as_bytes()
@@ -185,7 +185,7 @@ fn is_same(before: &Refs, after: &Refs) -> bool {
             && one.1 == other.1)
 }
 
-// Whether a lock of a ref to be moved exists and is not a file of the store.
+// Returns whether a lockfile of an updated ref exists.
 fn has_lock<R: Files + AllocGlobal>(rt: &R, updates: &[Update]) -> Result<bool, Trouble> {
     for update in updates {
         if let Ok(name) = str::from_utf8(update.name.as_slice()) {
@@ -198,8 +198,8 @@ fn has_lock<R: Files + AllocGlobal>(rt: &R, updates: &[Update]) -> Result<bool, 
     Ok(false)
 }
 
-/// Returns the answer to a clone that receives the refs: `ok`, or the fault. After a fault nothing
-/// may be left. No allocation is refused.
+/// Returns the result of a clone that receives the refs: `ok` or the fault. After a fault, no file
+/// of the clone may remain. No allocation is refused.
 pub(crate) fn of_cloning<R: Files + AllocGlobal>(rt: &R, row: &Row<'_>) -> Result<String, Trouble> {
     make_folder(rt, &[])?;
     let outcome = clone_refs(rt, row.updates.as_slice());
@@ -252,7 +252,7 @@ fn keep<R: Files>(
     }
 }
 
-// Creates the folder with the files of a store. A path that ends with a slash names a folder.
+// Creates the folder with the files of a store. A path that ends with a slash names a directory.
 fn make_folder<R: Files + AllocGlobal>(rt: &R, files: &[File]) -> Result<(), Trouble> {
     let _ = fs::remove_dir_all(rt, FOLDER);
     if fs::create_dir(rt, FOLDER).is_err() {

@@ -1,11 +1,11 @@
-//! Named texts and objects.
+//! Named texts and objects of test files.
 
 use crate::trouble::Trouble;
 use gitobject::{ObjectType, id_of};
 use gname::Oid;
 use std::alloc::Global;
 
-/// Named bytes: a text, or a delta.
+/// A named text or delta.
 #[derive(Drop)]
 struct Text<'a> {
     name: &'a str,
@@ -21,7 +21,7 @@ pub(crate) struct Object<'a> {
     pub(crate) id: Oid,
 }
 
-/// All texts and objects. The first one with a name takes precedence.
+/// All texts and objects. The first entry with a name hides later entries with this name.
 #[derive(Drop)]
 pub(crate) struct Names<'a> {
     texts: Vec<Text<'a>>,
@@ -37,13 +37,13 @@ impl<'a> Names<'a> {
         }
     }
 
-    /// Adds a text.
+    /// Adds a text to the collection.
     pub(crate) fn add_text(&mut self, name: &'a str, bytes: Vec<u8>) -> Result<(), Trouble> {
         self.texts.push(Text { name, bytes })?;
         Ok(())
     }
 
-    /// Appends bytes to the last added text.
+    /// Appends bytes to the text that was added last.
     pub(crate) fn add_to_text(&mut self, bytes: &[u8]) -> Result<(), Trouble> {
         match self.texts.last_mut() {
             Some(text) => Ok(text.bytes.extend_from_slice(bytes)?),
@@ -51,7 +51,7 @@ impl<'a> Names<'a> {
         }
     }
 
-    /// Adds an object.
+    /// Adds an object to the collection.
     pub(crate) fn add_object(
         &mut self,
         name: &'a str,

@@ -1,4 +1,4 @@
-//! Packs described by lines, correct or wrong (gitformat-pack(5)).
+//! Packs that lines of a test file describe, valid or not (gitformat-pack(5)).
 
 use crate::deltas::low_bits;
 use crate::names::Object;
@@ -8,21 +8,21 @@ use gzlib::{Deflater, crc32_of, put_stored};
 use sha1::Sha1;
 use std::alloc::Global;
 
-/// The length of the header and of the trailer.
+/// The lengths of a pack's header and trailer.
 pub(crate) const HEADER: usize = 12;
 
 pub(crate) const TRAILER: usize = 20;
 
-// The type numbers of deltas.
+// The type numbers of deltas in a pack.
 const OFFSET_DELTA: u8 = 6;
 
 const REF_DELTA: u8 = 7;
 
-/// A pack: its entries, and a header or trailer that may be wrong.
+/// A pack whose entries, header or trailer may be wrong.
 #[derive(Drop)]
 pub(crate) struct Pack<'a> {
     pub(crate) name: &'a str,
-    // The entries, and the offset of each.
+    // The bytes of the entries, and the offset of each entry in the pack.
     body: Vec<u8>,
     starts: Vec<usize>,
     magic: Option<Vec<u8>>,
@@ -43,22 +43,22 @@ impl<'a> Pack<'a> {
         }
     }
 
-    /// Replaces the bytes before the count.
+    /// Replaces the signature and the version in the header.
     pub(crate) fn set_magic(&mut self, bytes: Vec<u8>) {
         self.magic = Some(bytes);
     }
 
-    /// Replaces the count in the header.
+    /// Replaces the number of objects in the header.
     pub(crate) fn set_count(&mut self, count: usize) {
         self.count = Some(count);
     }
 
-    /// Replaces the trailer.
+    /// Replaces the trailer of the pack.
     pub(crate) fn set_trailer(&mut self, bytes: Vec<u8>) {
         self.trailer = Some(bytes);
     }
 
-    /// Appends bytes unchanged.
+    /// Appends raw bytes to the entries.
     pub(crate) fn put_bytes(&mut self, bytes: &[u8]) -> Result<(), Trouble> {
         Ok(self.body.extend_from_slice(bytes)?)
     }
@@ -81,7 +81,7 @@ impl<'a> Pack<'a> {
         Ok(())
     }
 
-    /// Appends the zlib stream of these bytes.
+    /// Appends the zlib stream of the bytes.
     pub(crate) fn put_stream(
         &mut self,
         deflater: &mut Deflater<Global>,
@@ -90,7 +90,7 @@ impl<'a> Pack<'a> {
         Ok(deflater.deflate(bytes, &mut self.body)?)
     }
 
-    /// Appends an object.
+    /// Appends an entry with a whole object.
     pub(crate) fn put_whole(
         &mut self,
         deflater: &mut Deflater<Global>,
@@ -100,8 +100,8 @@ impl<'a> Pack<'a> {
         self.put_stream(deflater, object.body.as_slice())
     }
 
-    /// Appends a delta of the object whose entry begins this number of bytes before it, in stored
-    /// blocks.
+    /// Appends an offset delta in stored zlib blocks. The base entry begins `distance` bytes before
+    /// the delta entry.
     pub(crate) fn put_offset_delta(
         &mut self,
         distance: usize,
@@ -112,7 +112,7 @@ impl<'a> Pack<'a> {
         Ok(put_stored(&mut self.body, delta)?)
     }
 
-    /// Returns the distance in bytes from the next entry to the one `back` entries before it.
+    /// Returns the distance in bytes from the next entry to the entry `back` places before it.
     pub(crate) fn distance_of(&self, back: usize) -> Result<usize, Trouble> {
         let next = self.body.len().saturating_add(HEADER);
         let place = self.starts.len().wrapping_sub(back);
@@ -122,8 +122,8 @@ impl<'a> Pack<'a> {
         }
     }
 
-    // Appends a distance: seven bits per byte, the highest first, and one less for each additional
-    // byte.
+    // Appends the distance of an offset delta in groups of seven bits, the highest group first.
+    // Each group except the last is stored minus one.
     fn put_distance(&mut self, distance: usize) -> Result<(), Trouble> {
         let first = self.body.len();
         self.body.push(low_bits(distance))?;
@@ -140,7 +140,7 @@ impl<'a> Pack<'a> {
         Ok(())
     }
 
-    /// Appends a delta of an object, named by id, in stored blocks.
+    /// Appends a delta whose base is named by id, in stored zlib blocks.
     pub(crate) fn put_ref_delta(&mut self, base: &Object<'_>, delta: &[u8]) -> Result<(), Trouble> {
         self.put_head(REF_DELTA, delta.len())?;
         self.put_bytes(base.id.as_bytes())?;
@@ -168,8 +168,7 @@ impl<'a> Pack<'a> {
         Ok(bytes)
     }
 
-    /// Returns the offset of the entry with this number, counted from 1, and the CRC-32 of its
-    /// bytes.
+    /// Returns the offset and the CRC-32 of the entry with this number, from 1.
     pub(crate) fn entry(&self, number: usize) -> Result<(usize, u32), Trouble> {
         let Some(place) = number.checked_sub(1) else {
             return Err(Trouble::NoNumber);
@@ -186,7 +185,7 @@ impl<'a> Pack<'a> {
     }
 }
 
-/// Returns the number of a type in a pack, from its name or its digit.
+/// Returns the type number for the name or the digit of a type.
 pub(crate) fn number_of_kind(word: &str) -> Result<u8, Trouble> {
     if let Some(kind) = ObjectType::from_name(word.as_bytes()) {
         return Ok(kind.pack_number());
@@ -197,7 +196,7 @@ pub(crate) fn number_of_kind(word: &str) -> Result<u8, Trouble> {
     }
 }
 
-/// Overwrites the last bytes of a pack with the right trailer.
+/// Replaces the last bytes of a pack with the correct trailer.
 pub(crate) fn mend_trailer(pack: &mut Vec<u8>) -> Result<(), Trouble> {
     let end = pack.len().saturating_sub(TRAILER);
     pack.truncate(end);

@@ -1,36 +1,36 @@
-//! Rows: a subject, and its expected answer.
+//! Rows: a subject with its expected result.
 
 use crate::trouble::Trouble;
 use gitpack::IndexLimits;
 use gname::Oid;
 use std::alloc::Global;
 
-/// The subject of a try.
+/// The call that a row tests.
 #[derive(Clone, Copy, PartialEq, Eq, Drop)]
 pub(crate) enum Subject {
-    /// The pack is indexed.
+    /// A pack is indexed.
     Index,
-    /// The store receives the pack.
+    /// The store receives a pack.
     Arrival,
     /// The store is opened.
     Opening,
     /// An object is read, and its id is computed.
     Checked,
-    /// The unchanged entry of an object is read from a pack.
+    /// The raw entry of an object is read from a pack.
     Raw,
     /// The refs of the store are read.
     Refs,
-    /// Refs of the store are moved.
+    /// Refs of the store are updated.
     Moving,
     /// A clone receives the refs.
     Cloning,
-    /// A text is read as a URL.
+    /// A text is parsed as a URL.
     Url,
-    /// A text is read as the path of a client.
+    /// A text is parsed as a client's path.
     Served,
 }
 
-/// A ref to be moved: its name, and its old and new ids.
+/// An update of a ref: the name, the old id and the new id.
 #[derive(Drop)]
 pub(crate) struct Update {
     pub(crate) name: Vec<u8>,
@@ -38,7 +38,7 @@ pub(crate) struct Update {
     pub(crate) new: Oid,
 }
 
-/// The subject of a try, with the id of an object or a text, and the expected answer.
+/// The subject of a test, with an object id or a text, and the expected result.
 #[derive(Drop)]
 pub(crate) struct Aim {
     pub(crate) subject: Subject,
@@ -47,7 +47,7 @@ pub(crate) struct Aim {
     pub(crate) due: Vec<u8>,
 }
 
-/// A row.
+/// A row of a test file.
 #[derive(Drop)]
 pub(crate) struct Row<'a> {
     pub(crate) source: &'a str,
@@ -56,27 +56,28 @@ pub(crate) struct Row<'a> {
     /// The names of the pack and of the store.
     pub(crate) pack: &'a str,
     pub(crate) store: &'a str,
-    /// The name of the store that replaces it.
+    /// The name of the store that replaces `store` during a run.
     pub(crate) then: &'a str,
     pub(crate) limits: IndexLimits,
-    /// The objects in the index.
+    /// The objects that the index must hold.
     pub(crate) has: Vec<Oid>,
     /// The ids of the peer's refs.
     pub(crate) tips: Vec<Oid>,
-    /// The refs to be moved.
+    /// The refs to update.
     pub(crate) updates: Vec<Update>,
-    /// The text to be read next.
+    /// The text for the next subject of the row.
     pub(crate) asked: Vec<u8>,
     pub(crate) aims: Vec<Aim>,
-    /// Other allowed answers if an allocation is refused, or a bit or the store is changed.
+    /// Further results that are allowed if an allocation is refused, or if a bit or the store is
+    /// changed.
     pub(crate) others: Vec<Vec<u8>>,
-    /// Whether it is tried without refused allocations.
+    /// Whether the row is tested only unchanged.
     pub(crate) is_large: bool,
-    /// Whether its bytes are truncated and changed.
+    /// Whether the row is also tested with bits changed, and with its pack truncated.
     pub(crate) is_swept: bool,
 }
 
-// The default limits of a pack.
+// The default limits for indexing a pack.
 const LIMITS: IndexLimits = IndexLimits {
     objects: 1_048_576,
     object: 268_435_456,
@@ -85,7 +86,7 @@ const LIMITS: IndexLimits = IndexLimits {
 };
 
 impl<'a> Row<'a> {
-    /// Returns an empty row.
+    /// Returns a row without subjects.
     pub(crate) fn new(alloc: Global, source: &'a str, line: usize, title: &'a str) -> Row<'a> {
         Row {
             source,
@@ -106,7 +107,7 @@ impl<'a> Row<'a> {
         }
     }
 
-    /// Adds a subject.
+    /// Adds a subject with its expected result.
     pub(crate) fn add_aim(
         &mut self,
         subject: Subject,

@@ -1,4 +1,4 @@
-//! Reading case files. FORMAT.md describes each line.
+//! The parser of test files. FORMAT.md describes each line.
 
 use crate::deltas::{copy_of, insertions_of, put_size};
 use crate::indexes::Lines;
@@ -13,7 +13,7 @@ use gitpack::IndexLimits;
 use gzlib::Deflater;
 use std::alloc::Global;
 
-/// The content of case files.
+/// The contents of the test files parsed so far.
 #[derive(Drop)]
 pub(crate) struct Script<'a> {
     alloc: Global,
@@ -25,13 +25,13 @@ pub(crate) struct Script<'a> {
     pub(crate) rows: Vec<Row<'a>>,
     // The number of times that the next line is repeated.
     times: usize,
-    /// The current file and line.
+    /// The file and the number of the current line.
     pub(crate) source: &'a str,
     pub(crate) line: usize,
 }
 
 impl<'a> Script<'a> {
-    /// Returns an empty script.
+    /// Returns a script without any file.
     pub(crate) fn new(alloc: Global) -> Result<Script<'a>, Trouble> {
         Ok(Script {
             alloc,
@@ -47,7 +47,7 @@ impl<'a> Script<'a> {
         })
     }
 
-    /// Reads the file with this name.
+    /// Parses the text of the file with this name.
     pub(crate) fn read(&mut self, source: &'a str, text: &'a str) -> Result<(), Trouble> {
         self.source = source;
         self.line = 0;
@@ -58,7 +58,7 @@ impl<'a> Script<'a> {
         Ok(())
     }
 
-    /// Returns the bytes of the pack with this name; none if the name is empty.
+    /// Returns the bytes of the pack with this name, or no bytes for an empty name.
     pub(crate) fn pack_bytes(&self, name: &str) -> Result<Vec<u8>, Trouble> {
         if name.is_empty() {
             return Ok(Vec::new(self.alloc));
@@ -66,7 +66,7 @@ impl<'a> Script<'a> {
         self.pack(name)?.bytes(self.alloc)
     }
 
-    /// Returns the files of the store with this name; none if the name is empty.
+    /// Returns the files of the store with this name, or no files for an empty name.
     pub(crate) fn files(&self, name: &str) -> Result<&[File], Trouble> {
         for store in &self.stores {
             if store.name == name {
@@ -88,7 +88,7 @@ impl<'a> Script<'a> {
         Err(Trouble::NoName)
     }
 
-    // Processes a line, with repetitions.
+    // Parses a line as often as it is repeated.
     fn take_line(&mut self, line: &'a str) -> Result<(), Trouble> {
         if line.is_empty() || line.starts_with('#') {
             return Ok(());
@@ -142,7 +142,7 @@ impl<'a> Script<'a> {
         }
     }
 
-    // Begins a delta: its name, the size of its base, and the size of its result.
+    // Begins a delta with its name, the size of the base, and the size of the result.
     fn begin_delta(&mut self, rest: &'a str) -> Result<(), Trouble> {
         let (name, sizes) = first_of(rest);
         let (base, made) = first_of(sizes);
@@ -215,8 +215,8 @@ impl<'a> Script<'a> {
         Ok(())
     }
 
-    // Adds an entry to an index: an object, the number of its pack entry, and an optional different
-    // offset.
+    // Adds an entry to an index: an object, the number of an entry in the pack, and optionally
+    // another offset.
     fn add_to_lines(&mut self, word: &str, rest: &str) -> Result<(), Trouble> {
         let Some(last) = self.lines.last() else {
             return Err(Trouble::NotBegun);
@@ -276,7 +276,7 @@ impl<'a> Script<'a> {
         }
     }
 
-    // Adds a loose object, or a file with its name and another text.
+    // Adds a loose object, or a file with the object's name and another text.
     fn add_loose(&mut self, rest: &str) -> Result<(), Trouble> {
         let (name, line) = first_of(rest);
         let object = self.names.object(name)?;
@@ -293,7 +293,7 @@ impl<'a> Script<'a> {
         }
     }
 
-    // Adds a pack and its index with these entries.
+    // Adds a pack, and the index with the given entries.
     fn add_packed(&mut self, rest: &str) -> Result<(), Trouble> {
         let (name, lines) = first_of(rest);
         let pack = self.pack_bytes(name)?;
@@ -304,7 +304,7 @@ impl<'a> Script<'a> {
         }
     }
 
-    // Returns the text of the index with these entries.
+    // Returns the bytes of the index with this name.
     fn index_bytes(&self, name: &str) -> Result<Vec<u8>, Trouble> {
         for lines in &self.lines {
             if lines.name == name {
@@ -367,7 +367,7 @@ impl<'a> Script<'a> {
         }
     }
 
-    // Adds a ref to be moved: its old id, if it has one, its new id, and its name.
+    // Adds an update of a ref: the old id or `-`, the new id, and the name.
     fn add_update(&mut self, rest: &str) -> Result<(), Trouble> {
         let (old, more) = first_of(rest);
         let (new, line) = first_of(more);
@@ -396,8 +396,8 @@ impl<'a> Script<'a> {
         Ok(())
     }
 
-    // Sets the limits: the maximum number of objects, and the maximum size of an object, of the
-    // held bytes, and of all objects.
+    // Sets the limits of the index: the number of objects, the size of an object, the number of
+    // held bytes, and the size of all objects.
     fn set_limits(&mut self, rest: &str) -> Result<(), Trouble> {
         let (objects, more) = first_of(rest);
         let (object, more) = first_of(more);
@@ -418,7 +418,7 @@ impl<'a> Script<'a> {
     }
 }
 
-// Returns the offset of an entry, another offset, or an offset relative to the entry.
+// Returns the offset of an entry, a different offset, or an offset relative to the entry.
 fn offset_of(start: usize, offset: &str) -> Result<u64, Trouble> {
     if offset.is_empty() {
         return Ok(start as u64);
@@ -429,7 +429,7 @@ fn offset_of(start: usize, offset: &str) -> Result<u64, Trouble> {
     }
 }
 
-// Whether a line with this word belongs to a row.
+// Returns whether a line with this first word belongs to a row.
 fn is_of_row(word: &str) -> bool {
     matches!(
         word,

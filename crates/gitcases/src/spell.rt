@@ -1,14 +1,14 @@
-//! Decoding the bytes of a line.
+//! Escapes in the lines of a test file.
 //!
-//! `\n` is a line feed, `\0` the byte 0, `\x1f` the byte 31, and a backslash before any other
-//! character is that character. `{NAME}` is a text, or the forty digits of an object's id, and
-//! `{@NAME}` the twenty bytes of that id. `{BYTES*3}` is `BYTES` three times.
+//! `\n` is a line feed, `\0` the byte 0, `\x1f` the byte 31. A backslash before any other character
+//! stands for that character. `{NAME}` is a text, or the forty digits of an object's id. `{@NAME}`
+//! is the twenty bytes of an object's id. `{BYTES*3}` is `BYTES` three times.
 
 use crate::names::Names;
 use crate::trouble::Trouble;
 use std::alloc::Global;
 
-/// Returns the bytes that a line spells.
+/// Returns the bytes of a line after all escapes are replaced.
 pub(crate) fn spell_line(alloc: Global, names: &Names<'_>, line: &str) -> Result<Vec<u8>, Trouble> {
     let mut bytes = Vec::new(alloc);
     let mut rest = line;
@@ -21,7 +21,7 @@ pub(crate) fn spell_line(alloc: Global, names: &Names<'_>, line: &str) -> Result
     Ok(bytes)
 }
 
-// Appends the bytes up to the next brace, and those in the braces. Returns the text after them.
+// Appends the bytes up to the end of the next braces. Returns the remaining text.
 fn add_next<'a>(
     alloc: Global,
     names: &Names<'_>,
@@ -44,8 +44,8 @@ fn add_next<'a>(
     Ok(rest.get(length..).unwrap_or(""))
 }
 
-// Returns the bytes before the first unescaped brace, and those after it, or `None` if there is no
-// such brace.
+// Returns the bytes before and after the first unescaped brace, or `None` in place of the latter if
+// there is no such brace.
 fn before_brace(text: &[u8]) -> (&[u8], Option<&[u8]>) {
     let mut is_escaped = false;
     for place in 0..text.len() {
@@ -58,7 +58,7 @@ fn before_brace(text: &[u8]) -> (&[u8], Option<&[u8]>) {
     (text, None)
 }
 
-/// Appends bytes written without braces.
+/// Appends the bytes of a text without braces.
 pub(crate) fn add_escaped(text: &[u8], bytes: &mut Vec<u8>) -> Result<(), Trouble> {
     let mut rest = text;
     for _ in 0..text.len() {
@@ -95,7 +95,7 @@ fn digit(letter: u8) -> u8 {
     }
 }
 
-// Appends the content of braces.
+// Appends the bytes that the text in braces stands for.
 fn add_braced(
     alloc: Global,
     names: &Names<'_>,

@@ -1,4 +1,4 @@
-//! Git directories in memory, described by lines.
+//! Git directories in memory, described by lines of a test file.
 
 use crate::names::Object;
 use crate::trouble::Trouble;
@@ -7,12 +7,12 @@ use gname::Oid;
 use gzlib::Deflater;
 use std::alloc::{AllocError, Allocator, Global};
 
-/// The paths of each Git directory, and of its objects.
+/// The path of each Git directory. `OBJECTS` is the path of its objects.
 pub(crate) const GIT_DIR: &str = "/r";
 
 const OBJECTS: &str = "/r/objects";
 
-/// A file.
+/// A file of a Git directory.
 #[derive(Drop)]
 pub(crate) struct File {
     pub(crate) path: String,
@@ -24,12 +24,12 @@ pub(crate) struct File {
 pub(crate) struct Store<'a> {
     pub(crate) name: &'a str,
     pub(crate) files: Vec<File>,
-    // The folder that receives objects.
+    // The folder to which objects are added.
     folder: &'a str,
 }
 
 impl<'a> Store<'a> {
-    /// Returns a directory without objects.
+    /// Returns a Git directory without objects.
     pub(crate) fn new(alloc: Global, name: &'a str) -> Result<Store<'a>, Trouble> {
         let mut store = Store {
             name,
@@ -41,13 +41,13 @@ impl<'a> Store<'a> {
         Ok(store)
     }
 
-    /// Adds a file.
+    /// Adds a file to the Git directory.
     pub(crate) fn add(&mut self, path: String, bytes: Vec<u8>) -> Result<(), Trouble> {
         self.files.push(File { path, bytes })?;
         Ok(())
     }
 
-    /// Sets the folder that receives further objects.
+    /// Sets the folder to which further objects are added.
     pub(crate) fn set_folder(&mut self, folder: &'a str) {
         self.folder = folder;
     }
@@ -67,7 +67,7 @@ impl<'a> Store<'a> {
         self.add(path, index)
     }
 
-    /// Adds a loose object file, which inflates to the text.
+    /// Adds a loose object file that inflates to the text.
     pub(crate) fn add_loose(
         &mut self,
         alloc: Global,
@@ -92,7 +92,7 @@ impl<'a> Store<'a> {
     }
 }
 
-/// Returns the text of a loose object.
+/// Returns the text of a loose object before compression.
 pub(crate) fn loose_text(alloc: Global, object: &Object<'_>) -> Result<Vec<u8>, Trouble> {
     let kind = object.kind.name();
     let length = object.body.len();
@@ -103,7 +103,7 @@ pub(crate) fn loose_text(alloc: Global, object: &Object<'_>) -> Result<Vec<u8>, 
     Ok(text)
 }
 
-/// Returns the files, in memory.
+/// Returns the files as an in-memory file system.
 pub(crate) fn in_memory<A: Allocator + Copy>(
     alloc: A,
     files: &[File],

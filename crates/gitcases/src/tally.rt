@@ -1,24 +1,24 @@
-//! The number of tries, and of wrong answers.
+//! The counts of runs and of wrong results.
 
 use std::io;
 
-/// The ways to try a row.
+/// The ways in which a row is tested.
 #[derive(Clone, Copy, PartialEq, Eq)]
 pub(crate) enum Treatment {
-    /// Unchanged.
+    /// The input is unchanged.
     Plain,
-    /// Truncated after each byte, or with each bit changed, so that it is not a pack.
+    /// A pack is truncated after each byte, or each bit is flipped and the old trailer kept.
     Broken,
-    /// With each bit changed, and a correct trailer.
+    /// Each bit is flipped, and a pack gets a correct trailer.
     Changed,
-    /// While the files change.
+    /// The files change during the run.
     Turned,
-    /// With each allocation refused in turn.
+    /// Each allocation is refused in turn.
     Scarce,
 }
 
 impl Treatment {
-    /// Returns the name of the treatment.
+    /// Returns the printed name of the way.
     pub(crate) fn name(self) -> &'static str {
         match self {
             Treatment::Plain => "as it is",
@@ -30,7 +30,7 @@ impl Treatment {
     }
 }
 
-/// The number of tries, and of wrong answers.
+/// The counts of runs and of wrong results.
 #[derive(Clone, Copy, Drop)]
 pub(crate) struct Tally {
     rows: u64,
@@ -39,7 +39,7 @@ pub(crate) struct Tally {
 }
 
 impl Tally {
-    /// Returns a tally without tries.
+    /// Returns a tally without runs.
     pub(crate) fn new() -> Tally {
         Tally {
             rows: 0,
@@ -53,7 +53,7 @@ impl Tally {
         self.rows = self.rows.saturating_add(1);
     }
 
-    /// Counts a try, and whether its answer is right.
+    /// Counts a run, and its result if it is wrong.
     pub(crate) fn count(&mut self, way: Treatment, is_right: bool) {
         if let Some(tries) = self.tries.get_mut(way as usize) {
             *tries = tries.saturating_add(1);
@@ -63,7 +63,7 @@ impl Tally {
         }
     }
 
-    /// Prints the counts.
+    /// Prints all counts.
     pub(crate) fn show<R: Print>(&self, rt: &R) -> io::Result<()> {
         let rows = self.rows;
         println!(rt; "{rows} rows")?;

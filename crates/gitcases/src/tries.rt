@@ -1,4 +1,4 @@
-//! Trying rows in each way.
+//! Tests of a row in each way.
 
 use crate::answers::{MEMORY, OK, Trial, answer_of};
 use crate::packs::mend_trailer;
@@ -10,16 +10,16 @@ use crate::trouble::Trouble;
 use case_text::Scarce;
 use std::rt::Files;
 
-// The bits of a byte.
+// The eight bits of a byte.
 const BITS: [u8; 8] = [1, 2, 4, 8, 16, 32, 64, 128];
 
-// The maximum number of allocations to refuse in turn.
+// An upper bound on the allocations to refuse in turn.
 const MAX_REFUSED: u64 = 100_000;
 
-// The maximum number of calls before files are replaced.
+// The maximum number of calls before the files are replaced.
 const MAX_CALLS: u64 = 60;
 
-/// Tries a row.
+/// Tests a row in each way.
 pub(crate) fn try_row<R: Files + Print + AllocGlobal>(
     rt: &R,
     script: &Script<'_>,
@@ -44,7 +44,7 @@ pub(crate) fn try_row<R: Files + Print + AllocGlobal>(
     Ok(())
 }
 
-// Tries a subject in all ways.
+// Tests a subject in each way.
 fn try_all<R: Files + Print + AllocGlobal>(
     rt: &R,
     trial: Trial<'_, '_>,
@@ -65,7 +65,7 @@ fn try_all<R: Files + Print + AllocGlobal>(
     }
 }
 
-// Tries a subject once.
+// Tests a subject in one run.
 fn try_one<R: Files + Print + AllocGlobal>(
     rt: &R,
     trial: Trial<'_, '_>,
@@ -76,7 +76,7 @@ fn try_one<R: Files + Print + AllocGlobal>(
     judge(rt, trial, (way, place), answer.as_str(), tally)
 }
 
-// Counts an answer, and reports a wrong one.
+// Counts a result, and prints it if it is wrong.
 fn judge<R: Print>(
     rt: &R,
     trial: Trial<'_, '_>,
@@ -94,7 +94,7 @@ fn judge<R: Print>(
     Ok(())
 }
 
-// Whether an answer is allowed in this way.
+// Returns whether a result is allowed for this way of testing.
 fn is_right(trial: Trial<'_, '_>, way: Treatment, answer: &str) -> bool {
     match way {
         Treatment::Plain => answer.as_bytes() == trial.aim.due.as_slice(),
@@ -105,7 +105,7 @@ fn is_right(trial: Trial<'_, '_>, way: Treatment, answer: &str) -> bool {
     }
 }
 
-// Whether an answer is the expected one, or one of the other allowed ones.
+// Returns whether a result is the expected one, or one of the row's further results.
 fn may_come(trial: Trial<'_, '_>, answer: &str) -> bool {
     for due in &trial.row.others {
         if due.as_slice() == answer.as_bytes() {
@@ -115,7 +115,7 @@ fn may_come(trial: Trial<'_, '_>, answer: &str) -> bool {
     answer.as_bytes() == trial.aim.due.as_slice()
 }
 
-// Tries a subject with each allocation refused in turn.
+// Tests a subject with each allocation refused in turn.
 fn try_scarce<R: Files + Print + AllocGlobal>(
     rt: &R,
     trial: Trial<'_, '_>,
@@ -133,7 +133,7 @@ fn try_scarce<R: Files + Print + AllocGlobal>(
     Ok(())
 }
 
-// Tries a subject while its files are replaced, after each number of calls in turn.
+// Tests a subject whose files are replaced during the run, after each number of calls in turn.
 fn try_turns<R: Files + Print + AllocGlobal>(
     rt: &R,
     trial: Trial<'_, '_>,
@@ -147,7 +147,7 @@ fn try_turns<R: Files + Print + AllocGlobal>(
     Ok(())
 }
 
-// Tries a pack truncated after each byte, and with each bit changed.
+// Tests a pack truncated after each byte, and with each bit flipped.
 fn sweep_pack<R: Files + Print + AllocGlobal>(
     rt: &R,
     trial: Trial<'_, '_>,
@@ -160,7 +160,7 @@ fn sweep_pack<R: Files + Print + AllocGlobal>(
     Ok(())
 }
 
-// Tries a truncated pack, with its last bytes as the trailer, and with the right trailer.
+// Tests a truncated pack, first without a correct trailer and then with one.
 fn try_cut<R: Files + Print + AllocGlobal>(
     rt: &R,
     trial: Trial<'_, '_>,
@@ -174,7 +174,7 @@ fn try_cut<R: Files + Print + AllocGlobal>(
     try_pack(rt, trial, cut.as_slice(), (Treatment::Broken, place), tally)
 }
 
-// Tries a pack with each bit of a byte changed, with its own trailer, and with the right trailer.
+// Tests a pack with each bit of a byte flipped, with the old trailer and with a correct trailer.
 fn try_bits<R: Files + Print + AllocGlobal>(
     rt: &R,
     trial: Trial<'_, '_>,
@@ -227,7 +227,7 @@ fn change(bytes: &mut Vec<u8>, place: usize, bit: u8) {
     }
 }
 
-// Tries the store with each bit of each file changed.
+// Tests a store with each bit of each file flipped.
 fn sweep_files<R: Files + Print + AllocGlobal>(
     rt: &R,
     trial: Trial<'_, '_>,
@@ -241,8 +241,7 @@ fn sweep_files<R: Files + Print + AllocGlobal>(
     Ok(())
 }
 
-// Tries the store with each bit of a byte of a file changed. The answer must be the same, or a
-// fault.
+// Tests a store with each bit of a byte flipped. The result must be the same, or a fault.
 fn try_file_bits<R: Files + Print + AllocGlobal>(
     rt: &R,
     trial: Trial<'_, '_>,

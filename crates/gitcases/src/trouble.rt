@@ -1,33 +1,33 @@
-//! Why the cases cannot be tried.
+//! Reasons why the tests can't run.
 
 use std::alloc::{AllocError, AllocFailed};
 use std::io;
 
-/// Why the cases cannot be tried.
+/// The reason why the tests can't run.
 #[derive(Clone, Copy, Drop)]
 pub(crate) enum Trouble {
-    /// The program itself is out of memory.
+    /// The test program itself is out of memory.
     Memory,
     /// A brace is not closed.
     OpenBrace,
-    /// Nothing has this name.
+    /// No item has the name in a line.
     NoName,
     /// A word is not a number.
     NoNumber,
     /// A line does not continue the current item.
     NotBegun,
-    /// The line is unknown.
+    /// A line has no known form.
     UnknownLine,
     /// A text is not UTF-8.
     NoText,
-    /// A folder or a file cannot be created.
+    /// A folder or a file can't be created.
     NoFiles,
     /// Standard output failed.
     NoOutput,
 }
 
 impl Trouble {
-    /// Returns the sentence to print.
+    /// Returns the printed text of the reason.
     pub(crate) fn text(self) -> &'static str {
         match self {
             Trouble::Memory => "out of memory",
