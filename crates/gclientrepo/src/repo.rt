@@ -165,17 +165,17 @@ impl<A: Allocator + Copy> Repo<A> {
         Ok(self.graph.insert(entry)?)
     }
 
-    /// Adds copies of the objects of a pack, all or none, and returns how many ids are new. Their
+    /// Adds the objects of a pack, all or none, and returns how many ids are new. Their
     /// parents need not be held. Refs and marks are unchanged.
     ///
     /// Fails as `Graph::insert_all` does, and the repository is then unchanged.
-    pub fn insert_all(&mut self, entries: &[Entry<A>]) -> Result<usize, GraphFault>
-        ensures adds { Adds self.old.graph entries.now self.new.graph result }
-        ensures only { AddsOnly self.old.graph.entries entries.now self.new.graph.entries }
-        ensures only_parents { AddsOnlyParents self.old.graph.entries entries.now
+    pub fn insert_all(&mut self, entries: Vec<Entry<A>, A>) -> Result<usize, GraphFault>
+        ensures adds { Adds self.old.graph entries.items self.new.graph result }
+        ensures only { AddsOnly self.old.graph.entries entries.items self.new.graph.entries }
+        ensures only_parents { AddsOnlyParents self.old.graph.entries entries.items
             self.new.graph.entries }
         ensures held { OnOk result (All (λ entry. IsNode self.new.graph.entries entry.id
-            entry.node) entries.now) }
+            entry.node) entries.items) }
         ensures grows { Grows self.old.graph.entries self.new.graph.entries }
         ensures keeps { Keeps self.old.graph.entries self.new.graph.entries }
         ensures connected { (a : Id) → IsConnected self.old.graph.entries a

@@ -5,7 +5,7 @@ ghost use Rattle.gobject.specs.Objects.{IsShaped, node_at};
 ghost use Rattle.gname.specs.Ids.{Id, IsIdOf};
 ghost use Rattle.gdag.specs.Graphs.{HasIdsOf, IsGraph, IsNode};
 ghost use Rattle.gdag.specs.Reach.{Reaches, IsConnected, Grows, Keeps};
-ghost use Rattle.gdag.specs.Insert.{IsMisshapen, IsCause, Admits, Adds, AddsCopy, AddsOne, AddsOnly, AddsOnlyParents};
+ghost use Rattle.gdag.specs.Insert.{IsMisshapen, IsCause, Admits, Adds, AddsOne, AddsOnly, AddsOnlyParents};
 ghost use Rattle.gdag.specs.declared.fault.GraphFault.TheVariants.{OtherFormat};
 
 use crate::fault::GraphFault;
@@ -38,9 +38,9 @@ impl<A: Allocator + Copy> Graph<A> {
         Ok(is_new)
     }
 
-    /// Adds copies of the entries, all or none, and returns the number of new ids. A repeated id
-    /// with the same node adds nothing. New entries are appended in store order, in the order of
-    /// the list.
+    /// Adds the entries, all or none, and returns the number of new ids. A repeated id with the
+    /// same node adds nothing. New entries are appended in store order, in the order of the list.
+    /// No node is copied.
     ///
     /// Entries are checked in order. The call fails at the first one that can't be added, and then
     /// the graph is unchanged. The fault is the first of these that applies to the entry:
@@ -51,12 +51,12 @@ impl<A: Allocator + Copy> Graph<A> {
     /// - `Conflict`: its id has another node in the graph or earlier in the list.
     /// - `TooMany`: the graph already has the maximum number of nodes.
     /// - `Memory`.
-    pub fn insert_all(&mut self, entries: &[Entry<A>]) -> Result<usize, GraphFault>
-        ensures adds { Adds self.old entries.now self.new result }
-        ensures only { AddsOnly self.old.entries entries.now self.new.entries }
-        ensures only_parents { AddsOnlyParents self.old.entries entries.now self.new.entries }
+    pub fn insert_all(&mut self, entries: Vec<Entry<A>, A>) -> Result<usize, GraphFault>
+        ensures adds { Adds self.old entries.items self.new result }
+        ensures only { AddsOnly self.old.entries entries.items self.new.entries }
+        ensures only_parents { AddsOnlyParents self.old.entries entries.items self.new.entries }
         ensures held { OnOk result (All (λ entry. IsNode self.new.entries entry.id entry.node)
-            entries.now) }
+            entries.items) }
         ensures grows { Grows self.old.entries self.new.entries }
         ensures keeps { Keeps self.old.entries self.new.entries }
         ensures reaches { (a b : Id) → Reaches self.old.entries a b
@@ -67,23 +67,12 @@ impl<A: Allocator + Copy> Graph<A> {
         let before = self.len();
         let was_ordered = self.is_ordered();
         for entry in entries {
-            if let Err(fault) = self.insert_copy(entry) {
+            if let Err(fault) = self.insert(entry) {
                 self.cut_back(before, was_ordered);
                 return Err(fault);
             }
         }
         Ok(self.len() - before)
-    }
-
-    // Adds a copy of the entry.
-    fn insert_copy(&mut self, entry: &Entry<A>) -> Result<(), GraphFault>
-        ensures adds { AddsCopy self.old entry.now self.new result }
-    {
-        if self.admits(entry)? {
-            let copy = entry.copy_in(self.allocator())?;
-            self.push(copy)?;
-        }
-        Ok(())
     }
 
     // Whether to push the entry: its id is new. It is not new if the graph has it with the same

@@ -12,7 +12,6 @@ use gitcommitgraph::CommitGraph;
 use gitobjects::{ObjectFiles, ObjectReader, StoreFault};
 use gitrefs::GitDirectory;
 use gname::{Oid, RefName};
-use grefs::{MAX_REFS, is_below_refs};
 use std::alloc::Allocator;
 use std::fs::Files;
 
@@ -110,7 +109,7 @@ pub(crate) fn held_refs<A: Allocator + Copy>(
 }
 
 /// Adds a ref to an object of the graph.
-#[tactic(auto, using(crate::proofs::RefLemmas::AreHeld_set, crate::proofs::RefLemmas::AreHeld_push))]
+#[tactic(auto, using(crate::proofs::RefLemmas::AreHeld_set))]
 pub(crate) fn set_held<A: Allocator + Copy>(
     graph: &Graph<A>,
     refs: &mut Refs<A>,
@@ -120,13 +119,6 @@ pub(crate) fn set_held<A: Allocator + Copy>(
     requires { Holds graph.now.entries id }
     ensures { AreHeld graph.now refs.old → OnOk result (AreHeld graph.now refs.new) }
 {
-    // The search is skipped if the name sorts after the others.
-    if refs.len() < MAX_REFS && is_below_refs(&name) && refs.are_below(name.as_bytes()) {
-        return match refs.push(name, id) {
-            Ok(()) => Ok(()),
-            Err(_) => Err(RepositoryFault::Memory),
-        };
-    }
     match refs.set(name, id) {
         Ok(()) => Ok(()),
         Err(_) => Err(RepositoryFault::Memory),

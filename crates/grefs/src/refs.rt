@@ -121,10 +121,7 @@ impl<A: Allocator + Copy> Refs<A> {
     pub fn are_below(&self, name: &[u8]) -> bool
         ensures { IsTrue result ↔ AreBelow self.now name.now }
     {
-        match self.refs.last() {
-            Some(last) => last.0.as_bytes().cmp(name).is_lt(),
-            None => true,
-        }
+        are_below(self.refs.as_slice(), name)
     }
 
     /// Adds a ref after the others. If out of memory, the refs are unchanged.
@@ -198,6 +195,17 @@ fn copy_refs<A: Allocator + Copy>(
     Ok(copies)
 }
 
+// Returns whether a name of these bytes is greater than every name of the refs.
+fn are_below<A: Allocator + Copy>(refs: &[(RefName<A>, Oid)], name: &[u8]) -> bool
+    requires { IsRefs refs.now }
+    ensures { IsTrue result ↔ AreBelow refs.now name.now }
+{
+    match refs.last() {
+        Some(last) => last.0.as_bytes().cmp(name).is_lt(),
+        None => true,
+    }
+}
+
 // Returns the position of the name, or the position at which it would be inserted.
 fn place_of<A: Allocator + Copy>(
     refs: &[(RefName<A>, Oid)],
@@ -206,5 +214,9 @@ fn place_of<A: Allocator + Copy>(
     requires { IsRefs refs.now }
     ensures { MatchResult result (IsFound refs.now name.now) (IsGap refs.now name.now) }
 {
+    // Names usually arrive in order.
+    if are_below(refs, name.as_bytes()) {
+        return Err(refs.len());
+    }
     refs.binary_search_by(|pair| pair.0.cmp(name))
 }
