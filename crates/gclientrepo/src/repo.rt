@@ -166,17 +166,17 @@ impl<A: Allocator + Copy> Repo<A> {
         Ok(self.graph.insert(entry)?)
     }
 
-    /// Adds copies of all objects of a pack or of none, and returns the number of new ids. The
-    /// parents of the objects may be missing. Refs and marks are unchanged.
+    /// Adds all objects of a pack or none, and returns the number of new ids. The parents of the
+    /// objects may be missing. Refs and marks are unchanged.
     ///
     /// Fails like `Graph::insert_all`. A failed call leaves the repository unchanged.
-    pub fn insert_all(&mut self, entries: &[Entry<A>]) -> Result<usize, GraphFault>
-        ensures adds { Adds self.old.graph entries.now self.new.graph result }
-        ensures only { AddsOnly self.old.graph.entries entries.now self.new.graph.entries }
-        ensures only_parents { AddsOnlyParents self.old.graph.entries entries.now
+    pub fn insert_all(&mut self, entries: Vec<Entry<A>, A>) -> Result<usize, GraphFault>
+        ensures adds { Adds self.old.graph entries.items self.new.graph result }
+        ensures only { AddsOnly self.old.graph.entries entries.items self.new.graph.entries }
+        ensures only_parents { AddsOnlyParents self.old.graph.entries entries.items
             self.new.graph.entries }
         ensures held { OnOk result (All (λ entry. IsNode self.new.graph.entries entry.id
-            entry.node) entries.now) }
+            entry.node) entries.items) }
         ensures grows { Grows self.old.graph.entries self.new.graph.entries }
         ensures keeps { Keeps self.old.graph.entries self.new.graph.entries }
         ensures connected { (a : Id) → IsConnected self.old.graph.entries a

@@ -72,11 +72,6 @@ AddsOne old entry new (Ok is_new) =
     × (IsTrue is_new ↔ (node_at old.entries entry.id ≡ None))
 AddsOne old entry new (Err fault) = (new ≡ old) × IsCause old.format old.entries entry fault
 
--- the outcome of adding a copy of one entry
-abbrev pub AddsCopy : {A : Type 0} → History A → Entry A → History A → Result (Unit {0}) GraphFault → Type 0
-AddsCopy old entry new (Ok _) = (new.format ≡ old.format) × ComesIn old.format old.entries entry new.entries
-AddsCopy old entry new (Err fault) = (new ≡ old) × IsCause old.format old.entries entry fault
-
 -- the outcome of adding a list: all entries are inserted, and the result is the number of new ids; or a fault, with the
 -- graph unchanged
 abbrev pub Adds : {A : Type 0} → History A → List (Entry A) → History A → Result ℕ GraphFault → Type 0

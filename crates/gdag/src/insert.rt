@@ -5,7 +5,7 @@ ghost use Rattle.gobject.specs.Objects.{IsShaped, node_at};
 ghost use Rattle.gname.specs.Ids.{Id, IsIdOf};
 ghost use Rattle.gdag.specs.Graphs.{HasIdsOf, IsGraph, IsNode};
 ghost use Rattle.gdag.specs.Reach.{Reaches, IsConnected, Grows, Keeps};
-ghost use Rattle.gdag.specs.Insert.{IsMisshapen, IsCause, Admits, Adds, AddsCopy, AddsOne, AddsOnly, AddsOnlyParents};
+ghost use Rattle.gdag.specs.Insert.{IsMisshapen, IsCause, Admits, Adds, AddsOne, AddsOnly, AddsOnlyParents};
 ghost use Rattle.gdag.specs.declared.fault.GraphFault.TheVariants.{OtherFormat};
 
 use crate::fault::GraphFault;
@@ -39,8 +39,8 @@ impl<A: Allocator + Copy> Graph<A> {
         Ok(is_new)
     }
 
-    /// Appends copies of the entries, all or none, and returns the number of new ids. A repeated id
-    /// with the same node adds nothing. New entries keep the order of the list.
+    /// Appends the entries, all or none, and returns the number of new ids. A repeated id with the
+    /// same node adds nothing. New entries keep the order of the list, and no entry is copied.
     ///
     /// The call checks the entries in order, and fails at the first one that can't be added. A
     /// failed call leaves the graph unchanged. The fault is the first in this list that applies to
@@ -52,12 +52,12 @@ impl<A: Allocator + Copy> Graph<A> {
     /// - `Conflict`: the entry's id has a different node in the graph or earlier in the list.
     /// - `TooMany`: the graph already has the maximum number of nodes.
     /// - `Memory`.
-    pub fn insert_all(&mut self, entries: &[Entry<A>]) -> Result<usize, GraphFault>
-        ensures adds { Adds self.old entries.now self.new result }
-        ensures only { AddsOnly self.old.entries entries.now self.new.entries }
-        ensures only_parents { AddsOnlyParents self.old.entries entries.now self.new.entries }
+    pub fn insert_all(&mut self, entries: Vec<Entry<A>, A>) -> Result<usize, GraphFault>
+        ensures adds { Adds self.old entries.items self.new result }
+        ensures only { AddsOnly self.old.entries entries.items self.new.entries }
+        ensures only_parents { AddsOnlyParents self.old.entries entries.items self.new.entries }
         ensures held { OnOk result (All (λ entry. IsNode self.new.entries entry.id entry.node)
-            entries.now) }
+            entries.items) }
         ensures grows { Grows self.old.entries self.new.entries }
         ensures keeps { Keeps self.old.entries self.new.entries }
         ensures reaches { (a b : Id) → Reaches self.old.entries a b
@@ -68,23 +68,12 @@ impl<A: Allocator + Copy> Graph<A> {
         let before = self.len();
         let was_ordered = self.is_ordered();
         for entry in entries {
-            if let Err(fault) = self.insert_copy(entry) {
+            if let Err(fault) = self.insert(entry) {
                 self.cut_back(before, was_ordered);
                 return Err(fault);
             }
         }
         Ok(self.len() - before)
-    }
-
-    // Adds a copy of the entry.
-    fn insert_copy(&mut self, entry: &Entry<A>) -> Result<(), GraphFault>
-        ensures adds { AddsCopy self.old entry.now self.new result }
-    {
-        if self.admits(entry)? {
-            let copy = entry.copy_in(self.allocator())?;
-            self.push(copy)?;
-        }
-        Ok(())
     }
 
     // Returns whether the entry must be appended because its id is new. Returns `false` if the

@@ -2,7 +2,7 @@
 
 use crate::loose::LooseRef;
 use gname::{Oid, RefName};
-use grefs::{Head, MAX_REFS, Refs, RefsFault, Target, is_below_refs};
+use grefs::{Head, Refs, RefsFault, Target};
 use std::alloc::{AllocError, Allocator};
 use std::iter::zip;
 
@@ -111,24 +111,10 @@ pub(crate) fn refs_of<A: Allocator + Copy>(
     let mut refs = Refs::new(alloc);
     for (value, id) in zip(values.values, ids) {
         if let Some(id) = id {
-            add_ref(&mut refs, value.0, id)?;
+            refs.set(value.0, id)?;
         }
     }
     Ok(refs)
-}
-
-// Adds a ref. If its name sorts after all other names, it is appended without a search.
-fn add_ref<A: Allocator + Copy>(
-    refs: &mut Refs<A>,
-    name: RefName<A>,
-    id: Oid,
-) -> Result<(), RefsFault> {
-    let has_room = refs.len() < MAX_REFS;
-    if has_room && is_below_refs(&name) && refs.are_below(name.as_bytes()) {
-        refs.push(name, id)?;
-        return Ok(());
-    }
-    refs.set(name, id)
 }
 
 /// Returns the last ref name that HEAD leads to, or the id of a detached HEAD. Returns `None` if

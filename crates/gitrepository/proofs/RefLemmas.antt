@@ -1,6 +1,6 @@
 -- Refs whose objects a graph holds.
-use Rattle.std.proofs.Common.{◌≡◌, ◌⊎◌, ◌++◌, ◌∷◌, [], inl, inr, List, All, Contains, sym, subst}
-use Rattle.std.proofs.lemmas.List.Elements.{All-append, All-cons, All-contains, All-nil}
+use Rattle.std.proofs.Common.{◌≡◌, ◌⊎◌, inl, inr, All, Contains, sym, subst}
+use Rattle.std.proofs.lemmas.List.Elements.{All-contains}
 use Rattle.gname.specs.Ids.{Id}
 use Rattle.gname.specs.Names.{Name}
 use Rattle.grefs.specs.RefLists.{RefList, SetsRef}
@@ -16,9 +16,3 @@ one P old new ref this all (inr among) = All-contains P old ref all among
 pub AreHeld_set : {A : Type 0} (graph : History A) (old new : RefList) (name : Name) (id : Id) → SetsRef old new name id → Holds graph.entries id → AreHeld graph old → AreHeld graph new
 AreHeld_set graph old new name id sets holds held =
     λ k d inside. one (λ ref. Holds graph.entries ref.1) old (name, id) _ holds held (sets.each k d inside)
-
--- the refs stay held where one at an object of the graph comes after them
-pub AreHeld_push : {A : Type 0} (graph : History A) (old new : RefList) (name : Name) (id : Id) → new ≡ old ++ (name, id) ∷ [] → Holds graph.entries id → AreHeld graph old → AreHeld graph new
-AreHeld_push graph old new name id is holds held =
-    let P : Name × Id → Type 0 = λ ref. Holds graph.entries ref.1 in
-    subst (λ refs. All P refs) (sym is) (All-append P old ((name, id) ∷ []) held (All-cons P (name, id) [] holds (All-nil P)))

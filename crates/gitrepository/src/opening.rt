@@ -12,7 +12,6 @@ use gitcommitgraph::CommitGraph;
 use gitobjects::{ObjectFiles, ObjectReader, StoreFault};
 use gitrefs::GitDirectory;
 use gname::{Oid, RefName};
-use grefs::{MAX_REFS, is_below_refs};
 use std::alloc::Allocator;
 use std::fs::Files;
 
@@ -111,7 +110,7 @@ pub(crate) fn held_refs<A: Allocator + Copy>(
 }
 
 /// Adds a ref that points to an object of the graph.
-#[tactic(auto, using(crate::proofs::RefLemmas::AreHeld_set, crate::proofs::RefLemmas::AreHeld_push))]
+#[tactic(auto, using(crate::proofs::RefLemmas::AreHeld_set))]
 pub(crate) fn set_held<A: Allocator + Copy>(
     graph: &Graph<A>,
     refs: &mut Refs<A>,
@@ -121,13 +120,6 @@ pub(crate) fn set_held<A: Allocator + Copy>(
     requires { Holds graph.now.entries id }
     ensures { AreHeld graph.now refs.old → OnOk result (AreHeld graph.now refs.new) }
 {
-    // A ref whose name sorts after all others is appended without a search.
-    if refs.len() < MAX_REFS && is_below_refs(&name) && refs.are_below(name.as_bytes()) {
-        return match refs.push(name, id) {
-            Ok(()) => Ok(()),
-            Err(_) => Err(RepositoryFault::Memory),
-        };
-    }
     match refs.set(name, id) {
         Ok(()) => Ok(()),
         Err(_) => Err(RepositoryFault::Memory),

@@ -339,7 +339,7 @@ refs_none = record { names = All-nil (λ (ref : List ℕ × List ℕ). IsBelowRe
 
 -- ---- a ref after all others
 
-gap_last : (refs : RefList) (name : List ℕ) → AreBelow refs name → IsGap refs name (length refs)
+pub gap_last : (refs : RefList) (name : List ℕ) → AreBelow refs name → IsGap refs name (length refs)
 gap_last [] name below = tt
 gap_last (ref ∷ refs) name below = (below.0, gap_last refs name below.1)
 

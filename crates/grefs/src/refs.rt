@@ -123,10 +123,7 @@ impl<A: Allocator + Copy> Refs<A> {
     pub fn are_below(&self, name: &[u8]) -> bool
         ensures { IsTrue result ↔ AreBelow self.now name.now }
     {
-        match self.refs.last() {
-            Some(last) => last.0.as_bytes().cmp(name).is_lt(),
-            None => true,
-        }
+        are_below(self.refs.as_slice(), name)
     }
 
     /// Appends a ref. If out of memory, the call fails and leaves the refs unchanged.
@@ -200,6 +197,17 @@ fn copy_refs<A: Allocator + Copy>(
     Ok(copies)
 }
 
+// Returns whether a name of these bytes is greater than every name of the refs.
+fn are_below<A: Allocator + Copy>(refs: &[(RefName<A>, Oid)], name: &[u8]) -> bool
+    requires { IsRefs refs.now }
+    ensures { IsTrue result ↔ AreBelow refs.now name.now }
+{
+    match refs.last() {
+        Some(last) => last.0.as_bytes().cmp(name).is_lt(),
+        None => true,
+    }
+}
+
 // Returns the position of the name, or in `Err` the position at which the name would be inserted.
 fn place_of<A: Allocator + Copy>(
     refs: &[(RefName<A>, Oid)],
@@ -208,5 +216,9 @@ fn place_of<A: Allocator + Copy>(
     requires { IsRefs refs.now }
     ensures { MatchResult result (IsFound refs.now name.now) (IsGap refs.now name.now) }
 {
+    // Names usually arrive in order.
+    if are_below(refs, name.as_bytes()) {
+        return Err(refs.len());
+    }
     refs.binary_search_by(|pair| pair.0.cmp(name))
 }

@@ -161,7 +161,7 @@ impl<A: Allocator + Copy> Session<A> {
         self.check_acks(acks)?;
         let entries = feed.finish()?;
         let commons = with_acks(self.allocator(), self.commons.as_slice(), acks)?;
-        let added = repo.insert_all(entries.as_slice())?;
+        let added = repo.insert_all(entries)?;
         self.commons = commons;
         self.stage = Stage::Settling;
         set_pending(&mut self.pending, None);

@@ -1,7 +1,11 @@
 use Rattle.std.proofs.Common.{rules}
 use Rattle.std.proofs.lemmas.Fn.{always_returns_same}
-use Rattle.grefs.proofs.RefLemmas.{order, searched}
+use Rattle.grefs.proofs.RefLemmas.{gap_last, order, searched}
 use Rattle.grefs.proofs.refs.place_of.Goals as goal
+
+pub returns-then-are_below : goal.returns-then-are_below
+returns-then-are_below g c =
+    gap_last c.args.refs.now c.args.name.now (rw c.as_bytes.ensures.bytes at (c.are_below.ensures.0 c.if-are_below.true))
 
 -- the closure compares a ref's name with the name that is looked for
 pub returns : goal.returns
