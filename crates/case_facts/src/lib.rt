@@ -13,7 +13,7 @@
 //! No contract states the results of this crate. Deliberately wrong facts were run, to check that
 //! the tests reject them.
 //!
-//! # Stands on
+//! # Dependencies
 //!
 //! `case_text` defines facts and an allocator that fails. `gname`, `grefs`, `ghello`, `gpkt`,
 //! `gscenario` and `ggraph` parse texts. `gclient` defines a client's knowledge of a history, and

@@ -16,7 +16,7 @@
 //! No contract states the results of this crate. Deliberately wrong cases and programs were run, to
 //! check that the tests reject them.
 //!
-//! # Stands on
+//! # Dependencies
 //!
 //! `gprogram` is the launched program. `case_text` and `case_tries` define rows and cases, and
 //! `gtcp` locations.

@@ -16,7 +16,7 @@
 //! No contract states the behavior of a device before its failure. The tests count calls and bytes
 //! of devices.
 //!
-//! # Stands on
+//! # Dependencies
 //!
 //! `case_text` defines commands, packers, indexers and an allocator that fails. `gcmd` defines the
 //! programs, `gserve` and `gclient` the network calls of the programs. `gpkt` defines devices,

@@ -16,7 +16,7 @@
 //! No contract states how a line is parsed. The cases test that the parser follows
 //! crates/conformance/FORMAT.md.
 //!
-//! # Stands on
+//! # Dependencies
 //!
 //! `gname` defines ids and their formats, `ggrammar` the ends of replies, `ggraph` objects, packers
 //! and indexers.

@@ -22,7 +22,7 @@
 //! No contract states the results of this crate. Deliberately wrong cases and programs were run, to
 //! check that the tests reject them.
 //!
-//! # Stands on
+//! # Dependencies
 //!
 //! `case_text` defines rows, their messages, and an allocator that fails. `case_runs` runs programs
 //! over devices, and `case_worlds` runs simulations. `gsimulate` is the program for simulations,

@@ -14,7 +14,7 @@
 //! No contract states the results of this crate. Deliberately wrong programs were run, to check
 //! that the tests detect a client whose refs are not connected.
 //!
-//! # Stands on
+//! # Dependencies
 //!
 //! `gworld` defines worlds and their events. `gcmd` loads the server and the client, `ggraph`
 //! defines packers and indexers, `gpkt` sinks, and `gname` the formats of ids. `case_text` defines

@@ -33,7 +33,7 @@
 //! No contract states the results of this crate. Deliberately wrong cases and programs were run, to
 //! check that the tests reject them.
 //!
-//! # Stands on
+//! # Dependencies
 //!
 //! `case_text` parses the files and defines an allocator that fails. `case_tries` tests rows,
 //! `case_launches` launches the program, and `case_facts` checks facts. `case_runs` runs programs

@@ -45,7 +45,7 @@ pub record IsServer {A : Type 0} (server : Server A) : Type 0 where
 
 -- ---- making one
 
--- the parents of all objects, in store order
+-- the parents of all objects, in insertion order
 abbrev pub parents_in : {A : Type 0} → List (Entry A) → List Id
 parents_in g = flat_map (λ entry. entry.node.parents) g
 

@@ -49,7 +49,7 @@
 //! several times and use one of the results. Formatting a fault may return an error (`fmt::Error`)
 //! although the text is right.
 //!
-//! # Stands on
+//! # Dependencies
 //!
 //! `ggraph` for graphs, refs, walks and packers, which it re-exports from `gobject`, `gdag`,
 //! `grefs` and `gwalk`. `grequest`, `glsreply`, `gfetchreply` and `ghello` for the messages,

@@ -22,7 +22,7 @@
 //!
 //! An implementation may refuse any arguments, and may return any command for any arguments.
 //!
-//! # Stands on
+//! # Dependencies
 //!
 //! The crate uses `clap` for arguments, `gtcp` for locations, and `gcmd` for the limit of a pack
 //! and the form of replies.

@@ -56,7 +56,7 @@
 //! may take any time, and flush more often than necessary. Formatting a fault may return
 //! `fmt::Error` without a cause.
 //!
-//! # Stands on
+//! # Dependencies
 //!
 //! `gsession` for the session, and `grefs` and `gclientrepo` for refspecs and the repository.
 //! `ghello` for the first line and the advertisement, `grequest` for requests, and `glsreply` for

@@ -54,7 +54,7 @@
 //! number of refs. Settling also walks over the graph for each ask that moves an existing ref,
 //! unless the ask is forced.
 //!
-//! # Stands on
+//! # Dependencies
 //!
 //! `ggraph` for graphs, refs and walks, and below it `gobject`, `gdag`, `grefs` and `gwalk`;
 //! `gname` for ids and names; `indexmap` for asks by name.

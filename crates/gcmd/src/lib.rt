@@ -62,7 +62,7 @@
 //! [`cmd_fetch_stored`] may report that a file can't be locked, read or replaced although it could
 //! be.
 //!
-//! # Stands on
+//! # Dependencies
 //!
 //! The crate uses `gserve` for connections, `ganswer` for the server, `gclient` for the client,
 //! `gfetchreply` for the limit of a pack, and `glockfile` for stored files. The crate uses `ggraph`

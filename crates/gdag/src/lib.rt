@@ -33,7 +33,7 @@
 //! This crate has no tests of its own. The program `conformance` loads, fetches and walks
 //! histories, and makes each allocation fail in turn.
 //!
-//! # Stands on
+//! # Dependencies
 //!
 //! The crate uses `gname` for ids, `gobject` for nodes and entries, and `indexmap` for the map from
 //! ids to nodes and the set of distinct ids.

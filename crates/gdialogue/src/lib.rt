@@ -26,7 +26,7 @@
 //! - A side that needs much time to answer. Meanwhile the dialogue neither receives nor sends
 //!   packets.
 //!
-//! # Stands on
+//! # Dependencies
 //!
 //! `gtalk` for conversations, `ggrammar` for messages, and `gpkt` for packets.
 #![tactic(auto)]

@@ -63,7 +63,7 @@
 //! - No contract covers the duration of a connection. No contract says that the address of a peer
 //!   is the address in [`Event::Connected`].
 //!
-//! # Stands on
+//! # Dependencies
 //!
 //! `gtalk` for connections, `mio` for readiness, `slab` for the slots of peers, and `gpkt` for the
 //! proofs.

@@ -46,7 +46,7 @@
 //! data after the sink has refused a piece. The sink may be given that piece again. Any call may
 //! allocate, and take any amount of time.
 //!
-//! # Stands on
+//! # Dependencies
 //!
 //! `ggrammar` for reading any message, `gpkt` for packets and side bands, `gname` for ids.
 #![tactic(auto)]

@@ -32,7 +32,7 @@
 //!   state whether a device has failed.
 //! - Each kind of message defines its state after it is rejected.
 //!
-//! # Stands on
+//! # Dependencies
 //!
 //! `gpkt` for packets, `gname` for ids and names, `hex` for the digits of ids, `arrayvec` for texts
 //! of bounded length.

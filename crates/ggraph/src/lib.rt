@@ -29,7 +29,7 @@
 //! This crate has no tests of its own. The program `conformance` loads and saves texts up to the
 //! maximum size. It also runs programs on such texts, and makes each allocation fail in turn.
 //!
-//! # Stands on
+//! # Dependencies
 //!
 //! The crate uses `gobject`, `gdag` and `grefs` for the contents of a repository, `gname` for ids
 //! and names, `memchr` for the ends of lines, `gwalk` for the missing ancestors of refs.

@@ -36,7 +36,7 @@
 //! source or of a sink are unknown, the contracts say nothing about the bytes read or written. The
 //! contracts still state the effect on the device.
 //!
-//! # Stands on
+//! # Dependencies
 //!
 //! The crate uses `ggrammar` for reading by a grammar and for capabilities, `gpkt` for packets,
 //! `gname` for the names of object formats, `arrayvec` for texts of bounded length.

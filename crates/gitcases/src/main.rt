@@ -17,7 +17,7 @@
 //! No contract states the results of this program. Deliberately wrong rows and crates were run, to
 //! check that the tests reject them.
 //!
-//! # Stands on
+//! # Dependencies
 //!
 //! The program tests `gitpack`, `gitobjects`, `gitrefs`, `gitrepository` and `gitwords`.
 //! `gitobject`, `gname`, `gzlib` and `sha1` create packs and stores. `ggraph` defines graphs, refs

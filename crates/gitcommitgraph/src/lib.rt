@@ -48,7 +48,7 @@
 //!
 //! This crate has no tests of its own.
 //!
-//! # Stands on
+//! # Dependencies
 //!
 //! The crate uses `gname` for ids.
 #![tactic(auto)]

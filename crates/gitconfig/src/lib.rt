@@ -26,7 +26,7 @@
 //!
 //! This crate has no tests.
 //!
-//! # Stands on
+//! # Dependencies
 //!
 //! `std` alone.
 #![tactic(auto)]

@@ -36,7 +36,7 @@
 //! Any call that allocates may fail if out of memory; the contracts do not say when. The contracts
 //! do not cover time or memory use.
 //!
-//! # Stands on
+//! # Dependencies
 //!
 //! `gname` for ids, `sha1` for the hash, `itoa` for a length in decimal, `memchr` for searches.
 #![tactic(auto)]

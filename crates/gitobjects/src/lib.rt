@@ -83,7 +83,7 @@
 //! - The contracts do not cover which fault is returned, which file it names, or its text.
 //! - Any call may fail if out of memory, and any file may be refused.
 //!
-//! # Stands on
+//! # Dependencies
 //!
 //! `gitpack` for entries, deltas and the index, `gzlib` for streams and CRC-32, `gitobject` for
 //! types, ids and the text of loose objects, `gname` for ids, `memchr` for searches.

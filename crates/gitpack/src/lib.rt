@@ -69,7 +69,7 @@
 //!   bounds the length of a written pack or of an entry header ([`MAX_HEAD`]).
 //! - The contracts do not cover time or memory use.
 //!
-//! # Stands on
+//! # Dependencies
 //!
 //! `gzlib` has zlib streams and CRC-32, `gitobject` has object types and the hashing of objects,
 //! `gname` has ids, and `sha1` has checksums.

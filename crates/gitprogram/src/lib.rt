@@ -69,7 +69,7 @@
 //! `Repositories` may find any repository and report any text: its clauses restrict neither. A
 //! packer may fail with any fault.
 //!
-//! # Stands on
+//! # Dependencies
 //!
 //! `gitwords` parses arguments and paths. `gitrepository`, `gitobjects` and `gitrefs` read and
 //! write repositories. `gevents`, `gserver`, `gdialogue`, `gparts`, `gtalk` and `mio` run the

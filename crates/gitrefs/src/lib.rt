@@ -72,7 +72,7 @@
 //!
 //! This crate contains no tests.
 //!
-//! # Stands on
+//! # Dependencies
 //!
 //! `gname` has names and ids, `grefs` has lists of refs and HEAD, `glockfile` replaces files, and
 //! `memchr` searches bytes.

@@ -96,7 +96,7 @@
 //!
 //! This crate has no tests.
 //!
-//! # Stands on
+//! # Dependencies
 //!
 //! `gparts` for packers that return parts, `gitobjects` for objects, `gitcommitgraph` for
 //! commit-graphs, `gitrefs` for refs, `gitpack` for packs, `gitobject` for links, `gzlib` to

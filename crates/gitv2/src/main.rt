@@ -16,7 +16,7 @@
 //! The contracts say nothing more, because no contract can describe a file, a stream or a socket of
 //! the system.
 //!
-//! # Stands on
+//! # Dependencies
 //!
 //! This crate uses only `gprogram`.
 #![tactic(auto)]

@@ -48,7 +48,7 @@
 //!
 //! This crate has no tests of its own.
 //!
-//! # Stands on
+//! # Dependencies
 //!
 //! The crate uses `clap` for arguments, `grefs` for refspecs, and `gname` for prefixes of ref
 //! names.

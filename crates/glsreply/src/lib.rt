@@ -40,7 +40,7 @@
 //! amount of time. The line-by-line writers accept lines in any order and ids of different formats.
 //! Their caller must ensure the right order and one format.
 //!
-//! # Stands on
+//! # Dependencies
 //!
 //! The crate uses `ggrammar` for reading and writing of messages, `gpkt` for packets, `gname` for
 //! ids and names, `arrayvec` for the text of a line.

@@ -31,7 +31,7 @@
 //! This crate has no functions except its laws. The libraries below list the gaps in the contracts
 //! of their readers and writers.
 //!
-//! # Stands on
+//! # Dependencies
 //!
 //! `ghello`, `grequest`, `glsreply`, `gfetchreply` and `ggrammar` for messages, `gpkt` for packets,
 //! and `gname` for ids and names.

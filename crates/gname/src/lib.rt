@@ -40,7 +40,7 @@
 //! Formatting a fault may fail without need. A call may take any amount of time, and more memory
 //! than it needs.
 //!
-//! # Stands on
+//! # Dependencies
 //!
 //! The crate uses `hex` for the faults of malformed digits, `memchr` for searches in a name.
 #![tactic(auto)]

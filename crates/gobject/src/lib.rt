@@ -33,7 +33,7 @@
 //! This crate has no tests of its own. The program `conformance` reads and writes packs, whole and
 //! in pieces, and makes each allocation fail in turn.
 //!
-//! # Stands on
+//! # Dependencies
 //!
 //! The crate uses `gname` for ids, `memchr` for the ends of parts, `arrayvec` for a part that is
 //! split between pieces, `itoa` for the count in a pack. The proofs use `hex`.

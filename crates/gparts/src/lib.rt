@@ -16,7 +16,7 @@
 //!
 //! This crate has no tests.
 //!
-//! # Stands on
+//! # Dependencies
 //!
 //! `gobject` for entries, packers and faults, and `gname` for the proofs.
 #![tactic(auto)]

@@ -54,7 +54,7 @@
 //!   bytes unchanged. A failed flush may have flushed any part of the buffered bytes.
 //! - Formatting a fault may return `fmt::Error` although the formatted text would be right.
 //!
-//! # Stands on
+//! # Dependencies
 //!
 //! `hex` for the digits, and std's `Read` and `Write`.
 #![tactic(auto)]

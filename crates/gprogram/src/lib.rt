@@ -21,7 +21,7 @@
 //! The contracts state nothing further about the work. No contract can state the bytes that a file,
 //! a stream or a socket of the system reads or writes.
 //!
-//! # Stands on
+//! # Dependencies
 //!
 //! The crate uses `gargs` for the arguments, `gcmd`, `gtcp` and `gsimulate` for the commands,
 //! `glockfile` for files that are replaced, and `gpkt` for devices.

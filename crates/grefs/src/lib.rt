@@ -29,7 +29,7 @@
 //!
 //! Formatting a fault may return an error (`fmt::Error`) without need.
 //!
-//! # Stands on
+//! # Dependencies
 //!
 //! The crate uses `gname` for names and ids.
 #![tactic(auto)]

@@ -41,7 +41,7 @@
 //! shorter prefix may have been written. If the bytes of a source are unknown, the contracts do not
 //! state the packets read. They still state whether a device has failed.
 //!
-//! # Stands on
+//! # Dependencies
 //!
 //! `ggrammar` for the reader and the laws that all messages share, `gpkt` for packets, `gname` for
 //! ids and prefixes.

@@ -23,7 +23,7 @@
 //! implementation may take any time, and more memory than it needs. Formatting a fault may return
 //! `fmt::Error` without a cause.
 //!
-//! # Stands on
+//! # Dependencies
 //!
 //! `grefs` for refspecs, `gname` for ids and ref names, `gobject` for objects, `hex` for bytes,
 //! `itoa` for numbers, and `memchr` to find the ends of words and lines.

@@ -64,7 +64,7 @@
 //! - A call may take any amount of time, flush more often, and write one packet in several calls of
 //!   the sink.
 //!
-//! # Stands on
+//! # Dependencies
 //!
 //! `ganswer` for the server and its answers. `grequest`, `glsreply`, `gfetchreply` and `ghello` for
 //! the messages, `ggrammar` and `gpkt` for the code that these share. `ggraph` for packers, `gname`

@@ -53,7 +53,7 @@
 //! serve` with Git's clients (`examples/with-git.sh`), and with many clients at once
 //! (`examples/many-clients.py`).
 //!
-//! # Stands on
+//! # Dependencies
 //!
 //! `ganswer` for the server and its replies, `gparts` for packers, and `gdialogue` and `gtalk` for
 //! conversations. `ghello`, `grequest`, `glsreply` and `gfetchreply` for the messages. `ggrammar`,

@@ -75,7 +75,7 @@
 //! parents first. Any other asked id needs a walk, which stops at objects that the local refs
 //! reach. A set speeds up the check of acknowledged ids.
 //!
-//! # Stands on
+//! # Dependencies
 //!
 //! `grefs` for refspecs, `gclientrepo` for the repository, `ggraph` and `gwalk` for the walk that
 //! selects haves, `gobject` for indexers, and `indexmap` for sets of ids. `grequest`, `glsreply`,

@@ -29,7 +29,7 @@
 //! call takes. Formatting a fault may return an error (`fmt::Error`) although the text would be
 //! right.
 //!
-//! # Stands on
+//! # Dependencies
 //!
 //! The crate uses `gworld` for worlds, `gscenario` for scenarios, `gcmd` for the shared parts of
 //! programs, and `ggraph` for plain packs and refs. The crate uses `gname` for ids and names,

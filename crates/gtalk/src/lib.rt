@@ -34,7 +34,7 @@
 //! - An event loop that drops a connection or its bytes. The contract of the event loop has to
 //!   exclude this.
 //!
-//! # Stands on
+//! # Dependencies
 //!
 //! `gpkt` for packets and devices, and `hex` for the digits.
 #![tactic(auto)]

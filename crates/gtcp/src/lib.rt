@@ -87,7 +87,7 @@
 //! inner sink receives bytes. `is_too_long` and `bytes_written` may ignore the effect of a `write`
 //! or a flush.
 //!
-//! # Stands on
+//! # Dependencies
 //!
 //! The crate uses `gserve` and `gclient` for connections, `gcmd` for the shared parts of programs,
 //! and `glockfile` for stored files. The crate uses `ganswer` for the server, and `ghello`,

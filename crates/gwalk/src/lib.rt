@@ -38,7 +38,7 @@
 //! This crate has no tests of its own. The program `conformance` makes each call on sample
 //! histories. One sample history has too many paths to walk one by one.
 //!
-//! # Stands on
+//! # Dependencies
 //!
 //! The crate uses `gdag` for graphs, `gobject` for their objects, `gname` for ids, `grefs` for the
 //! refs whose tags are sent.

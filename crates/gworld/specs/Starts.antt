@@ -11,7 +11,7 @@ use Rattle.gworld.specs.Worlds.{WorldOf, new_world}
 use Rattle.gworld.specs.declared.fault.WorldFault.{WorldFault}
 use Rattle.gworld.specs.declared.fault.WorldFault.TheVariants as world
 
--- the first of the server's ids, in store order, that the client holds with a different object
+-- the first of the server's ids, in insertion order, that the client holds with a different object
 pub record IsFirstDisagreement {A : Type 0} (server client : List (Entry A)) (id : Id) : Type 0 where
   pub front : List (Entry A)
   pub entry : Entry A

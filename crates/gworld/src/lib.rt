@@ -61,7 +61,7 @@
 //! call may take any time, and more memory than it needs. Formatting a fault may return
 //! `fmt::Error` without a cause.
 //!
-//! # Stands on
+//! # Dependencies
 //!
 //! `gscenario` for events, `gsession` and `gclientrepo` for the client, and `gserve` and `ganswer`
 //! for the server. `gmsg` and the crates below it for messages, `gpkt` for packets, and `ggraph`

@@ -33,7 +33,7 @@
 //! Any call that allocates may fail for lack of memory, and no contract says when. No contract
 //! covers time or memory use.
 //!
-//! # Stands on
+//! # Dependencies
 //!
 //! Only `std`.
 #![tactic(auto)]

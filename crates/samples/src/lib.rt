@@ -10,7 +10,7 @@
 //!
 //! The contracts let [`Records`] write any pack, and read any objects from a pack.
 //!
-//! # Stands on
+//! # Dependencies
 //!
 //! `gserve` and `gclient` run the conversations, `ggraph` has repositories and packs, and `gcmd`
 //! has one type for all faults.

@@ -82,7 +82,7 @@ fn have_one_format<A: Allocator + Copy>(server: &Server<A>, repo: &Repo<A>) -> b
     repo.format() == server.graph().format()
 }
 
-// Returns the first of the server's ids, in store order, that the client holds with a different
+// Returns the first of the server's ids, in insertion order, that the client holds with a different
 // object.
 fn first_disagreement<A: Allocator + Copy>(server: &Graph<A>, client: &Graph<A>) -> Option<Oid>
     ensures { MatchOption result (Agree server.now.entries client.now.entries)
