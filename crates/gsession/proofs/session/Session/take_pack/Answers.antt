@@ -39,7 +39,7 @@ returns-in_err-added g c = λ asked reply waits same has fed.
     let p = err_from_is_err_and c.from_residual-in_err-added.result c.from_residual-in_err-added.ensures.1 in
     let checks = c.in_ok-check_acks.ensures.checks asked waits in
     let named = subst (λ (l : List (List ℕ)). All (Contains asked.haves) l) (sym same) checks in
-    let adds = rw c.as_slice-2.ensures.value at c.in_err-added.ensures.adds in
+    let adds = c.in_err-added.ensures.adds in
     rw (p.1, p.2) (
       graph_fault (g.K.Indexer.indexes c.args.feed.indexer.now) (g.K.Indexer.index_fails c.args.feed.indexer.now)
           asked.haves c.args.repo.now reply c.in_err-added.field-0.0 named has
@@ -65,7 +65,7 @@ returns g c = λ asked reply waits same has fed.
           c.in_ok-entries.entries.items,
           c.in_ok-entries.ensures (pack_of reply) fed,
           record {
-            adds = rw c.as_slice-2.ensures.value at c.in_ok-added.ensures.adds;
+            adds = c.in_ok-added.ensures.adds;
             refs =
                 c.in_ok-added.ensures.refs;
             marks = c.in_ok-added.ensures.known;
