@@ -1,9 +1,9 @@
 -- What a graph keeps as entries come in.
-use Rattle.std.proofs.Common.{◌≡◌, inl, inr, ℕ, zero, suc, ◌+◌, ◌<◌, ◌≤◌, false, List, [], ◌∷◌, ◌++◌, length, take, All, Some, None, refl, sym, ap, ◌∙◌, subst, arith, append_assoc}
+use Rattle.std.proofs.Common.{◌≡◌, inl, inr, ℕ, zero, suc, ◌+◌, ◌<◌, ◌≤◌, false, List, [], ◌∷◌, ◌++◌, length, get_or, take, All, Some, None, refl, sym, ap, ◌∙◌, subst, arith, append_assoc, drop, add-one}
 use Rattle.std.specs.List.{slice_get}
 use Rattle.std.specs.Option.{is_some}
-use Rattle.std.proofs.lemmas.List.{length-append, append-nil, length-take}
-use Rattle.std.proofs.Math.Seq.{take-append_seam}
+use Rattle.std.proofs.lemmas.List.{length-append, append-nil, take_more, take-append-drop, length-take}
+use Rattle.std.proofs.Math.Seq.{take-append_seam, drop-cons}
 use Rattle.gdag.specs.declared.fault.GraphFault.{GraphFault}
 use Rattle.std.proofs.lemmas.List.Elements.{All-push, All-take, All-cons, All-nil}
 use Rattle.std.proofs.lemmas.Option.{same_Some, none-some, get_or_from_slice_get, slice_get_within}
@@ -147,6 +147,14 @@ inserts_more format old (first ∷ entries) entry mid new (next, c, rest) d = (n
 -- what holds of a list holds of what stands at a position of it
 pub all_standing : {X : Type 0} (P : X → Type 0) (xs : List X) (k : ℕ) (x : X) → slice_get xs k ≡ Some x → All P xs → P x
 all_standing P xs k x at all = subst P (get_or_from_slice_get xs k x x at) (all k x (slice_get_within xs k x at))
+
+pub take_one : {X : Type 0} (xs : List X) (k : ℕ) (x : X) → k < length xs → x ≡ get_or xs k x → take (k + 1) xs ≡ take k xs ++ x ∷ []
+take_one xs k x inside is = take_more xs k x inside ∙ ap (λ y. take k xs ++ y ∷ []) (sym is)
+
+pub at_front : {X : Type 0} (xs : List X) (k : ℕ) (x : X) → k < length xs → x ≡ get_or xs k x → xs ≡ take k xs ++ x ∷ drop (k + 1) xs
+at_front xs k x inside is =
+    let rest : drop k xs ≡ x ∷ drop (k + 1) xs = rw add-one (drop-cons xs k x inside ∙ ap (λ y. y ∷ drop (suc k) xs) (sym is)) in
+    sym (take-append-drop k xs) ∙ ap (λ ys. take k xs ++ ys) rest
 
 -- the new entries are cut off again
 pub cut_off : {A : Type 0} (format : Format) (old front mid : List (Entry A)) (n : ℕ) → Inserts format old front mid → n ≡ length old → take n mid ≡ old
