@@ -13,11 +13,12 @@ use Rattle.gobject.specs.declared.node.Kind.TheVariants as kinds
 use Rattle.gobject.specs.declared.node.Node.{Node}
 use Rattle.gobject.specs.declared.node.Entry.{Entry}
 
--- the node of a tree or blob: a commit without parents
+-- the graph node of a tree or blob, which counts as a commit without parents
 abbrev pub leaf : {A : Type 0} → Node A
 leaf = node_of kinds.Commit []
 
--- the node of an object: a commit has its parents in order, a tag its target, and a tree or blob no parents
+-- the graph node of an object: a commit's node has the parents in order, a tag's node has the target, and the node of a
+-- tree or blob has no parents
 abbrev pub IsNodeOf : {A : Type 0} → ObjectType → List ℕ → Node A → Type 0
 IsNodeOf types.Commit body node =
     (tree : Id) × (parents : List Id) × IsCommit body tree parents
@@ -28,7 +29,7 @@ IsNodeOf types.Tag body node =
 IsNodeOf types.Tree body node = node ≡ leaf
 IsNodeOf types.Blob body node = node ≡ leaf
 
--- the entry describes an object: it has the id and the node of the object
+-- the entry describes an object: its id is the id of the object, and its node is the node of the object
 pub record IsOfObject {A : Type 0} (entry : Entry A) : Type 0 where
   pub kind : ObjectType
   pub body : List ℕ

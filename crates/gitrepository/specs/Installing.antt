@@ -4,7 +4,7 @@ use Rattle.std.specs.Prelude.{◌≡◌, ◌⊎◌, ⊤, ℕ, List, [], ◌∷�
 abbrev pub Bytes : Type 0
 Bytes = List ℕ
 
--- the arrival of a pack or of an index in a folder, under its final name
+-- the arrival of a pack or of its index in a folder, under the final name
 pub data Arrival : Type 0 where
   PackComes : Bytes → Arrival
   IndexComes : Bytes → Arrival
@@ -15,14 +15,14 @@ pub record Folder : Type 0 where
   pub pack : Bytes
   pub index : Bytes
 
--- A known folder stays known, and the predicate relates its states before and after the call. An unknown folder stays
--- unknown.
+-- If the folder is known before the call, it is known afterwards, and the predicate relates the two states. An unknown
+-- folder stays unknown.
 abbrev pub WhereKnown : Option Folder → Option Folder → (Folder → Folder → Type 0) → Type 0
 WhereKnown (Some before) (Some after) P = P before after
 WhereKnown None None P = ⊤
 WhereKnown _ _ P = ⊥
 
--- exactly these files arrived, in order
+-- between the two states exactly these files arrived, in order
 abbrev pub Comes : Folder → Folder → List Arrival → Type 0
 Comes before after files = after.arrivals ≡ before.arrivals ++ files
 
@@ -30,13 +30,14 @@ Comes before after files = after.arrivals ≡ before.arrivals ++ files
 abbrev pub MayCome : Folder → Folder → Arrival → Type 0
 MayCome before after file = (after.arrivals ≡ before.arrivals) ⊎ Comes before after (file ∷ [])
 
--- No file arrived. If the call succeeded, the temporary files have these bytes.
+-- No file arrived. If the call succeeded, the temporary pack and the temporary index have the given bytes.
 abbrev pub Writes : {E : Type 0} → Bytes → Bytes → Folder → Folder → Result (Unit {0}) E → Type 0
 Writes p i before after (Ok done) =
     (after.arrivals ≡ before.arrivals) × (after.pack ≡ p) × (after.index ≡ i)
 Writes p i before after (Err fault) = after.arrivals ≡ before.arrivals
 
--- A pack arrived, and then its index. If the call failed, no file arrived, or only the pack, or both.
+-- If the call succeeded, the pack arrived, and then its index. If the call failed, neither file arrived, or only the
+-- pack, or both.
 abbrev pub Installs : {E : Type 0} → Bytes → Bytes → Folder → Folder → Result (Unit {0}) E → Type 0
 Installs p i before after (Ok done) = Comes before after (PackComes p ∷ IndexComes i ∷ [])
 Installs p i before after (Err fault) =

@@ -10,8 +10,8 @@ use Rattle.gitrepository.specs.declared.outgoing.Outgoing.{Outgoing}
 abbrev pub rest_of : {A : Type 0} → Outgoing A → List ℕ
 rest_of pack = drop pack.given pack.bytes.items
 
--- The bytes returned so far. Together with the remaining bytes, the returned bytes are the header and the entries so
--- far, or the whole pack once the trailer was built.
+-- The bytes returned so far. Followed by the bytes not yet returned, they are the header and all entries built so far.
+-- Once the trailer is built, they are the whole pack.
 pub record IsGoing {A : Type 0} (pack : Outgoing A) (given : List ℕ) : Type 0 where
   pub whole : IsTrue pack.is_whole
   pub text : List ℕ

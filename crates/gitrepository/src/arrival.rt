@@ -20,12 +20,12 @@ use std::alloc::Allocator;
 use std::hash::BuildHasherDefault;
 use std::marker::Model;
 
-// The maximum memory for the named ids, commits and tags of a pack: 112 MiB. Without this limit, a
-// small pack of deltas could fill the memory.
+// The maximum memory for the commits and tags of a pack, and for all ids that its objects name: 112
+// MiB. Without this limit, a small pack of deltas could fill the memory.
 const MAX_KEPT: usize = 117_440_512;
 
-// The memory counted for a named id, for a commit or tag, and for each parent. Spare table slots
-// and allocator overhead are included.
+// The bytes of memory counted for each named id, for each commit or tag, and for each parent. Spare
+// table slots and allocator overhead are included.
 const NEED_BYTES: usize = 56;
 
 const ENTRY_BYTES: usize = 96;
@@ -47,9 +47,9 @@ const MAX_LINKING: usize = 67_108_864;
 pub(crate) struct Arrival<A: Allocator + Copy> {
     alloc: A,
     entries: Vec<Entry<A>, A>,
-    // The expected types of the named objects, by id.
+    // The expected type of each object that another object names, by id.
     needs: IndexMap<Oid, ObjectType, IdHasher, A>,
-    // The remaining number of bytes of `MAX_KEPT`.
+    // The number of bytes of `MAX_KEPT` that are still unused.
     room: usize,
     folders: LooseFolders,
     fault: Option<RepositoryFault<A>>,
@@ -59,7 +59,7 @@ pub(crate) struct Arrival<A: Allocator + Copy> {
 /// the peer's refs.
 #[derive(Drop)]
 pub(crate) struct Inspector<'a, 'r, 't, 'f, F: ObjectFiles, A: Allocator + Copy> {
-    // The known facts about the objects.
+    // The facts known so far about the pack's objects.
     arrival: &'a mut Arrival<A>,
     // A reader of the store.
     reader: &'r mut ObjectReader<'f, F, A>,
@@ -97,13 +97,13 @@ impl<A: Allocator + Copy> Arrival<A> {
         self.fault.take()
     }
 
-    // Keeps the fault of a refused object.
+    // Stores the fault of a refused object for `take_fault`.
     fn keep_fault(&mut self, fault: RepositoryFault<A>) {
         self.fault = Some(fault);
     }
 
-    /// Checks that each named object is in the pack or in the store, with the expected type.
-    /// Returns the entries.
+    /// Checks that each object that the pack's objects name is in the pack or in the store, with
+    /// the expected type. Returns the graph entries of the pack.
     pub(crate) fn into_entries<F: ObjectFiles>(
         self,
         reader: &mut ObjectReader<'_, F, A>,
@@ -205,8 +205,8 @@ impl<A: Allocator + Copy> Arrival<A> {
         Ok(())
     }
 
-    // Records the objects that a tree names, one by one. A list of them would need more memory than
-    // the tree.
+    // Records the objects that a tree names, one by one. A list of these objects would need more
+    // memory than the tree.
     fn need_entries(&mut self, id: &Oid, body: &[u8]) -> Result<(), RepositoryFault<A>> {
         let mut rest = body;
         for _entry in 0..body.len() {
@@ -237,7 +237,7 @@ impl<A: Allocator + Copy> Arrival<A> {
         }
     }
 
-    // Counts `bytes` more bytes of memory. Fails with `TooLarge` if fewer bytes remain.
+    // Subtracts `bytes` from the memory that remains. Fails with `TooLarge` if less memory remains.
     fn take_room(&mut self, bytes: usize) -> Result<(), RepositoryFault<A>> {
         match self.room.checked_sub(bytes) {
             Some(room) => {
@@ -248,7 +248,7 @@ impl<A: Allocator + Copy> Arrival<A> {
         }
     }
 
-    // Adds the entry of an object.
+    // Adds the graph entry of an object.
     fn push_object(
         &mut self,
         id: &Oid,
@@ -264,7 +264,7 @@ impl<A: Allocator + Copy> Arrival<A> {
         }
     }
 
-    // Adds an entry.
+    // Adds a graph entry.
     fn push(&mut self, entry: Entry<A>) -> Result<(), RepositoryFault<A>>
         requires { IsRead self.old entry }
         ensures { OnOk result (self.new ≡ self.old ++ entry ∷ []) }
@@ -276,8 +276,9 @@ impl<A: Allocator + Copy> Arrival<A> {
     }
 }
 
-// Returns the memory for a commit or tag with `links` links. A tag may need a second entry, for a
-// tree or blob that it names. The first link of a commit is its tree, which is not a parent.
+// Returns the bytes of memory to count for a commit or tag with `links` links. A tag may need a
+// second entry, for a tree or blob that it names. The first link of a commit is its tree, which is
+// not a parent.
 fn bytes_of(kind: ObjectType, links: usize) -> usize {
     let (entries, parents) = match kind {
         ObjectType::Tag => (2 * ENTRY_BYTES, links),

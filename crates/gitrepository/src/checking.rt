@@ -27,11 +27,12 @@ pub struct Checked {
     pub objects: u32,
 }
 
-/// Checks that every object that the refs and HEAD of a Git directory reach exists: commits, tags,
-/// trees and blobs. The id of each object is recomputed. A malformed ref file is also a fault. The
-/// commit-graph is not used.
+/// Checks connectivity: every commit, tag, tree and blob exists that is reachable from the refs and
+/// HEAD of a Git directory. The id of each object is recomputed. A malformed ref file is also a
+/// fault. The commit-graph is not used.
 ///
-/// The reader must read the same directory. The reader can be used again after any fault.
+/// The reader must read the objects of the same directory. The reader can be used again after any
+/// fault.
 ///
 /// Fails with `Ref` at the first malformed ref file, or at the first missing or refused object. The
 /// fault names the object and the ref. Refs are checked in the order of their names. Fails with
@@ -54,7 +55,8 @@ pub fn check_repository<R: Files, F: ObjectFiles, A: Allocator + Copy>(
     }
 }
 
-/// Checks that every object that these refs and HEAD reach exists, as [`check_repository`] does.
+/// Checks that every object exists that is reachable from these refs and HEAD, as
+/// [`check_repository`] does.
 pub fn check_refs<F: ObjectFiles, A: Allocator + Copy>(
     reader: &mut ObjectReader<'_, F, A>,
     refs: &Refs<A>,

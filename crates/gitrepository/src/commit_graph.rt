@@ -12,7 +12,7 @@ use gitobjects::{Cause, ObjectFiles, ObjectStore};
 use gname::{MAX_ID_TEXT, Oid};
 use std::alloc::{AllocError, Allocator};
 
-// The maximum size of the files of a commit-graph: 512 MiB.
+// The maximum total size of the files of a commit-graph: 512 MiB.
 const MAX_FILES: usize = 536_870_912;
 
 // The maximum size of the file `commit-graph-chain`: 1,024 lines.
@@ -59,8 +59,8 @@ fn add_chain<F: ObjectFiles, A: Allocator + Copy>(
     Ok(())
 }
 
-// Returns the checksums of the files of the chain, lowest first. The list is empty if the chain
-// cannot be read.
+// Returns the checksums of the files of the chain, starting with the base file. The list is empty
+// if the chain cannot be read.
 fn chain_of<F: ObjectFiles, A: Allocator + Copy>(
     files: &F,
     alloc: A,
@@ -105,7 +105,7 @@ fn add_file<F: ObjectFiles, A: Allocator + Copy>(
     }
 }
 
-// Returns the bytes of a file, or `None` if it is missing, too large or unreadable.
+// Returns the bytes of a file, or `None` if the file is missing, too large or unreadable.
 fn read_file<F: ObjectFiles, A: Allocator + Copy>(
     files: &F,
     alloc: A,
@@ -120,7 +120,8 @@ fn read_file<F: ObjectFiles, A: Allocator + Copy>(
 }
 
 /// Returns the entry of this commit as the commit-graph lists it. Returns `None` if the
-/// commit-graph or the store lacks the commit, or if the commit has too many parents for a node.
+/// commit-graph or the store lacks the commit, or if the commit has too many parents for a graph
+/// node.
 ///
 /// Fails only if out of memory.
 pub(crate) fn known_entry<F: ObjectFiles, A: Allocator + Copy>(
@@ -140,7 +141,7 @@ pub(crate) fn known_entry<F: ObjectFiles, A: Allocator + Copy>(
 }
 
 // Returns the entry of the commit with this id at this position, or `None` if the commit has too
-// many parents for a node.
+// many parents for a graph node.
 fn entry_at<A: Allocator + Copy>(
     alloc: A,
     commits: &CommitGraph<A>,

@@ -10,7 +10,7 @@ use gname::Oid;
 use gzlib::Deflater;
 use std::alloc::{AllocError, Allocator};
 
-/// The numbers of objects in a pack, by how they were sent.
+/// The numbers of objects in a pack, by how each object was sent.
 #[derive(Clone, Copy, Debug, PartialEq, Eq, Drop)]
 pub struct PackCounts {
     /// The number of whole objects copied from stored packs.
@@ -45,8 +45,8 @@ impl PackCounts {
     }
 }
 
-/// The next entry to send: its form, the size of its inflated stream, and bytes that end with this
-/// stream.
+/// The next entry to send: its form, the size of its inflated stream, and a buffer. The zlib stream
+/// begins at offset `from` of the buffer, and ends with it.
 #[derive(Drop)]
 pub(crate) struct NextEntry<A: Allocator + Copy> {
     pub(crate) form: EntryForm,
@@ -79,7 +79,8 @@ struct Anew {
     number: usize,
 }
 
-// The progress through the packs: the number of a pack, and the number of its examined entries.
+// The progress through the packs: the number of the current pack, and how many of its entries were
+// examined.
 #[derive(Clone, Copy, Drop)]
 struct Progress {
     pack: usize,
@@ -95,11 +96,11 @@ pub(crate) struct Copying<A: Allocator + Copy> {
     deflater: Deflater<A>,
     counts: PackCounts,
     progress: Progress,
-    // The new offset of each entry of the current pack, by its position in the pack index. The
-    // offset is 0 if the entry was not copied.
+    // The new offset of each entry of the current pack, by the entry's position in the pack index.
+    // The offset is 0 if the entry was not copied.
     starts: Vec<usize, A>,
-    // The objects to deflate again, the number already deflated, and a window of the last ones. The
-    // objects are sorted once all packs were examined.
+    // The objects to deflate again, how many of them are already deflated, and a window of the most
+    // recently deflated objects. The list is sorted once all packs have been examined.
     anew: Vec<Anew, A>,
     renewed: usize,
     is_sorted: bool,
@@ -186,8 +187,8 @@ impl<A: Allocator + Copy> Copying<A> {
         }
     }
 
-    // Copies an entry to this offset, or returns `None` if the entry cannot be copied unchanged.
-    // The object of such an entry is deflated again later.
+    // Returns a stored entry to be written at this offset. If the entry cannot be copied unchanged,
+    // returns `None`, and its object is deflated again later.
     fn copy_entry<F: ObjectFiles>(
         &mut self,
         reader: &mut ObjectReader<'_, F, A>,

@@ -79,7 +79,7 @@ impl<A: Allocator + Copy> Fates<A> {
     /// Returns the fate of an object that was found loose. The object keeps its fate if Git packs
     /// it meanwhile.
     pub(crate) fn of_loose(&self, id: &Oid) -> Fate {
-        // Most repositories have few loose objects. Without any, no id is hashed.
+        // This early return avoids hashing the id if there are no loose objects.
         if self.loose.is_empty() {
             return Fate::Open;
         }

@@ -17,7 +17,7 @@ const KNOWN: [&[u8]; 5] = [
     b"worktreeconfig",
 ];
 
-// The values that mean no (git-config(1), "Values").
+// The values that mean false (git-config(1), "Values").
 const NO: [&[u8]; 5] = [b"", b"false", b"no", b"off", b"0"];
 
 /// Opens the objects of the Git directory with this path, including its alternates. Refuses a
@@ -136,7 +136,7 @@ fn is_of_core<A: Allocator + Copy>(setting: &Setting<A>, name: &[u8]) -> bool {
     setting.section.as_slice() == b"core".as_slice() && setting.name.as_slice() == name
 }
 
-// Returns whether the value of a Boolean setting means no. A setting without a value means yes.
+// Returns whether a Boolean setting is false. A setting without a value is true.
 fn is_no<A: Allocator + Copy>(setting: &Setting<A>) -> bool {
     match &setting.value {
         Some(value) => NO

@@ -23,7 +23,7 @@ pub(crate) fn gather<F: ObjectFiles, A: Allocator + Copy>(
     Ok(gathering.fates)
 }
 
-// A decided tree whose entries are undecided.
+// A tree whose fate is decided, and whose entries are still to be decided.
 #[derive(Clone, Copy, Drop)]
 struct Tree {
     id: Oid,
@@ -81,7 +81,8 @@ impl<'r, 'f, F: ObjectFiles, A: Allocator + Copy> Gathering<'r, 'f, F, A> {
         Ok(())
     }
 
-    // Marks unsent parents, and the trees and blobs they reach, as left out: the peer has them.
+    // Marks unsent parents, and the trees and blobs they reach, as not sent, because the peer has
+    // them.
     fn leave_out_parents(&mut self, entries: &[Entry<A>]) -> Result<(), RepositoryFault<A>> {
         for entry in entries {
             self.leave_out(entry.node.parents.as_slice())?;
@@ -223,8 +224,8 @@ impl<'r, 'f, F: ObjectFiles, A: Allocator + Copy> Gathering<'r, 'f, F, A> {
         Ok(object)
     }
 
-    // Decides the fates of the objects that a tree names. Adds the undecided trees among them to
-    // `trees`.
+    // Decides the fates of the objects that a tree names. Each named tree whose fate was undecided
+    // is added to `trees`.
     fn walk_entries(
         &mut self,
         id: &Oid,
@@ -248,7 +249,8 @@ impl<'r, 'f, F: ObjectFiles, A: Allocator + Copy> Gathering<'r, 'f, F, A> {
         Ok(())
     }
 
-    // Decides the fate of a named object. Adds an undecided tree to `trees`.
+    // Decides the fate of a named object. If the object is a tree whose fate was undecided, it is
+    // added to `trees`.
     fn settle_link(
         &mut self,
         link: Link,

@@ -32,8 +32,8 @@ pub(crate) struct History<'g, A: Allocator + Copy> {
     commits: &'g CommitGraph<A>,
     // The objects whose whole ancestry was read.
     graph: Graph<A>,
-    // A path of objects, each a parent of the object before. For each object, `looked` counts its
-    // visited parents.
+    // A path of objects, in which each object is a parent of the previous object. For each object
+    // of the path, `looked` holds the number of parents visited so far.
     path: Vec<Entry<A>, A>,
     looked: Vec<usize, A>,
 }

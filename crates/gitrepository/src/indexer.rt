@@ -110,7 +110,7 @@ impl<'t, 'f, F: ObjectFiles, A: Allocator + Copy> StoreIndexer<'t, 'f, F, A> {
         }
     }
 
-    // Converts a fault for the caller, and keeps the original fault.
+    // Converts a fault to an `IndexFault`, and stores the original fault for `take_fault`.
     fn keep(&self, fault: RepositoryFault<A>) -> IndexFault {
         match fault {
             RepositoryFault::Memory => IndexFault::Memory,

@@ -11,7 +11,7 @@ use std::io::ErrorKind;
 /// removed on drop.
 pub struct KeptPack<'r, R: Files, A: Allocator + Copy> {
     files: &'r R,
-    // `None` if the file already existed, or there is no pack.
+    // The path of the file, or `None` if the file already existed or there is no pack.
     path: Option<String<A>>,
 }
 

@@ -43,8 +43,8 @@ fn is_leaf<F: ObjectFiles, A: Allocator + Copy>(
     Ok(is_leaf_type(reader.kind_of(id)?))
 }
 
-// Returns whether the store has everything that an object reaches. A killed fetch may have left a
-// tree without some of its files.
+// Returns whether the store has everything that an object reaches. A fetch that was killed may have
+// stored a tree without some of the blobs that it names.
 fn is_whole<F: ObjectFiles, A: Allocator + Copy>(
     reader: &mut ObjectReader<'_, F, A>,
     id: &Oid,

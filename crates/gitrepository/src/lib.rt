@@ -22,11 +22,12 @@
 //!   the tagged object that the bytes name, in order. Parents precede their children. Each ref
 //!   points to an entry of the graph.
 //! - [`open_tips`] and [`lead_with_newest`] return only refs that point to entries of the graph.
-//! - [`check_refs`] counts a graph in which each entry describes an object.
+//! - The nodes that [`check_refs`] counts are the entries of a graph. Each entry describes an
+//!   object.
 //! - A pack that is sent has a header, as many entries as the header says, and the SHA-1 of all
 //!   preceding bytes. Each entry of a sent pack has a well-formed header. The pack has at most
-//!   `MAX_PACK` bytes. The parts of a pack, in order, make up such a pack. If the parts end in a
-//!   fault, no clause describes them.
+//!   `MAX_PACK` bytes. The parts of a pack, in order, make up such a pack. If returning the parts
+//!   ends in a fault, no clause describes the parts returned before.
 //! - A pack is accepted only if its trailer is the SHA-1 of all preceding bytes. Each entry that
 //!   the indexer returns describes an object, or is a tree or blob that a tag names. The entry of
 //!   this tag is returned too.
@@ -42,11 +43,11 @@
 //! - A tree or blob that a ref or tag points to counts as a commit without parents.
 //! - A ref whose object is missing is left out. Git also leaves the ref out, and prints a warning.
 //!   If HEAD points to a missing object, the repository is refused.
-//! - The packer assumes that the client has all parents outside the list, and everything that their
-//!   trees reach.
-//! - New deltas are made only of loose objects, and of stored deltas whose base is not sent. The
-//!   bases of new deltas are the same objects. Git also makes deltas of objects that are whole in a
-//!   pack.
+//! - The packer assumes that the client has every unlisted parent of a listed commit, and
+//!   everything that the trees of these parents reach.
+//! - New deltas are made only for loose objects, and for stored deltas whose base is not sent. Only
+//!   such objects are bases of new deltas. Git also makes new deltas for objects that are stored
+//!   whole in a pack.
 //! - Before deltas are made, objects are sorted by the ends of their paths, but not by size. An
 //!   object of more than 8 MiB is sent whole; Git's limit is 512 MiB.
 //! - A graph holds at most 1,048,576 commits and tags, with at most 64 parents each.
@@ -91,8 +92,8 @@
 //! - No contract can describe the contents of a system file: only the order of the calls in
 //!   [`install_pack`] is proved. [`install_pack`] might not create the file `.keep`, or might
 //!   install nothing.
-//! - Any call may fail if out of memory. The contracts do not cover which fault is returned, its
-//!   text, time, or memory use.
+//! - Any call may fail if out of memory. The contracts do not cover which fault is returned, the
+//!   text of a fault, running time, or memory use.
 //!
 //! This crate has no tests.
 //!

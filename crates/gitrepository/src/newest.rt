@@ -10,7 +10,7 @@ use ggraph::{Graph, MAX_REFS, Refs, distinct_ids};
 use gname::{NameFault, Oid, RefName};
 use std::alloc::{AllocError, Allocator};
 
-// The maximum number of refs that are added for newest objects.
+// The maximum number of refs that are added for the newest objects.
 const MAX_NEWEST: usize = 256;
 
 // The length of a path component that is too long for a file name.

@@ -13,10 +13,11 @@ use std::alloc::{AllocError, Allocator};
 // The length of the trailer of a pack.
 const TRAILER: usize = 20;
 
-/// A pack that is returned in parts while it is built. Only the bytes built last are in memory.
+/// A pack that is returned in parts while it is built. Only the most recently built bytes are in
+/// memory.
 #[derive(Drop)]
 pub(crate) struct Outgoing<A: Allocator + Copy> {
-    // The bytes built last, and the number of them already returned.
+    // The most recently built bytes, and how many of them were already returned.
     bytes: Vec<u8, A>,
     given: usize,
     // The total number of built bytes, and the number of bytes that may still be returned.

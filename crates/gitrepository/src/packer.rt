@@ -24,7 +24,7 @@ const PART: usize = 65_536;
 /// A pack contains the listed commits and tags. A pack also contains the trees and blobs that these
 /// commits reach, unless a parent outside the list reaches them. A stored pack entry is copied
 /// unchanged if it is whole, or if it is a delta whose base is also sent. Other objects are
-/// deflated again, as new deltas of each other if the deltas are small.
+/// deflated again, as new deltas against each other if the deltas are small.
 #[derive(Drop)]
 pub struct StorePacker<'f, F: ObjectFiles, A: Allocator + Copy> {
     reader: RefCell<ObjectReader<'f, F, A>>,
@@ -101,7 +101,7 @@ impl<'f, F: ObjectFiles, A: Allocator + Copy> StorePacker<'f, F, A> {
         Ok(count)
     }
 
-    // Converts a fault for the caller, and keeps the original fault.
+    // Converts a fault to a `PackFault`, and stores the original fault for `take_fault`.
     fn keep(&self, fault: RepositoryFault<A>) -> PackFault {
         match fault {
             RepositoryFault::Memory => PackFault::Memory,

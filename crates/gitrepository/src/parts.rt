@@ -69,8 +69,8 @@ impl<A: Allocator + Copy> StoreParts<A> {
         Ok(filled)
     }
 
-    // Copies the next bytes of the current entry. Builds the next entry first if the current entry
-    // was returned.
+    // Copies the next bytes of the current entry. If the current entry was returned completely,
+    // builds the next entry first.
     fn give_some<F: ObjectFiles>(
         &mut self,
         reader: &mut ObjectReader<'_, F, A>,

@@ -25,7 +25,8 @@ struct Tag {
 
 /// Returns a repository of the objects that refs and HEAD point to, with the peeled objects of
 /// tags. An object that is not a tag counts as a commit without parents. This repository suffices
-/// for ls-refs. A tag that `packed-refs` lists points directly to the peeled object in that file.
+/// for ls-refs. If `packed-refs` lists a peeled object for a tag, the tag counts as pointing
+/// directly to that object.
 ///
 /// Returns `None` if an object is missing or unreadable, or if there are too many objects. The
 /// caller must then open the repository. Fails with `Memory`.
@@ -179,7 +180,8 @@ fn add_tags<A: Allocator + Copy>(
     Ok(true)
 }
 
-// Adds a tag. Returns whether the graph holds this tag, and no different object with the same id.
+// Adds a tag. Returns whether the graph then holds this tag, and not a different object with the
+// same id.
 fn add_tag<A: Allocator + Copy>(
     graph: &mut Graph<A>,
     tag: Tag,
@@ -189,8 +191,8 @@ fn add_tag<A: Allocator + Copy>(
     add(graph, &tag.id, Node { kind, parents })
 }
 
-// Adds an object that is not a tag. Returns whether the graph holds it, and no different object
-// with the same id.
+// Adds an object that is not a tag. Returns whether the graph then holds this object, and not a
+// different object with the same id.
 fn add_leaf<A: Allocator + Copy>(
     graph: &mut Graph<A>,
     id: &Oid,

@@ -34,7 +34,7 @@ struct Base<A: Allocator + Copy> {
     body: DeltaBase<A>,
 }
 
-/// A delta of an object in the window.
+/// A delta against an object in the window.
 #[derive(Drop)]
 pub(crate) struct Delta<A: Allocator + Copy> {
     /// The id of the base.
@@ -45,7 +45,7 @@ pub(crate) struct Delta<A: Allocator + Copy> {
     depth: usize,
 }
 
-/// The last objects sent in a pack, which can be bases of new deltas.
+/// The objects most recently sent in a pack, which can be bases of new deltas.
 #[derive(Drop)]
 pub(crate) struct Window<A: Allocator + Copy> {
     alloc: A,
@@ -98,8 +98,8 @@ impl<A: Allocator + Copy> Window<A> {
         }
     }
 
-    /// Adds an object that was sent as this delta, or whole if `None`. An object of unsuitable size
-    /// is not added. The oldest objects are removed until there is room.
+    /// Adds an object that was sent as this delta, or that was sent whole if `delta` is `None`. An
+    /// object of unsuitable size is not added. The oldest objects are removed until there is room.
     pub(crate) fn push(
         &mut self,
         id: &Oid,
@@ -146,7 +146,8 @@ impl<A: Allocator + Copy> Window<A> {
 }
 
 impl<A: Allocator + Copy> Base<A> {
-    // Returns the maximum size of a worthwhile delta of this base, or 0 if no delta is worthwhile.
+    // Returns the maximum size of a worthwhile delta against this base, or 0 if no delta is
+    // worthwhile.
     fn limit(&self, object: &Object<A>, best: &Option<(usize, Delta<A>)>) -> usize {
         let size = object.body.len();
         let length = self.body.len();
@@ -166,7 +167,7 @@ impl<A: Allocator + Copy> Base<A> {
         limit
     }
 
-    // Returns a delta of this base, with these bytes.
+    // Returns a delta against this base, with these bytes.
     fn delta(&self, text: Vec<u8, A>) -> Delta<A> {
         Delta {
             base: self.id,
