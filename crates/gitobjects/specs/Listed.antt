@@ -4,18 +4,17 @@ use Rattle.gitobjects.specs.declared.files.FolderTime.{FolderTime}
 use Rattle.gitobjects.specs.declared.listed.Listed.{Listed}
 use Rattle.gitobjects.specs.declared.listed.Listed.TheVariants as listed
 
--- the folder was listed twice since its names changed at this time
+-- the names of the folder last changed at this time, and the folder was listed twice since then
 abbrev pub Twice : Option FolderTime → Listed
 Twice time = listed.Twice time
 
--- the folder was listed at least once since its names changed at this time
+-- the names of the folder last changed at this time, and the folder was listed at least once since then
 abbrev pub IsListedAt : Option FolderTime → Listed → Type 0
 IsListedAt time listed.Never = ⊥
 IsListedAt time (listed.Once earlier) = earlier ≡ time
 IsListedAt time (listed.Twice earlier) = earlier ≡ time
 
--- the state after another listing: the second if the names have not changed since the last listing, and otherwise the
--- first
+-- the state after another listing: `Twice` if the names have not changed since an earlier listing, and `Once` otherwise
 abbrev pub ListsAgain : Option FolderTime → Listed → Listed → Type 0
 ListsAgain time old new =
     (IsListedAt time old × (new ≡ listed.Twice time)) ⊎ (¬ (IsListedAt time old) × (new ≡ listed.Once time))

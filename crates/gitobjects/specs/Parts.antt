@@ -1,4 +1,4 @@
--- Texts of parts that are each followed by the same byte: lines by LF, names by NUL.
+-- Texts whose parts are each followed by the same byte: each line by LF, or each name by NUL.
 use Rattle.std.specs.Prelude.{◌≡◌, ◌≢◌, ℕ, List, [], ◌∷◌, ◌++◌, All}
 
 -- the concatenation of the parts, each followed by the byte
@@ -6,7 +6,7 @@ abbrev pub ended_by : ℕ → List (List ℕ) → List ℕ
 ended_by byte [] = []
 ended_by byte (part ∷ parts) = part ++ byte ∷ ended_by byte parts
 
--- the text is these parts, each followed by the byte, and then a last part without it
+-- the text consists of these parts, each followed by the byte, and of a last part without that byte
 pub record IsOfParts (byte : ℕ) (text : List ℕ) (parts : List (List ℕ)) (last : List ℕ) : Type 0 where
   pub is : text ≡ ended_by byte parts ++ last
   pub each : All (All (λ b. b ≢ byte)) parts

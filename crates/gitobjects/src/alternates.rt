@@ -40,8 +40,8 @@ impl<A: Allocator + Copy> Folder<A> {
 }
 
 /// Returns the object folder of a repository, and its alternates recursively, up to the same depth
-/// as Git. A folder that was already added is skipped, so cyclic alternates end. A missing folder
-/// is also skipped.
+/// as Git. A folder that was already added is skipped, so the recursion ends even if alternates are
+/// cyclic. A missing folder is also skipped.
 pub(crate) fn object_folders<F: ObjectFiles, A: Allocator + Copy>(
     files: &F,
     alloc: A,

@@ -1,4 +1,4 @@
-//! A cache of objects that deltas were applied to.
+//! A cache of delta bases.
 
 use crate::limits::{MAX_BASE, MAX_KEPT};
 use crate::object::Object;

@@ -138,7 +138,7 @@ impl<F: ObjectFiles, A: Allocator + Copy> ObjectReader<'_, F, A> {
     }
 
     // Returns the delta chain of the entry at this offset. The chain ends in a whole object, a
-    // cached object or a broken entry. Reading the broken entry later shows the cause.
+    // cached object or a broken entry. The cause is found when the broken entry is read later.
     fn trace(&mut self, pack: usize, start: usize) -> Result<Chain<A>, Cause> {
         let mut deltas = Vec::new(self.store.allocator());
         let mut end = start;
@@ -175,7 +175,7 @@ impl<F: ObjectFiles, A: Allocator + Copy> ObjectReader<'_, F, A> {
         }
     }
 
-    // Applies deltas to their base, from the end of the list. Each base is cached.
+    // Applies deltas to their base, beginning with the last delta of the list. Each base is cached.
     fn apply_all(
         &mut self,
         pack: usize,

@@ -29,10 +29,11 @@ pub struct RawEntry<A: Allocator + Copy> {
     pub bytes: Vec<u8, A>,
 }
 
-// The maximum ratio of an inflated size to the length of its zlib stream.
+// The maximum ratio of the inflated size of a zlib stream to the length of the stream.
 const MAX_RATIO: usize = 1_032;
 
-// The extra bytes that an inflater reserves: one more match (RFC 1951, section 3.2.5).
+// The number of extra bytes that an inflater reserves: the length of the longest match (RFC 1951,
+// section 3.2.5).
 const MATCH: usize = 258;
 
 /// Inflates the pack entry that has exactly these bytes.

@@ -227,8 +227,8 @@ impl<A: Allocator + Copy> FirstFault<A> {
         FirstFault { fault: None }
     }
 
-    /// Records the fault of a copy. Fails at once with `Memory`, because no other copy is tried if
-    /// out of memory.
+    /// Records the fault of a copy. A `Memory` fault is returned at once, because no other copy is
+    /// tried if out of memory.
     pub(crate) fn note(&mut self, fault: StoreFault<A>) -> Result<(), StoreFault<A>> {
         if let StoreFault::Memory = fault {
             return Err(fault);

@@ -9,8 +9,8 @@ use std::alloc::Allocator;
 // The signature and the version of an index.
 const SIGNATURE: &[u8] = b"\xfftOc\0\0\0\x02";
 
-// The number of counts in the fan-out table, one for each first byte of an id, and the offset after
-// the table.
+// The number of counts in the fan-out table, one for each first byte of an id, and the offset at
+// which the table ends.
 const COUNTS: usize = 256;
 
 const TABLE_END: usize = 1_032;
@@ -30,15 +30,16 @@ const NEAR: usize = 48;
 
 const FAR: usize = 128;
 
-// The maximum number of ids read at once. Look-ups in id order read consecutive parts, so each part
-// may be longer than the part before.
+// The maximum number of ids read at once. Look-ups in the order of ids read consecutive parts of
+// the ids, so each part may be longer than the previous part.
 const MAX_IDS_READ: usize = 2_048;
 
 // The maximum number of reads for one look-up. Each read except the first halves the number of
 // remaining ids, which is at most 2^32.
 const MAX_READS: usize = 34;
 
-// The bit that marks the number of an entry in the table of long offsets.
+// The bit of a short offset that is set if the other bits are the number of an entry in the table
+// of long offsets.
 const LONG: u32 = 0x8000_0000;
 
 /// An open pack index. The fan-out table is in memory, and other parts are read as needed. The
@@ -51,7 +52,8 @@ pub(crate) struct IndexFile<P: OpenPack + Drop, A: Allocator + Copy> {
     counts: Vec<usize, A>,
     // The number of ids.
     len: usize,
-    // The positions of the ids read last. Their bytes are at the front of `buffer`.
+    // The positions of the most recently read ids. The bytes of these ids are at the front of
+    // `buffer`.
     held: Places,
     buffer: Vec<u8, A>,
 }
@@ -72,7 +74,7 @@ enum Look {
     Before,
     // The id follows the part.
     After,
-    // The id is missing: it would be in the part.
+    // The id is missing: its position would be inside the part.
     Absent,
 }
 
@@ -112,7 +114,7 @@ pub(crate) fn open_index<F: ObjectFiles, A: Allocator + Copy>(
     }))
 }
 
-// Returns the counts of a fan-out table, or `None` if a count is lower than the count before.
+// Returns the counts of a fan-out table, or `None` if a count is lower than the previous count.
 fn counts_of<A: Allocator + Copy>(alloc: A, table: &[u8]) -> Result<Option<Vec<usize, A>>, Cause> {
     let mut counts = Vec::with_capacity(alloc, COUNTS)?;
     let mut last = 0;
@@ -262,7 +264,7 @@ impl<P: OpenPack + Drop, A: Allocator + Copy> IndexFile<P, A> {
     }
 }
 
-// Returns the likely position of an id between `low` and `high`, because ids are evenly
+// Returns the likely position of an id between `low` and `high`, assuming that ids are evenly
 // distributed.
 fn likely_place(places: Places, wanted: &[u8]) -> usize {
     let next = number_of(wanted.get(1..).unwrap_or(b""));

@@ -14,8 +14,8 @@
 //! - [`ObjectReader::read_checked`] and [`QuickReader::read_checked`] return an object only if it
 //!   has the requested id. The SHA-1 of the object is computed.
 //! - A private function reads the form and the size of a pack entry from its header. The stream of
-//!   the entry is inflated to the size in the header, and to the end of the bytes. Another function
-//!   splits the text of a loose object exactly.
+//!   the entry fills the remaining bytes, and inflates to the size in the header. Another function
+//!   splits the text of a loose object into the type and the body.
 //! - The window on the packs returns the bytes of a pack, whichever blocks are in memory. The
 //!   window holds at most 64 blocks for all packs together, each of at most 1 MiB.
 //! - A private function decides that a folder must be listed again, unless the folder was listed
@@ -35,8 +35,8 @@
 //! # Differences from Git
 //!
 //! - A pack stays open once found. Git opens packs as needed, and closes some.
-//! - If an object is not found, Git lists all packs again. This crate lists only the folders whose
-//!   names changed, and each such folder once more.
+//! - If an object is not found, Git lists all packs again. This crate lists only folders whose
+//!   names have changed, and each folder at most twice after a change.
 //! - A pack with an index of version 1 and a pack of version 3 are left out. Git reads both. A
 //!   multi-pack index, bitmaps and a commit-graph are not read.
 //! - Each open pack uses a file descriptor. A repository with about a thousand packs needs `git gc`
@@ -44,7 +44,8 @@
 //! - If an object is missing and a pack was left out, the fault names that pack. Git says that the
 //!   object is missing.
 //! - If a delta base is broken in its pack, another copy is used, as in Git. In this crate the copy
-//!   has at most 4 MiB, all its own bases are intact, and a chain has at most 16 such bases.
+//!   must have at most 4 MiB, and all its own bases must be intact. At most 16 bases of a chain may
+//!   be replaced in this way.
 //! - A quoted path in `info/alternates`, or a path that is not UTF-8, is a fault. Git reads such
 //!   paths.
 //! - A missing alternate is left out. Git also leaves the alternate out, and prints an error.

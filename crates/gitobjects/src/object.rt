@@ -44,7 +44,7 @@ impl<A: Allocator + Copy> Object<A> {
 // The maximum length of the header of a loose object: a type, a space, a length and a NUL.
 const MAX_LOOSE_HEAD: usize = 32;
 
-/// Returns the object in these bytes of a loose object file, which must be exactly one zlib stream.
+/// Returns the loose object whose file has these bytes. The bytes must be exactly one zlib stream.
 ///
 /// Fails with `Stream`, `Loose` or `Memory`.
 pub(crate) fn read_loose<A: Allocator + Copy>(

@@ -42,7 +42,7 @@ impl<A: Allocator + Copy> EntryOrder<A> {
         self.starts.as_slice()
     }
 
-    // Returns the number in pack order of the entry at this offset.
+    // Returns the position in pack order of the entry at this offset.
     fn number_of(&self, offset: usize) -> Option<usize> {
         let search = self
             .starts

@@ -31,7 +31,7 @@ pub(crate) struct PackFile<A: Allocator + Copy> {
 pub(crate) enum LocalForm {
     /// A whole object of this type.
     Whole(ObjectType),
-    /// A delta of the entry that begins at this offset of the same pack.
+    /// A delta against the entry that begins at this offset of the same pack.
     Delta(usize),
 }
 
@@ -183,8 +183,8 @@ impl<A: Allocator + Copy> PackFile<A> {
     }
 
     /// Returns the unchanged entry at this index position, or `None` past the end of the index.
-    /// Fails with `Crc` if the CRC-32 of the entry does not match the index, and with `Head` if its
-    /// header is malformed. Also fails as `bytes_at` does.
+    /// Fails with `Crc` if the CRC-32 of the entry does not match the index, and with `Head` if the
+    /// entry header is malformed. Also fails as `bytes_at` does.
     pub(crate) fn raw_entry<P: OpenPack + Drop>(
         &self,
         window: &mut Window<P, A>,
@@ -222,7 +222,7 @@ impl<A: Allocator + Copy> PackFile<A> {
         }
     }
 
-    // Converts the form of the entry at this offset: the base of a delta becomes an offset.
+    // Converts the form of the entry at this offset, so that a delta names its base by offset.
     fn local_form(&self, start: usize, form: EntryForm) -> Result<LocalForm, Cause> {
         let base = match form {
             EntryForm::Whole(kind) => return Ok(LocalForm::Whole(kind)),

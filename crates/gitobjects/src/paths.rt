@@ -37,7 +37,7 @@ pub(crate) fn pack_path<A: Allocator + Copy>(
     Ok(path)
 }
 
-/// Returns the path of the folder of a loose object in a folder of objects.
+/// Returns the path of the two-digit folder that holds a loose object, inside an object folder.
 pub(crate) fn loose_folder<A: Allocator + Copy>(
     alloc: A,
     folder: &str,
@@ -53,7 +53,7 @@ pub(crate) fn loose_folder<A: Allocator + Copy>(
     Ok(join(alloc, folder, first)?)
 }
 
-/// Returns the path of a loose object in a folder of objects.
+/// Returns the path of a loose object inside an object folder.
 pub(crate) fn loose_path<A: Allocator + Copy>(
     alloc: A,
     folder: &str,

@@ -85,8 +85,7 @@ impl<'f, F: ObjectFiles, A: Allocator + Copy> QuickReader<'f, F, A> {
     }
 
     /// Returns the type of the object with this id, or `None` if the object is not found. The
-    /// object is not inflated, as with [`crate::ObjectReader::kind_of`]. Fails only if out of
-    /// memory.
+    /// object is not inflated as a whole. Fails only if out of memory.
     pub fn kind_of(&mut self, id: &Oid) -> Result<Option<ObjectType>, AllocError> {
         for pack in self.packs.iter_mut() {
             if let Some(Some(kind)) = or_unknown(pack.kind_of(id))? {

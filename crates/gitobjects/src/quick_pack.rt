@@ -47,7 +47,7 @@ struct QuickEntry<A: Allocator + Copy> {
 enum Below {
     // A whole object of this type.
     Whole(ObjectType),
-    // A delta of the entry at this offset.
+    // A delta against the entry at this offset.
     Base(usize),
 }
 
@@ -216,8 +216,8 @@ fn inflate_front<A: Allocator + Copy>(
     Ok(QuickEntry { form, text })
 }
 
-// Applies deltas to a whole object, from the end of the list. Returns the resulting object, or
-// `None` if a delta does not fit its base.
+// Applies deltas to a whole object, beginning with the last delta of the list. Returns the
+// resulting object, or `None` if a delta does not fit its base.
 fn apply_all<A: Allocator + Copy>(
     alloc: A,
     kind: ObjectType,

@@ -16,9 +16,9 @@ use std::alloc::{AllocError, Allocator};
 
 /// A reader of the objects of a store. The reader caches some delta bases.
 ///
-/// A call that does not find an object lists the packs again, as Git may have packed the object
-/// meanwhile. A pack folder is listed at most twice after each change of its names, however many
-/// objects are not found. [`ObjectReader::refresh`] lists all folders.
+/// A call that does not find an object lists the packs again, because Git may have packed the
+/// object meanwhile. A pack folder is listed at most twice after each change of its names, however
+/// many objects are not found. [`ObjectReader::refresh`] lists all folders.
 #[derive(Drop)]
 pub struct ObjectReader<'f, F: ObjectFiles, A: Allocator + Copy> {
     pub(crate) store: ObjectStore<'f, F, A>,

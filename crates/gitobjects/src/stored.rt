@@ -1,4 +1,4 @@
-//! The files of the system.
+//! The files of the operating system.
 
 ghost use Rattle.std.specs.Prelude.{◌≡◌, None, IfOk, vec_len};
 
@@ -10,7 +10,7 @@ use std::fs::{File, Files, OpenFile};
 use std::io::{ErrorKind, Read, Seek, SeekFrom};
 use std::os::unix::fs::MetadataExt;
 
-/// The files of the system.
+/// The files of the operating system.
 #[derive(Drop)]
 pub struct StoredFiles<'r, R: Files> {
     files: &'r R,
@@ -104,7 +104,8 @@ fn open_file<R: Files>(files: &R, path: &str) -> Result<Option<(R::File, usize)>
     }
 }
 
-// The maximum number of bytes of names read at a time, and the maximum number of reads.
+// The maximum number of bytes that one read of a folder's names returns, and the maximum number of
+// such reads.
 const PART: usize = 16_384;
 
 const MAX_PARTS: usize = MAX_NAMES / 256;

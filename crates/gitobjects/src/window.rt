@@ -1,4 +1,5 @@
-//! A window on the open packs: the blocks read last, so that no whole pack is in memory.
+//! A window on the open packs: the most recently read blocks. A pack need not be in memory as a
+//! whole.
 
 ghost use Rattle.std.specs.Prelude.{◌≡◌, ◌+◌, ◌≤◌, ◌<◌, ◌++◌, ◌∷◌, [], ℕ, List, Option, IfOk, IfSome, OnErr, OnOk, OnSome, take, drop, length, map, vec_len};
 ghost use Rattle.gitobjects.specs.Windows.{AreBlocks, IsBlock, IsPartOf};
@@ -24,7 +25,8 @@ pub(crate) struct Block<A: Allocator + Copy> {
     pub(crate) bytes: Vec<u8, A>,
 }
 
-/// The open packs, by number, and their blocks that were read last. The blocks have at most 64 MiB.
+/// The open packs, by number, and their most recently read blocks. The total size of the blocks is
+/// at most 64 MiB.
 #[derive(Drop)]
 pub(crate) struct Window<P: OpenPack + Drop, A: Allocator + Copy> {
     alloc: A,
