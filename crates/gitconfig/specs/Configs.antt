@@ -15,7 +15,7 @@ pub record Setting : Type 0 where
 
 -- ---- the header of a section: `[section]`, or `[section "subsection"]`
 
--- the text begins with a byte of a quoted name, which may follow a backslash
+-- the text begins with a byte of a quoted name, or with a backslash and such a byte
 abbrev pub BeginsWithQuoted : List ℕ → ℕ → List ℕ → Type 0
 BeginsWithQuoted text b rest =
     (b ≢ 10) × (((text ≡ b ∷ rest) × (b ≢ 34) × (b ≢ 92)) ⊎ (text ≡ 92 ∷ b ∷ rest))
@@ -34,8 +34,8 @@ pub record BeginsWithSubsection (text name rest : List ℕ) : Type 0 where
   pub blank : All (λ b. is_blank b ≡ true) blanks
   pub has : HasQuoted quoted name rest
 
--- The end of a header: a bracket, or a subsection name in quotes and a bracket. A dot separates the two names of the
--- section.
+-- The end of a header: a bracket, or a subsection name in quotes and a bracket. In the section name, a dot precedes the
+-- subsection name.
 abbrev pub EndsHeader : List ℕ → List ℕ → List ℕ → List ℕ → Type 0
 EndsHeader text name section rest = ((text ≡ 93 ∷ rest) × (section ≡ name))
     ⊎ ((subsection : List ℕ) × BeginsWithSubsection text subsection (93 ∷ rest)
@@ -101,7 +101,7 @@ abbrev pub HasItems : List ℕ → List Item → Type 0
 HasItems text [] = text ≡ []
 HasItems text (item ∷ items) = (rest : List ℕ) × BeginsWithItem text item rest × HasItems rest items
 
--- the variables that the items set, each in the section that began last
+-- the variables that the items set, each in the section of the nearest header before it
 abbrev pub settings_of : List ℕ → List Item → List Setting
 settings_of section [] = []
 settings_of section (Nothing ∷ items) = settings_of section items

@@ -7,7 +7,7 @@
 //!   [`parse_config`] returns the variables that the text sets, in order, with their sections and
 //!   values.
 //! - [`bare_config`] writes a configuration that sets exactly the variables of a new bare
-//!   repository. A URL of any bytes is read back unchanged.
+//!   repository. The URL is read back unchanged, whatever its bytes.
 //! - No call panics, overflows or reads out of bounds, and every call returns, for any text.
 //!
 //! # Differences from Git
@@ -21,8 +21,8 @@
 //!
 //! # What the contracts do not rule out
 //!
-//! A configuration might be refused as malformed. [`bare_config`] might write any spaces and
-//! comments. Any call that allocates may fail if out of memory; the contracts do not say when.
+//! A configuration might be refused as malformed. [`bare_config`] might add any spaces and comments
+//! to the text. Any call that allocates may fail if out of memory; the contracts do not say when.
 //!
 //! This crate has no tests.
 //!

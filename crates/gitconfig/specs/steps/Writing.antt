@@ -23,7 +23,7 @@ pub record AddsItems (items : List Item) (old new : List ℕ) : Type 0 where
   pub after : new ≡ old ++ text
   pub holds : HoldsItems items text
 
--- a text was appended that is read as this value, if the value ends after the text
+-- a text was appended that is read as this value, provided that the value ends there
 abbrev pub AddsValue : List ℕ → List ℕ → List ℕ → Type 0
 AddsValue value old new = (text : List ℕ) × (new ≡ old ++ text)
     × ((rest : List ℕ) → EndsValue rest → BeginsWithValue (32 ∷ text ++ rest) value rest)
