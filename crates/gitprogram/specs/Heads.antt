@@ -21,22 +21,23 @@ IsUnbornHead name head =
     ((is_branch name ≡ true) × (head ≡ Branch name))
     ⊎ ((is_branch name ≡ false) × (head ≡ Branch default_branch))
 
--- the HEAD of a clone for the symref target of the server's HEAD: the target if it is a branch, and detached otherwise
+-- the HEAD of a clone, given the symref target of the server's HEAD: it points at the target if the target is a branch,
+-- and is detached otherwise
 abbrev pub IsSymrefOf : Option Name → ServerHead → Type 0
 IsSymrefOf (Some target) head =
     ((is_branch target ≡ true) × (head ≡ Branch target))
     ⊎ ((is_branch target ≡ false) × (head ≡ Detached))
 IsSymrefOf None head = head ≡ Detached
 
--- the HEAD of a clone for the lines of a reply: HEAD can only be the first line, and otherwise the default branch is
--- used
+-- the HEAD of a clone, given the lines of a reply: if the first line is not the line of HEAD, it points at the default
+-- branch
 abbrev pub IsListedHead : List RefLine → ServerHead → Type 0
 IsListedHead [] head = head ≡ Branch default_branch
 IsListedHead (line ∷ lines) head =
     ((line.name ≡ head_name) × IsSymrefOf line.symref head)
     ⊎ ((line.name ≢ head_name) × (head ≡ Branch default_branch))
 
--- the HEAD of a clone for a reply, which reports an unborn HEAD or lists HEAD in its first line
+-- the HEAD of a clone, given a reply that may report an unborn HEAD, or list HEAD in the first line
 abbrev pub IsHead : Option Name → List RefLine → ServerHead → Type 0
 IsHead (Some target) lines head = IsUnbornHead target head
 IsHead None lines head = IsListedHead lines head

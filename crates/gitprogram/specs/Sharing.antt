@@ -23,7 +23,8 @@ packs_any list pack = IsWholePack pack
 abbrev pub fails_any : List (Entry Global) → PackFault → Type 0
 fails_any list fault = ⊤
 
--- the bytes that a packer may still send: without a fault, the bytes sent before and these bytes form a whole pack
+-- the bytes that a packer may still send: if no fault occurs, they complete the pack whose earlier bytes were already
+-- sent
 abbrev pub gives_rest : StoreParts Global → List ℕ → Option PackFault → Type 0
 gives_rest parts bytes end = end ≡ None → (length bytes ≤ parts.outgoing.left)
     × ((before : List ℕ) → IsGoing parts.outgoing before → IsWholePack (before ++ bytes))

@@ -57,7 +57,7 @@ impl<'s, S: Source> Ahead<'s, S> {
         self.front.get(self.start..self.end).unwrap_or(b"")
     }
 
-    // Peeks until `count` bytes are peeked, or the input ends.
+    // Reads ahead until `count` bytes are peeked, or until the input ends.
     fn look(&mut self, count: usize) {
         if self.start == self.end {
             self.start = 0;

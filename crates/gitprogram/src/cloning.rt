@@ -38,7 +38,7 @@ const HEAD_SPEC: &[u8] = b"+HEAD:refs/clone/HEAD";
 // The prefix of branch names.
 const BRANCHES: &[u8] = b"refs/heads/";
 
-// The branch for HEAD if the server does not report one.
+// The branch for HEAD if the server does not report its HEAD.
 const DEFAULT_BRANCH: &[u8] = b"refs/heads/main";
 
 // The HEAD of a server.
@@ -160,7 +160,7 @@ fn unborn_head(alloc: Global, name: &RefName<Global>) -> Result<ServerHead, Faul
 }
 
 // Returns the HEAD that the first line of the reply shows, or the default branch if the first line
-// is not that of HEAD.
+// is not the line of HEAD.
 fn listed_head(alloc: Global, reply: &LsReply<Global>) -> Result<ServerHead, Fault>
     ensures { IfOk result (IsListedHead reply.now.lines) }
 {

@@ -11,7 +11,7 @@ use std::fs::Files;
 use std::io::ErrorKind;
 use std::{fs, io};
 
-// The file that a repository needs to be served by git-daemon(1).
+// The file without which git-daemon(1) does not serve a repository.
 const EXPORT_OK: &str = "git-daemon-export-ok";
 
 // The maximum size of a file that names another directory.
@@ -39,7 +39,7 @@ impl Directories {
         })
     }
 
-    /// Returns a copy of these directories.
+    /// Returns a copy of these directory paths.
     pub(crate) fn copy_in(&self, alloc: Global) -> Result<Directories, AllocError> {
         Ok(Directories {
             own: String::from_str(alloc, self.own.as_str())?,
@@ -143,8 +143,8 @@ fn exported_repository<R: Files + AllocGlobal>(
     }
 }
 
-// Returns the repository at a path, which is its Git directory or a file that names its Git
-// directory.
+// Returns the repository at a path. The path is that of the Git directory, or of a file that names
+// the Git directory.
 fn look_at<R>(rt: &R, path: String) -> Result<Option<Directories>, Fault>
 where
     R: Files + AllocGlobal,
@@ -211,7 +211,8 @@ fn common_of<R: Files + AllocGlobal>(rt: &R, own: &str) -> Result<Option<String>
     }
 }
 
-// The content of a path that may be a directory or a file that names one.
+// The result of looking up a path. The path may lead to a directory, or to a file that names a
+// directory.
 #[derive(Drop)]
 enum Link {
     // Neither a directory nor a short file.

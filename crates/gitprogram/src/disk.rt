@@ -14,7 +14,8 @@ use std::alloc::Global;
 use std::rc::Rc;
 use std::time::SystemTime;
 
-/// A handle to an open object store. The store stays open while a ticket with its number exists.
+/// A handle to an open object store. The store stays open as long as a ticket with the store's
+/// number exists.
 pub(crate) type Ticket = Rc<u64, Global>;
 
 /// The repositories on a disk, and the open object stores.

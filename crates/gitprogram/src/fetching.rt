@@ -461,8 +461,8 @@ where
     }
 }
 
-// Fails if a branch would move to a tag, tree or blob, or the HEAD of a clone to a tree or blob
-// (git-update-ref(1)).
+// Fails if a branch would point to a tag, tree or blob (git-update-ref(1)). Also fails if the HEAD
+// of a clone would point to a tree or blob.
 fn check_commits<R: Files>(
     alloc: Global,
     wanted: Wanted<'_>,
@@ -484,7 +484,7 @@ fn check_commits<R: Files>(
     Ok(())
 }
 
-// Fails if the HEAD of a clone, which is this object peeled, is not a commit.
+// Fails if this object does not peel to a commit. The HEAD of a clone points to the peeled object.
 fn check_head_commit<R: Files>(
     alloc: Global,
     remote: &Remote,
@@ -533,7 +533,7 @@ where
     }
 }
 
-// Returns the fault of a fetch, with details from the indexer if it failed.
+// Returns the fault of a fetch, with details from the indexer if the indexer failed.
 fn fetch_fault<R: Files>(
     alloc: Global,
     remote: &Remote,

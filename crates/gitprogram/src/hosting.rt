@@ -118,7 +118,7 @@ fn refuse<W: Sink>(alloc: Global, cause: NotOpened, requests: u32, sink: &mut W)
     }
 }
 
-// Advertises capabilities, and answers all requests before the first that may be a fetch.
+// Advertises capabilities, and answers all requests before the first one that may be a fetch.
 fn show_refs<S: Source, W: Sink>(
     server: &Server<Global>,
     source: &mut Ahead<'_, S>,
@@ -173,7 +173,7 @@ fn advertise<W: Sink>(server: &Server<Global>, sink: &mut W) -> Result<(), End> 
     }
 }
 
-// Answers the requests from number `first` on.
+// Answers all requests, starting with request number `first`.
 fn answer_all<F: ObjectFiles, S: Source, W: Sink>(
     alloc: Global,
     found: &Directories,
@@ -234,8 +234,8 @@ impl Packer<Global> for NoPacker {
     }
 }
 
-// Sends an error packet that the repository cannot be opened. If the format of the repository is
-// unsupported, the packet says so.
+// Sends an error packet, which says that the repository cannot be opened. If the format of the
+// repository is unsupported, the packet says so.
 fn send_not_opened<W: Sink>(
     alloc: Global,
     form: Option<FormFault>,
@@ -254,7 +254,7 @@ fn send_not_opened<W: Sink>(
     Ok(())
 }
 
-// Returns the fault of a refused request, with details from the packer if it failed.
+// Returns the fault of a refused request, with details from the packer if the packer failed.
 fn request_fault<F: ObjectFiles>(
     alloc: Global,
     found: &Directories,

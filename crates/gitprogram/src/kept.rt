@@ -47,8 +47,8 @@ impl KeptRepositories {
         }
     }
 
-    /// Returns a handle to the cached repository with this Git directory, or `None` if there is
-    /// none. Fails only if out of memory.
+    /// Returns a handle to the cached repository with this Git directory, or `None` if the
+    /// repository is not cached. Fails only if out of memory.
     pub(crate) fn get<'d, D>(
         &self,
         alloc: Global,

@@ -24,8 +24,9 @@
 //! - `ls` prints the refs in the format of git-ls-remote(1) (`specs/Listing.antt`). A private
 //!   function derives the HEAD of a clone from the server's reply (`specs/Heads.antt`). Another
 //!   private function finds version 2 among the keys of `GIT_PROTOCOL` (`specs/Versions.antt`).
-//! - A connection of `serve` is a dialogue of `gserver` over a loop of `gevents`, so the proofs of
-//!   these crates apply to each connection. A pack that `serve` sends to the end is complete.
+//! - `serve` runs each connection as a `Dialogue` in an event loop of `gevents`, so the proofs of
+//!   `gserver` and `gevents` apply to each connection. A pack that `serve` sends to the end is
+//!   complete.
 //!
 //! # Only tested
 //!
@@ -47,9 +48,9 @@
 //!   connection may last 10 minutes, plus a second for each 8,192 bytes sent to the client. No
 //!   client waits for the input or output of another. All clients wait while the server reads a
 //!   history, or finds or deflates objects, for one of them. At most 16 repositories have open
-//!   objects at once, and `serve` refuses a client that needs one more. In Git,
-//!   `--max-connections=0` means no limit; `serve` refuses this value. `upload-pack` waits for its
-//!   client without a time limit.
+//!   objects at once, and `serve` refuses a client that needs the objects of another repository. In
+//!   Git, `--max-connections=0` means no limit; `serve` refuses this value. `upload-pack` waits for
+//!   its client without a time limit.
 //! - `core.sharedRepository` and `core.logAllRefUpdates` are ignored: new files have the default
 //!   permissions, and no reflog is written.
 //! - `serve` and `upload-pack` serve only protocol version 2. `upload-pack` does not check the

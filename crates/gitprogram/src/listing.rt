@@ -55,7 +55,8 @@ fn reply_text(
     Ok(text)
 }
 
-// Appends the lines of the ref at a position if its name begins with one of the prefixes.
+// Appends the lines of the ref at this position if the name of the ref begins with one of the
+// prefixes.
 fn put_at(
     text: &mut Vec<u8>,
     reply: &LsReply<Global>,
@@ -113,7 +114,7 @@ fn put_ref(text: &mut Vec<u8>, line: &RefLine<Global>) -> Result<(), AllocError>
     }
 }
 
-// Appends a line with an id, a tab, a ref name and its suffix.
+// Appends a line: an id, a tab, a ref name, and the suffix `ending`.
 fn put_line(text: &mut Vec<u8>, id: &Oid, name: &[u8], ending: &[u8]) -> Result<(), AllocError>
     ensures { OnOk result (text.new.items ≡ text.old.items ++ id_line id.now (name.now ++ ending.now)) }
 {

@@ -4,15 +4,17 @@ use crate::fault::Fault;
 use std::alloc::{AllocError, Global};
 use std::cell::{Cell, RefCell};
 
-/// Details for the log line of a connection, which `Repositories` records while it answers a
-/// message.
+/// Details that `Repositories` records, while it answers a message, for the log line of a
+/// connection.
 #[derive(Drop)]
 pub(crate) struct Notes {
     alloc: Global,
-    // The path in the last first line, and the fault of the last failed call.
+    // The requested path, from the first line of a connection, and the fault of the most recent
+    // failed call.
     path: RefCell<Vec<u8>>,
     fault: RefCell<Option<Fault>>,
-    // Whether the next refused message is a first line and not a request.
+    // Whether the message that may be refused next is the first line of a connection, and not a
+    // request.
     is_first: Cell<bool>,
 }
 
@@ -40,17 +42,17 @@ impl Notes {
         let _ = self.fault.try_replace(Some(fault));
     }
 
-    /// Records whether the next refused message is a first line.
+    /// Records whether the message that may be refused next is the first line of a connection.
     pub(crate) fn note_first(&self, is_first: bool) {
         self.is_first.set(is_first);
     }
 
-    /// Returns whether the next refused message is a first line.
+    /// Returns whether the message that may be refused next is the first line of a connection.
     pub(crate) fn is_first(&self) -> bool {
         self.is_first.get()
     }
 
-    /// Removes and returns the path in the last first line.
+    /// Removes and returns the recorded path.
     pub(crate) fn take_path(&self) -> Vec<u8> {
         match self.path.try_replace(Vec::new(self.alloc)) {
             Ok(path) => path,
@@ -58,7 +60,7 @@ impl Notes {
         }
     }
 
-    /// Removes and returns the fault of the last failed call.
+    /// Removes and returns the recorded fault.
     pub(crate) fn take_fault(&self) -> Option<Fault> {
         match self.fault.try_replace(None) {
             Ok(fault) => fault,

@@ -23,7 +23,7 @@ pub(crate) type Reader<'f, F> = ObjectReader<'f, F, Global>;
 /// A packer of the objects of a Git directory.
 pub(crate) type ObjectPacker<'f, F> = StorePacker<'f, F, Global>;
 
-/// Why a repository is not served.
+/// The reason why a repository is not served.
 #[derive(Drop)]
 pub(crate) struct NotOpened {
     /// The fault.
@@ -172,8 +172,8 @@ fn is_same_head(one: &Head<Global>, other: &Head<Global>) -> bool {
     }
 }
 
-// Returns the objects that refs and HEAD point to, or `None` if one is not found quickly. No pack
-// stays open after this call.
+// Returns the objects that refs and HEAD point to, or `None` if one of these objects is not found
+// quickly. No pack stays open after this call.
 fn find_tips<F: ObjectFiles>(
     alloc: Global,
     files: &F,

@@ -6,7 +6,7 @@ use gitwords::{Shown, clean_byte};
 use std::io;
 use std::io::Write;
 
-// The number of bytes that one write to a terminal copies at most.
+// The maximum number of bytes that one write to a terminal copies.
 const PIECE: usize = 512;
 
 /// A writer of standard output, which replaces non-printable bytes on a terminal.

@@ -23,7 +23,7 @@ enum PacketPosition {
     Digits { count: u8, number: u16 },
     // In a payload: the number of bytes read, and the number of bytes left.
     Payload { before: u16, left: u16 },
-    // After a malformed packet, where all further bytes are ignored.
+    // After a malformed packet: all further bytes are ignored.
     Lost,
 }
 
@@ -41,7 +41,7 @@ pub(crate) struct Packets {
     place: PacketPosition,
     // Whether the payload read so far is a prefix of `packfile`.
     begins_packs: bool,
-    // Whether the packets have side bands, since `packfile` was read.
+    // Whether the packets have side bands, which is the case once `packfile` was read.
     has_bands: bool,
     band: Band,
 }
@@ -62,8 +62,8 @@ impl Packets {
         }
     }
 
-    /// Reads a prefix of `bytes`, and returns its length and its meaning. The length is 0 only if
-    /// `bytes` is empty.
+    /// Reads a prefix of `bytes`. Returns the length and the meaning of this prefix. The length is
+    /// 0 only if `bytes` is empty.
     pub(crate) fn look<'b>(&mut self, bytes: &'b [u8]) -> (usize, Seen<'b>) {
         let Some((first, _)) = bytes.split_first() else {
             return (0, Seen::Nothing);

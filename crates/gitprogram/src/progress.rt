@@ -73,7 +73,8 @@ impl<'e, E: Write> Progress<'e, E> {
         self.is_shown
     }
 
-    // Shows the progress after more bytes from the server. Out of memory, some output is left out.
+    // Shows the progress after more bytes from the server. If out of memory, some output is left
+    // out.
     fn watch(&mut self, bytes: &[u8]) {
         if !self.is_shown {
             return;
@@ -192,7 +193,7 @@ impl PackSeen {
     }
 }
 
-// A number of bytes.
+// A number of bytes, displayed with its unit.
 #[derive(Clone, Copy)]
 struct Size(u64);
 
@@ -221,7 +222,7 @@ pub(crate) struct Watched<'p, 'e, D, E> {
 }
 
 impl<'p, 'e, D, E> Watched<'p, 'e, D, E> {
-    /// Returns `reader`, reporting its bytes to `progress`.
+    /// Returns a reader that reads from `reader`, and reports the bytes to `progress`.
     pub(crate) fn new(reader: D, progress: &'p mut Progress<'e, E>) -> Watched<'p, 'e, D, E> {
         Watched { reader, progress }
     }

@@ -82,7 +82,7 @@ impl Wording {
 #[derive(Drop)]
 pub(crate) struct Worded<W> {
     writer: W,
-    // The number of last bytes that are held back, because they may begin an error packet.
+    // The number of most recent bytes that are held back, because they may begin an error packet.
     held: usize,
     wording: Wording,
 }

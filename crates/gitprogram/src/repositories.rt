@@ -96,7 +96,8 @@ impl<'d, D> Repositories<'d, D> {
 }
 
 impl<'d, D: Disk> Repositories<'d, D> {
-    // Returns the repository at a path, or the error text for the client if there is none.
+    // Returns the repository at a path, or the error text for the client if there is no such
+    // repository.
     fn find_path(&self, path: &[u8]) -> Result<Directories, ErrText> {
         let fault = match self.disk.find(path) {
             Ok(Some(found)) => return Ok(found),
@@ -126,7 +127,7 @@ impl<'d, D: Disk> Repositories<'d, D> {
     }
 
     // Returns a repository with its history and open objects. Connections that see the same refs
-    // share both while the pack directory is unchanged.
+    // share the history and the objects while the pack directory is unchanged.
     fn open_shared(&self, repo: &Shared<'d, D>) -> Result<Shared<'d, D>, NotOpened> {
         let changed = self.disk.change_time(&repo.shown.found);
         if repo.is_open_since(changed) {

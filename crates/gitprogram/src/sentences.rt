@@ -210,7 +210,8 @@ fn write_refused<W: fmt::Write>(
     write_reason(error, f)
 }
 
-// Writes why a system call failed, preferably as the kind of the error.
+// Writes why a system call failed: the kind of the error, or the error itself if the kind is
+// unknown.
 fn write_reason<W: fmt::Write>(error: &io::Error, f: &mut fmt::Formatter<W>) -> fmt::Result {
     match error.kind() {
         ErrorKind::Other | ErrorKind::Uncategorized => fmt::Display::fmt(error, f),

@@ -43,7 +43,7 @@ pub(crate) struct Shared<'d, D> {
     /// The modification time of the pack directory, read before the objects were opened, or `None`
     /// if unknown.
     pub(crate) changed: Option<SystemTime>,
-    // The fault of the packer, which all handles of one connection share.
+    // The fault of the packer. All handles of one connection share this field.
     fault: Rc<RefCell<Option<Fault>>, Global>,
 }
 

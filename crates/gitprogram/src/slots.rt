@@ -164,7 +164,7 @@ impl<'f, F: ObjectFiles> Row<'f, F> {
     }
 }
 
-/// The slots, numbered from 0 to below [`MAX_OPEN`].
+/// The slots, whose numbers are below [`MAX_OPEN`].
 #[derive(Drop)]
 pub(crate) struct Slots<'f, F: ObjectFiles> {
     a: Row<'f, F>,

@@ -93,7 +93,7 @@ where
         answer
     }
 
-    // A client that ends the connection between two requests is not an error.
+    // It is not an error if a client ends the connection between two requests.
     fn refuse(&mut self, fault: MessageFault) -> ServerReply<Global, K, K::Parts> {
         if self.has_path && fault.frame == 0 && matches!(fault.why, Why::Ended) {
             return ServerReply::Speech(Speech::silent());

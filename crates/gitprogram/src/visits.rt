@@ -93,7 +93,7 @@ fn fault_of<H, K: Blames>(
     Some(Fault::of(alloc, said))
 }
 
-// Returns why a request was refused, or `None` if none was.
+// Returns why a request was refused, or `None` if no request was refused.
 fn fault_of_side<H, K: Blames>(
     alloc: Global,
     side: &ServerSide<'_, Global, H, K>,
