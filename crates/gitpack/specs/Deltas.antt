@@ -26,7 +26,7 @@ pub record IsSparse (bits count number : ℕ) (kept : List ℕ) : Type 0 where
   pub keeps : Keeps bits bytes kept
   pub valued : number ≡ number_of bytes
 
--- the size of a copy for its encoded size, where 0 means 0x10000
+-- the size of a copy with this encoded size: 0 encodes 0x10000
 abbrev pub copy_size : ℕ → ℕ
 copy_size n = if n == 0 then 65536 else n
 

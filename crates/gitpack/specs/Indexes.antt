@@ -64,7 +64,7 @@ abbrev pub is_short : IndexEntry → Bool
 is_short e = nat_lt e.offset 2147483648
 
 -- The table of 32-bit offsets: for each entry its offset, or 2^31 plus the position of its offset in the table of
--- 64-bit offsets. `longs` offsets precede in the table of 64-bit offsets.
+-- 64-bit offsets. The table of 64-bit offsets begins with the `longs` offsets of earlier entries.
 abbrev pub short_offsets : ℕ → List IndexEntry → List ℕ
 short_offsets longs [] = []
 short_offsets longs (e ∷ entries) =
@@ -95,7 +95,7 @@ pub record IsIndex (index : Index) (text : List ℕ) : Type 0 where
   pub long : length own ≡ 20
   pub parts : text ≡ index_body index ++ own
 
--- a text that is not an index, whatever its own checksum
+-- a text that is not an index, whatever its last twenty bytes
 abbrev pub IsNoIndex : List ℕ → Type 0
 IsNoIndex text = (index : Index) → HasText index → ¬ (IsIndex index text)
 

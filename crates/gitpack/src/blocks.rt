@@ -90,8 +90,8 @@ impl<A: Allocator + Copy> Blocks<A> {
     }
 
     /// Returns the first match of at least one block that begins in the target at or after `from`
-    /// and before `to`, or `None` if there is none. The match extends as far as the bytes are
-    /// equal.
+    /// and before `to`, or `None` if there is no such match. The match extends as far as the bytes
+    /// are equal.
     pub(crate) fn next_match(
         &self,
         base: &[u8],
@@ -161,7 +161,7 @@ fn block_at(bytes: &[u8], offset: usize) -> Option<&[u8]> {
     bytes.get(offset..)?.get(..BLOCK)
 }
 
-// Returns the number of the next block in the same slot, or 0 if there is none.
+// Returns the number of the next block in the same slot, or 0 if this block is the last.
 fn next_of(blocks: &[Block], number: u32) -> u32 {
     match blocks.get((number as usize).wrapping_sub(1)) {
         Some(block) => block.next,

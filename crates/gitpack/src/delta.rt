@@ -9,7 +9,7 @@ use std::alloc::{AllocError, Allocator};
 // The minimum length of a delta in bytes.
 const MIN_DELTA: usize = 4;
 
-// The lowest command that copies. A lower command inserts as many bytes as its value.
+// The lowest value of a copy command. A command with a lower value inserts that number of bytes.
 const COPIES: u8 = 128;
 
 // The number of values of the low four bits of a copy command, which mark the bytes of the offset.
@@ -40,7 +40,7 @@ pub fn made_size(delta: &[u8]) -> Option<usize>
 }
 
 /// Applies a delta to its base and returns the resulting object. Returns `None` if the bytes are
-/// not a delta of this base, or the result has more than `most` bytes. The result uses at most
+/// not a delta against this base, or the result has more than `most` bytes. The result uses at most
 /// twice its size in memory.
 ///
 /// Fails only if out of memory.
@@ -148,7 +148,7 @@ struct Range {
     size: usize,
 }
 
-// Returns this range of the base, or `None` if the range ends after the base.
+// Returns this range of the base, or `None` if the range extends beyond the base.
 fn part_of(base: &[u8], range: Range) -> Option<&[u8]>
     ensures { MatchOption result (length base.now < range.offset + range.size)
         (λ part. (range.offset + range.size ≤ length base.now)

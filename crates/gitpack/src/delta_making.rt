@@ -39,8 +39,8 @@ impl<A: Allocator + Copy> Model for DeltaBase<A> {
 }
 
 impl<A: Allocator + Copy> DeltaBase<A> {
-    /// Returns a base with these bytes. The hash table uses three quarters of their size in
-    /// additional memory. Fails only if out of memory.
+    /// Returns a base with these bytes. The hash table uses additional memory: three quarters of
+    /// the size of the base. Fails only if out of memory.
     pub fn new(alloc: A, bytes: Vec<u8, A>) -> Result<DeltaBase<A>, AllocError>
         ensures { IfOk result (λ base. base ≡ bytes.items) }
     {
@@ -60,7 +60,7 @@ impl<A: Allocator + Copy> DeltaBase<A> {
     }
 
     /// Returns a delta of at most `limit` bytes that makes the target from this base, or `None` if
-    /// the search finds none. The delta is applied as a check before it is returned.
+    /// the search finds no such delta. The delta is applied as a check before it is returned.
     ///
     /// Fails only if out of memory.
     pub fn make_delta(&self, target: &[u8], limit: usize) -> Result<Option<Vec<u8, A>>, AllocError>

@@ -47,8 +47,9 @@ pub struct EntryHead {
     pub length: usize,
 }
 
-/// Returns the entry header at the start of the bytes, or `None` if they do not begin with one.
-/// This function accepts sizes of at most 60 bits, and offsets of at most eight bytes.
+/// Returns the entry header at the start of the bytes, or `None` if the bytes do not begin with an
+/// entry header. This function accepts sizes of at most 60 bits, and offsets of at most eight
+/// bytes.
 pub fn read_head(bytes: &[u8]) -> Option<EntryHead>
     ensures { MatchOption result
         ((form : EntryForm) (size : ℕ) (rest : List ℕ)
@@ -93,8 +94,8 @@ fn split_type_and_size(bytes: &[u8]) -> Option<(TypeAndSize, &[u8])>
     Some((TypeAndSize { number, size }, rest))
 }
 
-// Returns the entry type with this number, whose base is at the start of the bytes, and the
-// remaining bytes.
+// Returns the entry type with this number, and the remaining bytes. The base of a delta is read
+// from the start of the bytes.
 fn split_form(number: u8, bytes: &[u8]) -> Option<(EntryForm, &[u8])>
     ensures { MatchOption result
         ((form : EntryForm) (text rest : List ℕ) → IsBaseOf form number text

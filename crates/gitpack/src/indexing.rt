@@ -25,7 +25,7 @@ pub trait ObjectVisitor {
 }
 
 /// The limits for indexing a pack. Limits are needed because a small pack can contain huge objects.
-/// An entry has at least nine bytes, and uses about two hundred bytes of memory.
+/// An entry takes at least nine bytes of the pack, but about two hundred bytes of memory.
 #[derive(Clone, Copy, Debug, Drop)]
 pub struct IndexLimits {
     /// The maximum number of objects.
@@ -89,7 +89,7 @@ impl<A: Allocator + Copy> IndexedPack<A> {
         self.entries.as_slice()
     }
 
-    /// Returns an object with this id, or `None` if the pack contains none.
+    /// Returns an object with this id, or `None` if the pack contains no such object.
     pub fn find(&self, id: &Oid) -> Option<IndexedEntry>
         ensures { MatchOption result (All (λ e. object_id e ≢ id.now) self.now.entries)
             (λ e. object_id e ≡ id.now) }

@@ -24,8 +24,9 @@
 //!   SHA-1 of all these bytes. The functions [`put_header`] and [`put_entry`] write only a pack
 //!   header or one entry.
 //! - [`IncomingPack`] accepts only packs of version 2 whose trailer is the SHA-1 of all preceding
-//!   bytes. `IncomingPack` returns the concatenation of all received bytes. Each object that the
-//!   visitor receives has the id of its type and bytes. The returned objects are sorted by id.
+//!   bytes. `IncomingPack` returns the concatenation of all received bytes. The visitor receives
+//!   each object with the id that its type and bytes determine. The returned objects are sorted by
+//!   id.
 //! - [`index_pack`] does the same for a pack in one slice.
 //! - No call panics, overflows or reads out of bounds, and every call returns.
 //!

@@ -27,7 +27,7 @@ struct Base<A: Allocator + Copy> {
     body: Vec<u8, A>,
     // The number of deltas between this object and the start of its chain.
     depth: usize,
-    // The deltas of this object that are not applied yet.
+    // The deltas against this object that are not applied yet.
     left: Cursor,
 }
 
@@ -163,8 +163,8 @@ impl<'a, A: Allocator + Copy> Resolver<'a, A> {
         }
     }
 
-    // Releases the last base if it has no more deltas. So a chain without branches needs only two
-    // objects in memory.
+    // Releases the last base if no more deltas depend on it. So a chain without branches needs only
+    // two objects in memory.
     fn let_go_of_done(&mut self) {
         let Some(last) = self.bases.last() else {
             return;

@@ -46,7 +46,8 @@ pub(crate) struct Scanned {
     pub form: EntryForm,
     /// The CRC-32 of the entry's bytes.
     pub crc: u32,
-    /// The id and type of the entry's object, or `None` before its deltas are applied.
+    /// The id and type of the entry's object, or `None` until the deltas that make the object are
+    /// applied.
     pub object: Option<Object>,
 }
 
@@ -80,7 +81,7 @@ pub(crate) struct Scanner<A: Allocator + Copy> {
     enough: usize,
     entries: Vec<Scanned, A>,
     texts: Vec<Option<Vec<u8, A>>, A>,
-    // The memory for cached streams, and the total size of all inflated streams so far.
+    // The memory used for cached streams, and the total size of all inflated streams so far.
     kept: usize,
     total: usize,
     // The first fault, which `finish` reports.

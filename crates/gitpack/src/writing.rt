@@ -53,7 +53,7 @@ impl<A: Allocator + Copy> PackWriter<A> {
         self.bytes.len()
     }
 
-    /// Appends an undeltified object of `size` bytes, which `stream` inflates to.
+    /// Appends an undeltified object of `size` bytes, with the zlib stream `stream`.
     ///
     /// Fails with `TooLarge` if the size has more than 60 bits or the pack would exceed its limit.
     /// Also fails with `Memory`.
@@ -68,7 +68,7 @@ impl<A: Allocator + Copy> PackWriter<A> {
         self.put_entry(EntryForm::Whole(kind), size, stream)
     }
 
-    /// Appends a delta of `size` bytes, which `stream` inflates to. The base of the delta is the
+    /// Appends a delta of `size` bytes, with the zlib stream `stream`. The base of the delta is the
     /// object whose entry begins `back` bytes earlier.
     ///
     /// Fails as `put_whole` does, and with `TooLarge` if the offset has more than 56 bits.
@@ -84,7 +84,7 @@ impl<A: Allocator + Copy> PackWriter<A> {
         self.put_entry(EntryForm::OffsetDelta(back), size, stream)
     }
 
-    /// Appends a delta of `size` bytes, which `stream` inflates to. The base of the delta is the
+    /// Appends a delta of `size` bytes, with the zlib stream `stream`. The base of the delta is the
     /// object with id `base`.
     ///
     /// Fails as `put_whole` does, and with `Format` if the base's id is not a SHA-1 id.
