@@ -24,7 +24,7 @@ abbrev pub peeled_text : Option Id → List ℕ
 peeled_text None = []
 peeled_text (Some id) = 94 ∷ (id_text id ++ 10 ∷ [])
 
--- the text of the lines of a ref without its peeled id
+-- the text of the line of a ref, without a line for a peeled id
 abbrev pub plain_ref_text : Name × Id → List ℕ
 plain_ref_text ref = line_text ref.0 ref.1
 

@@ -244,7 +244,8 @@ impl<'r, R: Files, A: Allocator + Copy> GitDirectory<'r, R, A> {
     }
 
     /// Checks that the names of these refs do not conflict. [`GitDirectory::write_packed_refs`]
-    /// makes the same check, but a caller can check before it receives objects.
+    /// makes the same check. This function lets a caller check the names before it receives
+    /// objects.
     ///
     /// Fails with `Conflict` if the name of a ref is also a directory of another ref, and with
     /// `Memory`.
@@ -258,7 +259,7 @@ impl<'r, R: Files, A: Allocator + Copy> GitDirectory<'r, R, A> {
 
     /// Writes `packed-refs` in a repository that has none, as a clone does (git-pack-refs(1)).
     /// `peeled` maps the names of tags to their peeled ids. If `peeled` is `None`, the header does
-    /// not contain `peeled`.
+    /// not contain the word `peeled`.
     ///
     /// Fails with `Conflict` if the name of a ref is also a directory of another ref, and with
     /// `Exists` if `packed-refs` exists. Also fails with `Missing`, `Locked`, `System` or `Memory`.

@@ -33,7 +33,7 @@ pub enum Cause {
     Moved,
     /// The ref is symbolic, or its file is a symbolic link.
     Symbolic,
-    /// The name of the ref is also a directory of another ref, or the reverse.
+    /// The name of one ref is a directory in the name of another ref.
     Conflict,
     /// The name of the ref is not UTF-8, so the ref has no path.
     Utf8,

@@ -20,9 +20,9 @@ pub enum LooseRef<A: Allocator + Copy = Global> {
     Symref(RefName<A>),
 }
 
-/// Parses the text of a loose ref file, or of `HEAD`. The text is `ref:` and a ref name, which
-/// white space may surround, or forty hexadecimal digits. White space may follow the digits, and
-/// then any bytes.
+/// Parses the text of a loose ref file, or of `HEAD`. The text is either `ref:` and a ref name,
+/// with optional white space around the name, or forty hexadecimal digits. White space may follow
+/// the digits, and then any bytes.
 ///
 /// Fails with `Malformed` if the text is not a valid ref file. Also fails with `Memory`.
 pub fn parse_loose_ref<A: Allocator + Copy>(alloc: A, text: &[u8]) -> Result<LooseRef<A>, TextFault>
@@ -66,8 +66,8 @@ fn parse_target<A: Allocator + Copy>(alloc: A, text: &[u8]) -> Result<RefName<A>
     }
 }
 
-/// Returns the ref name with these bytes, or `None` if they are not a ref name. Fails only with
-/// `Memory`.
+/// Returns the ref name with these bytes, or `None` if the bytes are not a ref name. Fails only
+/// with `Memory`.
 pub(crate) fn name_of<A: Allocator + Copy>(
     alloc: A,
     text: &[u8],

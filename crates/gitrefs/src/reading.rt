@@ -71,8 +71,8 @@ impl<R: Files, A: Allocator + Copy> GitDirectory<'_, R, A> {
     }
 
     /// Reads the refs below `refs/` and HEAD, as [`GitDirectory::read_refs`] does, and the peeled
-    /// objects in `packed-refs`. No peeled objects are returned if the file is missing, or if its
-    /// header lacks `fully-peeled`.
+    /// objects in `packed-refs`. No peeled objects are returned if `packed-refs` is missing, or if
+    /// its header lacks `fully-peeled`.
     pub fn read_peeled_refs(&self) -> Result<PeeledRefs<A>, RefFault<A>> {
         let mut values = self.read_loose_values()?;
         let packed = self.packed_refs()?;
@@ -212,7 +212,7 @@ impl<R: Files, A: Allocator + Copy> GitDirectory<'_, R, A> {
         }
     }
 
-    // Returns the ref name with these bytes, or `None` if they are not a ref name.
+    // Returns the ref name with these bytes, or `None` if the bytes are not a ref name.
     fn ref_name(&self, text: &[u8]) -> Result<Option<RefName<A>>, RefFault<A>> {
         match name_of(self.alloc, text) {
             Ok(name) => Ok(name),

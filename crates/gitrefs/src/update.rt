@@ -24,15 +24,16 @@ pub struct RefUpdate<A: Allocator + Copy = Global> {
 
 impl<R: Files, A: Allocator + Copy> GitDirectory<'_, R, A> {
     /// Updates refs (git-update-ref(1)). First, all refs are locked and compared with their
-    /// expected old ids. If all ids match, all ref files are replaced. The old id of a ref without
-    /// a file is that in `packed-refs`. Reflogs are not changed.
+    /// expected old ids. If all ids match, all ref files are replaced. If a ref has no file, its
+    /// old id is the id in `packed-refs`. Reflogs are not changed.
     ///
-    /// Fails with `Format` if a new id is not a SHA-1 id, and with `Conflict` if one ref has the
-    /// name of another's directory. Also fails with `Missing`, `Refs`, `Locked`, `Moved`,
-    /// `Symbolic`, `Malformed` or `Utf8`. No ref is changed after any of these faults. Fails with
-    /// `System` or `Memory`, and then refs are changed only if the renaming of a file failed. After
-    /// any fault, each ref has its old or its new id. All locks of this call are removed, but
-    /// directories created for them may remain.
+    /// Fails with `Format` if a new id is not a SHA-1 id, and with `Conflict` if the name of one
+    /// ref is a directory in the name of another ref. Also fails with `Missing`, `Refs`, `Locked`,
+    /// `Moved`, `Symbolic`, `Malformed` or `Utf8`. No ref is changed after any of these faults.
+    /// Also fails with `System` or `Memory`. After such a fault, some refs may have changed, but
+    /// only if the fault occurred while a lockfile was renamed. After any fault, each ref has its
+    /// old or its new id. All locks of this call are removed, but directories created for them may
+    /// remain.
     pub fn update_refs(&self, updates: &[RefUpdate<A>]) -> Result<(), RefFault<A>> {
         self.check_updates(updates)?;
         let mut locked = Vec::new(self.alloc);
@@ -48,8 +49,8 @@ impl<R: Files, A: Allocator + Copy> GitDirectory<'_, R, A> {
     }
 
     /// Checks the names, new ids and number of refs before an update. [`GitDirectory::update_refs`]
-    /// makes the same check, but a caller can check before it fetches objects. Old ids, symbolic
-    /// links and locks are not checked.
+    /// makes the same check. This function lets a caller check the updates before it fetches
+    /// objects. Old ids, symbolic links and locks are not checked.
     ///
     /// Fails with `Missing`, `Format`, `Conflict`, `Refs`, `Malformed`, `Utf8`, `System` or
     /// `Memory`.
