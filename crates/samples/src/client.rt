@@ -10,8 +10,8 @@ use std::alloc::Allocator;
 /// Parses the client's repository from `text`, fetches the refs that `specs` match from a server
 /// (gitprotocol-v2(5)), and returns the repository.
 ///
-/// Fails with `Text` if `text` is not a valid repository. Fails with `Fetch` if a ref is not
-/// connected or the conversation fails. The returned repository has no HEAD.
+/// Fails with `Text` if `text` is not a valid repository. Fails with `Fetch` if an object that a
+/// ref reaches is missing, or if the conversation fails. The returned repository has no HEAD.
 pub fn fetch_into<A: Allocator + Copy, S: Source, W: Sink>(
     alloc: A,
     text: &[u8],

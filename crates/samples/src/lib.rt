@@ -3,8 +3,8 @@
 //!
 //! # Proved
 //!
-//! Each function is memory-safe and returns. After [`fetch_records`], each ref of the repository is
-//! connected. Further guarantees are the contracts of the called functions.
+//! Each function is memory-safe and returns. After [`fetch_records`], the repository has every
+//! object that its refs reach. Further guarantees are the contracts of the called functions.
 //!
 //! # What the contracts do not rule out
 //!

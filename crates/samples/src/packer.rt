@@ -14,8 +14,8 @@ use std::alloc::Allocator;
 /// The length of a record in bytes: one letter, and a SHA-1 id.
 const RECORD: usize = 21;
 
-/// A pack format of records, which are a letter and an id. A record `c` or `t` begins a commit or a
-/// tag, and a record `p` adds a parent to the last commit or tag.
+/// A pack format that consists of records. Each record is a letter and an id. A record `c` or `t`
+/// begins a commit or a tag, and a record `p` adds a parent to the current commit or tag.
 #[derive(Clone, Copy, Drop)]
 pub struct Records;
 
@@ -77,8 +77,8 @@ impl<A: Allocator + Copy> Indexer<A> for Records {
     }
 }
 
-/// Fetches the refs that `specs` match from a server that sends packs of [`Records`]. The
-/// repository is connected afterwards, whatever the server sends.
+/// Fetches the refs that `specs` match from a server that sends packs of [`Records`]. Whatever the
+/// server sends, the repository then has every object that its refs reach.
 ///
 /// Fails as `fetch_over` does, and then leaves the refs unchanged.
 pub fn fetch_records<A: Allocator + Copy, S: Source, W: Sink>(
