@@ -34,8 +34,8 @@ HasParentsBelow end commit = All (λ position. position < end) commit.parents
 abbrev pub AreClosed : List Commit → Type 0
 AreClosed commits = All (HasParentsBelow (length commits)) commits
 
--- The chain with one more file on top. The base graphs of the file are the earlier files, each position in the file is
--- that of a commit, and there are at most 0x7000_0000 commits.
+-- The chain with one more file on top. The base graphs of the file are the earlier files, each parent position in the
+-- file is the position of a commit, and there are at most 0x7000_0000 commits.
 pub record AddsFile (old : List GraphFile) (text : List ℕ) (new : List GraphFile) : Type 0 where
   pub file : GraphFile
   pub is : IsGraphText file text

@@ -38,7 +38,7 @@ second_parent row = number (slice_range row 24 28)
 abbrev pub no_parent : ℕ
 no_parent = 0x7000_0000
 
--- the lowest number with the highest bit, which marks an edge or a second parent
+-- 2^31, the bit that marks the last edge of a list, or a second parent number that refers to a list
 abbrev pub mark : ℕ
 mark = 0x8000_0000
 

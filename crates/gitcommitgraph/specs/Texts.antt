@@ -66,7 +66,7 @@ pub record IsFramed (bases : ℕ) (chunks : List Chunk) (checksum : Id) (text : 
   pub named : AreNamed chunks
   pub long : length checksum ≡ 20
 
--- The text of a file. Chunks with other names are ignored.
+-- The text of a file. Chunks with unknown names are ignored.
 pub record IsGraphText (file : GraphFile) (text : List ℕ) : Type 0 where
   pub chunks : List Chunk
   pub framed : IsFramed (length file.bases) chunks file.checksum text

@@ -49,8 +49,8 @@ impl<A: Allocator + Copy> CommitGraph<A> {
         }
     }
 
-    /// Adds a single file, or the next file of a chain, from the lowest to the highest. Keeps the
-    /// bytes unchanged, and does not check their checksum.
+    /// Adds a single file, or the next file of a chain. The files of a chain must be added from the
+    /// lowest to the highest. Keeps the bytes unchanged, and does not check the file's checksum.
     ///
     /// Fails with `Bases` if the base graphs of the file are not the files added earlier, and with
     /// `TooMany` if there are more commits than positions. Fails with `Parents` if the file has a

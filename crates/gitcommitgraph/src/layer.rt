@@ -206,7 +206,8 @@ fn test_tables(bytes: &[u8], places: &Places) -> Result<(), CommitGraphFault>
     Ok(())
 }
 
-// Returns the locations of the chunks of these rows, or `None` if a required chunk is missing.
+// Returns the locations of the chunks that these rows describe, or `None` if a required chunk is
+// missing.
 fn find_places(rows: &[[u8; ENTRY_BYTES]]) -> Option<Places>
     ensures { MatchOption result (LacksChunk rows.now) (ArePlaces rows.now) }
 {

@@ -8,8 +8,8 @@
 //!   header, table of contents, chunks and trailer. The ids ascend, the fan-out table matches the
 //!   ids, and each edge list has an end. The base graphs are the files added earlier, and each
 //!   position in the file is the position of a commit. `Bases`, `TooMany` and `Parents` are
-//!   returned only if they are true. Any other fault except `Memory` is returned only if the text
-//!   is not a commit-graph file. After a failure the commit-graph is unchanged.
+//!   returned only if the file has this fault. Any other fault except `Memory` is returned only if
+//!   the text is not a commit-graph file. After a failure the commit-graph is unchanged.
 //! - [`CommitGraph::find`] finds a commit exactly if some file has a commit with the id.
 //! - [`CommitGraph::parents_of`] lists the parents of a commit, from its commit data and its edge
 //!   list. Each parent is a commit of the commit-graph. The result is `None` exactly if a commit

@@ -38,7 +38,7 @@ pub(crate) struct Tables<'a> {
 }
 
 impl Tables<'_> {
-    /// Returns the index of an id, or `None` if the table of ids does not have it.
+    /// Returns the index of an id, or `None` if the table of ids does not contain the id.
     pub(crate) fn find(&self, id: &[u8; ID_BYTES]) -> Option<usize>
         requires ascending { IsAscending self.now.ids.now }
         requires fan_out { IsFanOut self.now.fan_out.now self.now.ids.now }
@@ -213,14 +213,16 @@ fn names_edge(row: &[u8; ROW_BYTES], count: usize) -> bool
     second < MARK || ((second - MARK) as usize) < count
 }
 
-// Returns whether the parents in the rows, except those in edge lists, are less than `end`.
+// Returns whether the parent positions in the rows, except those in edge lists, are less than
+// `end`.
 fn rows_are_before(rows: &[[u8; ROW_BYTES]], end: usize) -> bool
     ensures { IsTrue result ↔ All (IsRowBefore end) rows.now }
 {
     rows.iter().all(|row| is_row_before(row, end))
 }
 
-// Returns whether the parents in the row, except those in its edge list, are less than `end`.
+// Returns whether the parent positions in the row, except those in its edge list, are less than
+// `end`.
 fn is_row_before(row: &[u8; ROW_BYTES], end: usize) -> bool
     ensures { IsTrue result ↔ IsRowBefore end row.now }
 {
@@ -228,21 +230,21 @@ fn is_row_before(row: &[u8; ROW_BYTES], end: usize) -> bool
     is_before(first, end) && (second >= MARK || is_before(second, end))
 }
 
-// Returns whether the parent is less than `end` or absent.
+// Returns whether the parent position is less than `end`, or there is no parent.
 fn is_before(parent: u32, end: usize) -> bool
     ensures { IsTrue result ↔ IsBefore end parent }
 {
     parent == NO_PARENT || (parent as usize) < end
 }
 
-// Returns whether the parents in all edges are less than `end`.
+// Returns whether the parent positions in all edges are less than `end`.
 fn edges_are_before(edges: &[[u8; 4]], end: usize) -> bool
     ensures { IsTrue result ↔ All (IsEdgeBefore end) edges.now }
 {
     edges.iter().all(|edge| is_edge_before(edge, end))
 }
 
-// Returns whether the parent in the edge is less than `end`.
+// Returns whether the parent position in the edge is less than `end`.
 fn is_edge_before(edge: &[u8; 4], end: usize) -> bool
     ensures { IsTrue result ↔ IsEdgeBefore end edge.now }
 {

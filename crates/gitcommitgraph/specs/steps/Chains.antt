@@ -1,4 +1,4 @@
--- The steps of a commit-graph in memory.
+-- The files and positions of a commit-graph in memory.
 use Rattle.std.specs.Prelude.{◌≡◌, ℕ, ◌<◌, ◌≤◌, List, All, length, slice_index_or}
 use Rattle.gitcommitgraph.specs.Chains.{AreClosed, graph_commits}
 use Rattle.gitcommitgraph.specs.Files.{Commit, GraphFile, IsGraphFile, file_commits, no_parent}

@@ -1,4 +1,4 @@
--- The steps of a file in memory: the locations of its chunks.
+-- The locations of the chunks of a file in memory.
 use Rattle.std.specs.Prelude.{◌≡◌, ℕ, ◌-◌, ◌*◌, ◌/◌, ◌%◌, ◌<◌, ◌≤◌, ◌⊎◌, List, codes, length, drop, slice_index, slice_range}
 use Rattle.gitcommitgraph.specs.Files.{GraphFile, HaveEnds, IsAscending, IsGraphFile, no_parent}
 use Rattle.gitcommitgraph.specs.Texts.{Chunk, IsFramed, HasChunk, MayHaveChunk}
@@ -30,7 +30,7 @@ file_at bytes places = record {
 pub record MayBeSpan (rows : List (List ℕ)) (name : List ℕ) (span : Span) : Type 0 where
   pub cases : IsSpan rows name span ⊎ (LacksName rows name × (span.start ≡ 0) × (span.end ≡ 0))
 
--- the chunks of these rows are at these locations
+-- the chunks that these rows describe are at these locations
 pub record ArePlaces (rows : List (List ℕ)) (places : Places) : Type 0 where
   pub fan_out : IsSpan rows (codes "OIDF") places.fan_out
   pub ids : IsSpan rows (codes "OIDL") places.ids

@@ -1,4 +1,4 @@
--- The steps of reading the table of contents.
+-- Reading the table of contents.
 use Rattle.std.specs.Prelude.{◌≡◌, ◌≢◌, ℕ, ◌+◌, ◌*◌, ◌/◌, ◌-◌, ◌<◌, ◌≤◌, List, AllPairs, length, take, drop, slice_index_or, slice_range}
 use Rattle.std.specs.List.{AllAdjacentBelow}
 use Rattle.std.specs.Int.{w64, from_be_bytes}

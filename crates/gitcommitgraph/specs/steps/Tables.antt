@@ -1,4 +1,4 @@
--- The steps of finding an id in the tables of a file, and of checking the tables.
+-- Finding an id in the tables of a file, and checking the tables.
 use Rattle.std.specs.Prelude.{◌≡◌, ◌≢◌, ℕ, ◌<◌, ◌≤◌, List, All, Option, MatchOption, length, slice_index, slice_index_or, count_by}
 use Rattle.std.specs.List.{HoldsAt}
 use Rattle.gname.specs.Ids.{Id}
