@@ -11,7 +11,7 @@ answer_text (Asked text) = string_bytes text
 answer_text (Usage text) = string_bytes text
 answer_text Memory = out_of_memory_text
 
--- help and version are printed on standard output
+-- help and version are printed on standard output, and any other answer on standard error
 abbrev pub answer_stream : Answer → Stream
 answer_stream (Asked text) = Output
 answer_stream (Usage text) = Error

@@ -21,7 +21,8 @@ clean_byte shown b = if is_shown shown b then b else 63
 abbrev pub clean_text : Shown → List ℕ → List ℕ
 clean_text shown = map (clean_byte shown)
 
--- cleaning a text in two pieces gives the cleaned text, and a cleaned text has only bytes that a terminal may show
+-- cleaning a text in two pieces gives the same result as cleaning the whole text, and a cleaned text has only bytes
+-- that a terminal may show
 pub record PiecesAreClean : Type 0 where
   pub whole : (shown : Shown) (front back : List ℕ)
       → clean_text shown (front ++ back) ≡ clean_text shown front ++ clean_text shown back

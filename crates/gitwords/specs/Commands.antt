@@ -5,7 +5,7 @@ use Rattle.gitwords.specs.declared.command.GitrepoCommand.{GitrepoCommand}
 use Rattle.gitwords.specs.declared.command.GitrepoCommand.TheVariants.{Check, Clone, Fetch, Ls, Serve, UploadPack}
 use Rattle.gitwords.specs.declared.url.GitUrl.{GitUrl}
 
--- the values are the parts of a URL
+-- the fields are the parts of a valid URL
 abbrev pub IsUrl : GitUrl → Type 0
 IsUrl url = (text : List ℕ) × IsGitUrl text url.host.now url.port url.path.now
 

@@ -104,7 +104,7 @@ pub record HasBadPort (text : List ℕ) : Type 0 where
   pub names : IsHost host
   pub bad : (port : ℕ) → ¬ (IsPort digits port)
 
--- The reasons to refuse a text as a URL: another start than git:// , no slash after the host, or a malformed path, host
+-- The reasons to refuse a text as a URL: a start other than git://, no slash after the host, or a malformed path, host
 -- or port.
 abbrev pub IsCause : List ℕ → Cause → Type 0
 IsCause text (Transport transport) = (rest : List ℕ) → ¬ (text ≡ codes "git://" ++ rest)

@@ -4,8 +4,8 @@ ghost use Rattle.gitwords.specs.Clean.{PiecesAreClean};
 ghost use Rattle.gitwords.specs.Served.{PathsHaveOneReading};
 ghost use Rattle.gitwords.specs.Urls.{UrlsHaveOneReading};
 
-/// A law: cleaning two pieces of a text one after the other gives the cleaned text, and a cleaned
-/// text has only bytes that a terminal may show.
+/// A law: cleaning a text in two pieces gives the same result as cleaning the whole text, and a
+/// cleaned text has only bytes that a terminal may show.
 pub fn pieces_are_clean()
     ensures { PiecesAreClean }
 {}

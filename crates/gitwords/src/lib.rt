@@ -6,7 +6,7 @@
 //! - [`GitUrl::parse`] accepts exactly the texts `git://HOST[:PORT]/PATH` of `specs/Urls.antt`, and
 //!   returns their parts. A text has only one host, port and path
 //!   ([`urls_have_one_reading`](laws::urls_have_one_reading)). Any other text is refused, and the
-//!   reported cause is true of the text. A fault prints the sentence of its cause
+//!   reported cause applies to the text. A fault prints the sentence of its cause
 //!   (`specs/Faults.antt`).
 //! - [`ServedPath::parse`] accepts exactly the paths of `specs/Served.antt`. No component of such a
 //!   path is empty or begins with a dot, and the path may end with one slash. A path names at most
@@ -17,7 +17,8 @@
 //! - [`Ending::in_order`] returns the endings in Git's order.
 //! - [`clean`] and [`push_clean`] keep printable ASCII, line feeds and tabs. Progress lines also
 //!   keep carriage returns. Any other byte becomes a question mark. Cleaning a text piece by piece
-//!   gives the whole cleaned text ([`pieces_are_clean`](laws::pieces_are_clean)).
+//!   gives the same result as cleaning the whole text
+//!   ([`pieces_are_clean`](laws::pieces_are_clean)).
 //! - [`read_words`] returns only well-formed commands (`specs/Commands.antt`). The URL of a command
 //!   is valid, and a fetch has at least one refspec. The address of a server has the form
 //!   HOST:PORT. Each given limit of connections is from 1 to 1,000,000.

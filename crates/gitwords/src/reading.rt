@@ -183,7 +183,7 @@ fn listen<'a>(words: &ArgMatches<'a>) -> Result<&'a str, WordFault<'a>>
     }
 }
 
-// Returns the number of connections that an option gives, if the option is present.
+// Returns the number of connections that an option specifies, or `None` if the option is absent.
 fn connections<'a>(words: &ArgMatches<'a>, name: &'static str) -> Result<Option<u32>, WordFault<'a>>
     ensures { IfOk result (λ count. IfSome count IsServed) }
 {
