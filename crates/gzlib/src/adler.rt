@@ -18,7 +18,7 @@ pub struct Adler32 {
 }
 
 impl Adler32 {
-    /// Returns the state before any byte.
+    /// Returns the state to which no byte has been added.
     pub fn new() -> Adler32
         ensures { HasAdlerOf result [] }
     {

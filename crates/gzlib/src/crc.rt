@@ -13,7 +13,7 @@ pub struct Crc32 {
 }
 
 impl Crc32 {
-    /// Returns the state before any byte.
+    /// Returns the state to which no byte has been added.
     pub fn new() -> Crc32
         ensures { HasCrcOf result [] }
     {

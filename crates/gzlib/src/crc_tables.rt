@@ -1,4 +1,5 @@
-//! Tables of the CRC-32 register that starts with one byte alone, after 1 to 8 zero bytes.
+//! Tables of the CRC-32 register after 1 to 8 zero bytes, if its value at the start is a single
+//! byte.
 //!
 //! Each table has 256 rows, one for each value of the byte.
 

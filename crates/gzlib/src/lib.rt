@@ -19,9 +19,9 @@
 //!   `examples/with-git.sh` tests packs made by Git.
 //! - Deflated bytes inflate to the same bytes: `gitcases` inflates them with this crate, and
 //!   `examples/with-git.sh` inflates them with Git.
-//! - By hand: this crate and zlib accepted the same altered streams. A header may name any window
-//!   up to 32 KiB. A code may be incomplete only if it has a single symbol, with a code of one bit.
-//!   The distance code may be empty.
+//! - In manual tests, this crate and zlib accepted the same altered streams. A header may name any
+//!   window up to 32 KiB. A code may be incomplete only if it has a single symbol, with a code of
+//!   one bit. The distance code may be empty.
 //!
 //! # What the contracts do not rule out
 //!

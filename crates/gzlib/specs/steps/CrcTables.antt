@@ -2,6 +2,6 @@
 use Rattle.std.specs.Prelude.{ℕ, ◌*◌}
 use Rattle.gzlib.specs.Crc.{shift_bits}
 
--- the register that starts with this byte alone, after `count` zero bytes
+-- the register after `count` zero bytes, if its value at the start is this byte
 unfoldable pub after_bytes : ℕ → ℕ → ℕ
 after_bytes count byte = shift_bits (8 * count) byte
