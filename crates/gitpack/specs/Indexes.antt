@@ -95,7 +95,7 @@ pub record IsIndex (index : Index) (text : List ℕ) : Type 0 where
   pub long : length own ≡ 20
   pub parts : text ≡ index_body index ++ own
 
--- a text that is not an index, whatever its last twenty bytes
+-- a text that is not an index, even if the index's own checksum is ignored
 abbrev pub IsNoIndex : List ℕ → Type 0
 IsNoIndex text = (index : Index) → HasText index → ¬ (IsIndex index text)
 
