@@ -358,7 +358,8 @@ impl<'a, 'r, 't, 'f, F: ObjectFiles, A: Allocator + Copy> Inspector<'a, 'r, 't, 
         self.arrival.take_fault()
     }
 
-    // Compares an object of the pack with the stored object of the same id, if there is one.
+    // Compares an object of the pack with the stored object of the same id, if the store has such
+    // an object.
     fn compare(
         &mut self,
         id: &Oid,

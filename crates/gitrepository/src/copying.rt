@@ -303,8 +303,8 @@ impl<A: Allocator + Copy> Copying<A> {
         Ok(())
     }
 
-    // Sorts the objects to deflate again. Objects whose paths end alike are adjacent, as deltas
-    // between them are probably small.
+    // Sorts the objects to deflate again. Objects whose paths have the same ending become adjacent,
+    // because deltas between such objects are probably small.
     fn sort_anew(&mut self) {
         self.anew
             .sort_unstable_by_key(|object| (object.path, object.number));

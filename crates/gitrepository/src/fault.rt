@@ -162,7 +162,7 @@ impl<A: Allocator + Copy> RepositoryFault<A> {
         }
     }
 
-    /// Returns the fault of an unsupported format that the file with this path shows.
+    /// Returns the fault for an unsupported format. The file with this path shows the format.
     pub(crate) fn of_form(alloc: A, path: &str, fault: FormFault) -> RepositoryFault<A> {
         match String::from_str(alloc, path) {
             Ok(path) => RepositoryFault::Form { path, fault },

@@ -100,7 +100,8 @@ pub fn is_bare<F: ObjectFiles, A: Allocator + Copy>(
     core_flag(files, alloc, git_dir, b"bare")
 }
 
-// Returns the value of a Boolean variable of the section `core`, or `None` if it is not set.
+// Returns the value of a Boolean variable of the section `core`, or `None` if the variable is not
+// set.
 fn core_flag<F: ObjectFiles, A: Allocator + Copy>(
     files: &F,
     alloc: A,

@@ -81,8 +81,8 @@ impl<'r, 'f, F: ObjectFiles, A: Allocator + Copy> Gathering<'r, 'f, F, A> {
         Ok(())
     }
 
-    // Marks unsent parents, and the trees and blobs they reach, as not sent, because the peer has
-    // them.
+    // Marks the parents outside the list as not sent, with the trees and blobs they reach, because
+    // the peer has them.
     fn leave_out_parents(&mut self, entries: &[Entry<A>]) -> Result<(), RepositoryFault<A>> {
         for entry in entries {
             self.leave_out(entry.node.parents.as_slice())?;
@@ -183,8 +183,8 @@ impl<'r, 'f, F: ObjectFiles, A: Allocator + Copy> Gathering<'r, 'f, F, A> {
         }
     }
 
-    // Decides the fates of all objects that the trees reach. Each object is decided once, so the
-    // loop ends.
+    // Decides the fates of all objects that the trees reach. The fate of each object is decided
+    // only once, so the loop ends.
     fn walk_trees(&mut self, trees: Vec<Tree, A>) -> Result<(), RepositoryFault<A>> {
         let mut trees = trees;
         for _ in 0..u64::MAX {

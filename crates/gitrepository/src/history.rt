@@ -171,7 +171,7 @@ impl<'g, A: Allocator + Copy> History<'g, A> {
     }
 
     // Adds a parent to the path, unless the graph holds it. Fails with `Objects` if the path is too
-    // long, which stops a cycle.
+    // long. So a cycle of parents cannot continue forever.
     #[tactic(auto, using(crate::proofs::HistoryLemmas::known_pushed))]
     fn reach<F: ObjectFiles>(
         &mut self,

@@ -27,7 +27,7 @@
 //! - A pack that is sent has a header, as many entries as the header says, and the SHA-1 of all
 //!   preceding bytes. Each entry of a sent pack has a well-formed header. The pack has at most
 //!   `MAX_PACK` bytes. The parts of a pack, in order, make up such a pack. If returning the parts
-//!   ends in a fault, no clause describes the parts returned before.
+//!   ends in a fault, no contract describes the parts returned before.
 //! - A pack is accepted only if its trailer is the SHA-1 of all preceding bytes. Each entry that
 //!   the indexer returns describes an object, or is a tree or blob that a tag names. The entry of
 //!   this tag is returned too.
@@ -64,30 +64,30 @@
 //! # What the contracts do not rule out
 //!
 //! - The packer might send objects other than the wanted ones, or send the entry of one object for
-//!   another. No clause says which trees and blobs are sent. The stream of an entry may be any
+//!   another. No contract says which trees and blobs are sent. The stream of an entry may be any
 //!   bytes, and a delta may name a base that is not sent. The reader compares the CRC-32 of each
-//!   copied entry with the index, but no clause says so.
+//!   copied entry with the index, but no contract states this.
 //! - If a commit-graph is wrong, the graph may be wrong too. The commit-graph is used only for
-//!   commits in the store. No clause says so, or from which file the commit-graph is read.
-//! - The graph might hold more than the refs reach, and a ref might be left out. No clause covers
+//!   commits in the store. No contract states this, or from which file the commit-graph is read.
+//! - The graph might hold more than the refs reach, and a ref might be left out. No contract covers
 //!   HEAD.
 //! - [`open_tips`] might find objects other than those of the refs, or peel a tag to the wrong
 //!   object. [`open_tips`] trusts the peeled ids in `packed-refs`, as Git does.
 //!   [`lead_with_newest`] might leave refs out or put other refs first.
 //! - [`check_refs`] might look at objects other than those that the refs reach. [`check_refs`]
-//!   might count the nodes of another graph, and no clause covers its object count.
+//!   might count the nodes of another graph, and no contract covers its object count.
 //! - [`Tips`] might forget an id, [`add_leaves`] might add other nodes, and a repository in any
 //!   format might be opened or refused. [`is_bare`] might return anything. The names of peeled refs
 //!   in a new repository might be wrong.
 //! - The indexer might leave out an entry, or return one for an object that the pack does not have.
 //!   The indexer looks up the named trees and blobs, and compares objects that the store already
-//!   has. No clause says so, or when the indexer reads an object. The indexer may miss a loose
-//!   object that is added meanwhile.
+//!   has. No contract states this, or when the indexer reads an object. The indexer may miss a
+//!   loose object that is added meanwhile.
 //! - A parent of a commit in the graph may be a tag, tree or blob. The types of parents are
-//!   checked, but no clause says so.
+//!   checked, but no contract states this.
 //! - [`PackCounts`] and [`StorePacker::counts`] have no clause: they are for measurements.
-//! - [`StoreIndexer::kind_of`] may return the wrong type. The [`Received`] that the indexer returns
-//!   may be a pack other than the one received, or none.
+//! - [`StoreIndexer::kind_of`] may return the wrong type. [`StoreIndexer::take_received`] may
+//!   return a pack that was not received, or `None`.
 //! - A [`NewRepository`] might lack its pack, its refs or HEAD, or be removed once it is finished.
 //! - No contract can describe the contents of a system file: only the order of the calls in
 //!   [`install_pack`] is proved. [`install_pack`] might not create the file `.keep`, or might

@@ -59,7 +59,7 @@ fn leading_prefix<A: Allocator + Copy>(alloc: A) -> Result<String<A>, AllocError
     Ok(prefix)
 }
 
-// Returns whether the maximum number of refs allows 256 added refs and `more` others.
+// Returns whether the maximum number of refs allows 256 added refs and `more` other refs.
 fn has_room<A: Allocator + Copy>(refs: &Refs<A>, more: usize) -> bool {
     refs.len().saturating_add(more) <= MAX_REFS - MAX_NEWEST
 }

@@ -2,7 +2,7 @@
 
 /// The hash of the path at which an object was found. The last bytes of a path have the most
 /// weight. Sorted by this hash, the versions of a file are adjacent, followed by files whose names
-/// end alike.
+/// have the same ending.
 #[derive(Clone, Copy, Debug, PartialEq, Eq, PartialOrd, Ord)]
 pub(crate) struct PathHash(u32);
 

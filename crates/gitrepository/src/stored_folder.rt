@@ -19,7 +19,7 @@ const MAX_TRIES: usize = 1_000;
 // The permissions of a pack and its index, as in Git: everyone may read, and no one may write.
 const READ_ALONE: u32 = 0o444;
 
-/// The folder of packs of a Git directory, and the names of the files of a pack there.
+/// The folder of packs of a Git directory, and the names of a pack's files in this folder.
 #[derive(Drop)]
 pub(crate) struct StoredFolder<'r, R: Files, A: Allocator + Copy> {
     files: &'r R,
