@@ -91,7 +91,7 @@ fn empty_slots<A: Allocator + Copy>(alloc: A) -> Result<Vec<Option<Kept<A>>, A>,
     Ok(slots)
 }
 
-// Returns the slot of a location, by a multiplicative hash with the golden ratio.
+// Returns the slot of a location, which is a multiplicative hash based on the golden ratio.
 fn slot_of(spot: Spot) -> usize {
     let mixed = spot
         .start

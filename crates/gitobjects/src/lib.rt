@@ -57,25 +57,25 @@
 //!
 //! - [`ObjectReader::read`] trusts the files: it does not compute ids. A clause cannot describe the
 //!   contents of a system file.
-//! - No clause says which object a whole delta chain produces, or which type
+//! - No contract says which object a whole delta chain produces, or which type
 //!   [`ObjectReader::kind_of`] returns. Each step relies on a contract of `gitpack`.
-//! - No clause says that other copies of a broken object are tried, or that a listed pack is
+//! - No contract says that other copies of a broken object are tried, or that a listed pack is
 //!   opened.
 //! - The entry that [`ObjectReader::raw_entry`] returns may be any bytes. The CRC-32 of the entry
-//!   is compared with the index, but no clause says so.
+//!   is compared with the index, but no contract states this.
 //! - A pack may be added in the same tick of the file system's clock as a listing. A pack added in
 //!   this tick is not seen until the folder changes again, or until [`ObjectReader::refresh`].
 //! - Only the safety of the base cache is proved.
 //! - [`ObjectStore::find`], [`ObjectStore::find_in`] and [`ObjectReader::find`] may return a wrong
 //!   location of an object, or `None`. [`ObjectStore::index`] and [`ObjectStore::starts`] may
 //!   return the data of another pack, or nothing.
-//! - No clause says from which pack and position an entry is read. Only the bytes that the window
+//! - No contract says from which pack and position an entry is read. Only the bytes that the window
 //!   returns are proved.
 //! - A pack that does not match its index may be opened. The header, object count and checksum of
-//!   the pack are compared with the index, but no clause says so.
+//!   the pack are compared with the index, but no contract states this.
 //! - A loose object may be accepted even if bytes follow its stream.
-//! - No clause says which alternates are read, where a relative path begins, or how the open packs
-//!   are ordered.
+//! - No contract says which alternates are read, where a relative path begins, or how the open
+//!   packs are ordered.
 //! - [`ObjectReader::refresh`] may find nothing new. A folder may be listed more or less often than
 //!   the function that decides about listings says.
 //! - [`MemoryFiles`] may return bytes other than those that were added.

@@ -51,13 +51,13 @@ impl<A: Allocator + Copy> EntryOrder<A> {
     }
 
     /// Returns the position in the pack index of the entry at this offset, or `None` if no entry
-    /// begins there.
+    /// begins at that offset.
     pub(crate) fn place_of(&self, offset: usize) -> Option<usize> {
         let start = self.starts.get(self.number_of(offset)?)?;
         Some(start.place)
     }
 
-    /// Returns the length of the entry at this offset, or `None` if no entry begins there.
+    /// Returns the length of the entry at this offset, or `None` if no entry begins at that offset.
     pub(crate) fn length_of(&self, offset: usize) -> Option<usize> {
         let number = self.number_of(offset)?;
         let end = match self.starts.get(number.saturating_add(1)) {

@@ -168,8 +168,8 @@ impl<A: Allocator + Copy> PackFile<A> {
         }
     }
 
-    /// Returns all bytes of the entry at this offset. Fails with `Base` if no entry begins there,
-    /// and with `ObjectSize` if the entry is too long.
+    /// Returns all bytes of the entry at this offset. Fails with `Base` if no entry begins at that
+    /// offset, and with `ObjectSize` if the entry is too long.
     pub(crate) fn bytes_at<P: OpenPack + Drop>(
         &self,
         window: &mut Window<P, A>,
@@ -242,8 +242,8 @@ impl<A: Allocator + Copy> PackFile<A> {
         self.start_of(self.index.find(id)?)
     }
 
-    /// Returns the id of the object whose entry is at this offset, or `None` if no entry begins
-    /// there.
+    /// Returns the id of the object whose entry is at this offset, or `None` if no entry begins at
+    /// that offset.
     pub(crate) fn id_at(&self, start: usize) -> Option<Oid> {
         self.index.id(self.order.place_of(start)?)
     }

@@ -111,7 +111,8 @@ impl<P: OpenPack + Drop, A: Allocator + Copy> Packs<P, A> {
         }
     }
 
-    /// Returns all bytes of the entry at this location. Fails with `Base` if no entry begins there.
+    /// Returns all bytes of the entry at this location. Fails with `Base` if no entry begins at
+    /// that offset.
     pub(crate) fn bytes_at(&mut self, spot: Spot) -> Result<Vec<u8, A>, Cause> {
         match self.open.get(spot.pack) {
             Some(file) => file.bytes_at(&mut self.window, spot.start),
@@ -119,7 +120,8 @@ impl<P: OpenPack + Drop, A: Allocator + Copy> Packs<P, A> {
         }
     }
 
-    /// Returns the form of the entry at this location. Fails with `Base` if no entry begins there.
+    /// Returns the form of the entry at this location. Fails with `Base` if no entry begins at that
+    /// offset.
     pub(crate) fn form_at(&mut self, spot: Spot) -> Result<LocalForm, Cause> {
         match self.open.get(spot.pack) {
             Some(file) => file.form_at(&mut self.window, spot.start),

@@ -17,8 +17,8 @@ const TRAILER: usize = 20;
 // The maximum size of an object that a quick reader reads.
 const MAX_TEXT: usize = 131_072;
 
-// The maximum number of entries in a chain: a whole object, and the maximum number of deltas that
-// git-fast-import(1) makes.
+// The maximum number of entries in a delta chain: one whole object, and as many deltas as
+// git-fast-import(1) may put into a chain.
 const MAX_CHAIN: usize = 8_192;
 
 // The number of bytes read first for an entry, and the number read if the first bytes do not hold

@@ -257,7 +257,7 @@ impl<'f, F: ObjectFiles, A: Allocator + Copy> ObjectStore<'f, F, A> {
     }
 
     /// Returns the id of the object whose entry is at this location, or `None` if no entry begins
-    /// there.
+    /// at that offset.
     pub(crate) fn id_at(&self, spot: Spot) -> Option<Oid> {
         self.packs.get(spot.pack)?.id_at(spot.start)
     }

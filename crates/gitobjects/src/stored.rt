@@ -1,4 +1,4 @@
-//! The files of the operating system.
+//! Access to files through the operating system.
 
 ghost use Rattle.std.specs.Prelude.{◌≡◌, None, IfOk, vec_len};
 
@@ -10,7 +10,7 @@ use std::fs::{File, Files, OpenFile};
 use std::io::{ErrorKind, Read, Seek, SeekFrom};
 use std::os::unix::fs::MetadataExt;
 
-/// The files of the operating system.
+/// Access to files through the operating system.
 #[derive(Drop)]
 pub struct StoredFiles<'r, R: Files> {
     files: &'r R,

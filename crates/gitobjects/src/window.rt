@@ -171,7 +171,7 @@ fn read_part<P: OpenPack + Drop, A: Allocator + Copy>(
     packs[pack].file.read_at(alloc, start, count)
 }
 
-// Adds a block, and drops the oldest block if there are too many.
+// Adds a block, and drops the oldest block if there are too many blocks.
 fn push_block<A: Allocator + Copy>(
     blocks: &mut Vec<Block<A>, A>,
     block: Block<A>,
@@ -184,7 +184,7 @@ fn push_block<A: Allocator + Copy>(
     Ok(())
 }
 
-// Drops the oldest block if there are too many.
+// Drops the oldest block if there are too many blocks.
 fn make_room<A: Allocator + Copy>(blocks: &mut Vec<Block<A>, A>)
     ensures blocks { (packs : List (Option (List ℕ)))
         → AreBlocks packs blocks.old.items → AreBlocks packs blocks.new.items }
