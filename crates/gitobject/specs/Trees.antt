@@ -24,7 +24,7 @@ pub record IsEntry (e : Entry) : Type 0 where
   pub name : All (λ b. b ≢ 0) e.name
   pub id : IsIdOf Sha1 e.id
 
--- the text begins with the entry, followed by the rest
+-- the text begins with the entry, followed by `rest`
 pub record BeginsWithEntry (text : List ℕ) (e : Entry) (rest : List ℕ) : Type 0 where
   pub is : IsEntry e
   pub parts : text ≡ entry_text e ++ rest

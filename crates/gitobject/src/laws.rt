@@ -1,5 +1,5 @@
-//! Laws of objects. Each function does nothing, and its contract states the law. A caller may rely
-//! on the law after the call.
+//! Laws of objects. Each function does nothing at run time. Its contract states a law, on which the
+//! proof of the caller can then rely.
 
 ghost use Rattle.gitobject.specs.Laws.{LinksAreOne, TextsAreOne};
 
