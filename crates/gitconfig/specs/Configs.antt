@@ -20,12 +20,12 @@ abbrev pub BeginsWithQuoted : List ℕ → ℕ → List ℕ → Type 0
 BeginsWithQuoted text b rest =
     (b ≢ 10) × (((text ≡ b ∷ rest) × (b ≢ 34) × (b ≢ 92)) ⊎ (text ≡ 92 ∷ b ∷ rest))
 
--- the text begins with a quoted name and its closing quote, followed by the rest
+-- the text begins with a quoted name and its closing quote, followed by `rest`
 abbrev pub HasQuoted : List ℕ → List ℕ → List ℕ → Type 0
 HasQuoted text [] rest = text ≡ 34 ∷ rest
 HasQuoted text (b ∷ name) rest = (next : List ℕ) × BeginsWithQuoted text b next × HasQuoted next name rest
 
--- the text begins with blanks and a subsection name in quotes, followed by the rest
+-- the text begins with blanks and a subsection name in quotes, followed by `rest`
 pub record BeginsWithSubsection (text name rest : List ℕ) : Type 0 where
   pub blanks : List ℕ
   pub quoted : List ℕ
@@ -41,7 +41,7 @@ EndsHeader text name section rest = ((text ≡ 93 ∷ rest) × (section ≡ name
     ⊎ ((subsection : List ℕ) × BeginsWithSubsection text subsection (93 ∷ rest)
     × (section ≡ name ++ 46 ∷ subsection))
 
--- the text begins with the header of a section, followed by the rest
+-- the text begins with the header of a section, followed by `rest`
 pub record BeginsWithHeader (text section rest : List ℕ) : Type 0 where
   pub name : List ℕ
   pub after : List ℕ
@@ -60,7 +60,7 @@ HasValue text (Some value) rest = (next : List ℕ) × (text ≡ 61 ∷ next) ×
 abbrev pub BeginsWithLetter : List ℕ → Type 0
 BeginsWithLetter text = (first : ℕ) × (more : List ℕ) × (text ≡ first ∷ more) × (is_ascii_alphabetic first ≡ true)
 
--- the text begins with a variable, followed by the rest
+-- the text begins with a variable, followed by `rest`
 pub record BeginsWithVariable (text name : List ℕ) (value : Option (List ℕ)) (rest : List ℕ) : Type 0 where
   pub spelt : List ℕ
   pub blanks : List ℕ
@@ -89,7 +89,7 @@ pub data Item : Type 0 where
   Begins : List ℕ → Item
   Sets : List ℕ → Option (List ℕ) → Item
 
--- the text begins with an item, followed by the rest
+-- the text begins with an item, followed by `rest`
 abbrev pub BeginsWithItem : List ℕ → Item → List ℕ → Type 0
 BeginsWithItem text Nothing rest =
     ((b : ℕ) × (text ≡ b ∷ rest) × (is_space b ≡ true)) ⊎ BeginsWithComment text rest

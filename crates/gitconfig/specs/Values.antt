@@ -14,7 +14,7 @@ escape c = if c == 110 then Some 10 else (if c == 116 then Some 9 else (if c == 
 abbrev pub is_special : Bool → ℕ → Bool
 is_special quoted b = b == 10 || b == 34 || b == 92 || (if quoted then false else is_blank b || is_mark b)
 
--- The text begins with a piece of a value, followed by the rest. A piece is a plain or escaped byte, a blank outside
+-- The text begins with a piece of a value, followed by `rest`. A piece is a plain or escaped byte, a blank outside
 -- quotes, a quote, or a backslash at the end of a line.
 abbrev pub BeginsWithPiece : Bool → List ℕ → Piece → List ℕ → Type 0
 BeginsWithPiece quoted text (Byte b) rest = ((text ≡ b ∷ rest) × (is_special quoted b ≡ false))
@@ -28,7 +28,7 @@ abbrev pub is_quoted_after : Bool → Piece → Bool
 is_quoted_after quoted Quote = not quoted
 is_quoted_after quoted piece = quoted
 
--- the text begins with a value that consists of these pieces, followed by the rest
+-- the text begins with a value that consists of these pieces, followed by `rest`
 abbrev pub HasPieces : Bool → List ℕ → List Piece → List ℕ → Type 0
 HasPieces quoted text [] rest = (text ≡ rest) × (quoted ≡ false) × EndsValue rest
 HasPieces quoted text (piece ∷ pieces) rest =
@@ -58,7 +58,7 @@ pub record IsTrimmed (bytes : List (ℕ × Bool)) (value : List ℕ) : Type 0 wh
   pub last : (b : ℕ × Bool) (more : List (ℕ × Bool)) → kept ≡ more ++ b ∷ [] → b.1 ≡ false
   pub is : value ≡ map (λ b. b.0) kept
 
--- the text begins with a value, followed by the rest
+-- the text begins with a value, followed by `rest`
 abbrev pub BeginsWithValue : List ℕ → List ℕ → List ℕ → Type 0
 BeginsWithValue text value rest =
     (pieces : List Piece) × HasPieces false text pieces rest × IsTrimmed (mark_pieces pieces) value

@@ -95,7 +95,7 @@ pub(crate) fn split_line(text: &[u8]) -> (&[u8], &[u8])
     }
 }
 
-/// Returns whether the text is empty or begins with an LF, which means that the line ends.
+/// Returns whether the text is empty or begins with an LF, so that a line can end there.
 pub(crate) fn ends_line(text: &[u8]) -> bool
     ensures { IsTrue result ↔ EndsLine text.now }
 {
@@ -105,8 +105,8 @@ pub(crate) fn ends_line(text: &[u8]) -> bool
     }
 }
 
-/// Returns whether the text is empty or begins with an LF or a comment, which means that the value
-/// ends.
+/// Returns whether the text is empty or begins with an LF or a comment, so that a value can end
+/// there.
 pub(crate) fn ends_value(text: &[u8]) -> bool
     ensures { IsTrue result ↔ EndsValue text.now }
 {
