@@ -44,13 +44,13 @@
 //!   repository has a work tree if its directory is named `.git`.
 //! - By default, `serve` accepts at most 1,024 connections at once, and at most 64 from one
 //!   address. A client must send its first line within 10 seconds, the first byte of a request
-//!   within 60 seconds, and the rest within 60 more. A client may stall for at most 60 seconds. A
-//!   connection may last 10 minutes, plus a second for each 8,192 bytes sent to the client. No
-//!   client waits for the input or output of another. All clients wait while the server reads a
-//!   history, or finds or deflates objects, for one of them. At most 16 repositories have open
-//!   objects at once, and `serve` refuses a client that needs the objects of another repository. In
-//!   Git, `--max-connections=0` means no limit; `serve` refuses this value. `upload-pack` waits for
-//!   its client without a time limit.
+//!   within 60 seconds, and the rest of the request within another 60 seconds. A client may stall
+//!   for at most 60 seconds. A connection may last 10 minutes, plus a second for each 8,192 bytes
+//!   sent to the client. No client waits for the input or output of another. All clients wait while
+//!   the server reads a history, or looks up or deflates objects, for one client. At most 16
+//!   repositories have open objects at once, and `serve` refuses a client that needs the objects of
+//!   another repository. In Git, `--max-connections=0` means no limit; `serve` refuses this value.
+//!   `upload-pack` waits for its client without a time limit.
 //! - `core.sharedRepository` and `core.logAllRefUpdates` are ignored: new files have the default
 //!   permissions, and no reflog is written.
 //! - `serve` and `upload-pack` serve only protocol version 2. `upload-pack` does not check the
@@ -65,7 +65,7 @@
 //! # What the contracts do not rule out
 //!
 //! Anything else. Most behaviour depends on files, streams and sockets, which contracts cannot
-//! describe. No clause says how many repositories are cached, or that an object store is ever
+//! describe. No contract says how many repositories are cached, or that an object store is ever
 //! closed. A cached repository lists its refs even if their objects have since been removed.
 //! `Repositories` may find any repository and report any text: its clauses restrict neither. A
 //! packer may fail with any fault.

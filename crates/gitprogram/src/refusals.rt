@@ -20,7 +20,7 @@ fn send_text<W: Sink>(text: &[u8], writer: &mut PacketWriter<W>) -> Result<(), W
 /// The error line for a path that does not name a served repository, as in git-daemon(1).
 pub(crate) const NOT_SERVED: &[u8] = b"access denied or repository not exported: ";
 
-/// The error line for a malformed first line, such as that of an older protocol.
+/// The error line for a malformed first line, such as the first line of an older protocol.
 pub(crate) const BAD_FIRST_LINE: &[u8] =
     b"upload-pack: bad line: gitrepo serves protocol version 2 alone (git -c protocol.version=2)";
 
@@ -47,7 +47,7 @@ pub(crate) const FULL_OF_ADDRESS: &[u8] =
 pub(crate) const PACK_FAILED: &[u8] =
     b"upload-pack: pack failed: it would have more than 64 MiB, or an object is missing or refused here";
 
-// An error packet of the libraries that is replaced by a more precise one.
+// An error packet from the libraries that is replaced by a more precise packet.
 #[derive(Clone, Copy)]
 enum Wording {
     // The packet for a request that exceeds a limit.

@@ -36,7 +36,7 @@ impl<'n, S> Visitor<'n, S> {
     }
 
     /// Returns the side, the requested path, and the fault that was recorded for the log. The path
-    /// is empty if the client sent none.
+    /// is empty if the client sent no path.
     pub(crate) fn into_parts(self) -> (S, Vec<u8>, Option<Fault>)
     where
         S: Drop,

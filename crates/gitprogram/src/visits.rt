@@ -111,7 +111,7 @@ fn fault_of_side<H, K: Blames>(
 #[derive(Clone, Copy)]
 struct Line<'p, 'f> {
     address: SocketAddr,
-    // The requested path, or an empty slice if the client sent none.
+    // The requested path, or an empty slice if the client sent no path.
     path: &'p [u8],
     // The number of requests received.
     requests: u32,
