@@ -62,12 +62,12 @@
 //!   twice. Both might accept a pack after the visitor refused an object, or pass the visitor an
 //!   object that is not in the pack. The contracts of both do not cover limits, faults, or the time
 //!   at which the visitor receives an object.
-//! - [`IndexedPack::find`] returns an object with the id, but no clause says that
+//! - [`IndexedPack::find`] returns an object with the id, but no contract says that
 //!   [`IndexedPack::entries`] contains this object.
 //! - [`PackWriter`] and [`put_entry`] might refuse any entry with any fault. After a fault,
 //!   [`put_entry`] and [`put_header`] might leave any bytes in `out`.
-//! - No clause compares the number of written entries with the count in the pack header. No clause
-//!   bounds the length of a written pack or of an entry header ([`MAX_HEAD`]).
+//! - No contract compares the number of written entries with the count in the pack header. No
+//!   contract bounds the length of a written pack or of an entry header ([`MAX_HEAD`]).
 //! - The contracts do not cover time or memory use.
 //!
 //! # Dependencies

@@ -16,8 +16,8 @@ use gitobject::{ObjectType, id_of};
 use gzlib::Inflater;
 use std::alloc::{AllocError, Allocator};
 
-// The maximum number of deltas in a chain, as for git-fast-import(1), "--depth". The limit bounds
-// the cost of reading the last object of a chain.
+// The maximum number of deltas in a chain, which is also the maximum of git-fast-import(1),
+// "--depth". The limit bounds the cost of reading the last object of a chain.
 const MAX_DEPTH: usize = 8_191;
 
 // An object to which deltas are applied.
@@ -41,7 +41,7 @@ pub(crate) struct Resolver<'a, A: Allocator + Copy> {
     // The inflated streams that are still in memory, one position per entry.
     texts: Vec<Option<Vec<u8, A>>, A>,
     children: Children<A>,
-    // The current chain of bases, from the undeltified object on.
+    // The current chain of bases, starting with the undeltified object.
     bases: Vec<Base<A>, A>,
     held: usize,
     // The total size of all objects made from deltas so far.
