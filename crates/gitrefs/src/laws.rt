@@ -1,5 +1,5 @@
-//! Proved laws of ref files. Each function does nothing, and its contract states a law that holds
-//! for the caller afterwards.
+//! Proved laws of ref files. Each function does nothing at run time. Its contract states a law, on
+//! which the proof of the caller can then rely.
 
 ghost use Rattle.gitrefs.specs.PackedTexts.{WrittenRefsReadBack};
 ghost use Rattle.gitrefs.specs.Paths.{NamesDescend};

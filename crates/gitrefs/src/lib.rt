@@ -20,7 +20,7 @@
 //! - A file that will be replaced is read only while it is locked. A lockfile is renamed only after
 //!   it is written and synced.
 //! - A fault is displayed as the path of the file and the cause, as `specs/Faults.antt` defines. No
-//!   clause covers the text of a system error.
+//!   contract covers the text of a system error.
 //! - No call panics, overflows or reads out of bounds, and every call returns, whatever the files
 //!   contain.
 //!
@@ -56,12 +56,12 @@
 //! # What the contracts do not rule out
 //!
 //! No contract can describe the contents of a system file, so [`GitDirectory`] is only tested,
-//! against Git. No clause covers the files that [`GitDirectory`] opens, the precedence of loose
-//! refs, and symbolic refs. No clause covers the updates that [`GitDirectory`] refuses, and the
-//! removal of locks. A lockfile is removed when its guard is dropped, but no clause says so.
+//! against Git. No contract covers the files that [`GitDirectory`] opens, the precedence of loose
+//! refs, and symbolic refs. No contract covers the updates that [`GitDirectory`] refuses, and the
+//! removal of locks. A lockfile is removed when its guard is dropped, but no contract states this.
 //!
-//! The contracts let [`PackedPeels`] contain any data. In fact it contains the peeled ids of
-//! `packed-refs`, which may be wrong.
+//! The contracts let [`PackedPeels`] contain any data. In fact [`PackedPeels`] contains the peeled
+//! ids of `packed-refs`, which may be wrong.
 //!
 //! Name conflicts are checked before files are locked, so a conflict with a ref that is packed
 //! meanwhile is missed. If two lines of `packed-refs` have the same name, the first line wins.
