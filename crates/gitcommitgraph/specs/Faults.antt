@@ -11,7 +11,7 @@ use Rattle.gitcommitgraph.specs.declared.fault.CommitGraphFault.TheVariants.{Mem
 abbrev pub IsNoFile : List ℕ → Type 0
 IsNoFile text = (file : GraphFile) → ¬ IsGraphText file text
 
--- the text is that of a commit-graph file with this property
+-- the text is the text of a commit-graph file with this property
 abbrev pub IsOfFile : List ℕ → (GraphFile → Type 0) → Type 0
 IsOfFile text P = (file : GraphFile) × IsGraphText file text × P file
 

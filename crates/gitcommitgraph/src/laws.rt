@@ -1,5 +1,5 @@
-//! Laws of commit-graphs. A function here does nothing, and its contract is the law. A caller may
-//! rely on the law after the call.
+//! Laws of commit-graphs. Each function does nothing at run time. Its contract states a law, on
+//! which the proof of the caller can then rely.
 
 ghost use Rattle.gitcommitgraph.specs.Laws.{ChainsAreOne, FilesAreOne};
 
