@@ -69,7 +69,7 @@ pub struct FetchArgs<'a> {
     pub dir: &'a str,
     /// The repository of the server.
     pub url: GitUrl<'a>,
-    /// The refspecs, at least one.
+    /// The refspecs. There is at least one.
     pub specs: Vec<Spec>,
 }
 

@@ -37,7 +37,8 @@
 //! - Git treats an empty port as the default port. This crate refuses an empty port.
 //! - git-daemon(1) refuses the components `.` and `..` of a path. This crate refuses each component
 //!   that begins with a dot.
-//! - The options of git-upload-pack(1) are refused. Git's client passes none of them.
+//! - The options of git-upload-pack(1) are refused. Git's client does not pass any of these
+//!   options.
 //!
 //! # What the contracts do not rule out
 //!
