@@ -237,7 +237,8 @@ impl<A: Allocator + Copy> Arrival<A> {
         }
     }
 
-    // Subtracts `bytes` from the memory that remains. Fails with `TooLarge` if less memory remains.
+    // Subtracts `bytes` from `room`, the memory that remains. Fails with `TooLarge` if less memory
+    // remains.
     fn take_room(&mut self, bytes: usize) -> Result<(), RepositoryFault<A>> {
         match self.room.checked_sub(bytes) {
             Some(room) => {

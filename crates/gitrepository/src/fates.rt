@@ -29,7 +29,7 @@ impl Fate {
         }
     }
 
-    /// Returns the fate of the entry with this name in a tree with this fate.
+    /// Returns the fate that a tree with this fate gives to its entry with this name.
     pub(crate) fn of_entry(self, name: &[u8]) -> Fate {
         match self {
             Fate::Sent(path) => Fate::Sent(path.join(name)),

@@ -20,10 +20,10 @@ use std::cell::RefCell;
 /// the same id, both must have the same bytes.
 ///
 /// A pack is too large if it has more than 1,048,576 objects. The maximum size of an object is 256
-/// MiB, less 224 bytes for each object of the pack. The same limit applies to a delta, its bases in
-/// memory and its result together. The limit is 64 MiB for a commit, tree or tag, and 4 GiB for all
-/// objects and deltas. A delta chain may have 8,191 deltas. Named ids and commits may use 112 MiB:
-/// about two million ids, or 485,000 commits with a tree each.
+/// MiB, less 224 bytes for each object of the pack. The same limit applies to the total size of a
+/// delta, its bases in memory and its result. The limit is 64 MiB for a commit, tree or tag, and 4
+/// GiB for all objects and deltas. A delta chain may have 8,191 deltas. Named ids and commits may
+/// use 112 MiB: about two million ids, or 485,000 commits with a tree each.
 #[derive(Drop)]
 pub struct StoreIndexer<'t, 'f, F: ObjectFiles, A: Allocator + Copy> {
     reader: RefCell<ObjectReader<'f, F, A>>,

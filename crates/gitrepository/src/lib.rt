@@ -26,8 +26,8 @@
 //!   object.
 //! - A pack that is sent has a header, as many entries as the header says, and the SHA-1 of all
 //!   preceding bytes. Each entry of a sent pack has a well-formed header. The pack has at most
-//!   `MAX_PACK` bytes. The parts of a pack, in order, make up such a pack. If returning the parts
-//!   ends in a fault, no contract describes the parts returned before.
+//!   `MAX_PACK` bytes. If a pack is returned in parts, the concatenated parts are such a pack. If
+//!   returning the parts ends in a fault, no contract describes the parts returned before.
 //! - A pack is accepted only if its trailer is the SHA-1 of all preceding bytes. Each entry that
 //!   the indexer returns describes an object, or is a tree or blob that a tag names. The entry of
 //!   this tag is returned too.
@@ -45,9 +45,9 @@
 //!   If HEAD points to a missing object, the repository is refused.
 //! - The packer assumes that the client has every unlisted parent of a listed commit, and
 //!   everything that the trees of these parents reach.
-//! - New deltas are made only for loose objects, and for stored deltas whose base is not sent. Only
-//!   such objects are bases of new deltas. Git also makes new deltas for objects that are stored
-//!   whole in a pack.
+//! - New deltas are made only for loose objects, and for stored deltas whose base is not sent. The
+//!   bases of new deltas are also loose objects, or stored deltas whose base is not sent. Git also
+//!   makes new deltas for objects that are stored whole in a pack.
 //! - Before deltas are made, objects are sorted by the ends of their paths, but not by size. An
 //!   object of more than 8 MiB is sent whole; Git's limit is 512 MiB.
 //! - A graph holds at most 1,048,576 commits and tags, with at most 64 parents each.

@@ -14,8 +14,8 @@ const MAX_OBJECTS: usize = 1_048_576;
 const MAX_TOTAL: usize = 4_294_967_296;
 
 // The maximum size of an object: 256 MiB, less 224 bytes of tables for each object of the pack. The
-// same limit applies to a delta, its bases in memory and its result together. In a pack with the
-// maximum number of objects the limit is 32 MiB.
+// same limit applies to the total size of a delta, its bases in memory and its result. In a pack
+// with the maximum number of objects the limit is 32 MiB.
 const MAX_HELD: usize = 268_435_456;
 
 const TABLE_BYTES: usize = 224;

@@ -27,10 +27,10 @@ struct Tip {
 /// newer than another if its longest chain of parents is longer. A client that sends haves in the
 /// order of ref names thus offers the newest objects first. Git orders haves by commit date.
 ///
-/// The names of the added refs begin with `refs/` and 256 bytes of `!`. No file can have such a
-/// long name, so no ref of a Git directory has such a name. No ref is added if a ref already has
-/// such a name, or if `more` further refs would exceed the maximum number of refs. Fails with
-/// `Memory`.
+/// The names of the added refs begin with `refs/` and 256 bytes of `!`. No file can have a name of
+/// this length, so a Git directory has no ref with this prefix. No ref is added if the name of a
+/// ref already begins with this prefix, or if `more` further refs would exceed the maximum number
+/// of refs. Fails with `Memory`.
 pub fn lead_with_newest<A: Allocator + Copy>(
     graph: &Graph<A>,
     refs: &Refs<A>,

@@ -25,7 +25,7 @@ pub(crate) struct Outgoing<A: Allocator + Copy> {
     left: usize,
     // The SHA-1 of all built bytes, except the trailer.
     sum: Sha1,
-    // The number of entries in the header, and the number of entries built so far.
+    // The entry count in the header, and the number of entries built so far.
     count: u32,
     put: u32,
     // Whether the last entry is complete, and whether the trailer was built.
@@ -128,7 +128,7 @@ impl<A: Allocator + Copy> Outgoing<A> {
 
     /// Copies the next built bytes to the front of `out`, and returns their number.
     ///
-    /// Fails with `Pack` if the pack is too large. In that case no bytes are copied.
+    /// Fails with `Pack`, and copies no bytes, if the pack is too large.
     pub(crate) fn give(&mut self, out: &mut [u8]) -> Result<usize, RepositoryFault<A>>
         ensures fits { IfOk result (λ count. count ≤ length out.new) }
         ensures length { length out.new ≡ length out.old }
