@@ -45,11 +45,11 @@
 //!   object is missing.
 //! - If a delta base is broken in its pack, another copy is used, as in Git. In this crate the copy
 //!   must have at most 4 MiB, and all its own bases must be intact. At most 16 bases of a chain may
-//!   be replaced in this way.
-//! - A quoted path in `info/alternates`, or a path that is not UTF-8, is a fault. Git reads such
-//!   paths.
+//!   be replaced by copies.
+//! - A quoted path in `info/alternates`, or a path that is not UTF-8, is a fault. Git reads quoted
+//!   paths and paths that are not UTF-8.
 //! - A missing alternate is left out. Git also leaves the alternate out, and prints an error.
-//! - A pack entry must not have bytes after its stream. Git accepts such bytes.
+//! - A pack entry must not have bytes after its stream. Git accepts bytes after the stream.
 //! - A pack whose index has an offset outside the pack is left out entirely. In Git only the object
 //!   with that offset is broken.
 //!

@@ -1,6 +1,6 @@
-//! The limits of each file and each cache, whatever the files contain. The number of packs is not
-//! limited here. Each open pack uses a file descriptor, so the system limits the number of packs. A
-//! repository with about a thousand packs needs `git gc` first.
+//! The limits of each file and each cache, whatever the files contain. This crate does not limit
+//! the number of packs. Each open pack uses a file descriptor, so the system limits the number of
+//! packs. A repository with about a thousand packs needs `git gc` first.
 
 /// The maximum size of an object: 1 GiB.
 pub const MAX_OBJECT: usize = 1_073_741_824;

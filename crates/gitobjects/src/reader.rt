@@ -53,7 +53,7 @@ impl<'f, F: ObjectFiles, A: Allocator + Copy> ObjectReader<'f, F, A> {
     /// Returns the location of the object with this id, or `None` if the object is missing.
     ///
     /// Fails with `File` if the object is not found and a folder is unreadable. Also fails with
-    /// `Memory`. A pack that was left out does not cause a fault here.
+    /// `Memory`. A pack that was left out does not make this call fail.
     pub fn find(&mut self, id: &Oid) -> Result<Option<Found>, StoreFault<A>> {
         if let Some(found) = self.store.find(id)? {
             return Ok(Some(found));

@@ -160,8 +160,8 @@ impl<'f, F: ObjectFiles, A: Allocator + Copy> ObjectStore<'f, F, A> {
     }
 
     /// Returns the location of the object with this id, as [`ObjectStore::find`] does. `folders`
-    /// records whether each folder of loose objects existed at its first look-up. Loose objects are
-    /// not looked up in a folder that did not exist then.
+    /// records whether each folder of loose objects existed at its first look-up. If a folder did
+    /// not exist at its first look-up, no loose object is looked up in it.
     pub fn find_in(
         &self,
         id: &Oid,
