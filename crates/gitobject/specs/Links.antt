@@ -48,7 +48,7 @@ LinksOf Blob body links = links ≡ []
 LinksOf Tag body links =
     (target : Id) × (kind : ObjectType) × IsTag body target kind × (links ≡ link_of kind target ∷ [])
 
--- the reason why an object cannot be read: the object is malformed, or out of memory
+-- the reason why an object cannot be read: the object is malformed, or memory ran out
 abbrev pub IsObjectFault : Type 0 → ObjectFault → Type 0
 IsObjectFault Reading faults.Malformed = ¬ Reading
 IsObjectFault Reading faults.Memory = ⊤
