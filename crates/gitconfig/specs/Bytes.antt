@@ -18,7 +18,7 @@ is_name_byte b = is_ascii_alphanumeric b || b == 45
 unfoldable pub is_section_byte : ℕ → Bool
 is_section_byte b = is_name_byte b || b == 46
 
--- `#` and `;` begin a comment
+-- a byte that begins a comment: `#` or `;`
 abbrev pub is_mark : ℕ → Bool
 is_mark b = b == 35 || b == 59
 
