@@ -37,7 +37,8 @@
 //! # Differences from Git
 //!
 //! - `clone` fetches only HEAD, branches and tags. If the server's HEAD is detached at a tag, the
-//!   clone's HEAD is detached at the tag's commit. Git refuses to clone from such a server.
+//!   clone's HEAD is detached at the tag's commit. Git refuses to clone from a server whose HEAD is
+//!   detached at a tag.
 //! - `fetch` fast-forwards a tag without force, like any ref. `fetch` fails instead of updating a
 //!   symbolic ref. `fetch` may update a branch that another worktree has checked out. A repository
 //!   has a work tree if `core.bare` is false in the file `config`. If `core.bare` is not set, a
@@ -46,11 +47,11 @@
 //!   address. A client must send its first line within 10 seconds, the first byte of a request
 //!   within 60 seconds, and the rest of the request within another 60 seconds. A client may stall
 //!   for at most 60 seconds. A connection may last 10 minutes, plus a second for each 8,192 bytes
-//!   sent to the client. No client waits for the input or output of another. All clients wait while
-//!   the server reads a history, or looks up or deflates objects, for one client. At most 16
-//!   repositories have open objects at once, and `serve` refuses a client that needs the objects of
-//!   another repository. In Git, `--max-connections=0` means no limit; `serve` refuses this value.
-//!   `upload-pack` waits for its client without a time limit.
+//!   sent to the client. No client waits for the input or output of another client. All clients
+//!   wait while the server reads a history, or looks up or deflates objects, for one client. At
+//!   most 16 repositories have open objects at once, and `serve` refuses a client that needs the
+//!   objects of another repository. In Git, `--max-connections=0` means no limit; `serve` refuses
+//!   this value. `upload-pack` waits for its client without a time limit.
 //! - `core.sharedRepository` and `core.logAllRefUpdates` are ignored: new files have the default
 //!   permissions, and no reflog is written.
 //! - `serve` and `upload-pack` serve only protocol version 2. `upload-pack` does not check the

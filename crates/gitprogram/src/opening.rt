@@ -265,8 +265,8 @@ fn make_server(
     }
 }
 
-/// Opens a repository to fetch from a server whose refs have the ids in `tips`. Extra refs at the
-/// front make the client send its newest objects as haves first.
+/// Opens a repository to fetch from a server whose refs have the ids in `tips`. Extra refs are put
+/// at the front, so that the client sends its newest objects as the first haves.
 pub(crate) fn open_client<'f, R: Files, F: ObjectFiles>(
     alloc: Global,
     rt: &R,
