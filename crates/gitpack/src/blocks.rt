@@ -56,8 +56,8 @@ impl<A: Allocator + Copy> Blocks<A> {
         Ok(made)
     }
 
-    // Adds the blocks, from last to first. If consecutive blocks are equal, only the first of them
-    // stays in the table.
+    // Adds the blocks, from last to first. If consecutive blocks are equal, only the first of these
+    // blocks stays in the table.
     fn add_all(&mut self, base: &[u8]) {
         let count = self.blocks.len();
         let mut after = None;

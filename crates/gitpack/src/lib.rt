@@ -46,8 +46,8 @@
 //! - A pack of 2^31 objects or more is refused. A thin pack is refused, and so is a chain of more
 //!   than 8,191 deltas. No Git command makes a longer chain, but Git can read longer chains.
 //! - A pack may contain the same object twice, and then both entries are in the index. Git accepts
-//!   such a pack without `--strict`. A pack is refused if it contains the base of a ref delta
-//!   twice, as in Git 2.39; later versions of Git accept the pack.
+//!   a pack with duplicate objects, unless `--strict` is set. A pack is refused if it contains the
+//!   base of a ref delta twice, as in Git 2.39; later versions of Git accept the pack.
 //!
 //! # What the contracts do not rule out
 //!

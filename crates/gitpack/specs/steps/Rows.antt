@@ -20,7 +20,7 @@ pub record AreRows (ids crcs offsets long_offsets : List ℕ) (longs : ℕ) (lin
 abbrev pub short_of : ℕ → IndexEntry → ℕ
 short_of longs e = if is_short e then e.offset else (2147483648 + longs)
 
--- the number of 64-bit offsets up to and including this entry, if earlier entries have `longs` of them
+-- the number of 64-bit offsets up to and including this entry, if earlier entries have `longs` 64-bit offsets
 abbrev pub longs_with : ℕ → IndexEntry → ℕ
 longs_with longs e = if is_short e then longs else (longs + 1)
 
