@@ -60,7 +60,7 @@ pub enum RefFault<A: Allocator + Copy = Global> {
 }
 
 impl<A: Allocator + Copy> RefFault<A> {
-    /// Returns the fault with this cause for the file at a path.
+    /// Returns the fault with this cause for the file at this path.
     pub(crate) fn at(alloc: A, path: &str, cause: Cause) -> RefFault<A> {
         match String::from_str(alloc, path) {
             Ok(path) => RefFault::File { path, cause },

@@ -36,17 +36,17 @@
 //! - A loose ref whose name is not UTF-8 is ignored, and cannot be updated. In `packed-refs`, names
 //!   that are not UTF-8 are accepted.
 //! - Git cannot resolve HEAD if it leads to a malformed ref file, or through too many symbolic
-//!   refs. This crate returns the last ref name that such a HEAD leads to.
+//!   refs. For such a HEAD, this crate returns the last ref name in the chain of symbolic refs.
 //! - Git updates a symbolic ref by updating its target. This crate updates neither symbolic refs
 //!   nor symbolic links.
 //! - A ref cannot replace a directory that contains empty directories. Git removes empty
 //!   directories first.
 //! - Git skips a ref whose file cannot be read, or whose symbolic link is cyclic. This crate fails
-//!   on such a ref.
-//! - Git dies if a directory has neither HEAD nor `refs`. This crate finds no refs in such a
-//!   directory.
+//!   if it encounters an unreadable ref file or a cyclic link.
+//! - Git dies if a directory has neither HEAD nor `refs`. This crate returns no refs if both are
+//!   missing.
 //! - Git follows a symbolic ref to a name outside `refs/`, such as `ORIG_HEAD`. This crate ignores
-//!   such a symbolic ref.
+//!   a symbolic ref to a name outside `refs/`.
 //! - Git refuses a ref to a missing object, and a branch that does not point to a commit. This
 //!   crate does not check the objects of refs.
 //! - The configuration is not read, so SHA-256, reftables and shared permissions are not supported.

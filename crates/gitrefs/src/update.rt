@@ -30,10 +30,9 @@ impl<R: Files, A: Allocator + Copy> GitDirectory<'_, R, A> {
     /// Fails with `Format` if a new id is not a SHA-1 id, and with `Conflict` if the name of one
     /// ref is a directory in the name of another ref. Also fails with `Missing`, `Refs`, `Locked`,
     /// `Moved`, `Symbolic`, `Malformed` or `Utf8`. No ref is changed after any of these faults.
-    /// Also fails with `System` or `Memory`. After such a fault, some refs may have changed, but
-    /// only if the fault occurred while a lockfile was renamed. After any fault, each ref has its
-    /// old or its new id. All locks of this call are removed, but directories created for them may
-    /// remain.
+    /// Also fails with `System` or `Memory`. If renaming a lockfile failed, some refs may have
+    /// changed, and otherwise no ref is changed. After any fault, each ref has its old or its new
+    /// id. All locks of this call are removed, but directories created for them may remain.
     pub fn update_refs(&self, updates: &[RefUpdate<A>]) -> Result<(), RefFault<A>> {
         self.check_updates(updates)?;
         let mut locked = Vec::new(self.alloc);
