@@ -41,8 +41,8 @@
 //!   should rely on the commit-graph only for commits in the repository.
 //! - If a text is not a commit-graph file, the contracts do not state which of `Header`,
 //!   `Contents`, `Chunk`, `Order`, `FanOut` and `Edges` is returned.
-//! - Two files of a chain may have the same commit. In this case [`CommitGraph::find`] returns one
-//!   of the positions.
+//! - If two files of a chain have the same commit, [`CommitGraph::find`] returns one of the two
+//!   positions.
 //! - [`CommitGraph::add`] and [`CommitGraph::parents_of`] may fail if out of memory, but the
 //!   contracts do not state when. The contracts do not limit time or memory.
 //!
