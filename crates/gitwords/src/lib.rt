@@ -6,11 +6,11 @@
 //! - [`GitUrl::parse`] accepts exactly the texts `git://HOST[:PORT]/PATH` of `specs/Urls.antt`, and
 //!   returns their parts. A text has only one host, port and path
 //!   ([`urls_have_one_reading`](laws::urls_have_one_reading)). Any other text is refused, and the
-//!   reported cause applies to the text. A fault prints the sentence of its cause
+//!   reported cause applies to the text. The printed text of a fault is the sentence for its cause
 //!   (`specs/Faults.antt`).
-//! - [`ServedPath::parse`] accepts exactly the paths of `specs/Served.antt`. No component of such a
-//!   path is empty or begins with a dot, and the path may end with one slash. A path names at most
-//!   one directory ([`paths_have_one_reading`](laws::paths_have_one_reading)).
+//! - [`ServedPath::parse`] accepts exactly the paths of `specs/Served.antt`. No component of an
+//!   accepted path is empty or begins with a dot, and the path may end with one slash. A path names
+//!   at most one directory ([`paths_have_one_reading`](laws::paths_have_one_reading)).
 //! - [`ServedPath::candidate`] returns the path without its first and last slash, followed by an
 //!   ending. No component of the result is empty, `.` or `..`, so the result can't leave the base
 //!   directory.
