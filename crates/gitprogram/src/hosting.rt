@@ -95,7 +95,7 @@ struct Opened<'f, F: ObjectFiles> {
     packer: ObjectPacker<'f, F>,
 }
 
-// Opens the objects of a repository, and reads its history if `shown` lacks it.
+// Opens the objects of a repository, and reads the history if `shown` has only the refs.
 fn open_whole<'f, F: ObjectFiles>(
     alloc: Global,
     files: &'f F,

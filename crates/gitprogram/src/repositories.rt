@@ -144,7 +144,7 @@ impl<'d, D: Disk> Repositories<'d, D> {
         Ok(opened)
     }
 
-    // Opens the objects of a repository, and reads its history unless it was read before.
+    // Opens the objects of a repository, and reads its history unless the history was read before.
     fn open_now(
         &self,
         repo: &Shared<'d, D>,
