@@ -4,16 +4,16 @@
 //!
 //! # Proved
 //!
-//! - [`CommitGraph::add`] adds a file exactly if the text of the file has the form of `specs/`:
+//! - [`CommitGraph::add`] adds a file if and only if the text of the file has the form of `specs/`:
 //!   header, table of contents, chunks and trailer. The ids ascend, the fan-out table matches the
 //!   ids, and each edge list has an end. The base graphs are the files added earlier, and each
 //!   position in the file is the position of a commit. `Bases`, `TooMany` and `Parents` are
 //!   returned only if the file has this fault. Any other fault except `Memory` is returned only if
 //!   the text is not a commit-graph file. After a failure the commit-graph is unchanged.
-//! - [`CommitGraph::find`] finds a commit exactly if some file has a commit with the id.
+//! - [`CommitGraph::find`] finds a commit if and only if some file has a commit with the id.
 //! - [`CommitGraph::parents_of`] lists the parents of a commit, from its commit data and its edge
-//!   list. Each parent is a commit of the commit-graph. The result is `None` exactly if a commit
-//!   has more parents than the caller allows.
+//!   list. Each parent is a commit of the commit-graph. The result is `None` if and only if a
+//!   commit has more parents than the caller allows.
 //! - [`CommitGraph::id`] returns the id of the commit at a position. Positions continue from one
 //!   file of a chain to the next.
 //! - [`parse_chain`] accepts exactly the texts of the file `commit-graph-chain`.
