@@ -6,17 +6,17 @@
 //! - [`read_head`] accepts exactly the entry headers of `specs/Entries.antt`: a type, a size, and
 //!   the offset or id of a delta base. Bytes begin with at most one entry header ([`laws`]), so
 //!   [`read_head`] reads back each header that [`PackWriter`] writes.
-//! - [`apply_delta`] returns an object exactly if the bytes are a delta of the base, and the size
-//!   of the object is within the limit. In a delta, both sizes are correct, and each copied range
-//!   is within the base. The object consists of the copied and inserted bytes, in order.
+//! - [`apply_delta`] returns an object if and only if the bytes are a delta of the base, and the
+//!   size of the object is within the limit. In a delta, both sizes are correct, and each copied
+//!   range is within the base. The object consists of the copied and inserted bytes, in order.
 //!   [`made_size`] returns the size of this object.
 //! - [`DeltaBase::make_delta`] returns only a delta that makes the target from the base, and whose
 //!   size is within the limit.
-//! - [`PackIndex::read`] returns an index exactly if the bytes are an index of version 2
+//! - [`PackIndex::read`] returns an index if and only if the bytes are an index of version 2
 //!   (`ReadsIndex` in `specs/Indexes.antt`). This function does not check the index's own checksum.
 //!   The entries of an index are sorted by id, and the fan-out table and both offset tables match
 //!   the entries. The same bytes encode at most one index ([`laws`]).
-//! - [`PackIndex::find`] finds an id exactly if the index contains it. [`PackIndex::id`],
+//! - [`PackIndex::find`] finds an id if and only if the index contains it. [`PackIndex::id`],
 //!   [`PackIndex::crc`] and [`PackIndex::offset`] return the fields of the entry at a position.
 //! - [`IndexedPack::write_index`] writes the pack index of version 2, with both checksums.
 //!   [`PackIndex::read`] accepts these bytes, and returns the index of the same pack.
