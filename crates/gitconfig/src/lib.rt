@@ -3,9 +3,8 @@
 //!
 //! # Proved
 //!
-//! - [`parse_config`] succeeds only for a text that is a configuration, as defined in `specs/`.
-//!   [`parse_config`] returns the variables that the text sets, in order, with their sections and
-//!   values.
+//! - [`parse_config`] succeeds only for a text that is a configuration, as defined in `specs/`. The
+//!   function returns the variables that the text sets, in order, with their sections and values.
 //! - [`bare_config`] writes a configuration that sets exactly the variables of a new bare
 //!   repository. The URL is read back unchanged, whatever its bytes.
 //! - No call panics, overflows or reads out of bounds, and every call returns, for any text.

@@ -6,10 +6,11 @@
 //! - [`ObjectType`] returns the name of each object type and its number in a pack. Only these names
 //!   and numbers are accepted.
 //! - [`id_of`] returns the SHA-1 of the type, a space, the length in decimal, NUL, and the bytes.
-//! - [`commit_links`] reads the tree and the parents of a commit, in order. [`tag_link`] reads the
-//!   object that a tag names. [`split_entry`] reads the first entry of a tree, and [`tree_links`]
-//!   reads the links of all entries. [`links_of`] reads the links of an object of any type. Each
-//!   function accepts exactly the texts of the form defined in `specs/`, and refuses all others.
+//! - [`commit_links`] reads the tree and the parents of a commit, in order. The function
+//!   [`tag_link`] reads the object that a tag names. The function [`split_entry`] reads the first
+//!   entry of a tree, and [`tree_links`] reads the links of all entries. The function [`links_of`]
+//!   reads the links of an object of any type. Each function accepts exactly the texts of the form
+//!   defined in `specs/`, and refuses all others.
 //! - A link has an id, and the type that the object with that id must have. In a tree, the file
 //!   type in the mode of an entry decides the type of the link. A directory links to a tree. A file
 //!   or a symbolic link links to a blob. A gitlink names a commit of another repository, and is not

@@ -67,8 +67,8 @@
 //!   this tick is not seen until the folder changes again, or until [`ObjectReader::refresh`].
 //! - Only the safety of the base cache is proved.
 //! - [`ObjectStore::find`], [`ObjectStore::find_in`] and [`ObjectReader::find`] may return a wrong
-//!   location of an object, or `None`. [`ObjectStore::index`] and [`ObjectStore::starts`] may
-//!   return the data of another pack, or nothing.
+//!   location of an object, or `None`. The methods [`ObjectStore::index`] and
+//!   [`ObjectStore::starts`] may return the data of another pack, or nothing.
 //! - No contract says from which pack and position an entry is read. Only the bytes that the window
 //!   returns are proved.
 //! - A pack that does not match its index may be opened. The header, object count and checksum of

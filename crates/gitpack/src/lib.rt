@@ -16,10 +16,11 @@
 //!   (`ReadsIndex` in `specs/Indexes.antt`). This function does not check the index's own checksum.
 //!   The entries of an index are sorted by id, and the fan-out table and both offset tables match
 //!   the entries. The same bytes encode at most one index ([`laws`]).
-//! - [`PackIndex::find`] finds an id if and only if the index contains it. [`PackIndex::id`],
-//!   [`PackIndex::crc`] and [`PackIndex::offset`] return the fields of the entry at a position.
-//! - [`IndexedPack::write_index`] writes the pack index of version 2, with both checksums.
-//!   [`PackIndex::read`] accepts these bytes, and returns the index of the same pack.
+//! - [`PackIndex::find`] finds an id if and only if the index contains it. The methods
+//!   [`PackIndex::id`], [`PackIndex::crc`] and [`PackIndex::offset`] return the fields of the entry
+//!   at a position.
+//! - [`IndexedPack::write_index`] writes the pack index of version 2, with both checksums. The
+//!   function [`PackIndex::read`] accepts these bytes, and returns the index of the same pack.
 //! - [`PackWriter`] writes the pack header with the entry count, then each entry, and finally the
 //!   SHA-1 of all these bytes. The functions [`put_header`] and [`put_entry`] write only a pack
 //!   header or one entry.

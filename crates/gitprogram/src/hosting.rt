@@ -95,7 +95,7 @@ struct Opened<'f, F: ObjectFiles> {
     packer: ObjectPacker<'f, F>,
 }
 
-// Opens the objects of a repository, and reads the history if `shown` has only the refs.
+// Opens the objects of a repository, and reads the history unless `shown` already has the history.
 fn open_whole<'f, F: ObjectFiles>(
     alloc: Global,
     files: &'f F,

@@ -1,16 +1,16 @@
 //! A Git directory as a repository: its commit graph, refs and HEAD, the packs it sends and the
 //! packs it receives (gitrepository-layout(5), gitformat-pack(5)).
 //!
-//! - [`open_repository`] returns the graph of everything the refs reach. [`read_commit_graph`]
-//!   reads the commit-graph, which lists the parents of commits. The commits themselves need not be
-//!   read.
+//! - [`open_repository`] returns the graph of everything the refs reach. The function
+//!   [`read_commit_graph`] reads the commit-graph, which lists the parents of commits. The commits
+//!   themselves need not be read.
 //! - [`open_tips`] returns the objects that refs point to, without their history. These objects
 //!   suffice for ls-refs. [`lead_with_newest`] puts refs to the newest objects first.
 //! - A [`StorePacker`] packs commits and tags with their trees and blobs. The packer copies stored
 //!   pack entries unchanged, and sends other objects as deltas if the deltas are smaller. A pack is
 //!   returned whole, or in parts with one entry in memory at a time.
-//! - A [`StoreIndexer`] indexes a pack while receiving it, and keeps the pack. [`install_pack`]
-//!   writes the received pack to the directory.
+//! - A [`StoreIndexer`] indexes a pack while receiving it, and keeps the pack. The function
+//!   [`install_pack`] writes the received pack to the directory.
 //! - [`open_store`] refuses a repository in an unsupported format, and [`is_bare`] returns whether
 //!   a repository has no work tree. A clone creates a [`NewRepository`]. [`check_repository`]
 //!   checks connectivity: every object that the refs reach exists.
@@ -72,13 +72,13 @@
 //! - The graph might hold more than the refs reach, and a ref might be left out. No contract covers
 //!   HEAD.
 //! - [`open_tips`] might find objects other than those of the refs, or peel a tag to the wrong
-//!   object. [`open_tips`] trusts the peeled ids in `packed-refs`, as Git does.
+//!   object. This function trusts the peeled ids in `packed-refs`, as Git does. The function
 //!   [`lead_with_newest`] might leave refs out or put other refs first.
-//! - [`check_refs`] might look at objects other than those that the refs reach. [`check_refs`]
-//!   might count the nodes of another graph, and no contract covers its object count.
+//! - [`check_refs`] might look at objects other than those that the refs reach. This function might
+//!   count the nodes of another graph, and no contract covers its object count.
 //! - [`Tips`] might forget an id, [`add_leaves`] might add other nodes, and a repository in any
-//!   format might be opened or refused. [`is_bare`] might return anything. The names of peeled refs
-//!   in a new repository might be wrong.
+//!   format might be opened or refused. The function [`is_bare`] might return any result. The names
+//!   of peeled refs in a new repository might be wrong.
 //! - The indexer might leave out an entry, or return one for an object that the pack does not have.
 //!   The indexer looks up the named trees and blobs, and compares objects that the store already
 //!   has. No contract states this, or when the indexer reads an object. The indexer may miss a
@@ -86,11 +86,11 @@
 //! - A parent of a commit in the graph may be a tag, tree or blob. The types of parents are
 //!   checked, but no contract states this.
 //! - [`PackCounts`] and [`StorePacker::counts`] have no clause: they are for measurements.
-//! - [`StoreIndexer::kind_of`] may return the wrong type. [`StoreIndexer::take_received`] may
-//!   return a pack that was not received, or `None`.
+//! - [`StoreIndexer::kind_of`] may return the wrong type. The method
+//!   [`StoreIndexer::take_received`] may return a pack that was not received, or `None`.
 //! - A [`NewRepository`] might lack its pack, its refs or HEAD, or be removed once it is finished.
 //! - No contract can describe the contents of a system file: only the order of the calls in
-//!   [`install_pack`] is proved. [`install_pack`] might not create the file `.keep`, or might
+//!   [`install_pack`] is proved. This function might not create the file `.keep`, or might
 //!   install nothing.
 //! - Any call may fail if out of memory. The contracts do not cover which fault is returned, the
 //!   text of a fault, running time, or memory use.
