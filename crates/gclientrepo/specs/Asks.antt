@@ -20,7 +20,7 @@ asked_ids asks = map (λ ask. ask.id) asks
 abbrev pub is_asked : {A : Type 0} → List (Ask A) → Name → Bool
 is_asked asks name = list_any (λ ask. bytes_eq ask.name name) asks
 
--- the asks with one more, unless they already have an ask for the same ref
+-- the asks, with the given ask appended unless there is already an ask for the same ref
 abbrev pub with_ask : {A : Type 0} → List (Ask A) → Ask A → List (Ask A)
 with_ask asks ask = if is_asked asks ask.name then asks else asks ++ ask ∷ []
 

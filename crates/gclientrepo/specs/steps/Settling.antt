@@ -19,6 +19,6 @@ Sets Moved before ask after = SetsRef before after ask.name ask.id
 Sets Same before ask after = after ≡ before
 Sets NotForward before ask after = after ≡ before
 
--- one ask is done: its outcome depends on the old refs, and the refs change as the outcome says
+-- one ask is settled: its outcome depends on the old refs, and the refs change as the outcome says
 abbrev pub TakesAsk : {A : Type 0} → List (Entry A) → RefList → Ask A → RefList → RefList → RefUpdate → Type 0
 TakesAsk g old ask before after update = IsUpdate g old ask update × Sets update before ask after
