@@ -227,10 +227,10 @@ impl<A: Allocator + Copy> Repo<A> {
         Ok(())
     }
 
-    /// Settles the asks: makes all requested updates of refs that are new, forced or fast-forwards.
-    /// All updates happen at once, and all other refs are unchanged. Returns the outcome of each
-    /// ask, in the order of the asks. All outcomes depend on the refs before the call. Marks every
-    /// object that the new ids reach before it moves a ref.
+    /// Settles the asks: makes each requested update if the ref is new, or if the update is forced
+    /// or a fast-forward. All updates happen at once, and all other refs are unchanged. Returns the
+    /// outcome of each ask, in the order of the asks. All outcomes depend on the refs before the
+    /// call. Marks every object that the new ids reach before it moves a ref.
     ///
     /// Fails with `NotConnected` if the repository does not hold an id that the new ids reach.
     /// Otherwise fails with `Refs` if an ask is for HEAD, if there would be too many refs, or if

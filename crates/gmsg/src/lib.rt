@@ -5,11 +5,11 @@
 //! # Proved
 //!
 //! - [`laws`] hold for every kind of message. A list of packets encodes at most one message. No
-//!   message is a prefix of another of its kind, as packets or as bytes. The readers accept exactly
-//!   the messages that Git's manual defines. The packets written for a message encode that message,
-//!   and each payload fits into a packet. No bytes begin with both a reply to ls-refs and a reply
-//!   to fetch. The `laws` of each library prove that reading a written message returns the same
-//!   message.
+//!   message is a prefix of another message of its kind, as packets or as bytes. The readers accept
+//!   exactly the messages that Git's manual defines. The packets written for a message encode that
+//!   message, and each payload fits into a packet. No byte string begins with both an ls-refs reply
+//!   and a fetch reply. The `laws` of each library prove that reading a written message returns the
+//!   same message.
 //!
 //! The libraries below prove all other facts, and list them on their pages:
 //!
