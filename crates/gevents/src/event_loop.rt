@@ -38,7 +38,7 @@ pub(crate) enum Calls {
     Later,
 }
 
-/// An accepted peer, until the next request for an event.
+/// An accepted peer, until the next call of `EventLoop::next`.
 #[derive(Drop)]
 pub(crate) enum Caller {
     /// A peer with which a conversation may start.

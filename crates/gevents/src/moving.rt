@@ -31,7 +31,7 @@ const SAYINGS: u32 = 16;
 pub(crate) enum After {
     /// The peer waits until its socket is ready.
     Waits,
-    /// More bytes can be moved at once.
+    /// More bytes can be moved immediately.
     GoesOn,
     /// The connection has ended.
     Ends(End),
@@ -41,7 +41,7 @@ pub(crate) enum After {
 enum Move {
     // Bytes were sent, or the conversation was notified of a failed device.
     Moved,
-    // Bytes were received, or the end of the input.
+    // Bytes or the end of the input were received.
     Heard,
     // The conversation was called to queue packets.
     Spoke,

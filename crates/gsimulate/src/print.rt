@@ -17,8 +17,8 @@ use gworld::{ScenarioFault, WorldFault};
 use itoa::Buffer;
 use std::alloc::Allocator;
 
-/// The maximum length in bytes of a fault's line: its words, and the digits of an id or of a
-/// number.
+/// The maximum length in bytes of the line that reports a fault: its words, and the digits of an id
+/// or of a number.
 const MAX_LINE: usize = 128;
 
 /// The line of a fault that reports out of memory for an event or for the scenario.

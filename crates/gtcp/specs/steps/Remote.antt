@@ -37,8 +37,8 @@ Tells (Err fault) true true errors = Sends errors (fault_line fault)
 Tells (Err fault) true false errors = SendsSome errors (fault_line fault)
 
 module _ {A : Type 0} (server : Server A) (packs : Packs A) (fails : PackFails A) (path : Bytes) (ends : Ends) where
-  -- this number of connections is served so far, and their faults are printed; the flag states whether the sink of the
-  -- faults still works
+  -- this number of connections is served so far, and their faults are printed; the flag states whether the error sink
+  -- still works
   pub record ServesSoFar (errors : Output) (is_up : Bool) (connections : ℕ) : Type 0 where
     pub outcomes : List (ProgramOutcome A)
     pub each : All (IsServed server packs fails path ends) outcomes
