@@ -31,7 +31,7 @@ subject_part (Some id) text = id_part id
 subject_part None (Some text) = text_part text
 subject_part None None = []
 
--- the printed line of these parts
+-- the printed line that consists of these parts
 abbrev pub printed_line : Printed → Bytes
 printed_line row =
     codes "gitv2: fault " ++ decimal row.number ++ codes " " ++ row.name ++ number_part (codes " frame ") row.frame

@@ -34,7 +34,7 @@ pub record NamesServer {A : Type 0} (file : Bytes) (server : Server A) : Type 0 
   pub names : NamesParts file server
   pub whole : IsServer server
 
--- the reasons why these parts are not a server; a missing parent is impossible
+-- the reasons why these parts do not form a server; a parent is never missing
 abbrev pub MissesPart : {A : Type 0} → Server A → BuildFault A → Type 0
 MissesPart parts (build.NotClosed id) = ⊥
 MissesPart parts cause = IsUnserved parts cause

@@ -32,10 +32,10 @@
 //!   refspec.
 //! - [`read_prefixes`] reads arguments as prefixes of ref names, unchanged, and fails at the first
 //!   argument that is not a prefix (`specs/Prefixes.antt`).
-//! - [`cmd_fetch_stored`] fetches in the same manner into a stored file, which it first locks and
-//!   reads (`specs/Stored.antt`). At any time the file has the old text or the whole new text. The
-//!   new text is written only after the conversation succeeds, and the report only after the new
-//!   text. At the end the program holds no lockfile.
+//! - [`cmd_fetch_stored`] fetches like [`cmd_fetch`], but into a stored file, which it first locks
+//!   and reads (`specs/Stored.antt`). At any time the file has the old text or the whole new text.
+//!   The new text is written only after the conversation succeeds, and the report only after the
+//!   new text. At the end the program holds no lockfile.
 //! - [`open_stored`] and [`conclude_stored`] are the first and the last step of
 //!   [`cmd_fetch_stored`], for callers that hold a different conversation.
 //! - [`cmd_check`] writes and flushes one line, or writes a prefix of the line if the sink fails.

@@ -34,9 +34,9 @@ use std::net::OpenStream;
 /// Fails with `BadText` (42) at packet 0 if the host or the path is not well-formed. Fails with
 /// `Memory` (53) if out of memory for the first line, and with `NoBuffer` (28) if out of memory for
 /// the buffers of the stream. After these three faults nothing was read or written. Otherwise fails
-/// with the faults of `fetch_over`: the refs are unchanged, and the graph only gained objects. A
-/// read fails if the server sends no byte for [`MAX_SILENCE`](crate::MAX_SILENCE) seconds, and a
-/// write fails if the server accepts no byte for the same time.
+/// with the faults of `fetch_over`. These faults leave the refs unchanged, and the graph only gains
+/// objects. A read fails if the server sends no byte for [`MAX_SILENCE`](crate::MAX_SILENCE)
+/// seconds, and a write fails if the server accepts no byte for the same time.
 pub fn fetch_on<A, K, S>(
     stream: S,
     host: &[u8],

@@ -41,12 +41,12 @@
 //!   prints the line that reports its fault, or a prefix of this line. The fault is a refused file,
 //!   a failed conversation, a missing socket, out of memory, or a failed output. Before this line
 //!   [`cmd_serve`] prints only the faults of connections, and the other programs print nothing.
-//! - A [`Timer`] limits the time of each read to more than zero and at most 60 seconds
+//! - A [`Timer`] limits each read to a time of more than zero and at most 60 seconds
 //!   (`specs/Deadlines.antt`).
-//! - [`Turns`] subtract the elapsed time of the clock from a client's remaining time. If the clock
-//!   goes backwards, the client has no time left. The client gets the full time again only when the
-//!   server starts to wait for a request (`specs/steps/Deadlines.antt` and `Turns.antt`, which
-//!   specify private functions).
+//! - A [`Turns`] timer subtracts the elapsed time of the clock from a client's remaining time. If
+//!   the clock goes backwards, the client has no time left. The client gets the full time again
+//!   only when the server starts to wait for a request (`specs/steps/Deadlines.antt` and
+//!   `Turns.antt`, which specify private functions).
 //! - A [`Location`] has the given address and path. Its host is the text of the address before the
 //!   port, and the port is a decimal number up to 65,535 (`specs/Places.antt`).
 //! - A [`MessageSink`] has written or still holds each byte that its caller wrote.

@@ -130,8 +130,8 @@ impl<S: Write + OpenStream, T: Timer> Write for &Peer<S, T> {
     }
 }
 
-// Returns whether a write that failed with this error may be tried again, because the peer just did
-// not accept a byte in time.
+// Returns whether a write that failed with this error may be tried again. Such an error means that
+// the peer accepted no byte.
 fn is_waiting(kind: ErrorKind) -> bool {
     matches!(
         kind,

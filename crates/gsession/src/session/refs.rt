@@ -122,7 +122,7 @@ impl<A: Allocator + Copy> Session<A> {
         }
     }
 
-    // Returns the wants of the asks, and the result of the reply.
+    // Returns the wants of the asks, and the result of accepting the reply.
     fn find_wants(
         &self,
         repo: &Repo<A>,
