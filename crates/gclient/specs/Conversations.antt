@@ -174,14 +174,14 @@ module _ {A : Type 0} (indexes : Indexes A) (index_fails : IndexFails) (start : 
     -- the session can't begin, and the client reads nothing
     cannot_begin : (cause : ClientFault A) → Begins start.repo start.refspecs start.limit start.ends (Err cause)
         → IsUnread input → IsUnwritten output → new ≡ start.repo → Fails input output new (fetch.Client cause)
-    -- the client has not enough memory for the reader's buffer, and reads nothing
+    -- the client does not have enough memory for the reader's buffer, and reads nothing
     no_buffer : length start.refspecs ≤ max_specs → IsUnread input → IsUnwritten output → new ≡ start.repo
         → Fails input output new fetch.NoBuffer
     -- the client rejects the advertisement
     cannot_hear : (cause : MessageFault) → length start.refspecs ≤ max_specs
         → RefusesAdvert start.repo.graph.format input cause → IsUnwritten output → new ≡ start.repo
         → Fails input output new (fetch.Client (client.Message cause))
-    -- the client has not enough memory for the next request
+    -- the client does not have enough memory for the next request
     cannot_ask : (talk : List Turn) (last : ClientState A) (after : SessionState A) → Converses input talk last IsLeft
         → Requests last.session last.repo.graph.entries after (Err no_memory)
         → HasAsked start.repo.graph.format output talk → new ≡ last.repo

@@ -60,10 +60,10 @@
 //!
 //! # Dependencies
 //!
-//! `gsession` for the session, and `grefs` and `gclientrepo` for refspecs and the repository.
-//! `ghello` for the first line and the advertisement, `grequest` for requests, and `glsreply` for
-//! listed refs. `ggrammar` and `gpkt` for messages and packets, `gfetchreply` for the limit of a
-//! pack, `ggraph` for indexers, and `gname` for object formats.
+//! The crate uses `gsession` for the session, and `grefs` and `gclientrepo` for refspecs and the
+//! repository. It uses `ghello` for the first line and the advertisement, `grequest` for requests,
+//! and `glsreply` for listed refs. It uses `ggrammar` and `gpkt` for messages and packets,
+//! `gfetchreply` for the limit of a pack, `ggraph` for indexers, and `gname` for object formats.
 #![tactic(auto)]
 
 mod conversation;

@@ -57,8 +57,9 @@
 //!
 //! # Dependencies
 //!
-//! `ggraph` for graphs, refs and walks, and below it `gobject`, `gdag`, `grefs` and `gwalk`;
-//! `gname` for ids and names; `indexmap` for asks by name.
+//! The crate uses `ggraph` for graphs, refs and walks, and the crates `gobject`, `gdag`, `grefs`
+//! and `gwalk` below `ggraph`. It uses `gname` for ids and names, and `indexmap` to look up asks by
+//! name.
 #![tactic(auto)]
 
 mod ask;

@@ -65,8 +65,8 @@
 //!
 //! # Dependencies
 //!
-//! `gtalk` for connections, `mio` for readiness, `slab` for the slots of peers, and `gpkt` for the
-//! proofs.
+//! The crate uses `gtalk` for connections, `mio` for readiness, `slab` for the slots of peers, and
+//! `gpkt` for the proofs.
 #![tactic(auto)]
 
 mod accepting;

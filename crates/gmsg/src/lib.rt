@@ -33,8 +33,8 @@
 //!
 //! # Dependencies
 //!
-//! `ghello`, `grequest`, `glsreply`, `gfetchreply` and `ggrammar` for messages, `gpkt` for packets,
-//! and `gname` for ids and names.
+//! The crate uses `ghello`, `grequest`, `glsreply`, `gfetchreply` and `ggrammar` for messages,
+//! `gpkt` for packets, and `gname` for ids and names.
 #![tactic(auto)]
 
 pub mod laws;

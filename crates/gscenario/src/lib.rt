@@ -25,8 +25,8 @@
 //!
 //! # Dependencies
 //!
-//! `grefs` for refspecs, `gname` for ids and ref names, `gobject` for objects, `hex` for bytes,
-//! `itoa` for numbers, and `memchr` to find the ends of words and lines.
+//! The crate uses `grefs` for refspecs, `gname` for ids and ref names, `gobject` for objects, `hex`
+//! for bytes, `itoa` for numbers, and `memchr` to find the ends of words and lines.
 #![tactic(auto)]
 
 mod arguments;

@@ -78,9 +78,9 @@
 //!
 //! # Dependencies
 //!
-//! `grefs` for refspecs, `gclientrepo` for the repository, `ggraph` and `gwalk` for the walk that
-//! selects haves, `gobject` for indexers, and `indexmap` for sets of ids. `grequest`, `glsreply`,
-//! `gfetchreply` and `ghello` for messages.
+//! The crate uses `grefs` for refspecs, `gclientrepo` for the repository, `ggraph` and `gwalk` for
+//! the walk that selects haves, `gobject` for indexers, and `indexmap` for sets of ids. It uses
+//! `grequest`, `glsreply`, `gfetchreply` and `ghello` for messages.
 #![tactic(auto)]
 
 mod acks;

@@ -107,7 +107,7 @@ fn wrong_line(line: usize) -> ArrayVec<u8, MAX_LINE>
     text
 }
 
-// Prints the fault of a server and a client that hold different objects with the same id.
+// Prints the fault that reports different objects with the same id at the server and at the client.
 fn print_disagreement<A: Allocator + Copy, E: Sink>(id: &Oid, errors: &mut E)
     ensures printed { Prints (output_of E.contents E.passed_on E.is_down errors.old errors.new)
         (disagreement id.now) }

@@ -25,7 +25,7 @@ out_of_turn = 83
 
 -- ---- the numbers of faults that may occur even without forged bytes
 
--- the client has not enough memory to read a reply
+-- the client does not have enough memory to read a reply
 abbrev pub no_memory_to_read : ℕ
 no_memory_to_read = 53
 
