@@ -33,10 +33,10 @@ IsAskAt {A} asks place name id =
 abbrev pub IsForcedAt : {A : Type 0} → List (Ask A) → ℕ → Bool → Type 0
 IsForcedAt {A} asks place forced = (ask : Ask A) × (slice_get asks place ≡ Some ask) × (ask.forced ≡ forced)
 
--- the ask for a ref of this name, with the new id and the force flag of the aim
+-- the ask for a ref of this name, with this new id and this force flag
 abbrev pub ask_of_aim : {A : Type 0} → Name × Aim → Ask A
 ask_of_aim pair = record { name = pair.0; id = pair.1.id; forced = pair.1.forced }
 
--- the asks for the pairs of a map from ref names to aims
+-- the asks for the entries of a map from ref names to new ids and force flags
 abbrev pub asks_of : {A : Type 0} → List (Name × Aim) → List (Ask A)
 asks_of pairs = map ask_of_aim pairs

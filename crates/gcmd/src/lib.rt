@@ -50,16 +50,16 @@
 //! # Only tested
 //!
 //! The cases of `conformance` test the exact bytes of whole runs. The cases also test that
-//! available memory is used, and that a device is not called again after a failure. The cases read
-//! and write one byte per call, and make each call fail in turn.
+//! available memory is used, and that a source or a sink is not called again after a failure. The
+//! cases read and write one byte per call, and make each call fail in turn.
 //!
 //! # What the contracts do not rule out
 //!
 //! A call that allocates may report out of memory whenever the crates that it uses may. If a sink
 //! does not record its bytes, the contracts do not state which bytes the sink receives. The
-//! contracts do not limit how often a device is called, or how long a call takes. Formatting a
-//! fault may return `fmt::Error` for no reason. The function [`cmd_fetch_stored`] may report that a
-//! file can't be locked, read or replaced although it could be.
+//! contracts do not limit how often a source or a sink is called, or how long a call takes.
+//! Formatting a fault may return `fmt::Error` for no reason. The function [`cmd_fetch_stored`] may
+//! report that a file can't be locked, read or replaced although it could be.
 //!
 //! # Dependencies
 //!

@@ -203,8 +203,9 @@ fn give_up<A: Allocator + Copy, T: Storage, X>(
     Err(fault)
 }
 
-/// Ends a successful fetch into a locked file whose text is `old`. Replaces the file by the text of
-/// the repository, and only afterwards writes the report. At the end this run holds no lockfile.
+/// Ends a successful fetch into a locked file whose text is `old`. Replaces the content of the file
+/// with the text of the repository, and only then writes the report. At the end this run holds no
+/// lockfile.
 ///
 /// Fails with `Memory` or `File` if the file can't be replaced. After these faults nothing is
 /// reported, and the file has the old text or the whole new text. After the file has the new text,
@@ -231,7 +232,7 @@ pub fn conclude_stored<A: Allocator + Copy, T: Storage, R: Sink>(
     }
 }
 
-// Replaces the file by the text, and only afterwards writes the report.
+// Replaces the content of the file with the text, and only then writes the report.
 fn store<A: Allocator + Copy, T: Storage, R: Sink>(
     file: &mut T,
     old: &[u8],

@@ -71,7 +71,7 @@
 //! written, nor what the server of a pair does. An implementation may therefore return any result
 //! to which the bytes of some peer would lead: any reply, any added objects, or any served
 //! connection. An implementation may send any bytes. An implementation may fail with `Socket`
-//! although a connection can be accepted or opened, or report out of memory. In a pair, an
+//! although a connection can be accepted or opened. It may also report out of memory. In a pair, an
 //! implementation may report any failed fetch as a message that is too long, and vice versa. The
 //! program of [`cmd_fetch_remote`] may connect before it locks the file. The program may also
 //! report that the file can't be locked, read or replaced although it could be.
