@@ -55,8 +55,8 @@
 //!
 //! # What the contracts do not rule out
 //!
-//! A call that allocates may report out of memory whenever the crates that it uses may. If a sink
-//! does not record its bytes, the contracts do not state which bytes the sink receives. The
+//! A call that allocates may report out of memory whenever the crates that it uses may do so. If a
+//! sink does not record its bytes, the contracts do not state which bytes the sink receives. The
 //! contracts do not limit how often a source or a sink is called, or how long a call takes.
 //! Formatting a fault may return `fmt::Error` for no reason. The function [`cmd_fetch_stored`] may
 //! report that a file can't be locked, read or replaced although it could be.

@@ -17,7 +17,7 @@ use std::path::{Path, PathBuf};
 ///
 /// If the name is a symbolic link, its target is locked and replaced. The target must be a regular
 /// file. The new file has the permissions of the old file. A process that is killed can leave its
-/// lockfile.
+/// lockfile behind.
 #[derive(Drop)]
 pub struct StoredFile<'r, R: Files, A: Allocator + Copy = Global> {
     files: &'r R,

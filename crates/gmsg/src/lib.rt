@@ -1,5 +1,5 @@
 //! The messages of Git's protocol, version 2, in one crate. The messages are the first line of a
-//! connection, the capability advertisement, the request, and the replies to ls-refs and fetch.
+//! connection, the capability advertisement, the request, the ls-refs reply and the fetch reply.
 //! Each message has a type, a reader and a writer.
 //!
 //! # Proved

@@ -189,13 +189,13 @@ OverRequestsNone A =
     (g : List (Entry A)) (old new : SessionState A) (result : Result Asked (ClientFault A))
     → IsOver old → Requests old g new result → IsOutOfTurn old new result
 
--- a session that is over reads no reply to ls-refs
+-- a session that is over reads no ls-refs reply
 abbrev pub OverTakesNoRefs : Type 0 → Type 0
 OverTakesNoRefs A =
     (g : List (Entry A)) (old new : SessionState A) (change : Change) (result : Result (LsTaken A) (ClientFault A))
     → IsOver old → TakesLs old g change new result → IsOutOfTurn old new result × (change.new ≡ change.old)
 
--- a session that is over reads no reply to fetch
+-- a session that is over reads no fetch reply
 abbrev pub OverTakesNoReply : {A : Type 0} → Indexes A → IndexFails → Type 0
 OverTakesNoReply {A} indexes index_fails =
     (old new : SessionState A) (repo after : RepoState A) (change : Change) (result : Result Taken (ClientFault A))

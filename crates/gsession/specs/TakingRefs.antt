@@ -68,7 +68,7 @@ IsRefsFault s g reply TooManyWants = WantsTooMuch s g reply
 IsRefsFault {A} s g reply (Repo (repo.Graph graph.Memory)) = AreNamed {A = A} (asks_by_all s.refspecs reply.lines)
 IsRefsFault s g reply _ = ⊥
 
--- the session reads a complete reply to ls-refs
+-- the session reads a complete ls-refs reply
 abbrev pub ReadsRefs : {A : Type 0} → SessionState A → Change → LsReply → Type 0
 ReadsRefs s change reply = ReadsMessage (judge s.format s.ends) (Says s.format s.ends) change reply
 
@@ -91,7 +91,7 @@ IsLsFault s g change TooManyWants = AwaitsRefs s × ReadsUntaken s g change TooM
 IsLsFault s g change (Repo fault) = AwaitsRefs s × ReadsUntaken s g change (Repo fault)
 IsLsFault s g change _ = ⊥
 
--- the result of reading an ls-refs reply: its refs are accepted, or a fault
+-- the result of reading an ls-refs reply: its refs are accepted, or there is a fault
 abbrev pub TakesLs : {A : Type 0} → SessionState A → List (Entry A) → Change → SessionState A
     → Result (LsTaken A) (ClientFault A) → Type 0
 TakesLs old g change new (Ok taken) =

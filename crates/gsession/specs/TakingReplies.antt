@@ -102,7 +102,7 @@ module _ {A : Type 0} (indexes : Indexes A) (index_fails : IndexFails) where
 abbrev pub reading_for : {A : Type 0} → SessionState A → FetchAsked → Reading
 reading_for s asked = record { format = s.format; direct = is_direct asked; limit = s.limit; ends = s.ends }
 
--- the session reads a complete reply to fetch
+-- the session reads a complete fetch reply
 abbrev pub ReadsFetch : Reading → Change → FetchReply → Type 0
 ReadsFetch reading change reply = ReadsMessage (judge reading) (Says reading) change reply
 

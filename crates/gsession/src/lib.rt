@@ -15,15 +15,15 @@
 //!   the request and the next session ([`laws`]). [`Session::request_on`] makes the same request,
 //!   but continues the walk of the previous request (`specs/Offering.antt`). It requires that the
 //!   graph has not changed since that request.
-//! - [`Session::take_ls`] reads one reply to ls-refs to its end, and nothing after it. Each local
-//!   ref to which a refspec maps a line of the reply gets exactly one ask. The first refspec that
-//!   leads to the ref, and its first such line, determine the ask ([`laws`]). The wants are the
-//!   asked ids that are not connected. If the name of a local ref would be invalid, the fault gives
-//!   the position of the reply's last packet. This fault is reported before too many wants and
-//!   before out of memory.
-//! - [`Session::take_reply`] reads one reply to fetch to its end, and nothing after it. Each id
-//!   that becomes common was a have of the request. The repository gains all objects that the
-//!   indexer returns for the pack, or none. If several faults occur, the first of the following is
+//! - [`Session::take_ls`] reads one ls-refs reply to its end, and nothing after it. Each local ref
+//!   to which a refspec maps a line of the reply gets exactly one ask. The first refspec that leads
+//!   to the ref, and its first such line, determine the ask ([`laws`]). The wants are the asked ids
+//!   that are not connected. If the name of a local ref would be invalid, the fault gives the
+//!   position of the reply's last packet. This fault is reported before too many wants and before
+//!   out of memory.
+//! - [`Session::take_reply`] reads one fetch reply to its end, and nothing after it. Each id that
+//!   becomes common was a have of the request. The repository gains all objects that the indexer
+//!   returns for the pack, or none. If several faults occur, the first of the following is
 //!   reported: a malformed packet, an acknowledged id that is not a have, the indexer's fault, the
 //!   graph's fault. Only a packet that acknowledges an id can be rejected for lack of memory. A
 //!   fault of the indexer does not stop the reading of the reply. After the end of a reply, out of

@@ -24,9 +24,9 @@
 //! # What the contracts do not rule out
 //!
 //! A simulation may report out of memory for a file, the scenario or an event whenever `gcmd`,
-//! `gscenario` and `gworld` may. A simulation may also report out of memory for the output, even if
-//! the output is empty. The contracts do not limit how often the sinks are called, or how long a
-//! call takes. Formatting a fault may return `fmt::Error` for no reason.
+//! `gscenario` and `gworld` may do so. A simulation may also report out of memory for the output,
+//! even if the output is empty. The contracts do not limit how often the sinks are called, or how
+//! long a call takes. Formatting a fault may return `fmt::Error` for no reason.
 //!
 //! # Dependencies
 //!

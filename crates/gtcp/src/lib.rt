@@ -30,7 +30,7 @@
 //!   but never a missing socket.
 //! - [`cmd_fetch_remote`] fetches into a stored file. At any time the file has the old text or the
 //!   whole new text. The new text is written only if the conversation succeeds. The new text
-//!   describes the repository after the fetch, which only gained objects. The report, with the
+//!   describes the repository after the fetch. The fetch only adds objects. The report, with the
 //!   outcome of each ref update, is written only after the new text. At the end the run holds no
 //!   lockfile (`specs/Remote.antt`, and `Stored.antt` of `gcmd`).
 //! - [`cmd_pair`] fetches inside one process and writes the same report, but stores nothing.

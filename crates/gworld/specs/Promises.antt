@@ -112,7 +112,7 @@ module _ {A : Type 0} where
     pub goes_on : w.session ≡ Some session
     pub waits : session.pending ≡ Some kept.asked
 
-  -- ---- a complete reply to ls-refs is accepted
+  -- ---- a complete ls-refs reply is accepted
 
   -- a complete kept ls-refs reply arrives, and its request is equal to the open request
   pub record BringsRefs (w : WorldState A) (number count : ℕ) (reply : LsReply) (s : SessionState A) : Type 0 where

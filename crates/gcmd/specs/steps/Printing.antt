@@ -26,7 +26,7 @@ max_decimal = 20
 abbrev pub max_fault_name : ℕ
 max_fault_name = 32
 
--- the maximum length of a space and a ref name or an error text
+-- the maximum length of a space followed by a ref name or an error text
 abbrev pub max_subject : ℕ
 max_subject = 1 + max_name
 

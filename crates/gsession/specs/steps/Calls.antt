@@ -90,7 +90,7 @@ FitsHead asked (head.Acks ids) = is_direct asked ≡ false
 FitsHead asked _ = Unit {0}
 
 module _ {A : Type 0} (indexes : Indexes A) (index_fails : IndexFails) where
-  -- the result of accepting a complete reply to fetch, before a fault ends the session
+  -- the result of accepting a complete fetch reply, before a fault ends the session
   abbrev pub AnswersRead : List Id → SessionState A → RepoState A → FetchReply → SessionState A → RepoState A
       → Result Taken (ClientFault A) → Type 0
   AnswersRead haves old repo_old reply new repo_new (Ok taken) =

@@ -24,7 +24,7 @@ MakesRequest prefixes (Err cause) = RefusesPrefixes prefixes cause
 
 -- ---- serving
 
--- the faults so far are printed; the flag states whether the sink still works
+-- the faults so far are printed; the flag states whether the error sink still works
 abbrev pub PrintsSoFar : {A : Type 0} → Output → List (ProgramFault A) → Bool → Type 0
 PrintsSoFar errors faults true = PrintsNone errors faults ⊎ Passes errors (fault_lines faults)
 PrintsSoFar errors faults false = SendsSome errors (fault_lines faults)
