@@ -105,7 +105,7 @@ plain_index_fails A bytes fault = IndexRefuses A bytes fault
 
 -- ---- results
 
--- the new repository has the objects of the old one and perhaps more, and its refs are the updated refs
+-- the new repository has all objects of the old repository and perhaps more objects, and its refs are the updated refs
 pub record IsFetchedInto {A : Type 0} (old new : RepoState A) (fetched : Fetched A) : Type 0 where
   pub grows : Grows old.graph.entries new.graph.entries
   pub settles : Settles new.graph.entries old.refs fetched.settled.asks fetched.settled.updates.items new.refs

@@ -126,7 +126,8 @@ pub fn open_is_the_sessions<A: Allocator + Copy>()
 {}
 
 /// Each local ref to which a refspec maps a line of the reply gets exactly one ask. The first
-/// refspec that leads to the ref, and its first such line, determine the ask.
+/// refspec that maps a line to this ref determines the ask, with the first line that it maps to
+/// this ref.
 #[tactic(auto, using(crate::proofs::AskLemmas::first_is_asked))]
 pub fn first_is_asked<A: Allocator + Copy>()
     ensures { FirstIsAsked A }

@@ -16,11 +16,11 @@
 //!   but continues the walk of the previous request (`specs/Offering.antt`). It requires that the
 //!   graph has not changed since that request.
 //! - [`Session::take_ls`] reads one ls-refs reply to its end, and nothing after it. Each local ref
-//!   to which a refspec maps a line of the reply gets exactly one ask. The first refspec that leads
-//!   to the ref, and its first such line, determine the ask ([`laws`]). The wants are the asked ids
-//!   that are not connected. If the name of a local ref would be invalid, the fault gives the
-//!   position of the reply's last packet. This fault is reported before too many wants and before
-//!   out of memory.
+//!   to which a refspec maps a line of the reply gets exactly one ask. The first refspec that maps
+//!   a line to this ref determines the ask, with the first line that it maps to this ref
+//!   ([`laws`]). The wants are the asked ids that are not connected. If the name of a local ref
+//!   would be invalid, the fault gives the position of the reply's last packet. This fault is
+//!   reported before too many wants and before out of memory.
 //! - [`Session::take_reply`] reads one fetch reply to its end, and nothing after it. Each id that
 //!   becomes common was a have of the request. The repository gains all objects that the indexer
 //!   returns for the pack, or none. If several faults occur, the first of the following is

@@ -160,7 +160,8 @@ CommonsStayShared {A} tools =
     → AreCommonsShared w → All IsNoForge events → RunWith (Promises tools) w events outcomes new
     → (new.forged ≡ false) × AreCommonsShared new
 
--- all promises of a step and of the world after it, without the premises about forged bytes and faithful tools
+-- all promises of a step and of the world after it, without the premises that no bytes were forged and that the packer
+-- and the indexer are faithful
 pub record KeepsAll {A : Type 0} (tools : PackTools A) (w : WorldState A) (event : Event A) (outcome : Outcome)
     (new : WorldState A) : Type 0 where
   pub step : Step tools w event outcome new

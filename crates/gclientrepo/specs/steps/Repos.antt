@@ -1,4 +1,5 @@
--- Definitions for making a client's repository and for settling: the first unconnected id, and the origin of refs.
+-- Definitions for making a client's repository and for settling: the first unconnected id, and where the new refs come
+-- from.
 use Rattle.std.specs.Prelude.{◌⊎◌, List, ℕ, ◌+◌, ◌<◌, All, Contains, length, take}
 use Rattle.gname.specs.Ids.{Id}
 use Rattle.gobject.specs.declared.node.Entry.{Entry}

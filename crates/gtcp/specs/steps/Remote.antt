@@ -29,7 +29,8 @@ abbrev pub PrintsSoFar : {A : Type 0} → Output → List (ProgramFault A) → B
 PrintsSoFar errors faults true = PrintsNone errors faults ⊎ Passes errors (fault_lines faults)
 PrintsSoFar errors faults false = SendsSome errors (fault_lines faults)
 
--- the effect of reporting a connection: its fault is printed, if there is one and all earlier faults could be printed
+-- the effect of reporting a connection: the fault of the connection is printed, if it has one and all earlier faults
+-- could be printed
 abbrev pub Tells : {A : Type 0} → ProgramOutcome A → Bool → Bool → Output → Type 0
 Tells (Ok done) could can errors = IsUnwritten errors × (can ≡ could)
 Tells (Err fault) false can errors = IsUnwritten errors × (can ≡ false)
