@@ -126,8 +126,8 @@ abbrev pub Reports : {A : Type 0} → Fetched A → Output → ProgramOutcome A 
 Reports fetched report outcome =
     SendsReport (fetch_report fetched) report outcome ⊎ ((outcome ≡ Err program.Memory) × IsUnwritten report)
 
--- the outcome after a successful conversation: there is a new file, and the report is sent; or memory for the new file
--- runs out, and nothing is reported
+-- the outcome after a successful conversation: either there is a new file and the report is sent, or memory for the new
+-- file runs out and nothing is reported
 abbrev pub Concludes : {A : Type 0} → RepoState A → RepoState A → Fetched A → Output → Option Bytes → ProgramOutcome A → Type 0
 Concludes old new fetched report file outcome =
     (IsNewFile old new fetched file × Reports fetched report outcome)

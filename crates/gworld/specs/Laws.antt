@@ -67,8 +67,8 @@ RefsStayConnected {A} tools =
     (w new : WorldState A) (events : List (Event A)) (outcomes : List Outcome) → AreRefsConnected w
     → RunWith (Promises tools) w events outcomes new → AreRefsConnected new
 
--- if the session made at most N + 1 requests for objects before a run, where N is the number of ids that its tips
--- reach, this remains true afterwards
+-- If the session made at most N + 1 requests for objects before a run, this remains true after the run. N is the number
+-- of ids that the session's tips reach.
 abbrev pub RequestsStayFew : {A : Type 0} → PackTools A → Type 0
 RequestsStayFew {A} tools =
     (w new : WorldState A) (events : List (Event A)) (outcomes : List Outcome) → AreRequestsFew w
@@ -160,8 +160,7 @@ CommonsStayShared {A} tools =
     → AreCommonsShared w → All IsNoForge events → RunWith (Promises tools) w events outcomes new
     → (new.forged ≡ false) × AreCommonsShared new
 
--- all promises of a step and of the world after it, without the premises that no bytes were forged and that the packer
--- and the indexer are faithful
+-- all promises of a step and of the world after it, without the premises of `HonestPromises`
 pub record KeepsAll {A : Type 0} (tools : PackTools A) (w : WorldState A) (event : Event A) (outcome : Outcome)
     (new : WorldState A) : Type 0 where
   pub step : Step tools w event outcome new

@@ -151,8 +151,8 @@ module _ {A : Type 0} where
   AsksSeldom w s =
       (held parents : ℕ) → CountsReached (client_graph w) s.tips held parents → s.rounds ≤ held + 1
 
-  -- a session, if the client has one, made at most N + 1 requests for objects, where N is the number of ids that its
-  -- tips reach
+  -- if the client has a session, the session made at most N + 1 requests for objects, where N is the number of ids that
+  -- its tips reach
   abbrev pub AreRequestsFew : WorldState A → Type 0
   AreRequestsFew w = IfSome w.session (AsksSeldom w)
 
