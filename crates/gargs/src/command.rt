@@ -33,7 +33,7 @@ pub enum Gitv2Command {
         server: String,
         /// The name of the file of the client's repository.
         client: String,
-        /// The refspecs, at least one.
+        /// The refspecs. There is at least one refspec.
         specs: Vec<String>,
     },
     /// `serve --listen ADDR --path PATH --connections N [--response-end] FILE`
@@ -58,9 +58,9 @@ pub struct Fetch {
     pub limit: PackLimit,
     /// Whether each reply ends with a response-end packet.
     pub ends: Ends,
-    /// The name of the file of the client's repository, which is replaced.
+    /// The name of the file of the client's repository. The fetch replaces this file.
     pub file: String,
-    /// The refspecs, at least one, which are not parsed yet.
+    /// The refspecs, which are not parsed yet. There is at least one refspec.
     pub specs: Vec<String>,
 }
 

@@ -8,15 +8,15 @@
 //! # Proved
 //!
 //! - A call ends, and is memory safe, for any arguments.
-//! - Private functions parse a limit and a count of connections from decimal digits only, at least
-//!   one digit. The functions accept exactly the limits up to 67,108,864, and the counts from 1 to
+//! - Private functions parse a limit and a count of connections from a text of at least one decimal
+//!   digit. The functions accept exactly the limits up to 67,108,864, and the counts from 1 to
 //!   1,000,000 (`specs/Numbers.antt`).
 //!
 //! # Only tested
 //!
 //! The cases of `conformance` (`data/words`) test which arguments match the usage, and which
-//! command they give. The cases can't test failing allocations, since `clap` uses only the global
-//! allocator.
+//! command these arguments describe. The cases can't test failing allocations, since `clap` uses
+//! only the global allocator.
 //!
 //! # What the contracts do not rule out
 //!

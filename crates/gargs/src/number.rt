@@ -9,7 +9,7 @@ use gcmd::PackLimit;
 // The maximum number of connections to serve.
 const MAX_CONNECTIONS: u32 = 1_000_000;
 
-/// Returns the pack limit of the text, or `None` if the text is not a number or too high.
+/// Parses a pack limit. Returns `None` if the text is not a number, or if the number is too high.
 pub(crate) fn limit_of(text: &str) -> Option<PackLimit>
     ensures { MatchOption result (((bytes : ℕ) → bytes ≤ max_pack → Says text.now bytes → ⊥))
         (Says text.now) }
@@ -17,8 +17,7 @@ pub(crate) fn limit_of(text: &str) -> Option<PackLimit>
     PackLimit::new(number_of(text)?)
 }
 
-/// Returns the number of connections of the text, or `None` if the text is not a number from 1 to
-/// 1,000,000.
+/// Parses a number of connections. Returns `None` if the text is not a number from 1 to 1,000,000.
 pub(crate) fn connections_of(text: &str) -> Option<u32>
     ensures { MatchOption result
         (((count : ℕ) → 1 ≤ count → count ≤ 1_000_000 → Says text.now count → ⊥))

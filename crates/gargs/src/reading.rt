@@ -8,9 +8,9 @@ use gcmd::{Ends, PackLimit};
 use gtcp::Location;
 use std::alloc::{AllocError, Global};
 
-/// Returns the command of the arguments, the first of which is the program's own name. Returns
-/// `None` if the arguments do not match the usage, or if out of memory. A request for help does not
-/// match the usage.
+/// Returns the command that the arguments describe. The first argument is the program's own name.
+/// Returns `None` if the arguments do not match the usage, or if out of memory. A request for help
+/// does not match the usage.
 pub fn read_command(alloc: Global, words: &[String]) -> Option<Gitv2Command> {
     if words.iter().any(|word| word.as_str() == "--") {
         return None;
@@ -95,8 +95,8 @@ fn place_in(alloc: Global, matches: &ArgMatches<'_>, option: &str) -> Option<Loc
     Location::new(alloc, matches.get_str(option)?, matches.get_str("path")?)
 }
 
-// Returns the limit in the arguments, or the default limit if there is none. Returns `None` if the
-// limit is not a number or too high.
+// Returns the limit in the arguments, or the default limit if the arguments have no limit. Returns
+// `None` if the limit is not a number, or is too high.
 fn limit_in(matches: &ArgMatches<'_>) -> Option<PackLimit> {
     match matches.get_str("limit") {
         Some(text) => limit_of(text),

@@ -33,7 +33,7 @@ use Rattle.gclient.specs.declared.fault.FetchFault.{FetchFault}
 use Rattle.gclient.specs.declared.fetched.Fetched.{Fetched}
 use Rattle.gclient.specs.declared.fault.FetchFault.TheVariants as fetch
 
--- the inputs of a conversation: the repository, the refspecs, the limit of a pack, the end of replies and the pack
+-- the inputs of a conversation: the repository, the refspecs, the size limit of a pack, how replies end, and the pack
 -- options
 pub record Start (A : Type 0) : Type 0 where
   pub repo : RepoState A
@@ -42,7 +42,7 @@ pub record Start (A : Type 0) : Type 0 where
   pub ends : Ends
   pub options : PackOptions
 
--- ---- what is written
+-- ---- the bytes written
 
 -- the bytes of a request
 abbrev pub request_bytes : Format → Asked → Bytes
@@ -57,8 +57,8 @@ abbrev pub HasAsked : Format → Output → List Turn → Type 0
 HasAsked format output [] = IsUnwritten output
 HasAsked format output (turn ∷ turns) = Passes output (requests_bytes format (turn ∷ turns))
 
--- The sink failed while the client sent these bytes. A prefix of the bytes was written, and bytes flushed before remain
--- flushed.
+-- The sink failed while the client sent these bytes. A prefix of the bytes was written, and all bytes flushed earlier
+-- remain flushed.
 abbrev pub FailsToSend : Output → Bytes → Type 0
 FailsToSend output due = SendsSome output due × KeepsPassed output.passed_on
 
@@ -67,7 +67,7 @@ abbrev pub FailsToAsk : Format → Output → List Turn → Bytes → Type 0
 FailsToAsk format output [] due = FailsToSend output due
 FailsToAsk format output (turn ∷ turns) due = SendsAndFails output (requests_bytes format (turn ∷ turns)) due
 
--- ---- what is read
+-- ---- the bytes read
 
 -- the packets are the advertisement of a server that a client of this object format supports
 pub record Advertises (format : Format) (packets : List Packet) (capabilities : List Capability) : Type 0 where
@@ -84,8 +84,8 @@ pub record Mismatches (format : Format) (input : Input) (cause : MessageFault) :
   pub frame : cause.frame ≡ 0
   pub up : IsUp input
 
--- reading the advertisement fails at its first invalid packet, with the fault of the source exactly if the source
--- failed
+-- reading the advertisement fails at its first invalid packet, and the fault reports a failed source exactly if the
+-- source failed
 pub record RefusesToRead (input : Input) (cause : MessageFault) : Type 0 where
   pub front : List Packet
   pub refused : ReadsRefused advert.judge advert.brings front input.read cause
@@ -129,8 +129,8 @@ module _ {A : Type 0} (start : Start A) where
   }
 
 module _ {A : Type 0} (indexes : Indexes A) (index_fails : IndexFails) (start : Start A) where
-  -- The client reads the advertisement and the replies of the turns, and `last` is its state afterwards. `Rest` holds
-  -- of the remaining input.
+  -- The client reads the advertisement and the replies of the turns, and `last` is the client's state afterwards.
+  -- `Rest` holds of the remaining input.
   pub record Converses (input : Input) (talk : List Turn) (last : ClientState A) (Rest : Input → Type 0) : Type 0 where
     pub few : length start.refspecs ≤ max_specs
     pub packets : List Packet
@@ -174,14 +174,14 @@ module _ {A : Type 0} (indexes : Indexes A) (index_fails : IndexFails) (start : 
     -- the session can't begin, and the client reads nothing
     cannot_begin : (cause : ClientFault A) → Begins start.repo start.refspecs start.limit start.ends (Err cause)
         → IsUnread input → IsUnwritten output → new ≡ start.repo → Fails input output new (fetch.Client cause)
-    -- the client has not enough memory for the reader's buffer, and reads nothing
+    -- the client does not have enough memory for the reader's buffer, and reads nothing
     no_buffer : length start.refspecs ≤ max_specs → IsUnread input → IsUnwritten output → new ≡ start.repo
         → Fails input output new fetch.NoBuffer
     -- the client rejects the advertisement
     cannot_hear : (cause : MessageFault) → length start.refspecs ≤ max_specs
         → RefusesAdvert start.repo.graph.format input cause → IsUnwritten output → new ≡ start.repo
         → Fails input output new (fetch.Client (client.Message cause))
-    -- the client has not enough memory for the next request
+    -- the client does not have enough memory for the next request
     cannot_ask : (talk : List Turn) (last : ClientState A) (after : SessionState A) → Converses input talk last IsLeft
         → Requests last.session last.repo.graph.entries after (Err no_memory)
         → HasAsked start.repo.graph.format output talk → new ≡ last.repo

@@ -34,7 +34,7 @@ pub record HasGreeted (hello : Hello) (output : Output) (Rest : Output → Type 
   pub greets : Passes (head_of output written passed) (hello_bytes hello)
   pub rest : Rest (tail_of output written passed)
 
--- the sink failed while the client sent the first line, and the client reads nothing
+-- the sink failed while the client sent the first line, so the client reads nothing
 pub record CannotGreet (hello : Hello) (input : Input) (output : Output) : Type 0 where
   pub fails : FailsToSend output (hello_bytes hello)
   pub unread : IsUnread input

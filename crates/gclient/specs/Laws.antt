@@ -57,7 +57,7 @@ NextIsFew {A} indexes index_fails =
     → CountsReached start.repo.graph.entries (tips_of start.repo) held parents
     → objects_asked (asked_in talk ++ asked ∷ []) ≤ held + 1
 
--- The client wrote a prefix of the bytes of a list of requests. At most `most` of the requests are for objects.
+-- The client wrote a prefix of the encoding of a list of requests. At most `most` requests of the list are for objects.
 pub record AsksAtMost (format : Format) (output : Output) (most : ℕ) : Type 0 where
   pub requests : List Asked
   pub few : objects_asked requests ≤ most

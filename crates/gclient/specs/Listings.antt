@@ -22,7 +22,7 @@ use Rattle.gclient.specs.declared.fault.FetchFault.{FetchFault}
 use Rattle.gclient.specs.declared.fault.FetchFault.TheVariants as fetch
 use Rattle.gclient.specs.Greetings.{CannotGreet, HasGreeted}
 
--- ---- what is written
+-- ---- the bytes written
 
 -- the request for refs, with `unborn` exactly if the server offers to report an unborn HEAD
 abbrev pub asked_of : List Capability → LsRefsAsked → LsRefsAsked
@@ -36,10 +36,10 @@ asking_bytes format capabilities asked = request_bytes format (Ls (asked_of capa
 abbrev pub ending_bytes : Format → Bytes
 ending_bytes format = request_bytes format Empty
 
--- ---- what is read
+-- ---- the bytes read
 
 -- The client reads the advertisement of a server that a client of this object format supports. `Rest` holds of the
--- remaining input. Only the format that the advertisement names is possible.
+-- remaining input. `format` is the object format that the advertisement names.
 pub record HasHeard (input : Input) (format : Format) (capabilities : List Capability) (Rest : Input → Type 0)
     : Type 0 where
   pub packets : List Packet
@@ -48,7 +48,7 @@ pub record HasHeard (input : Input) (format : Format) (capabilities : List Capab
   pub read : ReadsPackets (record { old = input.read.old; new = between }) packets
   pub rest : Rest (rest_of input between)
 
--- the client reads an advertisement, and no object format lets a client support the server
+-- the client reads the advertisement of a server that no client supports, whatever its object format
 pub record FitsNone (input : Input) (cause : MessageFault) : Type 0 where
   pub packets : List Packet
   pub capabilities : List Capability
@@ -65,7 +65,8 @@ pub record ReadsReply (format : Format) (input : Input) (reply : ls.LsReply) : T
   pub says : ls.Says format Plain packets reply
   pub up : IsUp input
 
--- reading the reply fails at its first invalid packet, with the fault of the source exactly if the source failed
+-- reading the reply fails at its first invalid packet, and the fault reports a failed source exactly if the source
+-- failed
 pub record RefusesReply (format : Format) (input : Input) (cause : MessageFault) : Type 0 where
   pub front : List Packet
   pub refused : ReadsRefused (ls.judge format Plain) ls.brings front input.read cause
@@ -83,7 +84,7 @@ module _ (asked : LsRefsAsked) where
 
   -- The reasons for a listing to fail. All steps before the fault succeeded.
   pub data FailsToList {A : Type 0} (input : Input) (output : Output) : FetchFault A → Type 0 where
-    -- the client has not enough memory for the reader's buffer, and reads nothing
+    -- the client does not have enough memory for the reader's buffer, and reads nothing
     no_buffer : IsUnread input → IsUnwritten output → FailsToList input output fetch.NoBuffer
     -- reading the advertisement fails, or the client does not support the server
     cannot_hear : (cause : MessageFault) → RefusesToRead input cause ⊎ FitsNone input cause → IsUnwritten output

@@ -39,7 +39,7 @@ AsksNext client asked waiting = Requests client.session client.repo.graph.entrie
 
 -- ---- an accepted reply
 
--- the packets are a reply to ls-refs, and the client accepts the reply and determines its asks and wants
+-- the packets are an ls-refs reply, and the client accepts the reply and determines its asks and wants
 pub record TakesRefs {A : Type 0} (waiting : SessionState A) (old : ClientState A) (packets : List Packet)
     (new : ClientState A) : Type 0 where
   pub reply : LsReply
@@ -50,7 +50,7 @@ pub record TakesRefs {A : Type 0} (waiting : SessionState A) (old : ClientState 
   pub stays : new.repo ≡ old.repo
 
 module _ {A : Type 0} (indexes : Indexes A) (index_fails : IndexFails) where
-  -- the packets are a reply to fetch, with acknowledgments or a pack or both, and the client accepts the reply
+  -- the packets are a fetch reply, with acknowledgments or a pack or both, and the client accepts the reply
   pub record TakesObjects (waiting : SessionState A) (asked : FetchAsked) (old : ClientState A) (packets : List Packet)
       (new : ClientState A) : Type 0 where
     pub reply : FetchReply
@@ -78,20 +78,21 @@ module _ {A : Type 0} (indexes : Indexes A) (index_fails : IndexFails) where
 
 -- ---- a rejected reply
 
--- the fault is the fault of the source exactly if the source failed
+-- the fault reports a failed source exactly if the source failed
 abbrev pub FitsSource : {A : Type 0} → Bool → ClientFault A → Type 0
 FitsSource down (Message cause) = IsReadFailure false down cause.why
 FitsSource down fault = down ≡ false
 
 module _ {A : Type 0} (indexes : Indexes A) (index_fails : IndexFails) where
-  -- the client rejects the reply to the request for this fault: it is malformed, or its content is not acceptable
+  -- the client rejects the reply to the request with this fault: the reply is malformed, or its content is not
+  -- acceptable
   abbrev pub IsUntaken : SessionState A → Asked → RepoState A → Change → ClientFault A → Type 0
   IsUntaken waiting Empty repo change cause = ⊥
   IsUntaken waiting (Ls asked) repo change cause = IsLsFault waiting repo.graph.entries change cause
   IsUntaken waiting (Fetches asked) repo change cause =
       IsTakeFault indexes index_fails waiting repo change cause
 
-  -- the client rejects the reply to the request, with the fault of the source exactly if the source failed
+  -- the client rejects the reply to the request, and the fault reports a failed source exactly if the source failed
   pub record Refuses (waiting : SessionState A) (asked : Asked) (repo : RepoState A) (input : Input)
       (cause : ClientFault A) : Type 0 where
     pub untaken : IsUntaken waiting asked repo input.read cause

@@ -43,9 +43,9 @@ use std::alloc::Allocator;
 /// support the server (`UnknownCommand`, `Format`). Fails with `Message` (`BadName`) if the name of
 /// a local ref would be invalid. Fails with `TooManyWants` if a request can't hold all wants. Fails
 /// with `StrangeAck`, `Index` or `Repo` if the client rejects the content of a reply. Fails with
-/// `WriteFailed` if the sink fails, after it wrote a prefix of the requests. Fails with `Repo` if
-/// the refs can't be updated (`NotConnected`, `Refs`), or if out of memory. After every fault the
-/// refs are unchanged, and the graph has only gained objects.
+/// `WriteFailed` if the sink fails, after a prefix of the requests was written. Fails with `Repo`
+/// if the refs can't be updated (`NotConnected`, `Refs`), or if out of memory. After every fault
+/// the refs are unchanged, and the graph has only gained objects.
 pub fn fetch_over<S: Source, W: Sink, A: Allocator + Copy, K: Indexer<A>>(
     repo: &mut Repo<A>,
     source: &mut S,

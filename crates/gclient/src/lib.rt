@@ -6,25 +6,25 @@
 //! # Proved
 //!
 //! - [`fetch_over`] holds a conversation (`specs/Conversations.antt`, `Turns.antt`). The bytes
-//!   alone determine the advertisement and the replies, even if they arrive in pieces. `fetch_over`
-//!   reads nothing after the last reply. It writes each request of the session in its canonical
-//!   encoding, and a lone flush packet after the last reply. It flushes each request before it
-//!   reads the reply. At the end `fetch_over` updates the local refs. [`fetch_over_with`] does the
-//!   same with options for packs.
+//!   alone determine the advertisement and the replies, even if the bytes arrive in pieces.
+//!   `fetch_over` reads nothing after the last reply. It writes each request of the session in its
+//!   canonical encoding, and a lone flush packet after the last reply. It flushes each request
+//!   before it reads the reply. At the end `fetch_over` updates the local refs. [`fetch_over_with`]
+//!   does the same with options for packs.
 //! - [`Fetched`] has the updates of the local refs, the number of requests for objects, and the
 //!   target of the server's unborn `HEAD`.
 //! - The first fault ends a conversation. With too many refspecs, or out of memory at the start,
 //!   the client reads nothing. Later faults are a malformed advertisement, an unsupported server,
 //!   and a fault of a request, of its reply or of the update of refs (see `gsession`). The client
-//!   returns a fault of the source exactly when the source failed.
+//!   reports a failed source exactly when the source failed.
 //! - If the sink fails, all earlier requests were flushed, and a prefix of the next request was
 //!   written.
 //! - After every fault the refs are unchanged. In all cases the graph only gains objects, and each
 //!   ref stays connected.
 //! - A conversation has at most N + 1 requests for objects, if the local refs reached N ids at the
-//!   start ([`laws`]). This bound also holds for a failed conversation. The session counts the same
-//!   requests as rounds. So a conversation ends for any bytes from the server, if each call of the
-//!   source and the sink returns.
+//!   start ([`laws`]). This bound also holds for a failed conversation. The session counts each of
+//!   these requests as a round. So a conversation ends for any bytes from the server, if each call
+//!   of the source and the sink returns.
 //! - [`fetch_git`] flushes the first line before it reads anything (`specs/GitFetches.antt`). The
 //!   rest of the conversation has every guarantee of [`fetch_over_with`]. If the sink fails at the
 //!   first line, `fetch_git` reads nothing, and the repository is unchanged.
@@ -35,8 +35,9 @@
 //!   reads nothing after the final lone flush packet.
 //! - The first fault ends a listing. The faults are a malformed advertisement, an unsupported
 //!   server, a malformed reply, and a failed sink. The contract states which bytes were read and
-//!   written. The client returns a fault of the source exactly when the source failed.
-//! - [`send_request`] writes and flushes one request, for clients with a different conversation.
+//!   written. The client reports a failed source exactly when the source failed.
+//! - [`send_request`] writes and flushes one request, for clients that hold a different
+//!   conversation.
 //! - Each fault has the number, the name and the text of its row in `specs/Faults.antt`.
 //! - No call panics, overflows or reads out of bounds. A call returns if each call of its source
 //!   and its sink returns.
@@ -44,24 +45,25 @@
 //! # Only tested
 //!
 //! If memory is available, calls use it instead of reporting out of memory. The program
-//! `conformance` repeats many fetches and listings, and makes one allocation after another fail.
+//! `conformance` repeats many fetches and listings, and each time makes a different allocation
+//! fail.
 //!
 //! # What the contracts do not rule out
 //!
-//! If a source or a sink does not reveal its bytes, the contracts say nothing about the bytes read
+//! If a source or a sink does not record its bytes, the contracts say nothing about the bytes read
 //! or written. They still state the outcome of the conversation, and whether the source or the sink
 //! failed. If the sink fails, the written prefix may be shorter than necessary. A call may report
 //! out of memory at the start, when it stores data, and when it updates refs. At the start, it may
 //! report out of memory for the session instead of for the reader's buffer, and vice versa. A call
 //! may take any time, and flush more often than necessary. Formatting a fault may return
-//! `fmt::Error` without a cause.
+//! `fmt::Error` for no reason.
 //!
 //! # Dependencies
 //!
-//! `gsession` for the session, and `grefs` and `gclientrepo` for refspecs and the repository.
-//! `ghello` for the first line and the advertisement, `grequest` for requests, and `glsreply` for
-//! listed refs. `ggrammar` and `gpkt` for messages and packets, `gfetchreply` for the limit of a
-//! pack, `ggraph` for indexers, and `gname` for object formats.
+//! The crate uses `gsession` for the session, and `grefs` and `gclientrepo` for refspecs and the
+//! repository. It uses `ghello` for the first line and the advertisement, `grequest` for requests,
+//! and `glsreply` for listed refs. It uses `ggrammar` and `gpkt` for messages and packets,
+//! `gfetchreply` for the limit of a pack, `ggraph` for indexers, and `gname` for object formats.
 #![tactic(auto)]
 
 mod conversation;

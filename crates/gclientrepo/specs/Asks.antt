@@ -20,7 +20,7 @@ asked_ids asks = map (λ ask. ask.id) asks
 abbrev pub is_asked : {A : Type 0} → List (Ask A) → Name → Bool
 is_asked asks name = list_any (λ ask. bytes_eq ask.name name) asks
 
--- the asks with one more, unless they already have an ask for the same ref
+-- the asks, with the given ask appended unless there is already an ask for the same ref
 abbrev pub with_ask : {A : Type 0} → List (Ask A) → Ask A → List (Ask A)
 with_ask asks ask = if is_asked asks ask.name then asks else asks ++ ask ∷ []
 
@@ -33,10 +33,10 @@ IsAskAt {A} asks place name id =
 abbrev pub IsForcedAt : {A : Type 0} → List (Ask A) → ℕ → Bool → Type 0
 IsForcedAt {A} asks place forced = (ask : Ask A) × (slice_get asks place ≡ Some ask) × (ask.forced ≡ forced)
 
--- the ask for a ref of this name, with the new id and the force flag of the aim
+-- the ask for a ref of this name, with this new id and this force flag
 abbrev pub ask_of_aim : {A : Type 0} → Name × Aim → Ask A
 ask_of_aim pair = record { name = pair.0; id = pair.1.id; forced = pair.1.forced }
 
--- the asks for the pairs of a map from ref names to aims
+-- the asks for the entries of a map from ref names to new ids and force flags
 abbrev pub asks_of : {A : Type 0} → List (Name × Aim) → List (Ask A)
 asks_of pairs = map ask_of_aim pairs

@@ -48,7 +48,7 @@ HeldIsNotMissing A =
     (g : List (Entry A)) (ids : List Id) (missing : Id)
     → All (IsConnected g) ids → ¬ (Misses g ids (Some missing))
 
--- the asks determine the outcomes of settling and the refs afterwards
+-- the asks determine the outcomes of settling, and the refs after settling
 abbrev pub OneSettling : Type 0 → Type 0
 OneSettling A =
     (g : List (Entry A)) (old : RefList) (asks : List (Ask A)) (updates others : List RefUpdate) (new other : RefList)

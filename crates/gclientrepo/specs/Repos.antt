@@ -1,5 +1,5 @@
 -- A client's repository: objects, refs, and marks of connected objects. Git's manuals do not say what a client stores.
--- The marks are a rule of this project, and so is that the refs are always connected.
+-- The marks, and the rule that the refs are always connected, are choices of this project.
 use Rattle.std.specs.Map.{values_of}
 use Rattle.std.specs.Prelude.{◌≡◌, List, Bool, ◌∷◌, ◌++◌}
 use Rattle.gname.specs.Ids.{Id}

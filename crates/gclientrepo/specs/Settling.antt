@@ -1,5 +1,5 @@
 -- Settling: all requested updates of refs happen at once. Without force each ref only fast-forwards (gitglossary(7),
--- "fast-forward"). Tags follow this rule too, although git-fetch(1), "<refspec>", has a rule of its own for tags.
+-- "fast-forward"). Tags follow this rule too, although git-fetch(1), "<refspec>", has a different rule for tags.
 pub use Rattle.gclientrepo.specs.Asks.{NamesDiffer, asked_ids}
 use Rattle.std.specs.List.{AllZip}
 use Rattle.std.specs.Prelude.{◌≡◌, ◌≢◌, ◌⊎◌, ◌+◌, ◌<◌, Bool, List, length, map, count_by, All, Contains, IsTrue, None}
@@ -38,7 +38,7 @@ pub record Settles {A : Type 0} (g : List (Entry A)) (old : RefList) (asks : Lis
 abbrev pub is_new : {A : Type 0} → RefList → Ask A → Bool
 is_new refs ask = is_none (ref_at refs ask.name)
 
--- the asks can't be settled: one ask is for HEAD, or there would be too many refs
+-- the asks can't be settled: an ask is for HEAD, or there would be too many refs
 abbrev pub CannotSettle : {A : Type 0} → RefList → List (Ask A) → Type 0
 CannotSettle refs asks =
     Contains (map (λ ask. ask.name) asks) head_name ⊎ (max_refs < length refs + count_by (is_new refs) asks)

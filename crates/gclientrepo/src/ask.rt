@@ -17,7 +17,7 @@ pub struct Ask<A: Allocator + Copy = Global> {
 /// The outcome of an ask for a ref.
 #[derive(Clone, Copy, Debug, PartialEq, Eq, Drop)]
 pub enum RefUpdate {
-    /// The ref was set to the id: it was new, forced or fast-forwarded.
+    /// The ref was set to the id: the ref was new, or the update was forced or a fast-forward.
     Moved,
     /// The ref already had this id.
     Same,

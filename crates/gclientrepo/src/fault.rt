@@ -19,9 +19,11 @@ pub enum RepoFault<A: Allocator + Copy = Global> {
     MissingParent { id: Oid },
     /// The ref of this name is not connected. It is the first such ref in the order of the names.
     UnconnectedRef { name: RefName<A> },
-    /// The new id of a ref is not connected. The id `missing` is absent from its ancestry.
+    /// The new id of a ref is not connected: it reaches the id `missing`, which the repository does
+    /// not hold.
     UnconnectedId { missing: Oid },
-    /// Not all new ids of the asks are connected. The id `missing` is absent from their ancestries.
+    /// Some new id of the asks is not connected: it reaches the id `missing`, which the repository
+    /// does not hold.
     NotConnected { missing: Oid },
     /// The graph rejected the change, or there is not enough memory for a walk or a copy.
     Graph(GraphFault),

@@ -31,12 +31,13 @@
 //!
 //! [`laws`] state that a repository stays connected if its graph gains objects, if a ref is set and
 //! if asks are settled. A failed call leaves the repository unchanged. No id is missing in the
-//! ancestries of connected ids. A list of asks determines its outcomes and the refs afterwards.
+//! ancestries of connected ids. A list of asks determines the outcome of each ask, and the refs
+//! after settling.
 //!
 //! # Only tested
 //!
 //! If memory is available, calls use it instead of reporting out of memory. The program
-//! `conformance` repeats many fetches, and makes one allocation after another fail.
+//! `conformance` repeats many fetches, and each time makes a different allocation fail.
 //!
 //! # What the contracts do not rule out
 //!
@@ -46,18 +47,19 @@
 //! unconnected ref or id. It may also hide refs that can't be set. A walk may continue past marked
 //! objects. A call may take any time, and more memory than it needs. No clause says which allocator
 //! provides the memory. [`Asks::allocator`] may return any allocator of its type, and [`Asks::ids`]
-//! may use the allocator of the asks. Formatting a fault may return `fmt::Error` without a cause.
-//! With options, such as a width, formatting may write another text.
+//! may use the allocator of the asks. Formatting a fault may return `fmt::Error` for no reason.
+//! With format options, such as a width, formatting may write another text.
 //!
-//! No clause bounds time. In this code, adding an ask takes one look-up of its name's hash.
+//! No clause bounds time. In this code, adding an ask takes one hash look-up of the ref's name.
 //! Settling takes time proportional to the number of asks and refs times the logarithm of the
 //! number of refs. Settling also walks over the graph for each ask that moves an existing ref,
 //! unless the ask is forced.
 //!
 //! # Dependencies
 //!
-//! `ggraph` for graphs, refs and walks, and below it `gobject`, `gdag`, `grefs` and `gwalk`;
-//! `gname` for ids and names; `indexmap` for asks by name.
+//! The crate uses `ggraph` for graphs, refs and walks, and the crates `gobject`, `gdag`, `grefs`
+//! and `gwalk` below `ggraph`. It uses `gname` for ids and names, and `indexmap` to look up asks by
+//! name.
 #![tactic(auto)]
 
 mod ask;

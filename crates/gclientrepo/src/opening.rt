@@ -12,7 +12,7 @@ use ggraph::{Graph, GraphFault, Refs, missing};
 use gname::Oid;
 use std::alloc::Allocator;
 
-/// Returns the index of the first ref that is not connected, or `None` if all refs are.
+/// Returns the index of the first ref that is not connected, or `None` if all refs are connected.
 ///
 /// Fails only with `Memory`, and only if the graph stores some object before one of its parents.
 pub(crate) fn first_unconnected<A: Allocator + Copy>(
@@ -36,8 +36,8 @@ pub(crate) fn first_unconnected<A: Allocator + Copy>(
     Ok(Some(first_lost(graph, ids)?))
 }
 
-// Returns the index of the first ref whose id the graph does not hold. In a graph that stores
-// parents first, every id that it holds is connected.
+// Returns the index of the first ref whose id the graph does not hold. In a graph that stores each
+// object after its parents, every id of the graph is connected.
 fn first_absent<A: Allocator + Copy>(graph: &Graph<A>, refs: &Refs<A>) -> Option<usize>
     requires { IsOrdered graph.now.entries }
     ensures { MatchOption result (All (IsConnected graph.now.entries) (values_of refs.now))

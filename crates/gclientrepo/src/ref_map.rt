@@ -11,7 +11,7 @@ use std::alloc::{AllocError, Allocator};
 use std::collections::BTreeMap;
 use std::marker::Model;
 
-/// A map of refs. A sorted list of refs would shift all later refs for each new name.
+/// A map of refs. In a sorted list, each insertion would have to shift all later refs.
 #[derive(Drop)]
 pub(crate) struct RefMap<A: Allocator + Copy> {
     refs: BTreeMap<RefName<A>, Oid, A>,

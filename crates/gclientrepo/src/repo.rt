@@ -55,9 +55,9 @@ impl<A: Allocator + Copy> Repo<A> {
     /// Makes a repository of these objects and refs, and marks every object that the refs reach.
     ///
     /// Fails with `UnconnectedRef` at the first ref, in the order of the names, that is not
-    /// connected. Fails with `Graph` if out of memory. If the graph stores parents first, out of
-    /// memory is reported only if each ref is connected. A failed call drops the graph and the
-    /// refs.
+    /// connected. Fails with `Graph` if out of memory. If the graph stores each object after its
+    /// parents, out of memory is reported only if each ref is connected. A failed call drops the
+    /// graph and the refs.
     pub fn new(graph: Graph<A>, refs: Refs<A>) -> Result<Repo<A>, RepoFault<A>>
         ensures opens { Opens graph refs result }
         ensures whole { IfOk result IsConnectedRepo }
@@ -116,8 +116,8 @@ impl<A: Allocator + Copy> Repo<A> {
 
     /// Returns an id that one of the given ids reaches, but that the repository does not hold.
     /// Returns `None` if all given ids are connected. It first checks whether the graph holds the
-    /// given ids. If the graph stores parents first, this check is enough. Otherwise it walks the
-    /// ancestries, and stops at marked objects.
+    /// given ids. If the graph stores each object after its parents, this check is enough.
+    /// Otherwise it walks the ancestries, and stops at marked objects.
     ///
     /// Fails only with `Memory`, and only if the repository holds all given ids and stores some
     /// object before one of its parents.
@@ -138,7 +138,7 @@ impl<A: Allocator + Copy> Repo<A> {
         self.missing_by_walk(ids)
     }
 
-    // Walks the ancestries of the ids, and returns an id that is missing in them. Fails only with
+    // Walks the ancestries of the ids, and returns an id that is missing there. Fails only with
     // `Memory`.
     fn missing_by_walk(&self, ids: &[Oid]) -> Result<Option<Oid>, GraphFault>
         ensures answer { IfOk result (Misses self.now.graph.entries ids.now) }
@@ -193,10 +193,10 @@ impl<A: Allocator + Copy> Repo<A> {
     /// Sets a ref to a connected id, even if that is not a fast-forward. Marks every object that
     /// the id reaches before it sets the ref.
     ///
-    /// Fails with `UnconnectedId` if an id is missing in the ancestry. Otherwise fails with `Refs`
-    /// if the ref is HEAD, if there would be too many refs, or if out of memory. If
-    /// [`Repo::missing`] needs a walk, out of memory for the walk (`Graph`) may precede these
-    /// faults. A failed call leaves the repository unchanged.
+    /// Fails with `UnconnectedId` if the repository does not hold an id that the new id reaches.
+    /// Otherwise fails with `Refs` if the ref is HEAD, if there would be too many refs, or if out
+    /// of memory. If [`Repo::missing`] needs a walk, out of memory for the walk (`Graph`) may be
+    /// reported instead of these faults. A failed call leaves the repository unchanged.
     pub fn set_local_ref(&mut self, name: RefName<A>, id: Oid) -> Result<(), RepoFault<A>>
         ensures sets { SetsLocal self.old name id self.new result }
         ensures whole { IsConnectedRepo self.new }
@@ -227,15 +227,15 @@ impl<A: Allocator + Copy> Repo<A> {
         Ok(())
     }
 
-    /// Settles the asks: makes all requested updates of refs that are new, forced or fast-forwards.
-    /// All updates happen at once, and all other refs are unchanged. Returns the outcome of each
-    /// ask, in the order of the asks. All outcomes depend on the refs before the call. Marks every
-    /// object that the new ids reach before it moves a ref.
+    /// Settles the asks: makes each requested update if the ref is new, or if the update is forced
+    /// or a fast-forward. All updates happen at once, and all other refs are unchanged. Returns the
+    /// outcome of each ask, in the order of the asks. All outcomes depend on the refs before the
+    /// call. Marks every object that the new ids reach before it moves a ref.
     ///
-    /// Fails with `NotConnected` if an id is missing in the ancestries of the new ids. Otherwise
-    /// fails with `Refs` if an ask is for HEAD, if there would be too many refs, or if out of
-    /// memory. If [`Repo::missing`] needs a walk, out of memory for the walk (`Graph`) may precede
-    /// these faults. A failed call leaves the repository unchanged.
+    /// Fails with `NotConnected` if the repository does not hold an id that the new ids reach.
+    /// Otherwise fails with `Refs` if an ask is for HEAD, if there would be too many refs, or if
+    /// out of memory. If [`Repo::missing`] needs a walk, out of memory for the walk (`Graph`) may
+    /// be reported instead of these faults. A failed call leaves the repository unchanged.
     pub fn settle(&mut self, asks: &Asks<A>) -> Result<Vec<RefUpdate, A>, RepoFault<A>>
         ensures settles { MatchResult result
             (λ updates. SettlesAsks self.old asks.now self.new (Ok updates.items))
@@ -292,8 +292,8 @@ impl<A: Allocator + Copy> Repo<A> {
         Ok(updates)
     }
 
-    // Replaces the refs by new refs, and marks every object that the ids reach. Requires that each
-    // new ref is an old ref or points at one of the ids.
+    // Replaces the refs with new refs, and marks every object that the ids reach. Requires that
+    // each new ref is an old ref or points at one of the ids.
     fn install(&mut self, refs: Refs<A>, ids: &[Oid]) -> Result<(), GraphFault>
         requires connected { All (IsConnected self.old.graph.entries) ids.now }
         requires from { ComeFrom self.old.refs ids.now refs }

@@ -72,15 +72,15 @@ pub(crate) fn first_absent<A: Allocator + Copy>(graph: &Graph<A>, asks: &Asks<A>
     None
 }
 
-/// Returns whether the ref can't be set: the ref is HEAD, or it is new and the refs are already
-/// `MAX_REFS` many.
+/// Returns whether the ref can't be set: the ref is HEAD, or it is new and there are already
+/// `MAX_REFS` refs.
 pub(crate) fn cannot_set<A: Allocator + Copy>(refs: &Refs<A>, name: &RefName<A>) -> bool
     ensures { IsTrue result ↔ CannotSet refs.now name.now }
 {
     name.is_head() || (refs.get(name).is_none() && refs.len() == MAX_REFS)
 }
 
-/// Returns whether the asks can't be settled: one ask is for HEAD, or there would be too many refs.
+/// Returns whether the asks can't be settled: an ask is for HEAD, or there would be too many refs.
 pub(crate) fn cannot_settle<A: Allocator + Copy>(refs: &Refs<A>, asks: &Asks<A>) -> bool
     ensures { IsTrue result ↔ CannotSettle refs.now asks.now }
 {

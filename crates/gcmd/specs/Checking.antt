@@ -14,7 +14,7 @@ use Rattle.gcmd.specs.Programs.{ProgramOutcome}
 use Rattle.gcmd.specs.declared.check.Report.{Report}
 use Rattle.gcmd.specs.declared.fault.ProgramFault.TheVariants as program
 
--- the report has the counts of the repository, and the results of both checks
+-- the report has the numbers of the repository's nodes and refs, and the results of both checks
 pub record IsReport {A : Type 0} (repo : Repository A) (report : Report) : Type 0 where
   pub nodes : report.nodes ≡ length repo.graph.entries
   pub refs : report.refs ≡ length repo.refs

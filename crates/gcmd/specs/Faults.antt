@@ -75,7 +75,7 @@ printed_of_text fault = record (plain (load_fault_row fault)) { line = line_in_t
 
 -- ---- repositories that are not served
 
--- the id of two different objects, or the id of another format
+-- the id that two different objects share, or the id of another object format
 abbrev pub id_in_graph : GraphFault → Option Id
 id_in_graph (graph.Conflict id) = Some id
 id_in_graph (graph.OtherFormat id) = Some id
@@ -142,7 +142,7 @@ abbrev pub line_in_client : {A : Type 0} → ClientFault A → Option ℕ
 line_in_client (client.Index (index.Bad line)) = Some line
 line_in_client _ = None
 
--- the id of a missing object, of two different objects, or of another format
+-- the id of a missing object, the id that two different objects share, or an id of another object format
 abbrev pub id_in_repo : {A : Type 0} → RepoFault A → Option Id
 id_in_repo (repo.MissingParent id) = Some id
 id_in_repo (repo.UnconnectedId missing) = Some missing

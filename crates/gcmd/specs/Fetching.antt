@@ -34,7 +34,7 @@ use Rattle.gcmd.specs.declared.fault.ProgramFault.TheVariants as program
 
 -- ---- arguments
 
--- the text is that of a refspec
+-- the text is the text of a refspec
 abbrev pub IsSpecText : Bytes → Type 0
 IsSpecText text = (spec : Refspec) × IsSpec text spec
 
@@ -47,7 +47,7 @@ pub record RefusesWord (words : List Bytes) (fault : SpecFault) : Type 0 where
   pub before : All IsSpecText front
   pub refused : Reads (IsSpec word) (Err fault)
 
--- the result of reading the arguments: a refspec for each, or the fault of the first bad argument
+-- the result of reading the arguments: a refspec for each argument, or the fault of the first bad argument
 abbrev pub ReadsSpecs : {A : Type 0} → List Bytes → Result (List Refspec) (ProgramFault A) → Type 0
 ReadsSpecs words (Ok specs) = AllZip IsSpec words specs
 ReadsSpecs words (Err (program.Spec fault)) = RefusesWord words fault
@@ -55,7 +55,7 @@ ReadsSpecs words (Err _) = ⊥
 
 -- ---- files
 
--- the HEAD of a client's repository: none
+-- the absent HEAD of a client's repository
 abbrev pub no_head : {A : Type 0} → Head A
 no_head = head.None
 
@@ -65,7 +65,7 @@ pub record NamesClient {A : Type 0} (file : Bytes) (repo : RepoState A) : Type 0
   pub loadable : IsLoadable Any repo.graph repo.refs (no_head {A = A})
   pub whole : IsConnectedRepo repo
 
--- the file is the text of a repository with a HEAD, at this line
+-- the file is the text of a repository with a HEAD, which is at this line
 pub record NamesHead (A : Type 0) (file : Bytes) (line : ℕ) : Type 0 where
   pub repo : Repository A
   pub text : file ≡ repository_text repo.graph repo.refs repo.head
@@ -73,7 +73,7 @@ pub record NamesHead (A : Type 0) (file : Bytes) (line : ℕ) : Type 0 where
   pub stands : repo.head ≢ no_head
   pub place : line ≡ length repo.graph.entries + length repo.refs + 2
 
--- the file is the text of a repository that the client refuses, for this cause
+-- the file is the text of a repository that the client refuses for this cause
 pub record NamesUnconnected (A : Type 0) (file : Bytes) (Cause : History A → RefList → Type 0) : Type 0 where
   pub graph : History A
   pub refs : RefList
@@ -105,7 +105,7 @@ plain_index_fails A bytes fault = IndexRefuses A bytes fault
 
 -- ---- results
 
--- the new repository has the objects of the old one and perhaps more, and its refs are the updated refs
+-- the new repository has all objects of the old repository and perhaps more objects, and its refs are the updated refs
 pub record IsFetchedInto {A : Type 0} (old new : RepoState A) (fetched : Fetched A) : Type 0 where
   pub grows : Grows old.graph.entries new.graph.entries
   pub settles : Settles new.graph.entries old.refs fetched.settled.asks fetched.settled.updates.items new.refs
@@ -126,8 +126,8 @@ abbrev pub Reports : {A : Type 0} → Fetched A → Output → ProgramOutcome A 
 Reports fetched report outcome =
     SendsReport (fetch_report fetched) report outcome ⊎ ((outcome ≡ Err program.Memory) × IsUnwritten report)
 
--- the outcome after a successful conversation: there is a new file, and the report is sent; or memory for the new file
--- runs out, and nothing is reported
+-- the outcome after a successful conversation: either there is a new file and the report is sent, or memory for the new
+-- file runs out and nothing is reported
 abbrev pub Concludes : {A : Type 0} → RepoState A → RepoState A → Fetched A → Output → Option Bytes → ProgramOutcome A → Type 0
 Concludes old new fetched report file outcome =
     (IsNewFile old new fetched file × Reports fetched report outcome)
@@ -155,7 +155,7 @@ module _ {A : Type 0} (old : Bytes) (specs : List Refspec) (limit : ℕ) (ends :
       pub unreported : IsUnwritten report
       pub none : file ≡ None
 
-    -- the repository of the client's file fetches by the refspecs
+    -- the repository of the client's file fetches with the refspecs
     pub record IsFetched (outcome : ProgramOutcome A) : Type 0 where
       pub repo : RepoState A
       pub names : NamesClient old repo

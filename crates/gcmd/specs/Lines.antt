@@ -40,12 +40,12 @@ shown_lines (line ∷ lines) = shown_line line ++ shown_lines lines
 abbrev pub max_lines : ℕ
 max_lines = 4294967295
 
--- the reasons to stop after so many packets: the input ends, the maximum is reached, or the next packet is refused
+-- the reasons to stop after this many packets: the input ends, the maximum is reached, or the next packet is refused
 abbrev pub StopsAfter : ℕ → Change → Result (Unit {0}) PacketFault → Type 0
 StopsAfter count bytes (Ok done) = Reads bytes (Ok None) ⊎ ((count ≡ max_lines) × (bytes.new ≡ bytes.old))
 StopsAfter count bytes (Err fault) = Reads bytes (Err fault)
 
--- whether the source is down after reading: exactly if the fault is that of the source
+-- whether the source has failed after reading, which is so exactly if the fault is a fault of the source
 abbrev pub LeavesSource : Bool → Result (Unit {0}) PacketFault → Type 0
 LeavesSource down (Ok done) = down ≡ false
 LeavesSource down (Err fault) = IsReadFailure false down (why.Line fault)
@@ -57,7 +57,7 @@ pub record ReadsEach (input : Input) (lines : List Packet) (ended : Result (Unit
   pub stops : StopsAfter (length lines) (record { old = between; new = input.read.new }) ended
   pub source : LeavesSource input.is_down ended
 
--- these packets are read, and perhaps the reason to stop after them is met
+-- these packets are read, and perhaps one of the reasons to stop applies after them
 abbrev pub ReadsSome : Input → List Packet → Type 0
 ReadsSome input lines =
     ReadsPackets input.read lines ⊎ ((ended : Result (Unit {0}) PacketFault) × ReadsEach input lines ended)
@@ -74,8 +74,8 @@ ShowsUntil input output fault =
     ((lines : List Packet) × ReadsEach input lines (Err fault) × Sends output (shown_lines lines))
     ⊎ ((fault ≡ Memory) × IsUnread input × IsUnwritten output)
 
--- The effect of `lines`: all packets up to the end or to a refused packet are shown. If the sink fails, a prefix of
--- their lines is written.
+-- The effect of `lines`: all packets up to the end or to a refused packet are shown. If the sink fails, a prefix of the
+-- lines is written.
 abbrev pub ShowsLines : {A : Type 0} → Input → Output → ProgramOutcome A → Type 0
 ShowsLines input output (Ok done) =
     (lines : List Packet) × ReadsEach input lines (Ok tt) × Sends output (shown_lines lines)

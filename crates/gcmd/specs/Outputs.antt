@@ -1,4 +1,4 @@
--- The bytes that a program writes to a sink and flushes, and those that are written if the sink fails.
+-- The bytes that a program writes to a sink and flushes, and the bytes that are written if the sink fails.
 use Rattle.std.specs.Prelude.{◌≡◌, ◌⊎◌, true, Result, Ok, Err}
 use Rattle.std.specs.Io.KnownBytes.{Appends, Keeps}
 use Rattle.gpkt.specs.Devices.{KeepsPassed}

@@ -15,7 +15,8 @@ pub record RefusesPrefix (words : List Bytes) (fault : NameFault) : Type 0 where
   pub before : All IsPrefix front
   pub refused : Owns prefix_fault word (Err fault)
 
--- the result of reading the arguments: if each is a prefix, the arguments unchanged
+-- the result of reading the arguments: the arguments, unchanged, if each is a prefix of ref names, or the fault of the
+-- first bad argument
 abbrev pub ReadsPrefixes : {A : Type 0} → List Bytes → Result (List Bytes) (ProgramFault A) → Type 0
 ReadsPrefixes words (Ok prefixes) = (prefixes ≡ words) × All IsPrefix words
 ReadsPrefixes words (Err (program.Name fault)) = RefusesPrefix words fault

@@ -1,5 +1,6 @@
--- The printed line of a fault: `gitv2: fault NUMBER NAME`. Then follow the parts that the fault has: the position of
--- the packet, the line number, the index of the byte, and the id, the ref name or the error text.
+-- The printed line of a fault: `gitv2: fault NUMBER NAME`. After the name come those of the following parts that the
+-- fault has: the position of the packet, the line number, the index of the byte, and the id, the ref name or the error
+-- text.
 use Rattle.std.specs.Prelude.{ℕ, ◌++◌, ◌&&◌, nat_le, if◌then◌else◌, [], map, codes, Option, None, Some}
 use Rattle.std.specs.Fmt.{decimal}
 use Rattle.gname.specs.Ids.{Id, id_text}
@@ -11,7 +12,7 @@ use Rattle.gcmd.specs.declared.fault.ProgramFault.{ProgramFault}
 abbrev pub printable : ℕ → ℕ
 printable byte = if nat_le 32 byte && nat_le byte 126 then byte else 63
 
--- a number after its word, or nothing if the fault has no such number
+-- a word and a number, or nothing if the fault has no such number
 abbrev pub number_part : Bytes → Option ℕ → Bytes
 number_part word None = []
 number_part word (Some number) = word ++ decimal number
@@ -30,7 +31,7 @@ subject_part (Some id) text = id_part id
 subject_part None (Some text) = text_part text
 subject_part None None = []
 
--- the printed line of these parts
+-- the printed line that consists of these parts
 abbrev pub printed_line : Printed → Bytes
 printed_line row =
     codes "gitv2: fault " ++ decimal row.number ++ codes " " ++ row.name ++ number_part (codes " frame ") row.frame

@@ -14,7 +14,8 @@ ProgramOutcome A = Result (Unit {0}) (ProgramFault A)
 abbrev pub Prints : Output → Bytes → Type 0
 Prints errors line = Sends errors line ⊎ BreaksOff errors line
 
--- after success nothing is printed, and the status is 0; after a fault the fault's line is printed, and the status is 1
+-- after success nothing is printed, and the status is 0; after a fault the line that reports the fault is printed, and
+-- the status is 1
 abbrev pub ExitsWith : {A : Type 0} → ProgramOutcome A → Output → ℕ → Type 0
 ExitsWith (Ok done) errors status = IsUnwritten errors × (status ≡ 0)
 ExitsWith (Err fault) errors status = Prints errors (fault_line fault) × (status ≡ 1)

@@ -1,6 +1,6 @@
 -- A fetch into a stored file: the file is locked and read, the refs are updated, and then the whole text is replaced.
 -- The report follows the new text. The contracts state which texts the file had since it was read: only the old text
--- (`IsKept`), or at most the new text after it (`IsReplaced`).
+-- (`IsKept`), or the old text and then perhaps the new text (`IsReplaced`).
 use Rattle.std.specs.Prelude.{◌≡◌, ◌⊎◌, ℕ, List, Option, Result, Ok, Err}
 use Rattle.gpkt.specs.Packets.{Bytes}
 use Rattle.gpkt.specs.Sending.{Input, Output, IsUnread, IsUnwritten}
@@ -32,7 +32,7 @@ pub record Stored : Type 0 where
 abbrev pub stored_of : {T : Type 0} → (T → Option Texts) → (T → Lockfile) → T → T → Stored
 stored_of texts lockfile old new = record { old = texts old; new = texts new; lockfile = lockfile new }
 
--- the file had no other text since
+-- since it was read, the file had no text except its old text
 abbrev pub IsKept : Stored → Type 0
 IsKept stored = KeepsStates stored.old stored.new
 
@@ -112,7 +112,7 @@ module _ {A : Type 0} (specs : List Refspec) (limit : ℕ) (ends : Ends) (stored
       pub unwritten : IsUnwritten output
       pub unreported : IsUnwritten report
 
-    -- the repository of the file fetches by the refspecs
+    -- the repository of the file fetches with the refspecs
     pub record IsFetchedStored (outcome : ProgramOutcome A) : Type 0 where
       pub old : Bytes
       pub held : Holds stored.old old
@@ -128,15 +128,15 @@ module _ {A : Type 0} (specs : List Refspec) (limit : ℕ) (ends : Ends) (stored
     abbrev pub FetchesStored : ProgramOutcome A → Type 0
     FetchesStored outcome = (stored.lockfile ≡ Absent) × (IsFetchedStored outcome ⊎ IsNotOpened outcome)
 
--- The end of a program whose report and whose fault use the same sink. After a complete report nothing follows, and the
--- status is 0. If the sink fails during the report, nothing follows, and the status is 1. A fault before the report is
--- printed, and the status is 1.
+-- The end of a program that writes its report and its fault to the same sink. After a complete report nothing more is
+-- written, and the status is 0. If the sink fails during the report, nothing more is written, and the status is 1. If
+-- the program fails before the report, it prints its fault, and the status is 1.
 abbrev pub ExitsAfter : {A : Type 0} → ProgramOutcome A → Output → Output → ℕ → Type 0
 ExitsAfter (Ok done) report errors status = (errors ≡ report) × (status ≡ 0)
 ExitsAfter (Err program.WriteFailed) report errors status = (errors ≡ report) × (status ≡ 1)
 ExitsAfter (Err fault) report errors status = Prints errors (fault_line fault) × (status ≡ 1)
 
--- a program writes its report to the errors' sink, and ends with the exit status of its outcome
+-- a program writes its report to the error sink, and ends with the exit status of its outcome
 abbrev pub ReportsAndExits : {A : Type 0} → (Output → ProgramOutcome A → Type 0) → Output → ℕ → Type 0
 ReportsAndExits {A} Works errors status =
     (report : Output) × (outcome : ProgramOutcome A) × Works report outcome × ExitsAfter outcome report errors status

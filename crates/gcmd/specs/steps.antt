@@ -1,4 +1,4 @@
--- The steps: what only private functions and proofs speak of.
+-- The steps: definitions that only private functions and proofs use.
 pub mod Lines
 pub mod Outputs
 pub mod Printing

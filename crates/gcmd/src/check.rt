@@ -1,4 +1,4 @@
-//! `gitv2 check`, as a function over bytes and devices.
+//! `gitv2 check`, as a function over bytes, sources and sinks.
 
 ghost use Rattle.std.specs.Prelude.{◌≡◌, ◌≤◌, [], length, IfOk};
 ghost use Rattle.gcmd.specs.Checking.{report_line, yes_or_no, Checks, IsReport};

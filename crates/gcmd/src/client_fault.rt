@@ -31,8 +31,8 @@ pub(crate) fn line_in_client<A: Allocator + Copy>(fault: &ClientFault<A>) -> Opt
     }
 }
 
-/// Returns the id of the fault: a missing id, an id of two objects or of another format, or an id
-/// that was acknowledged but never offered.
+/// Returns the id that the fault names: a missing id, an id that two objects share, an id of
+/// another object format, or an id that was acknowledged but never offered.
 pub(crate) fn id_in_client<A: Allocator + Copy>(fault: &ClientFault<A>) -> Option<Oid>
     ensures { result ≡ id_in_client fault.now }
 {

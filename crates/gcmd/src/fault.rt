@@ -44,7 +44,7 @@ pub enum ProgramFault<A: Allocator + Copy = Global> {
     /// Faults 11, 13 and 18: a word is not a prefix of ref names, or out of memory to keep the
     /// prefixes.
     Name(NameFault),
-    /// Fault 94: a message between the client and the server of a pair is too long.
+    /// Fault 94: a message between the client and the server of `gitv2 pair` is too long.
     PairLimit,
     /// Fault 96: a socket could not be opened, or a connection could not be accepted.
     Socket,

@@ -1,4 +1,4 @@
-//! `gitv2 fetch`, as a function over bytes and devices.
+//! `gitv2 fetch`, as a function over bytes, sources and sinks.
 
 ghost use Rattle.std.specs.Prelude.{◌≡◌, MatchResult, length, option_map};
 ghost use Rattle.gpkt.specs.Packets.{Bytes};
@@ -30,8 +30,8 @@ pub struct FetchRun<A: Allocator + Copy = Global> {
     pub file: Option<Vec<u8, A>>,
 }
 
-/// `gitv2 fetch --stdio [--limit N] [--response-end] FILE SPEC...`: fetches by refspecs from the
-/// server at `input` and `output` into the client's repository whose text is `file`
+/// `gitv2 fetch --stdio [--limit N] [--response-end] FILE SPEC...`: fetches with the refspecs from
+/// the server at `input` and `output` into the client's repository whose text is `file`
 /// (gitprotocol-v2(5)). `limit` is the maximum size of a pack, and `ends` states how each reply
 /// ends. The report has a line for each ref: `moved NAME ID`, `same NAME`, or `notforward NAME` if
 /// the move is not a fast-forward. The last line is `unborn NAME` if HEAD was fetched and the
@@ -108,7 +108,8 @@ fn fetch_into<A: Allocator + Copy, S: Source, W: Sink, R: Sink>(
     }
 }
 
-// Fetches into the client's repository of the file. Returns the outcome, and the new text if any.
+// Fetches into the client's repository that the file describes. Returns the outcome, and the new
+// text of the file if there is one.
 fn fetch_for<A: Allocator + Copy, S: Source, W: Sink, R: Sink>(
     repo: &mut Repo<A>,
     fetch: &FileFetch<'_, A>,

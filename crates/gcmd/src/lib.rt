@@ -1,15 +1,15 @@
-//! The programs of gitv2 as functions over bytes and devices. The programs serve the repository of
-//! a file, fetch into such a repository, check it, or show packets.
+//! The programs of gitv2 as functions over bytes, sources and sinks. The programs serve the
+//! repository of a file, fetch into the repository, check the repository, or show packets.
 //!
 //! A device is a source or a sink. A promise about the bytes of a device holds only if the device
 //! records its bytes, as devices in memory do.
 //!
 //! # Proved
 //!
-//! - Every program exits with status 0 or 1. With status 0 the program writes nothing to the
-//!   errors' sink. With status 1 the program prints and flushes exactly the line of its fault
+//! - Every program exits with status 0 or 1. With status 0 the program writes nothing to the error
+//!   sink. With status 1 the program prints and flushes exactly the line that reports its fault
 //!   (`specs/Programs.antt`). If the sink fails, a prefix of the line is printed.
-//! - [`cmd_failed`] prints the line of a given fault.
+//! - [`cmd_failed`] prints the line that reports a given fault.
 //! - If a write to a sink fails, nothing more is flushed. If a flush fails, the bytes of earlier
 //!   flushes remain flushed (`specs/Outputs.antt`).
 //! - [`cmd_upload`] serves one connection, and [`cmd_ls`] one request, from the repository of a
@@ -25,22 +25,22 @@
 //!   repository without HEAD whose refs are all connected. With any other file nothing is read or
 //!   written. If the conversation succeeds, the new file is the text of the repository after the
 //!   fetch. The fetch only adds objects, every ref is connected, and each ref that may move has
-//!   moved. The report (`specs/Reporting.antt`) is written and flushed, or a prefix of it if its
-//!   sink fails. If memory for the report runs out, there is a new file without a report. After any
-//!   other fault there is no new file and no report.
+//!   moved. The report (`specs/Reporting.antt`) is written and flushed. If its sink fails, a prefix
+//!   of the report is written. If memory for the report runs out, there is a new file without a
+//!   report. After any other fault there is no new file and no report.
 //! - [`read_specs`] reads arguments as refspecs, and fails at the first argument that is not a
 //!   refspec.
 //! - [`read_prefixes`] reads arguments as prefixes of ref names, unchanged, and fails at the first
 //!   argument that is not a prefix (`specs/Prefixes.antt`).
-//! - [`cmd_fetch_stored`] fetches in the same manner into a stored file, which it first locks and
-//!   reads (`specs/Stored.antt`). In every state of the storage, the file has the old text or the
-//!   whole new text. The new text is written only after the conversation succeeds, and the report
-//!   only after the new text. At the end the program holds no lockfile.
+//! - [`cmd_fetch_stored`] fetches like [`cmd_fetch`], but into a stored file, which it first locks
+//!   and reads (`specs/Stored.antt`). At any time the file has the old text or the whole new text.
+//!   The new text is written only after the conversation succeeds, and the report only after the
+//!   new text. At the end the program holds no lockfile.
 //! - [`open_stored`] and [`conclude_stored`] are the first and the last step of
-//!   [`cmd_fetch_stored`], for callers that hold another conversation.
-//! - [`cmd_check`] writes and flushes one line, or a prefix of it if the sink fails. The line shows
-//!   the number of nodes and refs, whether the graph is closed, and whether the repository is
-//!   connected. If the file is not the text of a repository, nothing is written.
+//!   [`cmd_fetch_stored`], for callers that hold a different conversation.
+//! - [`cmd_check`] writes and flushes one line, or writes a prefix of the line if the sink fails.
+//!   The line shows the number of nodes and refs, whether the graph is closed, and whether the
+//!   repository is connected. If the file is not the text of a repository, nothing is written.
 //! - [`cmd_lines`] shows exactly the packets of its input, up to the end or to the first refused
 //!   packet. The program flushes all lines, or writes a prefix of the lines if the sink fails. If
 //!   the exit status is 0, the source has not failed.
@@ -50,17 +50,16 @@
 //! # Only tested
 //!
 //! The cases of `conformance` test the exact bytes of whole runs. The cases also test that
-//! available memory is used, and that a device is not called again after a failure. The cases run
-//! with one byte per call, and with a failure at each call in turn.
+//! available memory is used, and that a source or a sink is not called again after a failure. The
+//! cases read and write one byte per call, and make each call fail in turn.
 //!
 //! # What the contracts do not rule out
 //!
-//! A call that allocates may report out of memory whenever the crates that it uses may. If a sink
-//! does not record its bytes, the contracts do not state which bytes the sink receives. The
-//! contracts do not limit how often a device is called, or how long a call takes. Formatting a
-//! fault may return an error (`fmt::Error`) although the text would be right. The function
-//! [`cmd_fetch_stored`] may report that a file can't be locked, read or replaced although it could
-//! be.
+//! A call that allocates may report out of memory whenever the crates that it uses may do so. If a
+//! sink does not record its bytes, the contracts do not state which bytes the sink receives. The
+//! contracts do not limit how often a source or a sink is called, or how long a call takes.
+//! Formatting a fault may return `fmt::Error` for no reason. The function [`cmd_fetch_stored`] may
+//! report that a file can't be locked, read or replaced although it could be.
 //!
 //! # Dependencies
 //!

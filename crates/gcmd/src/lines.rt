@@ -1,4 +1,4 @@
-//! `gitv2 lines`, as a function over bytes and devices.
+//! `gitv2 lines`, as a function over bytes, sources and sinks.
 
 ghost use Rattle.std.specs.Prelude.{◌≡◌, ◌+◌, ◌≤◌, ◌++◌, codes, false, length, []};
 ghost use Rattle.std.specs.Fmt.{decimal};
@@ -72,7 +72,7 @@ fn show_lines<A: Allocator + Copy, S: Source, W: Sink>(
     }
 }
 
-// Shows each packet, and flushes the output. Returns the outcome of the reading.
+// Shows each packet, and flushes the output. Returns the reason why reading stopped.
 fn pass_each<A: Allocator + Copy, S: Source, W: Sink>(
     reader: &mut PacketReader<S, A>,
     output: &mut W,

@@ -1,4 +1,4 @@
-//! `gitv2 ls --stdio-server`, as a function over bytes and devices.
+//! `gitv2 ls --stdio-server`, as a function over bytes, sources and sinks.
 
 ghost use Rattle.std.specs.Prelude.{◌≡◌};
 ghost use Rattle.gcmd.specs.Programs.{Runs};

@@ -1,6 +1,6 @@
-//! The printed lines of faults. A line begins with `gitv2: fault NUMBER NAME`. Then follow the
-//! parts that the fault has: ` frame K`, ` line K`, ` at K`, and a space with the id, the name or
-//! the text. Each byte outside 32 to 126 is printed as `?`.
+//! The printed lines of faults. A line begins with `gitv2: fault NUMBER NAME`. After the name come
+//! those of the following parts that the fault has: ` frame K`, ` line K`, ` at K`, and a space
+//! with the id, the name or the text. Each byte outside 32 to 126 is printed as `?`.
 
 ghost use Rattle.std.specs.Prelude.{◌≡◌, ◌+◌, ◌≤◌, ◌++◌, length, map, None, []};
 ghost use Rattle.std.specs.Option.{option_copied};
@@ -24,8 +24,8 @@ use gname::{HEAD, NameFault, OUT_OF_MEMORY, Oid};
 use gpkt::{Down, Sink, WriteFault};
 use std::alloc::Allocator;
 
-/// The maximum length in bytes of a fault's line: its fixed words, a name of 32 bytes, four numbers
-/// of 20 digits, and a text of 1,000 bytes.
+/// The maximum length in bytes of the line that reports a fault: its fixed words, a name of 32
+/// bytes, four numbers of 20 digits, and a text of 1,000 bytes.
 const MAX_FAULT_LINE: usize = 1_145;
 
 /// The printed parts of a fault.
@@ -223,7 +223,7 @@ fn add_place(word: &[u8], place: Option<u64>, text: &mut ArrayVec<u8, MAX_FAULT_
     }
 }
 
-// Appends the id of the fault, or its name or text.
+// Appends the id, the ref name or the text of the fault.
 fn add_subject(id: Option<Oid>, printable: Option<&[u8]>, text: &mut ArrayVec<u8, MAX_FAULT_LINE>)
     requires room { length text.old.items + max_subject ≤ max_fault_line }
     requires short { IsShortText (option_copied printable) }
@@ -287,7 +287,7 @@ fn line_in_text(fault: &LoadFault) -> Option<usize>
     }
 }
 
-/// Returns the id of two objects, or the id of another format.
+/// Returns the id that two objects share, or the id of another object format.
 pub(crate) fn id_in_graph(fault: &GraphFault) -> Option<Oid>
     ensures { result ≡ id_in_graph fault.now }
 {

@@ -1,4 +1,4 @@
-//! The served repository, from its file.
+//! Loading the served repository from its file.
 
 ghost use Rattle.gcmd.specs.Serving.{LoadsServer};
 

@@ -44,7 +44,7 @@ pub struct OpenedFile<A: Allocator + Copy = Global> {
 /// `gitv2 fetch --stdio [--limit N] [--response-end] FILE SPEC...`: locks and reads the file, and
 /// fetches into its repository from the server at `input` and `output`. Replaces the whole file if
 /// the conversation succeeded, and then writes the report to `errors`, since `output` leads to the
-/// server. A fault is printed there as one line. Returns the exit status.
+/// server. A fault is also printed on `errors`, as one line. Returns the exit status.
 ///
 /// The fault is `File` or `Memory` if the file can't be locked, read or replaced. Nothing is read
 /// from the input or written to the output before the file is locked and read. After every fault
@@ -71,7 +71,7 @@ pub fn cmd_fetch_stored<A: Allocator + Copy, T: Storage, S: Source, W: Sink, E: 
     exit_after(outcome, errors)
 }
 
-// Ends a program that writes its report to the errors' sink. Returns the exit status.
+// Ends a program that writes its report to the error sink. Returns the exit status.
 fn exit_after<A: Allocator + Copy, E: Sink>(
     outcome: Result<(), ProgramFault<A>>,
     errors: &mut E,
@@ -82,7 +82,7 @@ fn exit_after<A: Allocator + Copy, E: Sink>(
 {
     match outcome {
         Ok(()) => 0,
-        // The report used the same sink, so the sink is down and can't print the fault.
+        // The report went to the same sink, so the sink has failed and can't print the fault.
         Err(ProgramFault::WriteFailed) => 1,
         Err(fault) => cmd_failed(fault, errors),
     }
@@ -203,8 +203,9 @@ fn give_up<A: Allocator + Copy, T: Storage, X>(
     Err(fault)
 }
 
-/// Ends a successful fetch into a locked file whose text is `old`. Replaces the file by the text of
-/// the repository, and only afterwards writes the report. At the end this run holds no lockfile.
+/// Ends a successful fetch into a locked file whose text is `old`. Replaces the content of the file
+/// with the text of the repository, and only then writes the report. At the end this run holds no
+/// lockfile.
 ///
 /// Fails with `Memory` or `File` if the file can't be replaced. After these faults nothing is
 /// reported, and the file has the old text or the whole new text. After the file has the new text,
@@ -231,7 +232,7 @@ pub fn conclude_stored<A: Allocator + Copy, T: Storage, R: Sink>(
     }
 }
 
-// Replaces the file by the text, and only afterwards writes the report.
+// Replaces the content of the file with the text, and only then writes the report.
 fn store<A: Allocator + Copy, T: Storage, R: Sink>(
     file: &mut T,
     old: &[u8],

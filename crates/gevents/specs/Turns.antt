@@ -44,7 +44,8 @@ module _ {C A : Type 0} {ghosts : Ghosts C} (turn : C → Turn) where
   EndsAt None turned = Unit {0}
 
 module _ {C A : Type 0} {ghosts : Ghosts C} where
-  -- the returned connection is that of the peer, with its address, its count of sent bytes, and its end
+  -- the returned connection is the connection of the peer, with the peer's address, the count of sent bytes, and the
+  -- kind of end
   pub record IsEndOf (peer : Peer C A ghosts) (how : End) (ended : Ended C A ghosts) : Type 0 where
     pub connection : ended.connection ≡ peer.connection
     pub address : ended.address ≡ peer.address

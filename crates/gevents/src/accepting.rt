@@ -15,8 +15,8 @@ use std::alloc::Allocator;
 use std::io::{self, ErrorKind, Write};
 use std::net::{IpAddr, SocketAddr};
 
-// The error numbers of a system without resources: too many open files, in the process or in total,
-// and no memory, buffers or streams (errno(3)).
+// The error numbers that report a lack of resources: too many open files in the process or in the
+// system, or no memory, buffers or streams (errno(3)).
 const STARVED: [i32; 5] = [24, 23, 12, 105, 63];
 
 // The error numbers for faults of the network, not of the listener (accept(2), "Error handling"):

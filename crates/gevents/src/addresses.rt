@@ -5,7 +5,7 @@ ghost use Rattle.std.specs.Prelude.{◌<◌, IfSome, vec_len};
 use std::alloc::{AllocError, Allocator};
 use std::net::IpAddr;
 
-/// The number of peers of each IP address. A search visits each address once, not each peer.
+/// The number of peers of each IP address. A search visits each address, not each peer.
 #[derive(Drop)]
 pub(crate) struct Addresses<A: Allocator + Copy> {
     // A list in which each address occurs at most once.

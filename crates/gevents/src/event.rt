@@ -16,7 +16,7 @@ pub enum Refusal {
     FullOfAddress,
 }
 
-/// The kind of end of a connection.
+/// How a connection ended.
 #[derive(Clone, Copy, Debug, PartialEq, Eq)]
 pub enum End {
     /// The conversation is done, and all its packets were sent.
@@ -35,16 +35,16 @@ pub enum End {
 }
 
 /// A connection that has ended. Its state matches the bytes that were received and sent, the count
-/// of sent bytes, and the kind of end ([`laws`](Ended::laws)).
+/// of sent bytes, and how the connection ended ([`laws`](Ended::laws)).
 #[derive(Drop)]
 pub struct Ended<C: Conversation, A: Allocator + Copy> {
     /// The connection in its final state.
     pub connection: Connection<C, A>,
     /// The peer's address.
     pub address: SocketAddr,
-    /// The kind of end.
+    /// How the connection ended.
     pub end: End,
-    /// The number of bytes sent, saturated at the maximum.
+    /// The number of sent bytes, saturated at the maximum.
     pub sent: u64,
     /// The time from accepting the connection to its end.
     pub took: Duration,
@@ -66,10 +66,11 @@ impl<C: Conversation, A: Allocator + Copy> Ended<C, A> {
 #[derive(Drop)]
 pub enum Event<C: Conversation, A: Allocator + Copy> {
     /// A peer has connected. [`EventLoop::begin`](crate::EventLoop) starts the conversation with
-    /// the peer. Without a conversation, the next request for an event closes the connection.
+    /// the peer. If no conversation is started, the next call of `EventLoop::next` closes the
+    /// connection.
     Connected(SocketAddr),
     /// A peer has connected and exceeds a limit. [`EventLoop::refuse`](crate::EventLoop) sends the
-    /// peer an error. The next request for an event closes the connection.
+    /// peer an error. The next call of `EventLoop::next` closes the connection.
     Refused(SocketAddr, Refusal),
     /// A connection has ended.
     Ended(Ended<C, A>),

@@ -38,7 +38,7 @@ pub(crate) enum Calls {
     Later,
 }
 
-/// An accepted peer, until the next request for an event.
+/// An accepted peer, until the next call of `EventLoop::next`.
 #[derive(Drop)]
 pub(crate) enum Caller {
     /// A peer with which a conversation may start.
@@ -76,7 +76,7 @@ pub struct EventLoop<'l, C: Conversation, A: Allocator + Copy> {
     part: Part,
     pub(crate) calls: Calls,
     pub(crate) caller: Option<Caller>,
-    // A connection that ended when it started, which the loop has yet to report.
+    // A connection that ended as soon as it started. The loop has not reported this end yet.
     pub(crate) failed: Option<Ended<C, A>>,
     pub(crate) slots: Slab<Slot<C, A>, A>,
     /// The number of served peers from each IP address.

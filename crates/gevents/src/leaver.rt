@@ -9,9 +9,10 @@ use std::time::{Duration, Instant};
 // The number of seconds after which the loop closes the socket itself.
 const SECONDS: u64 = 2;
 
-// The maximum number of bytes of one read, and of reads before another peer has its turn.
+// The maximum number of bytes of one read.
 const PIECE: usize = 4_096;
 
+// The maximum number of reads before another peer has its turn.
 const READS: u32 = 64;
 
 /// A peer whose connection has ended. Further bytes from the peer are read and dropped. Closing a

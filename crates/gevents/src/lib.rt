@@ -2,11 +2,11 @@
 //!
 //! An [`EventLoop`] accepts peers at a listener and reports each [`Event`]: a peer has connected,
 //! or a connection has ended. The caller starts a conversation with each peer that has connected.
-//! The loop moves bytes between the sockets and the conversations, each when its socket is ready
-//! (`mio`). No peer has to wait until another peer sends or receives.
+//! The loop moves bytes between each socket and its conversation when the socket is ready (`mio`).
+//! No peer has to wait until another peer sends or receives.
 //!
-//! - A peer moves bytes at most 256 times before another peer has its turn.
-//! - [`Limits`] sets the maximum number of connections, in all and from one IP address. The loop
+//! - The loop moves bytes of one peer at most 256 times before another peer has its turn.
+//! - [`Limits`] sets the maximum number of connections, in total and from one IP address. The loop
 //!   reports any further peer as refused.
 //! - Each peer has time limits for its first message, the first byte of a request, the rest of a
 //!   request, receiving bytes, and the whole connection. If a peer sends too late, its conversation
@@ -31,9 +31,9 @@
 //!   send.
 //! - A turn that ends a connection returns this connection, with the peer's address, the count of
 //!   sent bytes and the kind of end (`HandsOut` in `specs/Turns.antt`).
-//! - For any reader, the connection receives all bytes of each read, which does not extend past
-//!   the end of the current packet. The connection receives the end of the input only when the
-//!   input has ended. A successful read receives at least one byte, or the end of the input
+//! - For any reader, the connection receives all bytes of each read, and no read extends past the
+//!   end of the current packet. The connection receives the end of the input only when the input
+//!   has ended. A successful read receives at least one byte, or the end of the input
 //!   (`HearsOnce`). After a successful read the conversation is not notified of a failed device.
 //! - For any writer, exactly the bytes that a write accepted count as sent and are removed from
 //!   the pending bytes.
@@ -43,9 +43,9 @@
 //!
 //! # Only tested
 //!
-//! All effects of sockets and the clock: accepting, refusing and timing out peers, and a turn for
-//! each ready peer. The tests run the loop of `gitrepo serve` (`examples/many-clients.py`,
-//! `examples/trouble.py`).
+//! Only tests cover the effects of sockets and the clock: that peers are accepted, refused and
+//! timed out, and that each ready peer has its turn. The tests run the loop of `gitrepo serve`
+//! (`examples/many-clients.py`, `examples/trouble.py`).
 //!
 //! # What the contracts do not rule out
 //!
@@ -55,8 +55,8 @@
 //!   returned.
 //! - The loop might refuse every peer, fail, or end at once. The loop might send nothing to a
 //!   refused peer.
-//! - The loop might spin, or wait for a peer with pending bytes. The loop might write an empty
-//!   slice to a socket, and treat the result 0 as the end.
+//! - The loop might spin, or sleep while bytes are pending for a peer. The loop might write an
+//!   empty slice to a socket, and treat the result 0 as the end of the connection.
 //! - The loop might time out a peer at any moment, or never. The loop might report any ended
 //!   connection as `Lost` or `Overdue`, and an `Over` connection as `Silent`.
 //! - The loop might drop a conversation that was started, or a connection between two turns.
@@ -65,8 +65,8 @@
 //!
 //! # Dependencies
 //!
-//! `gtalk` for connections, `mio` for readiness, `slab` for the slots of peers, and `gpkt` for the
-//! proofs.
+//! The crate uses `gtalk` for connections, `mio` for readiness, `slab` for the slots of peers, and
+//! `gpkt` for the proofs.
 #![tactic(auto)]
 
 mod accepting;

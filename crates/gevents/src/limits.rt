@@ -3,7 +3,7 @@
 use std::time::Duration;
 
 /// The maximum number of connections of an event loop, and the time limits of each peer.
-/// `Duration::MAX` is no limit.
+/// `Duration::MAX` means no limit.
 #[derive(Clone, Copy, Debug, Drop)]
 pub struct Limits {
     /// The number of connections to accept before the loop ends, or `None` for a loop without end.
@@ -12,15 +12,15 @@ pub struct Limits {
     pub at_once: usize,
     /// The maximum number of connections at once from one IP address.
     pub at_once_of_address: usize,
-    /// The time limit, from the accept, for all packets before the first answer.
+    /// The time limit, counted from the accept, for all packets before the first answer.
     pub first_line: Duration,
-    /// The time limit, from the end of the last answer, for the first byte of a request.
+    /// The time limit, counted from the end of the last answer, for the first byte of a request.
     pub silence: Duration,
-    /// The time limit, from the first byte of a request, for the rest of the request.
+    /// The time limit, counted from the first byte of a request, for the rest of the request.
     pub request: Duration,
     /// The maximum time without progress while bytes are pending for the peer.
     pub taking: Duration,
-    /// The time limit of the whole connection, which `pace` extends.
+    /// The time limit of the whole connection. The field `pace` extends this limit.
     pub whole: Duration,
     /// The number of sent bytes that extend the whole time limit by one second, or 0 for no
     /// extension.

@@ -21,9 +21,10 @@ use std::time::Instant;
 // The maximum number of bytes of one read.
 const PIECE: usize = 4_096;
 
-// The maximum numbers of moves, and of calls that queue packets, before another peer has its turn.
+// The maximum number of moves of one peer before another peer has its turn.
 const MOVES: u32 = 256;
 
+// The maximum number of calls that queue packets before another peer has its turn.
 const SAYINGS: u32 = 16;
 
 /// The state of a peer after its turn.
@@ -31,7 +32,7 @@ const SAYINGS: u32 = 16;
 pub(crate) enum After {
     /// The peer waits until its socket is ready.
     Waits,
-    /// More bytes can be moved at once.
+    /// More bytes can be moved immediately.
     GoesOn,
     /// The connection has ended.
     Ends(End),
@@ -41,9 +42,9 @@ pub(crate) enum After {
 enum Move {
     // Bytes were sent, or the conversation was notified of a failed device.
     Moved,
-    // Bytes were received, or the end of the input.
+    // Bytes or the end of the input were received.
     Heard,
-    // The conversation was called to queue packets.
+    // The conversation was asked to queue packets.
     Spoke,
     // The socket would block.
     Blocked,
@@ -131,7 +132,7 @@ impl<C: Conversation, A: Allocator + Copy> Peer<C, A> {
         (ended, stream)
     }
 
-    // Sends or receives bytes once, or calls the conversation to queue packets.
+    // Sends or receives bytes once, or asks the conversation to queue packets.
     fn step(&mut self, now: Instant, limits: &Limits) -> Move
         ensures { EndsByMove C.turn self.new.connection result }
     {

@@ -15,7 +15,7 @@ pub(crate) struct Peer<C: Conversation, A: Allocator + Copy> {
     pub(crate) address: SocketAddr,
     pub(crate) connection: Connection<C, A>,
     pub(crate) patience: Patience,
-    // The number of bytes sent, saturated at the maximum.
+    // The number of sent bytes, saturated at the maximum.
     pub(crate) sent: u64,
     // Whether the peer was timed out while it was expected to send.
     pub(crate) was_silent: bool,

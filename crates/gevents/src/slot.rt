@@ -134,8 +134,8 @@ impl<C: Conversation + Drop, A: Allocator + Copy> EventLoop<'_, C, A> {
         }
     }
 
-    /// Shuts down the sending side of a socket, and waits until the peer closes its socket. If too
-    /// many such peers wait already, the socket is closed at once.
+    /// Shuts down the sending side of a socket, and keeps the socket until the peer closes its
+    /// side. If the loop already waits for too many such peers, it closes the socket immediately.
     pub(crate) fn let_leave(&mut self, stream: TcpStream, is_new: bool) {
         let _ = stream.shutdown(Shutdown::Write);
         let mut leaver = Leaver::new(stream, self.now);

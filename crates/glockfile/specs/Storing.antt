@@ -4,13 +4,13 @@ use Rattle.std.specs.Prelude.{◌≡◌, ◌≢◌, ◌⊎◌, ℕ, List, [], �
 abbrev pub Bytes : Type 0
 Bytes = List ℕ
 
--- each text that the file has had, the current text last, and the text last written to the lockfile
+-- each text that the file has had, the current text last, and the text most recently written to the lockfile
 pub record Texts : Type 0 where
   pub states : List Bytes
   pub written : Bytes
 
--- the predicate holds of the known texts before and after a call; known texts stay known, and unknown texts stay
--- unknown
+-- if the texts are known, the predicate holds of the texts before and after a call; known texts remain known, and
+-- unknown texts remain unknown
 abbrev pub WhereKnown : Option Texts → Option Texts → (Texts → Texts → Type 0) → Type 0
 WhereKnown (Some before) (Some after) P = P before after
 WhereKnown None None P = ⊤

@@ -1,8 +1,9 @@
 //! A file that is replaced as a whole or not at all, with Git's lockfile protocol (`lockfile.h` in
 //! Git's sources).
 //!
-//! A run creates `FILE.lock`, which fails if this lockfile already exists, and only then reads
-//! FILE. The run writes the new text to the lockfile, syncs the lockfile, and renames it over FILE.
+//! A run first creates `FILE.lock`, and fails if this lockfile already exists. Only then does the
+//! run read FILE. The run writes the new text to the lockfile, syncs the lockfile, and renames the
+//! lockfile to FILE.
 //!
 //! # Proved
 //!
@@ -12,14 +13,15 @@
 //!   equals the new text (`specs/Storing.antt`). During and after the call the file has the old
 //!   text or the whole new text. After `Ok` the file has the new text. At the end the run never
 //!   holds a lockfile.
-//! - The calls of a [`Storage`] have a fixed order: each call requires a state of the lockfile. A
-//!   text is renamed only after it is synced, and read only under the lock.
+//! - The calls of a [`Storage`] have a fixed order: each call requires a certain state of the
+//!   lockfile. The lockfile is renamed only after its text is synced, and the file is read only
+//!   while it is locked.
 //! - [`MemoryFile`] is a storage that records all of its texts.
 //!
 //! # Only tested
 //!
-//! The cases of `conformance` test a failure at each call of a `MemoryFile`, and whether a lockfile
-//! is left.
+//! The cases of `conformance` make each call of a `MemoryFile` fail in turn, and test whether a
+//! lockfile remains.
 //!
 //! # What the contracts do not rule out
 //!

@@ -77,9 +77,10 @@ pub enum Lockfile {
 /// A file that can be replaced, with its lockfile (Git's `lockfile.h`).
 ///
 /// Only a synced text is renamed over the file. After a crash the file therefore has one of its
-/// recorded states.
+/// recorded texts.
 pub trait Storage {
-    // Each text that the file has had, and the text written to the lockfile, if they are known.
+    // Each text that the file has had, and the text written to the lockfile, if these texts are
+    // known.
     ghost texts: { Self → Option Texts };
 
     // The state of this run's lockfile.

@@ -12,11 +12,12 @@ use std::marker::Model;
 use std::os::unix::fs::OpenOptionsExt;
 use std::path::{Path, PathBuf};
 
-/// A file of the system, and its lockfile. The lockfile's name is the file's name and `.lock`.
+/// A file of the system, and its lockfile. The lockfile's name is the file's name followed by
+/// `.lock`.
 ///
 /// If the name is a symbolic link, its target is locked and replaced. The target must be a regular
 /// file. The new file has the permissions of the old file. A process that is killed can leave its
-/// lockfile.
+/// lockfile behind.
 #[derive(Drop)]
 pub struct StoredFile<'r, R: Files, A: Allocator + Copy = Global> {
     files: &'r R,
@@ -58,8 +59,8 @@ impl<'r, R: Files, A: Allocator + Copy> StoredFile<'r, R, A> {
     }
 }
 
-// The permissions of a new lockfile: only its owner can open it. Later the lockfile has the
-// permissions of the file.
+// The permissions of a new lockfile: only its owner can open it. Later the lockfile gets the
+// permissions of the file that it replaces.
 const OWNER_ALONE: u32 = 0o600;
 
 // Creates the lockfile, with the permissions of the file to lock.

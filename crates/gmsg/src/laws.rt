@@ -1,6 +1,6 @@
 //! The laws of all five kinds of message. Each law is the contract of a function without effect.
-//! The kinds are the hello, the advertisement, the request, the reply to ls-refs and the reply to
-//! fetch. Each law holds for all parameters of a kind's grammar, such as the object format.
+//! The kinds are the hello, the advertisement, the request, the ls-refs reply and the fetch reply.
+//! Each law holds for all parameters of a kind's grammar, such as the object format.
 
 ghost use Rattle.std.specs.Prelude.{◌≤◌};
 ghost use Rattle.gname.specs.Limits.{max_pack};
@@ -35,8 +35,8 @@ pub fn one_meaning()
     gfetchreply::laws::one_meaning();
 }
 
-/// No message is a prefix of another of its kind, as packets or as bytes. So a reader knows where a
-/// message ends without reading the bytes after it.
+/// No message is a prefix of another message of its kind, as packets or as bytes. So a reader knows
+/// where a message ends without reading the bytes after it.
 pub fn prefix_free()
     ensures hello { NoneBeginsAnother hello.judge }
     ensures advert { NoneBeginsAnother advert.judge }
@@ -52,7 +52,7 @@ pub fn prefix_free()
     gfetchreply::laws::prefix_free();
 }
 
-/// No bytes begin with both a reply to ls-refs and a reply to fetch, whatever the parameters of
+/// No byte string begins with both an ls-refs reply and a fetch reply, whatever the parameters of
 /// each reader. So a client that awaits one kind of reply rejects a reply of the other kind.
 pub fn replies_differ()
     ensures { (format : Format) (ends : Ends) (reading : fetch_reply.Reading)
@@ -82,7 +82,7 @@ pub fn manual()
 }
 
 /// The packets written for a message encode that message, and each payload fits into a packet. The
-/// law of the reply to fetch holds for each limit that a [`PackLimit`](crate::PackLimit) can hold.
+/// law of the fetch reply holds for each limit that a [`PackLimit`](crate::PackLimit) can hold.
 pub fn canonical_says()
     ensures hello { CanonicalSays hello.Says hello.IsHello hello.IsCanonical }
     ensures advert { CanonicalSays advert.Says advert.AreCapabilities advert.IsCanonical }

@@ -1,15 +1,15 @@
 //! The messages of Git's protocol, version 2, in one crate. The messages are the first line of a
-//! connection, the capability advertisement, the request, and the replies to ls-refs and fetch.
+//! connection, the capability advertisement, the request, the ls-refs reply and the fetch reply.
 //! Each message has a type, a reader and a writer.
 //!
 //! # Proved
 //!
 //! - [`laws`] hold for every kind of message. A list of packets encodes at most one message. No
-//!   message is a prefix of another of its kind, as packets or as bytes. The readers accept exactly
-//!   the messages that Git's manual defines. The packets written for a message encode that message,
-//!   and each payload fits into a packet. No bytes begin with both a reply to ls-refs and a reply
-//!   to fetch. The `laws` of each library prove that reading a written message returns the same
-//!   message.
+//!   message is a prefix of another message of its kind, as packets or as bytes. The readers accept
+//!   exactly the messages that Git's manual defines. The packets written for a message encode that
+//!   message, and each payload fits into a packet. No byte string begins with both an ls-refs reply
+//!   and a fetch reply. The `laws` of each library prove that reading a written message returns the
+//!   same message.
 //!
 //! The libraries below prove all other facts, and list them on their pages:
 //!
@@ -33,8 +33,8 @@
 //!
 //! # Dependencies
 //!
-//! `ghello`, `grequest`, `glsreply`, `gfetchreply` and `ggrammar` for messages, `gpkt` for packets,
-//! and `gname` for ids and names.
+//! The crate uses `ghello`, `grequest`, `glsreply`, `gfetchreply` and `ggrammar` for messages,
+//! `gpkt` for packets, and `gname` for ids and names.
 #![tactic(auto)]
 
 pub mod laws;

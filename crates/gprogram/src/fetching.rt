@@ -1,4 +1,5 @@
-//! Fetches into the repository of a file. The file is replaced as a whole or not at all.
+//! Commands that fetch into the repository of a file. The file is replaced as a whole or not at
+//! all.
 
 use crate::faults::fail;
 use crate::streams::let_go;

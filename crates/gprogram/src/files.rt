@@ -5,7 +5,8 @@ use std::alloc::Global;
 use std::fs;
 use std::rt::Files;
 
-/// Returns the bytes of a file. Every failure, even out of memory, is `ProgramFault::File`.
+/// Returns the bytes of a file. Every failure, even out of memory, is reported as
+/// `ProgramFault::File`.
 pub(crate) fn read<R: Files + AllocGlobal>(rt: &R, file: &str) -> Result<Vec<u8>, ProgramFault> {
     match fs::read(rt, file) {
         Ok(bytes) => Ok(bytes),

@@ -1,6 +1,6 @@
 //! The program `gitv2` as a function of the runtime. [`run_gitv2`] reads the arguments, opens
-//! files, and makes devices from standard streams and sockets. The crates `gcmd`, `gtcp` and
-//! `gsimulate` do the work of each command. [`run_gitv2`] returns the exit status.
+//! files, and makes sources and sinks from standard streams and sockets. The crates `gcmd`, `gtcp`
+//! and `gsimulate` do the work of each command. [`run_gitv2`] returns the exit status.
 //!
 //! The program checks its input in a fixed order, and reports the first fault. The program checks
 //! the usage first, then refspecs and prefixes, then each file in turn, and sockets last.
@@ -18,13 +18,13 @@
 //!
 //! # What the contracts do not rule out
 //!
-//! The contracts state nothing further about the work. No contract can state the bytes that a file,
-//! a stream or a socket of the system reads or writes.
+//! The contracts state nothing else about the effects of the program. No contract can state the
+//! bytes that a file, a stream or a socket of the system reads or writes.
 //!
 //! # Dependencies
 //!
 //! The crate uses `gargs` for the arguments, `gcmd`, `gtcp` and `gsimulate` for the commands,
-//! `glockfile` for files that are replaced, and `gpkt` for devices.
+//! `glockfile` for files that are replaced, and `gpkt` for sources and sinks.
 #![tactic(auto)]
 
 mod faults;

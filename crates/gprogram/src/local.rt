@@ -59,7 +59,7 @@ where
     status
 }
 
-/// A server on standard input and output.
+/// A service that is offered on standard input and output.
 #[derive(Clone, Copy)]
 pub(crate) enum StdioService {
     /// Serves one request, without an advertisement before the reply: `gitv2 ls --stdio-server

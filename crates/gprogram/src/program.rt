@@ -1,4 +1,4 @@
-//! The start of the program, which selects the command of its arguments.
+//! The start of the program, which selects the command that the arguments describe.
 
 use crate::fetching::fetch;
 use crate::local::{StdioService, check, serve, show_lines};
@@ -38,7 +38,7 @@ where
     }
 }
 
-// Returns the command of the arguments, or `None` if they do not match the usage.
+// Returns the command that the arguments describe, or `None` if they do not match the usage.
 fn command_of<R: Env + AllocGlobal>(rt: &R) -> Option<Gitv2Command> {
     let words: Vec<String> = env::args(rt).ok()?.collect(rt.alloc()).ok()?;
     read_command(rt.alloc(), words.as_slice())

@@ -1,5 +1,5 @@
--- The text of a scenario: a line for each event, which ends with a line feed. Single spaces separate the words of a
--- line. Only this repository uses the format.
+-- The text of a scenario: one line for each event. Each line ends with a line feed. Single spaces separate the words of
+-- a line. Only this repository uses the format.
 use Rattle.std.specs.List.{AllZip}
 use Rattle.std.specs.Prelude.{◌≡◌, ◌≢◌, ◌⊎◌, ℕ, ◌+◌, ◌-◌, ◌^◌, ◌<◌, ◌==◌, if◌then◌else◌, List, [], ◌∷◌, ◌++◌, length}
 use Rattle.std.specs.Prelude.{codes, decimal, Ok}
@@ -73,20 +73,20 @@ IsCount text count = IsNumber text count ⊎ ((text ≡ codes "all") × (count �
 abbrev pub AreBytes : List ℕ → List ℕ → Type 0
 AreBytes text bytes = ((text ≡ codes "-") × (bytes ≡ [])) ⊎ ((text ≢ []) × (decode_of text ≡ Ok bytes))
 
--- the words are one word, which is a number
+-- there is exactly one word, and it is a number
 abbrev pub IsOneNumber : List (List ℕ) → ℕ → Type 0
 IsOneNumber words number = (text : List ℕ) × (words ≡ text ∷ []) × IsNumber text number
 
--- the words are two words: a number and a count of bytes
+-- there are exactly two words: a number and a count of bytes
 abbrev pub AreNumberAndCount : List (List ℕ) → ℕ → ℕ → Type 0
 AreNumberAndCount words number count =
     (text bytes : List ℕ) × (words ≡ text ∷ bytes ∷ []) × IsNumber text number × IsCount bytes count
 
--- the words are one word, which is the text of the bytes
+-- there is exactly one word, and it is the text of the bytes
 abbrev pub AreOneBytes : List (List ℕ) → List ℕ → Type 0
 AreOneBytes words bytes = (text : List ℕ) × (words ≡ text ∷ []) × AreBytes text bytes
 
--- the words are the texts of the refspecs, at least one
+-- there is at least one word, and the words are the texts of the refspecs
 abbrev pub AreSpecs : List (List ℕ) → List Refspec → Type 0
 AreSpecs words specs = (words ≢ []) × AllZip IsSpec words specs
 
@@ -135,7 +135,7 @@ IsScenario text [] = text ≡ []
 IsScenario text (event ∷ events) =
     (line rest : List ℕ) × (text ≡ line ++ 10 ∷ rest) × IsInLine line × IsLineOf line event × IsScenario rest events
 
--- the text begins with a line that is not the line of any event, or is a line without its line feed
+-- the first line of the text is not the line of any event, or has no line feed
 abbrev pub BeginsWrong : Type 0 → List ℕ → Type 0
 BeginsWrong A text =
     ((line rest : List ℕ) × (text ≡ line ++ 10 ∷ rest) × IsInLine line × IsNoLine A line)
@@ -151,7 +151,7 @@ pub record IsWrongLine (A : Type 0) (text : List ℕ) (number : ℕ) : Type 0 wh
   pub wrong : BeginsWrong A rest
   pub at : number ≡ length events + 1
 
--- after lines of events, the text has a line that begins with a command, so its event may need memory
+-- after lines of events, the text has a line that begins with a command, so the event of that line may need memory
 pub record TakesMemory (A : Type 0) (text : List ℕ) : Type 0 where
   pub front : List ℕ
   pub line : List ℕ

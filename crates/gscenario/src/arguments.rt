@@ -46,7 +46,7 @@ pub(crate) fn event_of<A: Allocator + Copy>(
     }
 }
 
-// Returns the event if `tail` has no words. A command without arguments has only one event.
+// Returns the event if `tail` has no words. A command without arguments denotes only one event.
 fn alone<A: Allocator + Copy>(tail: &[u8], event: Event<A>) -> Option<Event<A>>
     ensures { MatchOption result (words_after tail.now ≢ [])
         (λ found. (found ≡ event) × (words_after tail.now ≡ [])) }
@@ -195,7 +195,7 @@ fn bytes_alone<A: Allocator + Copy>(alloc: A, tail: &[u8]) -> Result<Option<Vec<
     }
 }
 
-// Returns the refspecs that the arguments are.
+// Returns the refspecs that the arguments encode.
 fn specs_of<A: Allocator + Copy>(
     alloc: A,
     tail: &[u8],
@@ -267,7 +267,7 @@ fn entry_of_kind<A: Allocator + Copy>(
     }
 }
 
-// Returns the ids that the arguments are.
+// Returns the ids that the arguments encode.
 fn parents_of<A: Allocator + Copy>(alloc: A, tail: &[u8]) -> Result<Option<Parents<A>>, AllocError>
     ensures { MatchResult result
         (λ found. MatchOption found (((ids : List Id) → AllZip IsIdText (words_after tail.now) ids
@@ -287,7 +287,7 @@ fn parents_of<A: Allocator + Copy>(alloc: A, tail: &[u8]) -> Result<Option<Paren
     Ok(Some(parents))
 }
 
-// Returns the name of a ref and its new id, which are the arguments.
+// Returns the ref name and the new id that the arguments encode.
 fn ref_of<A: Allocator + Copy>(
     alloc: A,
     tail: &[u8],

@@ -22,7 +22,7 @@ pub(crate) enum EventWord {
 }
 
 impl EventWord {
-    /// Returns the command of the word, or `None` if the word is not a command.
+    /// Returns the command that the word names, or `None` if the word is not a command.
     pub(crate) fn of(word: &[u8]) -> Option<EventWord>
         ensures { MatchOption result (((c : EventWord) → word.now ≢ command_text c))
             (λ c. word.now ≡ command_text c) }

@@ -4,8 +4,8 @@
 //! # Proved
 //!
 //! - [`Scenario::read`] accepts exactly the texts of scenarios, and returns their events. For any
-//!   other text it reports the first line that is not the line of an event, or has no line feed.
-//!   `Scenario::read` runs out of memory only at a line that begins with a command. All lines
+//!   other text it reports the first line that is not the line of an event, or that has no line
+//!   feed. `Scenario::read` runs out of memory only at a line that begins with a command. All lines
 //!   before that line are lines of events.
 //! - No text is the text of two different lists of events ([`laws`]). The number of a text's first
 //!   malformed line is unique. A text with a malformed line is not the text of any list of events.
@@ -21,12 +21,12 @@
 //! An implementation may report out of memory for any text whose first line begins with a command,
 //! even if memory is available. It may do so instead of reporting a later malformed line. An
 //! implementation may take any time, and more memory than it needs. Formatting a fault may return
-//! `fmt::Error` without a cause.
+//! `fmt::Error` for no reason.
 //!
 //! # Dependencies
 //!
-//! `grefs` for refspecs, `gname` for ids and ref names, `gobject` for objects, `hex` for bytes,
-//! `itoa` for numbers, and `memchr` to find the ends of words and lines.
+//! The crate uses `grefs` for refspecs, `gname` for ids and ref names, `gobject` for objects, `hex`
+//! for bytes, `itoa` for numbers, and `memchr` to find the ends of words and lines.
 #![tactic(auto)]
 
 mod arguments;

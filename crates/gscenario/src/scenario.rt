@@ -14,14 +14,16 @@ use std::alloc::{AllocError, Allocator};
 
 /// The text of a list of events.
 ///
-/// Each event is a line, which ends with a line feed. Single spaces separate the words of a line:
+/// Each event is one line. The line ends with a line feed. Single spaces separate the words of a
+/// line:
 ///
 /// - `begin SPEC SPEC ..`, with at least one refspec
 /// - `ask`, `settle`, `restart-client`, `restart-server`
 /// - `serve K`
 /// - `deliver J N`, or `deliver J all`
 /// - `forge BYTES`, `stranger BYTES`
-/// - `server-add c ID PARENT ..` for a commit, with `t` for a tag, and `client-add` likewise
+/// - `server-add c ID PARENT ..` for a commit, and the same with `t` instead of `c` for a tag.
+///   `client-add` has the same arguments.
 /// - `server-ref ID NAME`, `client-ref ID NAME`
 ///
 /// Numbers are decimal, without leading zeros, and below 2^63. `BYTES` are two hexadecimal digits
@@ -33,8 +35,8 @@ impl Scenario {
     /// Reads the text of a list of events, and returns the events.
     ///
     /// Fails with `Scenario` at the first line that is not the line of an event, or has no line
-    /// feed. Fails with `Memory` if there is not enough memory for the event of a line. The line
-    /// begins with a command, and all lines before it are lines of events.
+    /// feed. Fails with `Memory` if there is not enough memory for the event of a line. In that
+    /// case the line begins with a command, and all earlier lines are lines of events.
     pub fn read<A: Allocator + Copy>(
         alloc: A,
         text: &[u8],

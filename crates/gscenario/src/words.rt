@@ -93,8 +93,8 @@ pub(crate) fn number_of(text: &[u8]) -> Option<usize>
     }
 }
 
-// Returns the only number below 2^64 whose decimal digits may be the text. The text may have
-// leading zeros or a sign.
+// Returns the number below 2^64 that the text encodes in decimal. The text may have leading zeros
+// or a sign.
 fn parse(text: &[u8]) -> Option<usize>
     ensures { MatchOption result (((number : ℕ) → number < 2 ^ 64 → text.now ≡ decimal number → ⊥))
         (λ found. ((number : ℕ) → number < 2 ^ 64 → text.now ≡ decimal number → number ≡ found)) }

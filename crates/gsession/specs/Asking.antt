@@ -1,6 +1,6 @@
--- The asks of a session: the new ids of local refs, and the wanted objects. The session matches one refspec after
--- another, each with the refs of the reply in order. If several asks are for the same ref, the first one counts. Git's
--- manuals leave both rules open.
+-- The asks of a session: the new ids of local refs, and the wanted objects. The session goes through the refspecs in
+-- order, and matches each refspec against the refs of the reply in order. If several asks are for the same ref, the
+-- first one counts. Git's manuals specify neither the order nor that the first ask counts.
 use Rattle.std.specs.Prelude.{Bool, List, [], ◌∷◌, map, filter, All, if◌then◌else◌, Option, None}
 use Rattle.std.specs.List.{flat_map, list_any}
 use Rattle.std.specs.Str.{bytes_eq}
@@ -31,20 +31,20 @@ asks_by spec lines = map (ask_of spec) (filter (line_matches spec) lines)
 abbrev pub asks_by_all : {A : Type 0} → List Refspec → List RefLine → List (Ask A)
 asks_by_all specs lines = flat_map (λ spec. asks_by spec lines) specs
 
--- the asks with more asks added in order, at most one for each ref
+-- the first list of asks, followed by each ask of the second list whose ref has no ask yet
 abbrev pub with_asks : {A : Type 0} → List (Ask A) → List (Ask A) → List (Ask A)
 with_asks asks [] = asks
 with_asks asks (ask ∷ more) = with_asks (with_ask asks ask) more
 
--- the asks of the session, with only the first of several asks for the same ref
+-- the asks that the refspecs make for the lines; if several are for the same ref, only the first is kept
 abbrev pub asked_of : {A : Type 0} → List Refspec → List RefLine → List (Ask A)
 asked_of specs lines = with_asks [] (asks_by_all specs lines)
 
--- each ask is for a valid ref name; a reply without this property is rejected
+-- each ask is for a valid ref name; a reply that leads to any other ask is rejected
 abbrev pub AreNamed : {A : Type 0} → List (Ask A) → Type 0
 AreNamed asks = All (λ ask. IsRefName ask.name) asks
 
--- the wants: the distinct new ids of the asks that are not connected, in order
+-- the wants: the distinct ids that are asked for and not connected, in the order of the asks
 abbrev pub AreWants : {A : Type 0} → List (Entry A) → List (Ask A) → List Id → Type 0
 AreWants g asks wants = Selects (λ a. ¬ (IsConnected g a)) (distinct_of (asked_ids asks)) wants
 

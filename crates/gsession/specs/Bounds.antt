@@ -1,5 +1,5 @@
--- The number of a session's requests for objects. Git's manuals do not bound it. In this project each request except
--- the last offers a new id.
+-- The number of requests for objects that a session makes. Git's manuals set no limit on this number. In this project
+-- each request except the last offers a new id.
 use Rattle.std.specs.Prelude.{◌≡◌, ◌⊎◌, ℕ, ◌+◌, ◌≤◌, true, false, List, length, All, Contains, None, Result, Ok}
 use Rattle.std.specs.List.{IsDistinct}
 use Rattle.std.specs.Str.{bytes_eq}
@@ -21,26 +21,26 @@ use Rattle.gsession.specs.TakingReplies.{Awaits}
 use Rattle.gsession.specs.declared.stage.Stage.TheVariants.{Over, Settling}
 use Rattle.gsession.specs.declared.fault.ClientFault.{ClientFault}
 
--- ---- the graph on which a session began
+-- ---- the graph with which a session began
 
 -- the session's tips are connected in the graph, and it offered only ids that the tips reach in the graph
 pub record BeganOn {A : Type 0} (g : List (Entry A)) (s : SessionState A) : Type 0 where
   pub connected : All (IsConnected g) s.tips
   pub sent : All (λ a. Holds g a × SomeReaches g s.tips a) s.sent
 
--- a session that begins with a connected repository has begun on the graph of that repository
+-- `BeganOn` holds of a session that begins with a connected repository, and of the graph of that repository
 abbrev pub BeganBegins : Type 0 → Type 0
 BeganBegins A =
     (r : RepoState A) (refspecs : List Refspec) (limit : ℕ) (ends : Ends) (session : SessionState A)
     → IsConnectedRepo r → Begins r refspecs limit ends (Ok session) → BeganOn r.graph.entries session
 
--- a session that began on a graph still did after its next request, if the graph only grew
+-- `BeganOn` still holds after the session's next request, if the graph only gained objects
 abbrev pub BeganStays : Type 0 → Type 0
 BeganStays A =
     (g h : List (Entry A)) (old new : SessionState A) (asked : Asked)
     → Grows g h → BeganOn g old → MakesNext old h new asked → BeganOn g new
 
--- a session that began on a graph still did after every call, if the graph only grew
+-- `BeganOn` still holds after every call, if the graph only gained objects
 abbrev pub BeganStaysOn : {A : Type 0} → Indexes A → IndexFails → Type 0
 BeganStaysOn {A} indexes index_fails =
     (g : List (Entry A)) (repo : RepoState A) (old new : SessionState A)
@@ -48,18 +48,18 @@ BeganStaysOn {A} indexes index_fails =
 
 -- ---- the ids that were offered
 
--- the session offered each common id, and each have of the open request, in some batch
+-- the session has offered each common id and each have of the open request in one of its batches
 pub record AreOffered {A : Type 0} (s : SessionState A) : Type 0 where
   pub commons : All (Contains s.sent) s.commons
   pub haves : (asked : FetchAsked) → Awaits s asked → All (Contains s.sent) asked.haves
 
--- a new session has only common ids and haves that were offered (`AreOffered`)
+-- `AreOffered` holds of a new session
 abbrev pub BeginsOffered : Type 0 → Type 0
 BeginsOffered A =
     (repo : RepoState A) (refspecs : List Refspec) (limit : ℕ) (ends : Ends) (session : SessionState A)
     → Begins repo refspecs limit ends (Ok session) → AreOffered session
 
--- after every call all common ids and open haves were offered (`AreOffered`), if this held before the call
+-- `AreOffered` still holds after every call, if it held before the call
 abbrev pub OfferedStays : {A : Type 0} → Indexes A → IndexFails → Type 0
 OfferedStays {A} indexes index_fails =
     (repo : RepoState A) (old new : SessionState A)
@@ -88,7 +88,7 @@ DoneAsksLast A =
     (g : List (Entry A)) (old new : SessionState A) (asked : FetchAsked)
     → MakesNext old g new (Fetches asked) → fetch_has asked Done ≡ true → HasAskedLast new
 
--- once the last request was made (`HasAskedLast`), this remains so after every call
+-- `HasAskedLast` still holds after every call, if it held before the call
 abbrev pub LastStays : {A : Type 0} → Indexes A → IndexFails → Type 0
 LastStays {A} indexes index_fails =
     (repo : RepoState A) (old new : SessionState A)
@@ -114,19 +114,20 @@ BeginsCounted A =
     (repo : RepoState A) (refspecs : List Refspec) (limit : ℕ) (ends : Ends) (session : SessionState A)
     → Begins repo refspecs limit ends (Ok session) → IsCounted session
 
--- the bound on the number of requests (`IsCounted`) still holds after every call
+-- the bound on the number of requests (`IsCounted`) still holds after every call, if it held before the call
 abbrev pub CountedStays : {A : Type 0} → Indexes A → IndexFails → Type 0
 CountedStays {A} indexes index_fails =
     (repo : RepoState A) (old new : SessionState A)
     → IsCounted old → HasCalled indexes index_fails repo old new → IsCounted new
 
--- a session makes at most N + 1 requests for objects, if each but the last offered a new id and its tips reach N ids
+-- a session makes at most N + 1 requests for objects, if each request but the last offered a new id and the session's
+-- tips reach N ids
 abbrev pub CountedAreFew : Type 0 → Type 0
 CountedAreFew A =
     (g : List (Entry A)) (s : SessionState A) (held parents : ℕ)
     → IsCounted s → BeganOn g s → CountsReached g s.tips held parents → s.rounds ≤ held + 1
 
--- every session makes at most N + 1 requests for objects, if its tips reach N ids in the graph on which it began
+-- every session makes at most N + 1 requests for objects, if its tips reach N ids in the graph with which it began
 abbrev pub RoundsAreFew : Type 0 → Type 0
 RoundsAreFew A =
     (g : List (Entry A)) (s : SessionState A) (held parents : ℕ)

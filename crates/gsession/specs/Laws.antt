@@ -49,7 +49,7 @@ OpenIsTheSessions A =
 
 -- ---- asks
 
--- the ask is the ask of one of the refspecs for one of the lines
+-- one of the refspecs makes this ask for one of the lines
 pub record IsAskOf {A : Type 0} (specs : List Refspec) (lines : List RefLine) (ask : Ask A) : Type 0 where
   pub spec : Refspec
   pub line : RefLine
@@ -58,7 +58,7 @@ pub record IsAskOf {A : Type 0} (specs : List Refspec) (lines : List RefLine) (a
   pub matched : matches spec line.name ≡ true
   pub is : ask ≡ ask_of spec line
 
--- each ask for a reply is the ask of one of the refspecs for one of the lines
+-- each ask that a reply leads to is made by one of the refspecs for one of the lines
 abbrev pub AsksAreOfLines : Type 0 → Type 0
 AsksAreOfLines A =
     (specs : List Refspec) (lines : List RefLine) → All (IsAskOf {A = A} specs lines) (asked_of specs lines)
@@ -67,7 +67,8 @@ AsksAreOfLines A =
 abbrev pub LeadsElsewhere : Name → Refspec → RefLine → Type 0
 LeadsElsewhere name spec line = matches spec line.name ≡ true → destination_of spec line.name ≢ name
 
--- the refspec and the line are the first that lead to their destination ref, by refspec and then by line
+-- no earlier refspec maps a line to the ref to which this refspec maps this line, and this refspec maps no earlier line
+-- to that ref
 pub record IsFirstFor (specs : List Refspec) (lines : List RefLine) (spec : Refspec) (line : RefLine) : Type 0 where
   pub before : List Refspec
   pub after : List Refspec
@@ -94,13 +95,13 @@ pub record AreExactWants {A : Type 0} (g : List (Entry A)) (asks : List (Ask A))
   pub missing : All (λ a. ¬ (IsConnected g a)) wants
   pub others : All (λ a. Contains wants a ⊎ IsConnected g a) (asked_ids asks)
 
--- the wants of a reply are exact
+-- the wants that follow from a reply are exact (`AreExactWants`)
 abbrev pub WantsAreExact : Type 0 → Type 0
 WantsAreExact A =
     (g : List (Entry A)) (asks : List (Ask A)) (wants : List Id) → AreWants g asks wants
     → AreExactWants g asks wants
 
--- the bytes of a reply to ls-refs and the result of reading it determine the session afterwards
+-- the bytes of an ls-refs reply and the result of reading it determine the session afterwards
 abbrev pub ListingIsDecided : Type 0 → Type 0
 ListingIsDecided A =
     (old one other : SessionState A) (g : List (Entry A)) (bytes left also : Bytes)
@@ -188,13 +189,13 @@ OverRequestsNone A =
     (g : List (Entry A)) (old new : SessionState A) (result : Result Asked (ClientFault A))
     → IsOver old → Requests old g new result → IsOutOfTurn old new result
 
--- a session that is over reads no reply to ls-refs
+-- a session that is over reads no ls-refs reply
 abbrev pub OverTakesNoRefs : Type 0 → Type 0
 OverTakesNoRefs A =
     (g : List (Entry A)) (old new : SessionState A) (change : Change) (result : Result (LsTaken A) (ClientFault A))
     → IsOver old → TakesLs old g change new result → IsOutOfTurn old new result × (change.new ≡ change.old)
 
--- a session that is over reads no reply to fetch
+-- a session that is over reads no fetch reply
 abbrev pub OverTakesNoReply : {A : Type 0} → Indexes A → IndexFails → Type 0
 OverTakesNoReply {A} indexes index_fails =
     (old new : SessionState A) (repo after : RepoState A) (change : Change) (result : Result Taken (ClientFault A))

@@ -35,7 +35,7 @@ batch_size rounds =
     else if rounds == 3 then 128
     else 256
 
--- the batch: the offered ids, or none if they and the common ids are too many for one request
+-- the batch: the offered ids, or an empty list if these ids and the common ids are too many for one request
 abbrev pub batch_of : List Id → List Id → List Id
 batch_of commons offer = if nat_le (length commons + length offer) max_haves then offer else []
 
@@ -52,7 +52,8 @@ blank_request options =
     let tagged = fetch_with quiet IncludeTag true in
     fetch_with tagged OfsDelta options.ofs_delta
 
--- the request with the wants, and with the common ids and the batch as haves; without a batch it has `done`
+-- the request with the wants, and with the common ids and the batch as haves; if the batch is empty, the request has
+-- `done`
 abbrev pub with_ids : FetchAsked → List Id → List Id → List Id → FetchAsked
 with_ids blank wants commons batch =
     record (fetch_with blank Done (length batch == 0)) { wants = wants; haves = commons ++ batch }

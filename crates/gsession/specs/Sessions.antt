@@ -49,7 +49,7 @@ abbrev pub max_specs : ℕ
 max_specs = 16
 
 -- An open request for objects has the session's wants, and its haves include each common id. If another request may
--- follow, the requests for objects are at most as many as the offered ids.
+-- follow, the session has made at most as many requests for objects as it has offered ids.
 pub record IsOpenFetch {A : Type 0} (s : SessionState A) (asked : FetchAsked) : Type 0 where
   pub wants : asked.wants ≡ s.wants
   pub commons : All (Contains asked.haves) s.commons
@@ -98,8 +98,8 @@ ends_session _ = true
 abbrev pub after_fault : {A : Type 0} → SessionState A → ClientFault A → SessionState A
 after_fault s fault = if ends_session fault then over s else s
 
--- The reader after a reply. If no reply was awaited, the reader is unchanged. Otherwise it is the reader after that
--- reply.
+-- The state of the reader after a call that reads a reply. If no reply was awaited, the reader is unchanged. Otherwise
+-- it has reached the end of the reply, or it remains where the reading stopped.
 abbrev pub LeavesReplies : {A S T : Type 0} → (S → Bool) → Reader S → Reader S → Result T (ClientFault A) → Type 0
 LeavesReplies is_down old new (Err NoOpenRequest) = new ≡ old
 LeavesReplies is_down old new (Err (Message fault)) = LeavesReader {M = Unit {0}} is_down old new (Err fault)
@@ -119,7 +119,7 @@ tips_of repo = distinct_of (values_of repo.refs)
 abbrev pub no_options : PackOptions
 no_options = record { ofs_delta = false; progress = false }
 
--- a session at its beginning
+-- a session that has just begun
 abbrev pub new_session : {A : Type 0} → Format → List Refspec → ℕ → Ends → List Id → SessionState A
 new_session format refspecs limit ends tips = record {
   format = format;
@@ -166,8 +166,8 @@ IsBegun s = (s.stage ≡ Listing) × (s.pending ≡ None)
 abbrev pub tells_unborn : List Capability → Bool
 tells_unborn capabilities = has_feature (codes "ls-refs") (codes "unborn") capabilities
 
--- the result of reading the advertisement: the session keeps whether the server reports an unborn HEAD, or it was too
--- late
+-- the result of reading the advertisement: the session stores whether the server reports an unborn HEAD, or fails
+-- because it has already made a request
 abbrev pub Hears : {A : Type 0} → SessionState A → List Capability → SessionState A → Result Unit (ClientFault A)
     → Type 0
 Hears old capabilities new (Ok _) = IsBegun old × (new ≡ record old { offers_unborn = tells_unborn capabilities })

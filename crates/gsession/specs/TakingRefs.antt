@@ -1,5 +1,5 @@
--- Reading the reply to ls-refs (gitprotocol-v2(5), "ls-refs"). The asks and the wants that follow from a reply are
--- rules of this project.
+-- Reading ls-refs replies (gitprotocol-v2(5), "ls-refs"). The asks and the wants that follow from a reply are rules of
+-- this project.
 use Rattle.std.specs.Prelude.{◌≡◌, ◌⊎◌, ◌<◌, ◌≤◌, List, [], ◌∷◌, length, Some, None, Result, Ok, Err}
 use Rattle.gname.specs.Ids.{Id}
 use Rattle.gpkt.specs.Change.{Change}
@@ -26,12 +26,12 @@ use Rattle.gsession.specs.declared.taken.LsTaken.{LsTaken}
 abbrev pub AwaitsRefs : {A : Type 0} → SessionState A → Type 0
 AwaitsRefs s = (asked : LsRefsAsked) × (s.pending ≡ Some (Ls asked))
 
--- the stage after a reply to ls-refs: fetching if there are wants, and settling otherwise
+-- the stage after an ls-refs reply: fetching if there are wants, and settling otherwise
 abbrev pub stage_for : List Id → Stage
 stage_for [] = Settling
 stage_for (want ∷ wants) = Fetching
 
--- after the reply
+-- the session after it accepted a reply with these wants
 abbrev pub with_refs : {A : Type 0} → SessionState A → LsReply → List Id → SessionState A
 with_refs s reply wants =
     record s { stage = stage_for wants; pending = None; asks = asked_of s.refspecs reply.lines; wants = wants }
@@ -48,7 +48,7 @@ pub record TakesLines {A : Type 0} (old : SessionState A) (g : List (Entry A)) (
   pub count : taken.wants ≡ length wants
   pub unborn : taken.unborn ≡ unborn_told old.refspecs reply.unborn
 
--- the destination of an ask is no valid ref name; the fault names the last packet of the reply
+-- the destination of an ask is not a valid ref name; the fault gives the position of the reply's last packet
 pub record IsMisnamed {A : Type 0} (s : SessionState A) (reply : LsReply) (fault : MessageFault) : Type 0 where
   pub unnamed : ¬ (AreNamed {A = A} (asks_by_all s.refspecs reply.lines))
   pub frame : fault.frame ≡ last_frame s.ends reply
@@ -68,7 +68,7 @@ IsRefsFault s g reply TooManyWants = WantsTooMuch s g reply
 IsRefsFault {A} s g reply (Repo (repo.Graph graph.Memory)) = AreNamed {A = A} (asks_by_all s.refspecs reply.lines)
 IsRefsFault s g reply _ = ⊥
 
--- the session reads a complete reply to ls-refs
+-- the session reads a complete ls-refs reply
 abbrev pub ReadsRefs : {A : Type 0} → SessionState A → Change → LsReply → Type 0
 ReadsRefs s change reply = ReadsMessage (judge s.format s.ends) (Says s.format s.ends) change reply
 
@@ -81,8 +81,8 @@ RefusesRefs s change fault =
 abbrev pub ReadsUntaken : {A : Type 0} → SessionState A → List (Entry A) → Change → ClientFault A → Type 0
 ReadsUntaken s g change fault = (reply : LsReply) × ReadsRefs s change reply × IsRefsFault s g reply fault
 
--- a reason to accept no reply to ls-refs: none is awaited, a packet is malformed, or the refs of a complete reply are
--- rejected
+-- a reason why reading an ls-refs reply fails: no such reply is awaited, a packet is malformed, or the refs of a
+-- complete reply are rejected
 abbrev pub IsLsFault : {A : Type 0} → SessionState A → List (Entry A) → Change → ClientFault A → Type 0
 IsLsFault s g change NoOpenRequest = ¬ (AwaitsRefs s) × (change.new ≡ change.old)
 IsLsFault s g change (Message fault) =
@@ -91,7 +91,7 @@ IsLsFault s g change TooManyWants = AwaitsRefs s × ReadsUntaken s g change TooM
 IsLsFault s g change (Repo fault) = AwaitsRefs s × ReadsUntaken s g change (Repo fault)
 IsLsFault s g change _ = ⊥
 
--- the result of reading a reply to ls-refs: its refs are accepted, or a fault
+-- the result of reading an ls-refs reply: its refs are accepted, or there is a fault
 abbrev pub TakesLs : {A : Type 0} → SessionState A → List (Entry A) → Change → SessionState A
     → Result (LsTaken A) (ClientFault A) → Type 0
 TakesLs old g change new (Ok taken) =

@@ -1,6 +1,6 @@
--- Reading the reply to fetch (gitprotocol-v2(5), "fetch"). The indexer reads the pack while it arrives, and the graph
--- gains its objects after the end of the reply. The manual does not define this order, nor which of several faults
--- comes first.
+-- Reading fetch replies (gitprotocol-v2(5), "fetch"). The indexer reads the pack while the pack arrives. The graph
+-- gains the pack's objects after the end of the reply. The manual does not define this order, nor which of several
+-- faults is reported.
 use Rattle.std.specs.Prelude.{◌≡◌, true, false, ℕ, List, ◌∷◌, ◌++◌, length, All, Contains, Some, None, Result, Ok, Err}
 use Rattle.gname.specs.Ids.{Id}
 use Rattle.gpkt.specs.Change.{Change}
@@ -69,8 +69,8 @@ module _ {A : Type 0} (indexes : Indexes A) (index_fails : IndexFails) where
   abbrev pub TakesPack : FetchReply → Type 0
   TakesPack reply = HasPack reply → ((entries : List (Entry A)) × indexes (pack_of reply) entries)
 
-  -- a reason to reject a complete reply: an acknowledged id that is no have, a fault of the indexer or of the graph, or
-  -- out of memory
+  -- a reason to reject a complete reply: an acknowledged id that is not a have, a fault of the indexer or of the graph,
+  -- or out of memory
   abbrev pub IsReplyFault : List Id → RepoState A → FetchReply → ClientFault A → Type 0
   IsReplyFault haves repo reply (StrangeAck id) = IsFirstStrange haves (acknowledged_by reply) id
   IsReplyFault haves repo reply (Index fault) =
@@ -81,7 +81,7 @@ module _ {A : Type 0} (indexes : Indexes A) (index_fails : IndexFails) where
       All (Contains haves) (acknowledged_by reply) × HasPack reply × RefusesPack repo (pack_of reply) fault
   IsReplyFault haves repo reply _ = ⊥
 
-  -- the effect of an accepted reply: acknowledgments add common ids, and a pack also adds objects
+  -- the effect of an accepted reply: acknowledgments add common ids, and a pack adds objects
   abbrev pub TakesHead : SessionState A → RepoState A → FetchReply → SessionState A → RepoState A → Taken → Type 0
   TakesHead old repo_old reply new repo_new (Round common) =
       ¬ (HasPack reply) × (new ≡ after_acks old Fetching (acknowledged_by reply))
@@ -102,12 +102,12 @@ module _ {A : Type 0} (indexes : Indexes A) (index_fails : IndexFails) where
 abbrev pub reading_for : {A : Type 0} → SessionState A → FetchAsked → Reading
 reading_for s asked = record { format = s.format; direct = is_direct asked; limit = s.limit; ends = s.ends }
 
--- the session reads a complete reply to fetch
+-- the session reads a complete fetch reply
 abbrev pub ReadsFetch : Reading → Change → FetchReply → Type 0
 ReadsFetch reading change reply = ReadsMessage (judge reading) (Says reading) change reply
 
--- The session rejects a packet of the reply. The sink for the pack never fails (`false`), so a packet fails for lack of
--- memory only if it acknowledges an id.
+-- The session rejects a packet of the reply. The sink for the pack never fails (`false`), so only a packet that
+-- acknowledges an id can be rejected for lack of memory.
 abbrev pub RefusesFetch : Reading → Change → MessageFault → Type 0
 RefusesFetch reading change fault =
     (front : List Packet) × ReadsRefused (judge reading) (brings_into false reading) front change fault
@@ -128,8 +128,8 @@ module _ {A : Type 0} (indexes : Indexes A) (index_fails : IndexFails) where
       × ((reply : FetchReply) × ReadsFetch (reading_for s asked) change reply
       × IsReplyFault indexes index_fails asked.haves repo reply fault)
 
-  -- a reason to accept no reply to fetch: none is awaited, a packet is malformed, or the content of a complete reply is
-  -- rejected
+  -- a reason why reading a fetch reply fails: no such reply is awaited, a packet is malformed, or the content of a
+  -- complete reply is rejected
   abbrev pub IsTakeFault : SessionState A → RepoState A → Change → ClientFault A → Type 0
   IsTakeFault s repo change NoOpenRequest = ¬ (AwaitsObjects s) × (change.new ≡ change.old)
   IsTakeFault s repo change (Message fault) =
@@ -139,7 +139,7 @@ module _ {A : Type 0} (indexes : Indexes A) (index_fails : IndexFails) where
   IsTakeFault s repo change (Repo (Graph fault)) = DeclinesFetch s repo change (Repo (Graph fault))
   IsTakeFault s repo change _ = ⊥
 
-  -- the result of reading a reply to fetch: a complete reply is accepted, or a fault leaves the repository unchanged
+  -- the result of reading a fetch reply: a complete reply is accepted, or a fault leaves the repository unchanged
   abbrev pub TakesReply : SessionState A → RepoState A → Change → SessionState A → RepoState A
       → Result Taken (ClientFault A) → Type 0
   TakesReply old repo_old change new repo_new (Ok taken) =
@@ -149,7 +149,7 @@ module _ {A : Type 0} (indexes : Indexes A) (index_fails : IndexFails) where
   TakesReply old repo_old change new repo_new (Err fault) =
       IsTakeFault old repo_old change fault × (new ≡ after_fault old fault) × (repo_new ≡ repo_old)
 
-  -- the bytes of a reply to fetch and the result of reading it determine the session afterwards
+  -- the bytes of a fetch reply and the result of reading it determine the session afterwards
   abbrev pub TakingIsDecided : Type 0
   TakingIsDecided =
       (old one other : SessionState A) (repo repo_one repo_other : RepoState A) (bytes left also : Bytes)

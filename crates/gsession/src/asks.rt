@@ -114,8 +114,8 @@ fn destination_of<A: Allocator + Copy>(
     }
 }
 
-/// Returns the distinct new ids of the asks that are not connected, in order. Fails only with
-/// `Memory`.
+/// Returns each id that is asked for and not connected, once, in the order of the asks. Fails only
+/// with `Memory`.
 pub(crate) fn wants_of<A: Allocator + Copy>(
     repo: &Repo<A>,
     asks: &Asks<A>,

@@ -23,7 +23,7 @@ pub enum ClientFault<A: Allocator + Copy = Global> {
     Message(MessageFault),
     /// Fault 66: the indexer rejected the pack.
     Index(IndexFault),
-    /// Fault 82: there are more refspecs than `MAX_SPECS`.
+    /// Fault 82: there are more than `MAX_SPECS` refspecs.
     TooManySpecs,
     /// Fault 83: the call does not fit the stage of the session. The session is unchanged.
     NoOpenRequest,

@@ -23,16 +23,16 @@ pub fn limits_are_the_constants()
 
 // ---- the number of a session's requests for objects
 
-/// A session that begins with a connected repository has begun on the graph of that repository. Its
-/// tips are connected in the graph.
+/// `BeganOn` holds of a session that begins with a connected repository, and of the graph of that
+/// repository. The session's tips are connected in the graph.
 pub fn began_begins<A: Allocator + Copy>()
     ensures { BeganBegins A }
 {
     distinct_are_once();
 }
 
-/// A session that began on a graph still did after its next request, if the graph only gained
-/// objects. It offered only ids that its tips reach in that graph.
+/// `BeganOn` still holds after a session's next request, if the graph only gained objects. The
+/// session offered only ids that its tips reach in the graph with which it began.
 pub fn began_stays<A: Allocator + Copy>()
     ensures { BeganStays A }
 {
@@ -41,8 +41,7 @@ pub fn began_stays<A: Allocator + Copy>()
     connected_stays_connected::<A>();
 }
 
-/// A session that began on a graph still did after every call, successful or not, if the graph only
-/// gained objects.
+/// `BeganOn` still holds after every call, successful or not, if the graph only gained objects.
 pub fn began_stays_on<A: Allocator + Copy, K: Indexer<A>>()
     ensures { (k : K) → BeganStaysOn (K.indexes k) (K.index_fails k) }
 {
@@ -89,7 +88,7 @@ pub fn requests_are_counted<A: Allocator + Copy, K: Indexer<A>>()
     offers_are_exact::<A>();
 }
 
-/// A session makes at most N + 1 requests for objects, if its tips reach N ids in the graph on
+/// A session makes at most N + 1 requests for objects, if its tips reach N ids in the graph with
 /// which it began.
 pub fn rounds_are_few<A: Allocator + Copy>()
     ensures { RoundsAreFew A }
@@ -112,21 +111,23 @@ pub fn calls_go_on<A: Allocator + Copy, K: Indexer<A>>()
     ensures { (k : K) → EachGoesOn (K.indexes k) (K.index_fails k) }
 {}
 
-/// Every call has one of a few effects on the session, for example a new request or the end of the
+/// Every call has one of the effects that `Does` lists, for example a new request or the end of the
 /// session.
 pub fn calls_do<A: Allocator + Copy, K: Indexer<A>>()
     ensures { (k : K) → EachDoes (K.indexes k) (K.index_fails k) }
 {}
 
 /// An open request for objects has the session's wants, and its haves include each common id. If
-/// the request is not direct, another request may follow.
+/// the request has haves and no `done`, the session has made at most as many requests for objects
+/// as it has offered ids.
 #[tactic(auto, using(crate::proofs::SessionLemmas::open_fetch))]
 pub fn open_is_the_sessions<A: Allocator + Copy>()
     ensures { OpenIsTheSessions A }
 {}
 
 /// Each local ref to which a refspec maps a line of the reply gets exactly one ask. The first
-/// refspec that leads to the ref, and its first such line, determine the ask.
+/// refspec that maps a line to this ref determines the ask, with the first line that it maps to
+/// this ref.
 #[tactic(auto, using(crate::proofs::AskLemmas::first_is_asked))]
 pub fn first_is_asked<A: Allocator + Copy>()
     ensures { FirstIsAsked A }
@@ -152,7 +153,8 @@ pub fn one_next<A: Allocator + Copy>()
     offers_are_exact::<A>();
 }
 
-/// A request for objects has the arguments of the session's options.
+/// A request for objects has `ofs-delta` and `no-progress` exactly as the session's options
+/// require.
 #[tactic(auto, using(crate::proofs::NextLaws::options_are_asked))]
 pub fn options_are_asked<A: Allocator + Copy>()
     ensures { OptionsAreAsked A }
@@ -191,7 +193,7 @@ pub fn taking_only_grows<A: Allocator + Copy, K: Indexer<A>>()
     ensures { (k : K) → TakingOnlyGrows (K.indexes k) (K.index_fails k) }
 {}
 
-/// The bytes of a reply to fetch and the result of reading it determine the session afterwards,
+/// The bytes of a fetch reply and the result of reading it determine the session afterwards,
 /// whatever objects the indexer returns.
 #[tactic(auto, using(crate::proofs::LawLemmas::taking_is_decided))]
 pub fn taking_is_decided<A: Allocator + Copy, K: Indexer<A>>()
@@ -200,7 +202,7 @@ pub fn taking_is_decided<A: Allocator + Copy, K: Indexer<A>>()
     reads_exactly();
 }
 
-/// The bytes of a reply to ls-refs and the result of reading it determine the session afterwards.
+/// The bytes of an ls-refs reply and the result of reading it determine the session afterwards.
 #[tactic(auto, using(crate::proofs::LawLemmas::listing_is_decided))]
 pub fn listing_is_decided<A: Allocator + Copy>()
     ensures { ListingIsDecided A }

@@ -14,7 +14,8 @@ pub struct PackOptions {
     /// Whether each request for objects has `ofs-delta`, so that a delta may give its base as an
     /// offset in the pack.
     pub ofs_delta: bool,
-    /// Whether the server may report progress. If not, each request for objects has `no-progress`.
+    /// Whether the server may report progress. If false, each request for objects has
+    /// `no-progress`.
     pub progress: bool,
 }
 

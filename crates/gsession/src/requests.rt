@@ -159,7 +159,8 @@ fn add_haves<A: Allocator + Copy>(
     Ok(())
 }
 
-// Converts the only fault of an argument that fits into its request: out of memory.
+// Converts the fault of adding an argument that fits into its request. Such a fault is always out
+// of memory.
 fn no_memory(fault: MessageFault) -> AllocError
     requires { fault.why ≡ Memory }
 {

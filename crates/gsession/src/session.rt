@@ -232,8 +232,8 @@ impl<A: Allocator + Copy> Session<A> {
     }
 
     /// Updates the local refs, all at once, if each asked id is connected. Sets each ref to the
-    /// asked id if the ref is new, forced or fast-forwarded. Returns the outcome of each ask. The
-    /// call ends the session.
+    /// asked id if the ref is new, or if the update is forced or a fast-forward. Returns the
+    /// outcome of each ask. The call ends the session.
     ///
     /// Fails with `NoOpenRequest` before the pack has arrived, unless there are no wants, and
     /// changes nothing. Otherwise fails with `Repo`, like `Repo::settle`. This fault ends the

@@ -4,7 +4,7 @@ use gclientrepo::{Asks, RefUpdate};
 use gname::RefName;
 use std::alloc::{Allocator, Global};
 
-/// The content of an accepted reply to ls-refs.
+/// The content of an accepted ls-refs reply.
 #[derive(Debug, Drop)]
 pub struct LsTaken<A: Allocator + Copy = Global> {
     /// The number of asks: local refs to update.
@@ -15,7 +15,7 @@ pub struct LsTaken<A: Allocator + Copy = Global> {
     pub unborn: Option<RefName<A>>,
 }
 
-/// The content of an accepted reply to fetch.
+/// The content of an accepted fetch reply.
 #[derive(Clone, Copy, Debug, PartialEq, Eq, Drop)]
 pub enum Taken {
     /// The reply had only acknowledgments. The session now has `common` common ids.

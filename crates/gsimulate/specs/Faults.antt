@@ -24,11 +24,11 @@ simulation_fault_row faults.Memory = scenario_fault_row scenario.Memory
 
 -- ---- lines
 
--- the line for out of memory
+-- the line that reports out of memory
 abbrev pub memory_line : Bytes
 memory_line = codes "gitv2: fault 91 Memory\n"
 
--- the line for a wrong line of the scenario
+-- the line that reports a wrong line of the scenario
 abbrev pub wrong_line : ℕ → Bytes
 wrong_line line = codes "gitv2: fault 92 Scenario line " ++ (decimal line ++ codes "\n")
 
@@ -36,7 +36,7 @@ abbrev pub scenario_line : ScenarioFault → Bytes
 scenario_line (scenario.Scenario line) = wrong_line line
 scenario_line scenario.Memory = memory_line
 
--- the line for two different objects with this id
+-- the line that reports two different objects with this id
 abbrev pub disagreement : Id → Bytes
 disagreement id = codes "gitv2: fault 90 Disagree " ++ (id_text id ++ codes "\n")
 

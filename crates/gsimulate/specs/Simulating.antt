@@ -57,7 +57,7 @@ pub record HasEvents {A : Type 0} (files : Simulation) (IsSo : Server A → Repo
   pub reads : IsScenario files.scenario.now events
   pub so : IsSo server repo events
 
--- the server and the client can start a world, and the property holds for this world and the events
+-- the server and the client can form a world, and the property holds for this world and the events
 abbrev pub CanHappen : {A : Type 0} → (WorldState A → List (Event A) → Type 0)
     → Server A → RepoState A → List (Event A) → Type 0
 CanHappen IsSo server repo events = CanStart server repo × IsSo (new_world server repo) events
@@ -66,7 +66,7 @@ abbrev pub HasWorld : {A : Type 0} → Simulation → (WorldState A → List (Ev
 HasWorld files IsSo = HasEvents files (CanHappen IsSo)
 
 -- the reasons why no event happens: the server file, the client file or the scenario is rejected, or server and client
--- can't start a world
+-- can't form a world
 abbrev pub CannotBegin : {A : Type 0} → Simulation → SimulationFault A → Type 0
 CannotBegin {A} files (faults.Program fault) =
     RefusesFile {A = A} files.server.now fault
@@ -86,7 +86,7 @@ Shows text output (Err (faults.Program program.WriteFailed)) = BreaksOff output 
 Shows text output (Err (faults.Program program.Memory)) = IsUnwritten output
 Shows text output (Err _) = ⊥
 
--- all events happened with the promises of their steps, and their outcomes and the client's final refs are printed
+-- all events happened, each step kept its promises, and the outcomes and the client's final refs are printed
 pub record IsRun {A : Type 0} (output : Output) (ending : Ending A) (w : WorldState A) (events : List (Event A))
     : Type 0 where
   pub outcomes : List Outcome
@@ -116,12 +116,13 @@ pub record IsNotRun {A : Type 0} (files : Simulation) (output : Output) (ending 
 abbrev pub Simulates : {A : Type 0} → Simulation → Output → Ending A → Type 0
 Simulates {A} files output ending = HasWorld {A = A} files (IsRun output ending) ⊎ IsNotRun files output ending
 
--- after success nothing is printed, and the status is 0; after a fault the fault's line is printed, and the status is 1
+-- after success nothing is printed, and the status is 0; after a fault the line that reports the fault is printed, and
+-- the status is 1
 abbrev pub ExitsWith : {A : Type 0} → Ending A → Output → ℕ → Type 0
 ExitsWith (Ok done) errors status = IsUnwritten errors × (status ≡ 0)
 ExitsWith (Err fault) errors status = Prints errors (simulation_fault_line fault) × (status ≡ 1)
 
--- a simulation has an outcome, and exits with the line and the status of this outcome
+-- a simulation has an outcome, prints the line that reports this outcome, and exits with the outcome's status
 pub record Runs (A : Type 0) (files : Simulation) (output errors : Output) (status : ℕ) : Type 0 where
   pub ending : Ending A
   pub simulates : Simulates files output ending

@@ -10,11 +10,11 @@
 //!   outcome, and then one line for each ref of the client after the run. The whole output is
 //!   flushed, or a prefix is written if the output fails (`specs/Lines.antt`, `Simulating.antt`).
 //! - No event happens and nothing is written if a file does not describe a server or a client, or
-//!   the scenario has a wrong line. The same holds if the server and the client can't share a
-//!   world. The first fault in this order is reported. If memory for an event runs out, nothing is
+//!   the scenario has a wrong line. The same holds if the server and the client can't form a world.
+//!   The first fault in this order is reported. If memory for an event runs out, nothing is
 //!   written.
 //! - The program exits with status 0 and prints no fault, or exits with status 1 and prints the
-//!   line of its fault. If the errors' sink fails, a prefix of the line is printed.
+//!   line that reports its fault. If the error sink fails, a prefix of the line is printed.
 //! - Each fault has the number, the name, the text and the printed line of `specs/Faults.antt`.
 //!
 //! # Only tested
@@ -24,10 +24,9 @@
 //! # What the contracts do not rule out
 //!
 //! A simulation may report out of memory for a file, the scenario or an event whenever `gcmd`,
-//! `gscenario` and `gworld` may. A simulation may also report out of memory for the output, even if
-//! the output is empty. The contracts do not limit how often the sinks are called, or how long a
-//! call takes. Formatting a fault may return an error (`fmt::Error`) although the text would be
-//! right.
+//! `gscenario` and `gworld` may do so. A simulation may also report out of memory for the output,
+//! even if the output is empty. The contracts do not limit how often the sinks are called, or how
+//! long a call takes. Formatting a fault may return `fmt::Error` for no reason.
 //!
 //! # Dependencies
 //!

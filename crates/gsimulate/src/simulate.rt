@@ -35,7 +35,8 @@ pub struct Simulation<'a> {
 /// each event as a line on `output`. Then prints each ref of the client as a line `ref ID NAME`, in
 /// the byte order of the names. A fault is printed as one line on `errors`. Faults are checked in
 /// this order: the server's file, the client's file, the scenario, the two repositories together,
-/// and the events. A refused event is not a fault of the simulation; its refusal is its outcome.
+/// and the events. If an event is refused, the refusal is the outcome of this event, and not a
+/// fault of the simulation.
 ///
 /// Returns exit status 0 if the lines are written and flushed, and 1 after a fault. After a fault
 /// nothing is written to `output`, except a prefix of the lines if the output failed.
@@ -92,7 +93,8 @@ fn load_ends<A: Allocator + Copy>(
     Ok((server, repo))
 }
 
-// Reads the scenario before the world starts, because a fault of the scenario has precedence.
+// Reads the scenario before the world starts, because a fault of the scenario is reported before a
+// fault of the world.
 fn begin_between<A: Allocator + Copy>(
     alloc: A,
     server: Server<A>,

@@ -31,7 +31,7 @@ use Rattle.glockfile.specs.declared.storage.Lockfile.TheVariants.{Absent}
 use Rattle.gtcp.specs.Listing.{reply_lines}
 use Rattle.gtcp.specs.Sockets.{FetchesFrom, FetchesOn, FitPrefixes, ListsFrom, RefusesPrefixes, ServesEach, asked_for}
 
--- the outcome is a fault for such a cause, and nothing is written
+-- the outcome is a fault that satisfies the predicate `Cause`, and nothing is written
 abbrev pub StopsBefore : {A : Type 0} → (ProgramFault A → Type 0) → Output → ProgramOutcome A → Type 0
 StopsBefore {A} Cause output outcome =
     (fault : ProgramFault A) × Cause fault × (outcome ≡ Err fault) × IsUnwritten output
@@ -42,8 +42,8 @@ StopsBefore {A} Cause output outcome =
 abbrev pub port_line : ℕ → Bytes
 port_line port = codes "listening " ++ decimal port ++ codes "\n"
 
--- the outcome of showing a port: its line is written and flushed; or there is no socket, memory for the line runs out,
--- or the output fails
+-- the outcome of showing a port: the port's line is written and flushed; or there is no socket, memory for the line
+-- runs out, or the output fails
 abbrev pub Announces : {A : Type 0} → Output → ProgramOutcome A → Type 0
 Announces output (Ok done) = (port : ℕ) × (port < 65_536) × Sends output (port_line port)
 Announces output (Err program.Socket) = IsUnwritten output
@@ -165,8 +165,9 @@ module _ {A : Type 0} (old : RepoState A) (specs : List Refspec) (new : RepoStat
   abbrev pub FailsAsClient : Type 0
   FailsAsClient = (cause : FetchFault A) × FetchesAsClient (Err cause)
 
-  -- The result of a fetch in a pair: that of the client's conversation. The conversation failed if a message is too
-  -- long or memory for a message runs out. Without a connection or memory for its buffers, the repository is unchanged.
+  -- The result of a fetch in a pair: the result of the client's conversation. The conversation failed if a message is
+  -- too long or memory for a message runs out. If no connection is made, or memory for its buffers runs out, the
+  -- repository is unchanged.
   abbrev pub FetchesInPair : Result (Fetched A) (ProgramFault A) → Type 0
   FetchesInPair (Ok fetched) = FetchesAsClient (Ok fetched)
   FetchesInPair (Err (program.Fetch fault)) = FetchesAsClient (Err fault)

@@ -1,5 +1,5 @@
--- Conversations over a socket. The contracts don't know the bytes that pass through a socket. A call over a socket
--- holds a conversation over some input and output.
+-- Conversations over a socket. The contracts can't state which bytes pass through a socket. A call over a socket
+-- therefore holds a conversation over some input and output with unknown bytes.
 use Rattle.std.specs.Prelude.{◌≡◌, ◌⊎◌, ◌<◌, ◌≤◌, ℕ, Bool, true, false, List, length, All, Result, Ok, Err}
 use Rattle.gpkt.specs.Sending.{Input, Output}
 use Rattle.gpkt.specs.Packets.{Bytes}
@@ -94,13 +94,13 @@ outcome_of git.Elsewhere = Ok tt
 outcome_of (git.Refused fault) = Err (program.Request fault)
 outcome_of git.WriteFailed = Err program.WriteFailed
 
--- all connections are served, or fewer connections and the fault is `Socket`
+-- all connections are served, or fewer connections are served and the fault is `Socket`
 abbrev pub IsCount : {A : Type 0} → List (ProgramOutcome A) → ℕ → ProgramOutcome A → Type 0
 IsCount outcomes connections (Ok done) = length outcomes ≡ connections
 IsCount outcomes connections (Err fault) = (fault ≡ program.Socket) × (length outcomes < connections)
 
 module _ {A : Type 0} (server : Server A) (packs : Packs A) (fails : PackFails A) (path : Bytes) (ends : Ends) where
-  -- a connection is served over a socket, with this end
+  -- a connection is served over a socket, and ends in the given manner
   pub record HoldsServing (ended : GitEnd) : Type 0 where
     pub input : Input
     pub output : Output

@@ -15,8 +15,8 @@ fault_lines faults = flat_map fault_line faults
 abbrev pub PrintsNone : {A : Type 0} → Output → List (ProgramFault A) → Type 0
 PrintsNone errors faults = (faults ≡ []) × IsUnwritten errors
 
--- The lines of all faults are printed and flushed. If the sink fails, a prefix of the lines is printed. Without a fault
--- nothing is written.
+-- The lines of all faults are printed and flushed. If the sink fails, a prefix of the lines is printed. If there is no
+-- fault, nothing is written.
 abbrev pub PrintsFaults : {A : Type 0} → Output → List (ProgramFault A) → Type 0
 PrintsFaults errors faults =
     PrintsNone errors faults ⊎ (Passes errors (fault_lines faults) ⊎ SendsSome errors (fault_lines faults))

@@ -9,11 +9,11 @@ ghost use Rattle.gtcp.specs.steps.Deadlines.{LeavesOf, first_line_time, request_
 use std::marker::Model;
 use std::time::{Duration, Instant};
 
-/// The maximum time in seconds for a client's whole first line, from the accept on.
+/// The maximum time in seconds for a client's whole first line, counted from the accept.
 pub const MAX_FIRST_LINE: u64 = 10;
 
-/// The maximum time in seconds for a client's whole request, from the moment when the server starts
-/// to wait for the request.
+/// The maximum time in seconds for a client's whole request, counted from the moment when the
+/// server starts to wait for the request.
 pub const MAX_REQUEST: u64 = 60;
 
 /// The maximum time in seconds during which a peer accepts no byte, or a server sends no byte.

@@ -27,16 +27,16 @@ use std::alloc::Allocator;
 use std::io::{BufReader, BufWriter, Read, Write};
 use std::net::OpenStream;
 
-/// Fetches by refspecs from the server at the other end of the stream. Writes the first line of a
-/// `git://` connection (gitprotocol-pack(5), "Git Transport"), which names the host and the path,
-/// and then fetches like `gclient::fetch_over`.
+/// Fetches with the refspecs from the server at the other end of the stream. Writes the first line
+/// of a `git://` connection (gitprotocol-pack(5), "Git Transport"), which names the host and the
+/// path, and then fetches like `gclient::fetch_over`.
 ///
 /// Fails with `BadText` (42) at packet 0 if the host or the path is not well-formed. Fails with
 /// `Memory` (53) if out of memory for the first line, and with `NoBuffer` (28) if out of memory for
 /// the buffers of the stream. After these three faults nothing was read or written. Otherwise fails
-/// with the faults of `fetch_over`: the refs are unchanged, and the graph only gained objects. A
-/// read fails if the server sends no byte for [`MAX_SILENCE`](crate::MAX_SILENCE) seconds, and a
-/// write fails if the server accepts no byte for the same time.
+/// with the faults of `fetch_over`. These faults leave the refs unchanged, and the graph only gains
+/// objects. A read fails if the server sends no byte for [`MAX_SILENCE`](crate::MAX_SILENCE)
+/// seconds, and a write fails if the server accepts no byte for the same time.
 pub fn fetch_on<A, K, S>(
     stream: S,
     host: &[u8],
@@ -140,7 +140,7 @@ where
         return Err(FetchFault::NoBuffer);
     };
     let fetched = fetch_between(&mut reader, &mut writer, repo, indexer, fetch);
-    // Does not retry bytes that could not be written.
+    // Drops the bytes that could not be written.
     let (_peer, _unwritten) = writer.into_parts();
     fetched
 }
@@ -225,7 +225,7 @@ where
         return Err(FetchFault::NoBuffer);
     };
     let listed = list_between(alloc, &mut reader, &mut writer, hello, asked);
-    // Does not retry bytes that could not be written.
+    // Drops the bytes that could not be written.
     let (_peer, _unwritten) = writer.into_parts();
     listed
 }

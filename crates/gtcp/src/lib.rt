@@ -11,9 +11,9 @@
 //! # Proved
 //!
 //! - [`serve_listener`] serves `connections` connections, one after the other. The function prints
-//!   and flushes the faults of all connections, one line per fault and in order. If the errors'
-//!   sink fails, a prefix of these lines is printed (`specs/Sockets.antt`, `Telling.antt`). A
-//!   request for another path is not a fault. The call fails only with `Socket`, after fewer than
+//!   and flushes the faults of all connections, one line per fault and in order. If the error sink
+//!   fails, a prefix of these lines is printed (`specs/Sockets.antt`, `Telling.antt`). A request
+//!   for another path is not a fault. The call fails only with `Socket`, after fewer than
 //!   `connections` connections.
 //! - [`fetch_on`] fetches with the given refspecs, pack limit and form of replies. The fetch starts
 //!   with the first line for the given host and path, and keeps every promise of
@@ -28,25 +28,25 @@
 //!   After any fault except a failed output, the program has written nothing (`specs/Listing.antt`,
 //!   `Remote.antt`). With more than 64 prefixes the program reports this limit or out of memory,
 //!   but never a missing socket.
-//! - [`cmd_fetch_remote`] fetches into a stored file. In every state of the storage, the file has
-//!   the old text or the whole new text. The new text is written only if the conversation succeeds.
-//!   The new text describes the repository after the fetch, which only gained objects. The report,
-//!   with the outcome of each ref update, is written only after the new text. At the end the run
-//!   holds no lockfile (`specs/Remote.antt`, and `Stored.antt` of `gcmd`).
+//! - [`cmd_fetch_remote`] fetches into a stored file. At any time the file has the old text or the
+//!   whole new text. The new text is written only if the conversation succeeds. The new text
+//!   describes the repository after the fetch. The fetch only adds objects. The report, with the
+//!   outcome of each ref update, is written only after the new text. At the end the run holds no
+//!   lockfile (`specs/Remote.antt`, and `Stored.antt` of `gcmd`).
 //! - [`cmd_pair`] fetches inside one process and writes the same report, but stores nothing.
 //! - [`cmd_serve`] shows the number of its port, and then serves the repository of its file like
 //!   [`serve_listener`]. If the file is refused, no socket opens or the port can't be shown,
 //!   [`cmd_serve`] serves no client.
-//! - Each program exits with status 0 or 1. With status 0 it prints no further line. With status 1
-//!   it prints the line of its fault, or a prefix of this line. The fault is a refused file, a
-//!   failed conversation, a missing socket, out of memory, or a failed output. Before this line
+//! - Each program exits with status 0 or 1. With status 0 it prints no fault line. With status 1 it
+//!   prints the line that reports its fault, or a prefix of this line. The fault is a refused file,
+//!   a failed conversation, a missing socket, out of memory, or a failed output. Before this line
 //!   [`cmd_serve`] prints only the faults of connections, and the other programs print nothing.
-//! - A [`Timer`] limits the time of each read to more than zero and at most 60 seconds
+//! - A [`Timer`] limits each read to a time of more than zero and at most 60 seconds
 //!   (`specs/Deadlines.antt`).
-//! - [`Turns`] subtract the elapsed time of the clock from a client's remaining time. If the clock
-//!   goes backwards, the client has no time left. The client gets the full time again only when the
-//!   server starts to wait for a request (`specs/steps/Deadlines.antt` and `Turns.antt`, for
-//!   private functions).
+//! - A [`Turns`] timer subtracts the elapsed time of the clock from a client's remaining time. If
+//!   the clock goes backwards, the client has no time left. The client gets the full time again
+//!   only when the server starts to wait for a request (`specs/steps/Deadlines.antt` and
+//!   `Turns.antt`, which specify private functions).
 //! - A [`Location`] has the given address and path. Its host is the text of the address before the
 //!   port, and the port is a decimal number up to 65,535 (`specs/Places.antt`).
 //! - A [`MessageSink`] has written or still holds each byte that its caller wrote.
@@ -71,7 +71,7 @@
 //! written, nor what the server of a pair does. An implementation may therefore return any result
 //! to which the bytes of some peer would lead: any reply, any added objects, or any served
 //! connection. An implementation may send any bytes. An implementation may fail with `Socket`
-//! although a connection can be accepted or opened, or report out of memory. In a pair, an
+//! although a connection can be accepted or opened. It may also report out of memory. In a pair, an
 //! implementation may report any failed fetch as a message that is too long, and vice versa. The
 //! program of [`cmd_fetch_remote`] may connect before it locks the file. The program may also
 //! report that the file can't be locked, read or replaced although it could be.

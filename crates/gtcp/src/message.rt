@@ -112,7 +112,7 @@ impl<W: Sink, A: Allocator + Copy> MessageSink<W, A> {
     /// Holds more bytes of a message, without writing any to the inner sink.
     ///
     /// Fails if the message would have more than [`MAX_MESSAGE`] bytes, or if out of memory. After
-    /// a fault the held bytes are unchanged, and the sink is down.
+    /// a fault the held bytes are unchanged, and the sink has failed.
     pub fn hold(&mut self, bytes: &[u8]) -> Result<(), Down>
         requires { self.old.down ≡ false }
         ensures inner { self.new.inner ≡ self.old.inner }

@@ -158,8 +158,8 @@ struct Joined<S> {
 // The maximum number of other connections that are accepted before the client's own connection.
 const MAX_STRANGERS: usize = 16;
 
-// The address at which client and server connect, with any free port. The client names the host and
-// the path of the two following constants.
+// The address at which client and server connect, with any free port. In its first line, the client
+// sends the host and the path of the two following constants.
 const MEETING: &str = "127.0.0.1:0";
 
 const HOST: &[u8] = b"127.0.0.1";
@@ -190,8 +190,8 @@ fn accept_from<L: OpenListener>(listener: &L, client: SocketAddr) -> Option<L::S
     None
 }
 
-/// Fetches by refspecs from the server into the repository, over a connection inside this process
-/// and with plain packs.
+/// Fetches with the refspecs from the server into the repository, over a connection inside this
+/// process and with plain packs.
 ///
 /// Fails with `PairLimit` if a message would have more than [`MAX_MESSAGE`](crate::MAX_MESSAGE)
 /// bytes: nothing of the message is written, and client and server stop. Fails with `Socket` if the
@@ -246,7 +246,7 @@ where
     }
 }
 
-// Fetches over these devices of the client's end.
+// Fetches over this source and this sink of the client's end.
 fn fetch_from_far<A, N, V, S>(
     server: &Server<A>,
     repo: &mut Repo<A>,
@@ -274,7 +274,7 @@ where
     }
 }
 
-// Fetches over these devices of both ends.
+// Fetches over the sources and sinks of both ends.
 fn converse<A, N, V, F, W>(
     server: &Server<A>,
     repo: &mut Repo<A>,

@@ -26,11 +26,11 @@ use std::time::Clock;
 /// `errors`, and the next connection is still served. If memory for a buffer runs out, a connection
 /// is served without the buffer.
 ///
-/// A client has [`MAX_FIRST_LINE`](crate::MAX_FIRST_LINE) seconds for its first line, from the
-/// accept on. The client has [`MAX_REQUEST`](crate::MAX_REQUEST) seconds for each request, from the
-/// moment when the server starts to wait for the request. When this time is over, the current read
-/// fails. Every read fails if the clock fails or goes backwards. A write fails if the client
-/// accepts no byte for [`MAX_SILENCE`](crate::MAX_SILENCE) seconds.
+/// A client has [`MAX_FIRST_LINE`](crate::MAX_FIRST_LINE) seconds for its first line, counted from
+/// the accept. The client has [`MAX_REQUEST`](crate::MAX_REQUEST) seconds for each request, counted
+/// from the moment when the server starts to wait for the request. When this time is over, the
+/// current read fails. Every read fails if the clock fails or goes backwards. A write fails if the
+/// client accepts no byte for [`MAX_SILENCE`](crate::MAX_SILENCE) seconds.
 ///
 /// Fails with `Socket` if a connection can't be accepted, and serves no further connection.
 pub fn serve_listener<C, A, K, L, S, E>(
@@ -181,7 +181,7 @@ where
     match BufWriter::with_capacity(alloc, MESSAGE_BUFFER, peer) {
         Ok(mut writer) => {
             let ended = serve_between(export, packer, reader, &mut writer);
-            // Does not retry bytes that could not be written.
+            // Drops the bytes that could not be written.
             let (_peer, _unwritten) = writer.into_parts();
             ended
         }

@@ -12,8 +12,8 @@ use std::time::Duration;
 /// The maximum number of bytes of a message in a single write.
 pub(crate) const MESSAGE_BUFFER: usize = 65_536;
 
-// The number of bytes in each read of input that is discarded. The next constant limits these
-// reads.
+// The number of bytes in each read of input that is discarded. The next constant limits the number
+// of these reads.
 const DROPPED_BYTES: usize = 4_096;
 
 const MAX_DROPS: usize = 1_024;
@@ -26,8 +26,8 @@ const MAX_INTERRUPTS: u32 = 1_024;
 // seconds late.
 const TAKING_WAIT: u64 = 5;
 
-/// Connects to an address given as HOST:PORT. Tries the addresses of the host in order, and takes
-/// the first that accepts a connection within [`MAX_CONNECT`] seconds.
+/// Connects to an address given as HOST:PORT. Tries the addresses of the host in order, and uses
+/// the first address that accepts a connection within [`MAX_CONNECT`] seconds.
 ///
 /// Fails with the error of the host look-up. If no address accepts a connection, fails with the
 /// error of the last address.
@@ -130,8 +130,8 @@ impl<S: Write + OpenStream, T: Timer> Write for &Peer<S, T> {
     }
 }
 
-// Returns whether the peer accepted no byte in a write with this error, so that the write may be
-// tried again.
+// Returns whether a write that failed with this error may be tried again. Such an error means that
+// the peer accepted no byte.
 fn is_waiting(kind: ErrorKind) -> bool {
     matches!(
         kind,

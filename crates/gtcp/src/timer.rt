@@ -1,4 +1,4 @@
-//! Timers that limit the reads of a stream.
+//! Timers that limit the duration of reads.
 
 ghost use Rattle.std.specs.Prelude.{◌≤◌, ◌<◌, IfOk, IfSome};
 ghost use Rattle.std.specs.Duration.{as_nanos};
@@ -11,7 +11,7 @@ use std::cell::Cell;
 use std::io;
 use std::time::{Clock, Duration, Instant};
 
-/// A timer that limits the reads of one stream.
+/// A timer that limits the duration of each read of a stream.
 pub trait Timer {
     /// Returns the maximum duration of the next read: more than zero, and at most 60 seconds. Fails
     /// with `TimedOut` if the peer has no time left.

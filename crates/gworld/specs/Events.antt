@@ -1,4 +1,5 @@
--- The effect of each event on a world, and its outcome. A step leaves every field that it does not name unchanged.
+-- The effect of each event on a world, and its outcome. A step leaves every field of the world unchanged unless its
+-- definition says otherwise.
 use Rattle.std.specs.Prelude.{◌≡◌, ◌≢◌, ◌⊎◌, ◌↔◌, ℕ, Bool, true, false, List, [], ◌∷◌, ◌++◌, length, take, count_by}
 use Rattle.std.specs.Prelude.{slice_get, if◌then◌else◌, IsTrue, Option, None, Some, Ok, Err}
 use Rattle.gname.specs.Ids.{Id}
@@ -66,7 +67,7 @@ module _ {A : Type 0} where
   abbrev pub IsRefused : ℕ → WorldState A → Outcome → WorldState A → Type 0
   IsRefused number w outcome new = (outcome ≡ outcomes.Fault number) × (new ≡ w)
 
-  -- `Begin`: a new session reads the server's advertisement and replaces the old session, or the beginning fails
+  -- `Begin`: a new session reads the server's advertisement and replaces the old session, or no session can begin
   abbrev pub BeginsSession : WorldState A → List Refspec → Outcome → WorldState A → Type 0
   BeginsSession w specs outcomes.Done new =
       (begun session : SessionState A) × Begins w.repo specs default_limit Plain (Ok begun)
@@ -113,13 +114,14 @@ module _ {A : Type 0} where
 
   -- ---- changes of the two repositories
 
-  -- the graph holds the entry's id with a different object
+  -- the graph holds a different object under the entry's id
   pub record Disagrees (g : List (Entry A)) (entry : Entry A) : Type 0 where
     pub node : Node A
     pub held : IsNode g entry.id node
     pub differs : node ≢ entry.node
 
-  -- `ServerAdd`: the server gains an object, the client holds its id with a different object, or the server rejects it
+  -- `ServerAdd`: the server gains an object, unless the client holds a different object under its id or the server
+  -- rejects it
   abbrev pub AddsAtServer : WorldState A → Entry A → Outcome → WorldState A → Type 0
   AddsAtServer w entry outcomes.Done new =
       AgreesWith w.repo.graph.entries entry
@@ -131,7 +133,7 @@ module _ {A : Type 0} where
       × ((fault : BuildFault A) × Adds w.server entry w.server (Err fault) × (number ≡ (build_fault_row fault).0))))
   AddsAtServer w entry _ new = ⊥
 
-  -- `ServerRef`: a ref of the server is set, or the server rejects the change
+  -- `ServerRef`: a ref of the server is set, unless the server rejects the change
   abbrev pub SetsAtServer : WorldState A → Name → Id → Outcome → WorldState A → Type 0
   SetsAtServer w name id outcomes.Done new =
       (server : Server A) × Sets w.server name id server (Ok tt) × (new ≡ record w { server = server })
@@ -140,7 +142,8 @@ module _ {A : Type 0} where
       × (new ≡ w)
   SetsAtServer w name id _ new = ⊥
 
-  -- `ClientAdd`: the client gains an object, the server holds its id with a different object, or the client rejects it
+  -- `ClientAdd`: the client gains an object, unless the server holds a different object under its id or the client
+  -- rejects it
   abbrev pub AddsAtClient : WorldState A → Entry A → Outcome → WorldState A → Type 0
   AddsAtClient w entry outcomes.Done new =
       AgreesWith w.server.graph.entries entry
@@ -153,7 +156,7 @@ module _ {A : Type 0} where
       × ((fault : RepoFault A) × AddsLocal w.repo entry w.repo (Err fault) × (number ≡ (repo_fault_row fault).0))))
   AddsAtClient w entry _ new = ⊥
 
-  -- `ClientRef`: a ref of the client is set, or the client rejects the change
+  -- `ClientRef`: a ref of the client is set, unless the client rejects the change
   abbrev pub SetsAtClient : WorldState A → Name → Id → Outcome → WorldState A → Type 0
   SetsAtClient w name id outcomes.Done new =
       (repo : RepoState A) × SetsLocal w.repo name id repo (Ok tt) × (new ≡ record w { repo = repo })
@@ -177,8 +180,8 @@ TalksTo server packs pack_fails bytes outcome =
     × (outcome ≡ stranger_outcome (length written) ended)
 
 module _ {A : Type 0} (packs : Packs A) (pack_fails : PackFails A) where
-  -- `Serve`: the server replies to a sent request and the reply is kept, the server rejects it, or there is no such
-  -- request
+  -- `Serve`: the server replies to a sent request and the reply is kept, unless the server rejects the request or no
+  -- sent request has this index
   abbrev pub ServesRequest : WorldState A → Option Asked → Outcome → WorldState A → Type 0
   ServesRequest w None outcome new = IsRefused no_such w outcome new
   ServesRequest w (Some asked) (outcomes.Served number) new =
@@ -206,7 +209,7 @@ waiting_session (Some s) = waits_for s s.pending
 
 module _ {A : Type 0} (indexes : Indexes A) (index_fails : IndexFails) where
   -- The bytes arrive as the reply to the open request, and change the session and the repository. The marks `forged`
-  -- and `answered` are set to the given values. A session with an open request is never marked as answered before.
+  -- and `answered` are set to the given values. A session with an open request is not yet marked as answered.
   pub record BytesCome (w : WorldState A) (s : SessionState A) (asked : Asked) (bytes : Bytes) (forged answered : Bool)
       (outcome : Outcome) (new : WorldState A) : Type 0 where
     pub after : SessionState A
@@ -214,9 +217,9 @@ module _ {A : Type 0} (indexes : Indexes A) (index_fails : IndexFails) where
     pub takes : TakesBytes indexes index_fails asked s w.repo bytes outcome after repo
     pub is : new ≡ record w { session = Some after; repo = repo; forged = forged; answered = answered }
 
-  -- `Deliver`: the first `count` bytes of a kept reply arrive, no request is open, or there is no such reply. A session
-  -- is marked as answered if the reply arrives complete, answers a request equal to the open one, and its pack is
-  -- accepted.
+  -- `Deliver`: the first `count` bytes of a kept reply arrive, unless no request is open or no kept reply has this
+  -- index. A session is marked as answered if the reply arrives complete, answers a request equal to the open one, and
+  -- its pack is accepted.
   abbrev pub Delivers : WorldState A → Option Kept → ℕ → Option (SessionState A × Asked) → Outcome → WorldState A
       → Type 0
   Delivers w None count waits outcome new = IsRefused no_such w outcome new
@@ -225,7 +228,7 @@ module _ {A : Type 0} (indexes : Indexes A) (index_fails : IndexFails) where
       (answered : Bool) × (IsTrue answered ↔ IsFullAnswer kept asked count outcome)
       × BytesCome w s asked (take count (reply_bytes kept.reply)) w.forged answered outcome new
 
-  -- `Forge`: the bytes arrive as a reply, or no request is open. Afterwards the world is marked as forged.
+  -- `Forge`: the bytes arrive as a reply, unless no request is open. Afterwards the world is marked as forged.
   abbrev pub Forges : WorldState A → Bytes → Option (SessionState A × Asked) → Outcome → WorldState A → Type 0
   Forges w bytes None outcome new = (outcome ≡ outcomes.Fault out_of_turn) × (new ≡ record w { forged = true })
   Forges w bytes (Some (s, asked)) outcome new = BytesCome w s asked bytes true false outcome new

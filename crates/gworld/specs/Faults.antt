@@ -15,7 +15,7 @@ use Rattle.gworld.specs.declared.fault.WorldFault.TheVariants as world
 abbrev pub disagreement : ℕ
 disagreement = 90
 
--- no request or no reply has the index of the event
+-- no sent request or kept reply has the index that the event gives
 abbrev pub no_such : ℕ
 no_such = 93
 
@@ -23,9 +23,9 @@ no_such = 93
 abbrev pub out_of_turn : ℕ
 out_of_turn = 83
 
--- ---- the numbers of faults that an honest world may still report
+-- ---- the numbers of faults that may occur even without forged bytes
 
--- the client is out of memory to read a reply
+-- the client does not have enough memory to read a reply
 abbrev pub no_memory_to_read : ℕ
 no_memory_to_read = 53
 
@@ -63,7 +63,7 @@ too_many_refs = 69
 
 -- ---- the faults
 
--- the number and the name of each reason for two repositories to form no world
+-- the number and the name of each reason why two repositories can't form a world
 abbrev pub world_fault_row : WorldFault → FaultRow
 world_fault_row world.TwoFormats = (97, codes "TwoFormats")
 world_fault_row (world.Disagree id) = (disagreement, codes "Disagree")

@@ -17,7 +17,7 @@ use Rattle.gscenario.specs.declared.event.Event.TheVariants as event
 use Rattle.gworld.specs.declared.outcome.Outcome.{Outcome}
 use Rattle.gworld.specs.declared.outcome.Outcome.TheVariants as outcomes
 
--- each step from a sound world that leaves both ends connected leads to a sound world, and keeps its promises
+-- each step that starts in a sound world and leaves both ends connected leads to a sound world, and keeps its promises
 abbrev pub StepsKeep : {A : Type 0} → PackTools A → Type 0
 StepsKeep {A} tools =
     (w new : WorldState A) (event : Event A) (outcome : Outcome) → AreEndsConnected w → AreEndsConnected new
@@ -37,7 +37,7 @@ EndsStayConnected {A} tools =
     (w new : WorldState A) (event : Event A) (outcome : Outcome) → AreEndsConnected w → AreListed new
     → Step tools w event outcome new → AreEndsConnected new
 
--- a step to a world with sorted refs and a valid session
+-- a step that leads to a world with sorted refs and a valid session
 pub record StepsListed {A : Type 0} (tools : PackTools A) (w : WorldState A) (event : Event A) (outcome : Outcome)
     (new : WorldState A) : Type 0 where
   pub step : Step tools w event outcome new
@@ -55,7 +55,7 @@ abbrev pub NewWorldsAreSound : {A : Type 0} → PackTools A → Type 0
 NewWorldsAreSound {A} tools =
     (server : Server A) (repo : RepoState A) → CanStart server repo → IsSound tools (new_world server repo)
 
--- a run whose steps keep their promises is a run of the events
+-- if each step keeps its promises, the events and their outcomes form a run (`Run`)
 abbrev pub PromisesAreRuns : {A : Type 0} → PackTools A → Type 0
 PromisesAreRuns {A} tools =
     (w new : WorldState A) (events : List (Event A)) (outcomes : List Outcome)
@@ -67,7 +67,8 @@ RefsStayConnected {A} tools =
     (w new : WorldState A) (events : List (Event A)) (outcomes : List Outcome) → AreRefsConnected w
     → RunWith (Promises tools) w events outcomes new → AreRefsConnected new
 
--- a run keeps the bound on the session's requests for objects: at most N + 1, if its tips reach N ids
+-- If the session made at most N + 1 requests for objects before a run, this remains true after the run. N is the number
+-- of ids that the session's tips reach.
 abbrev pub RequestsStayFew : {A : Type 0} → PackTools A → Type 0
 RequestsStayFew {A} tools =
     (w new : WorldState A) (events : List (Event A)) (outcomes : List Outcome) → AreRequestsFew w
@@ -84,14 +85,15 @@ pub record LeadsThrough {A : Type 0} (P : WorldState A → Event A → Outcome �
   pub before : RunWith P w front early v
   pub after : RunWith P v rest late new
 
--- a prefix of a run is a run, and the remaining events lead from its last world to the same end
+-- a prefix of a run is a run, and the remaining events lead from the prefix's last world to the last world of the whole
+-- run
 abbrev pub FrontsAreRuns : {A : Type 0} → PackTools A → Type 0
 FrontsAreRuns {A} tools =
     (w new : WorldState A) (front rest : List (Event A)) (outcomes : List Outcome)
     → Run tools w (front ++ rest) outcomes new
     → (v : WorldState A) × LeadsThrough (Step tools) w front rest outcomes new v
 
--- a prefix of a run whose steps keep their promises is also such a run
+-- if all steps of a run keep their promises, each prefix is a run whose steps keep their promises
 abbrev pub FrontsKeepPromises : {A : Type 0} → PackTools A → Type 0
 FrontsKeepPromises {A} tools =
     (w new : WorldState A) (front rest : List (Event A)) (outcomes : List Outcome)
@@ -151,14 +153,14 @@ abbrev pub IsNoForge : {A : Type 0} → Event A → Type 0
 IsNoForge (event.Forge bytes) = ⊥
 IsNoForge _ = ⊤
 
--- if no bytes were forged, and both ends hold each common id, this remains true over events that forge no bytes
+-- if no bytes were forged and both ends hold each common id, both facts remain true over events that forge no bytes
 abbrev pub CommonsStayShared : {A : Type 0} → PackTools A → Type 0
 CommonsStayShared {A} tools =
     (w new : WorldState A) (events : List (Event A)) (outcomes : List Outcome) → w.forged ≡ false
     → AreCommonsShared w → All IsNoForge events → RunWith (Promises tools) w events outcomes new
     → (new.forged ≡ false) × AreCommonsShared new
 
--- all promises of a step and of the world after it, without the premises about forged bytes and faithful tools
+-- all promises of a step and of the world after it, without the premises of `HonestPromises`
 pub record KeepsAll {A : Type 0} (tools : PackTools A) (w : WorldState A) (event : Event A) (outcome : Outcome)
     (new : WorldState A) : Type 0 where
   pub step : Step tools w event outcome new
@@ -168,7 +170,7 @@ pub record KeepsAll {A : Type 0} (tools : PackTools A) (w : WorldState A) (event
   pub few : AreRequestsFew new
   pub honest : HonestPromises tools w event outcome new
 
--- in a run without forged bytes, from a world without forged bytes, each step keeps all promises
+-- if no bytes are forged before or during a run, each step keeps all promises
 abbrev pub HonestRunsKeepAll : {A : Type 0} → PackTools A → Type 0
 HonestRunsKeepAll {A} tools =
     (w new : WorldState A) (events : List (Event A)) (outcomes : List Outcome) → w.forged ≡ false

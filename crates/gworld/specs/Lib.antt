@@ -9,6 +9,6 @@ pub mod Laws
 pub mod Fetching
 pub mod Events
 pub mod steps
--- the definitions of a server and of a client's repository, which form a world
+-- the definitions of a server and of a client's repository, the two parts of a world
 pub use Rattle.ganswer.specs.Servers
 pub use Rattle.gclientrepo.specs.Repos

@@ -1,9 +1,9 @@
 -- The promises of each step of a world.
 --
 -- After any events, each ref of the client is connected: the client holds the whole ancestry of the ref. If no bytes
--- were forged, both ends hold each common id. If also packer and indexer are faithful, an accepted pack adds all
--- missing ancestors of its request's wants. After the complete pack of the open request, `Settle` makes every allowed
--- update of refs.
+-- were forged, both ends hold each common id. If, in addition, the packer and the indexer are faithful, an accepted
+-- pack adds all missing ancestors of its request's wants. Once the complete pack for the open request is accepted,
+-- `Settle` makes every allowed update of refs.
 use Rattle.std.specs.Prelude.{◌≡◌, ◌⊎◌, ⊤, ℕ, ◌+◌, ◌<◌, ◌≤◌, true, false, List, [], length, All, IfSome, Option, None}
 use Rattle.std.specs.Prelude.{Some, slice_get}
 use Rattle.gname.specs.Ids.{Id}
@@ -43,7 +43,7 @@ use Rattle.gscenario.specs.declared.event.Event.TheVariants as event
 use Rattle.gworld.specs.declared.outcome.Outcome.{Outcome}
 use Rattle.gworld.specs.declared.outcome.Outcome.TheVariants as outcomes
 
--- the outcome of an accepted reply: a round for acknowledgments alone, and an accepted pack for any other reply
+-- the outcome of an accepted reply: `Round` for acknowledgments alone, and `PackTaken` for any other reply
 pub data IsTaken : FetchReply → Outcome → Type 0 where
   round : {ids : List Id} {common : ℕ} → IsTaken (Acks ids) (outcomes.Round common)
   after_acks : {ids : List Id} {bytes : Bytes} {added : ℕ} → IsTaken (Ready ids bytes) (outcomes.PackTaken added)
@@ -78,14 +78,15 @@ module _ {A : Type 0} where
   abbrev pub AreCommonsShared : WorldState A → Type 0
   AreCommonsShared w = w.forged ≡ false → IfSome w.session (SharesCommons w)
 
-  -- ---- 3. an accepted pack adds the wants of its request
+  -- ---- 3. an accepted pack completes the wants of its request
 
-  -- the want is connected at the client, and the client holds every object that the want reaches at the server
+  -- the client holds the whole history of the want, with every object that the want reaches in the server's graph
   abbrev pub IsBrought : WorldState A → Id → Type 0
   IsBrought w want =
       IsConnected (client_graph w) want × ((a : Id) → Reaches (server_graph w) want a → Holds (client_graph w) a)
 
-  -- the kept reply answers a request for objects, and each want of that request is now complete at the client
+  -- the kept reply answers a request for objects, and the client now holds the whole history of each want of that
+  -- request
   pub record BringsWants (w : WorldState A) (number : ℕ) (new : WorldState A) : Type 0 where
     pub kept : Kept
     pub at : slice_get w.kept number ≡ Some kept
@@ -93,14 +94,15 @@ module _ {A : Type 0} where
     pub fetches : kept.asked ≡ Fetches asked
     pub wants : All (IsBrought new) asked.wants
 
-  -- if the client accepts the pack of a kept reply, the wants of that reply's request are complete at the client
+  -- if the client accepts the pack of a kept reply, the client holds the whole history of each want of that reply's
+  -- request
   abbrev pub CompletesWants : WorldState A → Event A → Outcome → WorldState A → Type 0
   CompletesWants w (event.Deliver number count) (outcomes.PackTaken added) new = BringsWants w number new
   CompletesWants w event outcome new = ⊤
 
   -- ---- 4. a complete reply is accepted
 
-  -- a complete kept reply to fetch arrives, and its request is equal to the open request
+  -- a complete kept fetch reply arrives, and its request is equal to the open request
   pub record BringsAnswer (w : WorldState A) (number count : ℕ) (reply : FetchReply) : Type 0 where
     pub kept : Kept
     pub at : slice_get w.kept number ≡ Some kept
@@ -110,9 +112,9 @@ module _ {A : Type 0} where
     pub goes_on : w.session ≡ Some session
     pub waits : session.pending ≡ Some kept.asked
 
-  -- ---- a complete reply to ls-refs is accepted
+  -- ---- a complete ls-refs reply is accepted
 
-  -- a complete kept reply to ls-refs arrives, and its request is equal to the open request
+  -- a complete kept ls-refs reply arrives, and its request is equal to the open request
   pub record BringsRefs (w : WorldState A) (number count : ℕ) (reply : LsReply) (s : SessionState A) : Type 0 where
     pub kept : Kept
     pub at : slice_get w.kept number ≡ Some kept
@@ -121,8 +123,8 @@ module _ {A : Type 0} where
     pub goes_on : w.session ≡ Some s
     pub waits : s.pending ≡ Some kept.asked
 
-  -- A reason for the client to reject a complete reply to ls-refs: an invalid name of a local ref, too many wants, or
-  -- out of memory.
+  -- A reason for the client to reject a complete ls-refs reply: an invalid name of a local ref, too many wants, or out
+  -- of memory.
   abbrev pub MayDeclineRefs : WorldState A → SessionState A → LsReply → ℕ → Type 0
   MayDeclineRefs w s reply number =
       ((number ≡ bad_name) × ¬ (AreNamed {A = A} (asks_by_all s.refspecs reply.lines)))
@@ -136,7 +138,7 @@ module _ {A : Type 0} where
   IsListedOrDeclined w s reply (outcomes.Fault number) = MayDeclineRefs w s reply number
   IsListedOrDeclined w s reply _ = ⊥
 
-  -- the client accepts a complete reply to ls-refs, or rejects it for one of the allowed reasons
+  -- the client accepts a complete ls-refs reply, or rejects it for one of the allowed reasons
   abbrev pub ListsRefs : WorldState A → Event A → Outcome → Type 0
   ListsRefs w (event.Deliver number count) outcome =
       (reply : LsReply) (s : SessionState A) → BringsRefs w number count reply s → IsListedOrDeclined w s reply outcome
@@ -144,17 +146,18 @@ module _ {A : Type 0} where
 
   -- ---- the number of requests for objects
 
-  -- the session made at most N + 1 requests for objects, if its tips reach N ids
+  -- the session made at most N + 1 requests for objects, where N is the number of ids that its tips reach
   abbrev pub AsksSeldom : WorldState A → SessionState A → Type 0
   AsksSeldom w s =
       (held parents : ℕ) → CountsReached (client_graph w) s.tips held parents → s.rounds ≤ held + 1
 
-  -- the session, if there is one, made at most N + 1 requests for objects, if its tips reach N ids
+  -- if the client has a session, the session made at most N + 1 requests for objects, where N is the number of ids that
+  -- its tips reach
   abbrev pub AreRequestsFew : WorldState A → Type 0
   AreRequestsFew w = IfSome w.session (AsksSeldom w)
 
 module _ {A : Type 0} (tools : PackTools A) where
-  -- A reason for the client to reject a complete reply to fetch: a pack over the size limit, a full graph, or out of
+  -- A reason for the client to reject a complete fetch reply: a pack over the size limit, a full graph, or out of
   -- memory.
   abbrev pub MayDecline : RepoState A → FetchReply → ℕ → Type 0
   MayDecline repo reply number =
@@ -210,8 +213,8 @@ module _ {A : Type 0} where
     pub connected : All (IsConnected new.graph.entries) (asked_ids asks)
     pub moved : All (MovesAsked old new) asks
 
-  -- There is a session. It makes all allowed updates of refs, or fails for too many refs or out of memory. An ask for
-  -- HEAD, the other cause in `CannotSettle`, is impossible.
+  -- The client has a session. The session makes all allowed updates of refs, or fails because there would be too many
+  -- refs or for lack of memory. The other case of `CannotSettle`, an ask for HEAD, is impossible.
   abbrev pub IsSettledOrRefused : RepoState A → Option (SessionState A) → Outcome → RepoState A → Type 0
   IsSettledOrRefused old None outcome new = ⊥
   IsSettledOrRefused old (Some s) (outcomes.Settled moved same not_forward) new = HasSettled old s.asks new
@@ -237,7 +240,7 @@ module _ {A : Type 0} where
   SettlesUpToDate w event outcome new = ⊤
 
 module _ {A : Type 0} (tools : PackTools A) where
-  -- the promises of a step if no bytes were forged before it, and packer and indexer are faithful
+  -- the promises of a step, if no bytes were forged before the step and the packer and the indexer are faithful
   pub record HonestPromises (w : WorldState A) (event : Event A) (outcome : Outcome) (new : WorldState A)
       : Type 0 where
     pub completes : CompletesWants w event outcome new
@@ -247,7 +250,7 @@ module _ {A : Type 0} (tools : PackTools A) where
 
   -- The effect and the promises of a step. Only the promises in `honest` need a world without forged bytes and a
   -- faithful packer and indexer. If no bytes were forged, the server and the client hold each common id (`commons`).
-  -- All other promises hold for any bytes and any tools.
+  -- All other promises hold for any bytes, and for any packer and indexer.
   pub record Promises (w : WorldState A) (event : Event A) (outcome : Outcome) (new : WorldState A) : Type 0 where
     pub step : Step tools w event outcome new
     pub refs : AreRefsConnected new

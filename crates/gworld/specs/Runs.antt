@@ -24,8 +24,8 @@ RunWith P w (event ∷ events) [] new = ⊥
 abbrev pub Run : {A : Type 0} → PackTools A → WorldState A → List (Event A) → List Outcome → WorldState A → Type 0
 Run tools w events outcomes new = RunWith (Step tools) w events outcomes new
 
--- The world needs memory before the event begins. An event that fails at once with `NoOpenRequest` (83), `Disagree`
--- (90) or 93 needs no memory.
+-- The event needs memory of the world before it begins. An event that fails at once with fault 83 (`NoOpenRequest`), 90
+-- (`Disagree`) or 93 (no such index) needs no memory.
 abbrev pub NeedsMemory : {A : Type 0} → WorldState A → Event A → Type 0
 NeedsMemory w (event.Begin specs) = ⊥
 NeedsMemory {A} w event.Ask = (s : SessionState A) × (w.session ≡ Some s) × (is_due s.stage s.pending ≡ true)
@@ -41,8 +41,8 @@ NeedsMemory w (event.ServerRef name id) = ⊤
 NeedsMemory w (event.ClientAdd entry) = AgreesWith w.server.graph.entries entry
 NeedsMemory w (event.ClientRef name id) = ⊤
 
--- A run of some first events that stopped for lack of memory. The next event did not begin: it needs memory, or there
--- is not enough memory for the list of outcomes.
+-- A run that stopped for lack of memory after some of its events. The next event did not begin: it needs memory, or
+-- there is not enough memory for the list of outcomes.
 pub record RunsFront {A : Type 0} (P : WorldState A → Event A → Outcome → WorldState A → Type 0) (w : WorldState A)
     (events : List (Event A)) (outcomes : List Outcome) (new : WorldState A) : Type 0 where
   pub front : List (Event A)

@@ -21,7 +21,7 @@ use Rattle.gsession.specs.declared.stage.Stage.TheVariants.{Settling}
 use Rattle.gworld.specs.Worlds.{Kept, PackTools, WorldState}
 
 module _ {A : Type 0} where
-  -- the invariants of the types of server, repository and session: all refs of both ends are connected
+  -- the refs of the server and of the client are connected; the types of server, repository and session guarantee this
   pub record AreEndsConnected (w : WorldState A) : Type 0 where
     pub server : IsServer w.server
     pub repo : IsConnectedRepo w.repo
@@ -31,8 +31,8 @@ module _ {A : Type 0} where
 
   -- ---- the sent requests and the kept replies
 
-  -- a request for objects has wants, and each have is connected at the client; the server holds the wants unless bytes
-  -- were forged
+  -- a request for objects has wants, and the client holds the whole history of each have; the server holds the wants
+  -- unless bytes were forged
   pub record IsSoundFetch (w : WorldState A) (asked : FetchAsked) : Type 0 where
     pub connected : All (IsConnected w.repo.graph.entries) asked.haves
     pub few : length asked.haves ≤ max_haves
@@ -45,7 +45,8 @@ module _ {A : Type 0} where
   IsSoundRequest w (Ls asked) = ⊤
   IsSoundRequest w (Fetches asked) = IsSoundFetch w asked
 
-  -- a kept reply answers its request for an earlier state of the server, whose graph has only grown since then
+  -- a kept reply answers its request as of an earlier state of the server, and the server's graph has only grown since
+  -- then
   pub record IsSoundKept (packs : Packs A) (w : WorldState A) (kept : Kept) : Type 0 where
     pub server : Server A
     pub is : IsServer server
@@ -56,12 +57,12 @@ module _ {A : Type 0} where
 
   -- ---- the session
 
-  -- the asked id is a want of the session, or is connected at the client
+  -- the asked id is a want of the session, or the client holds its whole history
   abbrev pub IsWantedOrConnected : List (Entry A) → SessionState A → Id → Type 0
   IsWantedOrConnected g s a = Contains s.wants a ⊎ IsConnected g a
 
-  -- A session began on the graph of its repository, and each common id is connected at the client. If no bytes were
-  -- forged, the server also holds each common id and each want.
+  -- A session began on the graph of its repository, and the client holds the whole history of each common id. If no
+  -- bytes were forged, the server also holds each common id and each want.
   pub record IsSoundSession (w : WorldState A) (s : SessionState A) : Type 0 where
     pub format : s.format ≡ w.repo.graph.format
     pub limit : s.limit ≡ default_limit
@@ -80,8 +81,8 @@ module _ {A : Type 0} (tools : PackTools A) where
     pub faithful : LosesNothing tools.packs tools.pack_fails tools.indexes tools.index_fails image
     pub unforged : w.forged ≡ false
 
-  -- a session that is marked as answered can settle, and its asked ids are connected if no bytes were forged and the
-  -- tools are faithful
+  -- A session that is marked as answered can settle. The ids that it asks for are connected, if no bytes were forged
+  -- and the packer and the indexer are faithful.
   pub record IsAnswered (w : WorldState A) (s : SessionState A) : Type 0 where
     pub stage : s.stage ≡ Settling
     pub connected : IsUnforgedAndFaithful w → All (IsConnected w.repo.graph.entries) (asked_ids s.asks)

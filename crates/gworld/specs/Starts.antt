@@ -11,7 +11,7 @@ use Rattle.gworld.specs.Worlds.{WorldOf, new_world}
 use Rattle.gworld.specs.declared.fault.WorldFault.{WorldFault}
 use Rattle.gworld.specs.declared.fault.WorldFault.TheVariants as world
 
--- the first of the server's ids, in insertion order, that the client holds with a different object
+-- the first of the server's ids, in insertion order, under which the client holds a different object
 pub record IsFirstDisagreement {A : Type 0} (server client : List (Entry A)) (id : Id) : Type 0 where
   pub front : List (Entry A)
   pub entry : Entry A
@@ -27,14 +27,15 @@ pub record CanStart {A : Type 0} (server : Server A) (repo : RepoState A) : Type
   pub format : repo.graph.format ≡ server.graph.format
   pub agree : Agree server.graph.entries repo.graph.entries
 
--- a reason for a server and a repository to form no world: different object formats, or an id with different objects
+-- a reason why a server and a repository can't form a world: different object formats, or different objects with the
+-- same id
 abbrev pub CannotStart : {A : Type 0} → Server A → RepoState A → WorldFault → Type 0
 CannotStart server repo world.TwoFormats = repo.graph.format ≢ server.graph.format
 CannotStart server repo (world.Disagree id) =
     (repo.graph.format ≡ server.graph.format)
     × IsFirstDisagreement server.graph.entries repo.graph.entries id
 
--- the result of making a world: a new world of exactly these parts, or the reason against it
+-- the result of making a world: a new world of exactly these parts, or the reason why they can't form a world
 abbrev pub Starts : {A K : Type 0} → Server A → RepoState A → K → Result (WorldOf A K) WorldFault → Type 0
 Starts server repo tools (Ok made) =
     (made ≡ record { tools = tools; world = new_world server repo }) × CanStart server repo

@@ -1,4 +1,4 @@
-//! Reasons for a world not to start, and for a run to stop.
+//! The reasons why a world can't be made, and why a run stops.
 
 ghost use Rattle.std.specs.Prelude.{◌≡◌, Some};
 ghost use Rattle.gworld.specs.Faults.{run_fault_row, run_fault_text, world_fault_row, world_fault_text};
@@ -26,7 +26,7 @@ pub(crate) const NO_OPEN_REQUEST: u32 = 83;
 pub enum WorldFault {
     /// Fault 97: server and client have different object formats.
     TwoFormats,
-    /// Fault 90: server and client hold this id with different objects. It is the first such id in
+    /// Fault 90: server and client hold different objects under this id. It is the first such id in
     /// the order of the server's objects.
     Disagree { id: Oid },
 }

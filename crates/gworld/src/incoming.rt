@@ -62,7 +62,7 @@ pub(crate) fn take_bytes<A: Allocator + Copy, K: Indexer<A>>(
     }
 }
 
-// Passes the bytes to the session as the reply to ls-refs.
+// Passes the bytes to the session as the ls-refs reply.
 fn take_refs<A: Allocator + Copy>(
     session: &mut Session<A>,
     repo: &Repo<A>,
@@ -78,7 +78,7 @@ fn take_refs<A: Allocator + Copy>(
     Ok(refs_outcome(result))
 }
 
-// Returns the outcome of a reply to ls-refs.
+// Returns the outcome of an ls-refs reply.
 fn refs_outcome<A: Allocator + Copy>(taking: Result<LsTaken<A>, ClientFault<A>>) -> Outcome
     ensures { result ≡ refs_outcome taking }
 {
@@ -98,7 +98,7 @@ pub(crate) fn outcome_of_fault<A: Allocator + Copy>(fault: ClientFault<A>) -> Ou
     Outcome::Fault { code: fault.code() }
 }
 
-// Passes the bytes to the session as the reply to fetch.
+// Passes the bytes to the session as the fetch reply.
 fn take_objects<A: Allocator + Copy, K: Indexer<A>>(
     session: &mut Session<A>,
     repo: &mut Repo<A>,
@@ -116,7 +116,7 @@ fn take_objects<A: Allocator + Copy, K: Indexer<A>>(
     Ok(objects_outcome(result))
 }
 
-// Returns the outcome of a reply to fetch.
+// Returns the outcome of a fetch reply.
 fn objects_outcome<A: Allocator + Copy>(taking: Result<Taken, ClientFault<A>>) -> Outcome
     ensures { result ≡ objects_outcome taking }
 {

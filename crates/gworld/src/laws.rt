@@ -29,8 +29,8 @@ use gsession::laws::{
 use std::alloc::Allocator;
 
 /// From a sound world each step leads to a sound world, and keeps its promises. The premise is that
-/// both ends are connected before and after the step. [`ends_stay_connected`] proves most of this
-/// premise.
+/// both ends are connected before and after the step. [`ends_stay_connected`] proves that a step
+/// keeps both ends connected.
 pub fn steps_keep<A: Allocator + Copy, K: Packer<A> + Indexer<A>>()
     ensures { (k : K) → StepsKeep (tools_of (K.packs k) (K.pack_fails k) (K.indexes k)
         (K.index_fails k)) }
@@ -74,8 +74,8 @@ pub fn steps_keep<A: Allocator + Copy, K: Packer<A> + Indexer<A>>()
     taking_only_grows::<A, K>();
 }
 
-/// A world without forged bytes, whose packer and indexer implement `Faithful`, satisfies the
-/// premise of all promises.
+/// A world without forged bytes, whose packer and indexer implement `Faithful`, satisfies
+/// `IsUnforgedAndFaithful`, the premise of `HonestPromises`.
 pub fn faithful_lose_nothing<A: Allocator + Copy, K: Faithful<A>>(tools: &K)
     ensures { ((w : WorldState A) → w.forged ≡ false
         → IsUnforgedAndFaithful (tools_of (K.packs tools.now) (K.pack_fails tools.now)
@@ -84,7 +84,7 @@ pub fn faithful_lose_nothing<A: Allocator + Copy, K: Faithful<A>>(tools: &K)
     tools.loses_nothing();
 }
 
-/// A run whose steps keep their promises is a run of the events.
+/// If each step keeps its promises, the events and their outcomes form a run (`Run`).
 pub fn promises_are_runs<A: Allocator + Copy, K: Packer<A> + Indexer<A>>()
     ensures { (k : K) → PromisesAreRuns (tools_of (K.packs k) (K.pack_fails k) (K.indexes k)
         (K.index_fails k)) }
@@ -97,8 +97,8 @@ pub fn refs_stay_connected<A: Allocator + Copy, K: Packer<A> + Indexer<A>>()
 {}
 
 /// After any run the client's session has made at most N + 1 requests for objects, if its tips
-/// reach N ids and the bound held before. The tips are the ids of the client's refs when the
-/// session began.
+/// reach N ids and this bound held before the run. The tips are the ids of the client's refs when
+/// the session began.
 pub fn requests_stay_few<A: Allocator + Copy, K: Packer<A> + Indexer<A>>()
     ensures { (k : K) → RequestsStayFew (tools_of (K.packs k) (K.pack_fails k) (K.indexes k)
         (K.index_fails k)) }
@@ -159,8 +159,8 @@ pub fn refusals_leave_both_ends<A: Allocator + Copy, K: Packer<A> + Indexer<A>>(
     servers_grow::<A>();
 }
 
-/// An honest run keeps all promises without further premises. In an honest run no bytes are or were
-/// forged, and packer and indexer are faithful.
+/// An honest run keeps all promises without further premises. In an honest run no bytes are forged
+/// before or during the run, and the packer and the indexer are faithful.
 pub fn honest_runs_keep_all<A: Allocator + Copy, K: Faithful<A>>(tools: &K)
     ensures { HonestRunsKeepAll {A = A} (tools_of (K.packs tools.now) (K.pack_fails tools.now)
         (K.indexes tools.now) (K.index_fails tools.now)) }
@@ -169,8 +169,8 @@ pub fn honest_runs_keep_all<A: Allocator + Copy, K: Faithful<A>>(tools: &K)
 }
 
 /// Each step leaves both ends connected: all refs of the server and of the client are connected.
-/// The only premise is that refs are sorted and the session is valid, which the definition of a
-/// step leaves open.
+/// The only premise is that refs are sorted and the session is valid, which does not follow from
+/// the definition of a step.
 pub fn ends_stay_connected<A: Allocator + Copy, K: Packer<A> + Indexer<A>>()
     ensures { (k : K) → EndsStayConnected (tools_of (K.packs k) (K.pack_fails k) (K.indexes k)
         (K.index_fails k)) }
@@ -210,8 +210,9 @@ pub fn fetches_complete<A: Allocator + Copy, K: Packer<A> + Indexer<A>>()
     reached_are_counted::<A>();
 }
 
-/// An event of a round fails only for a limit or out of memory, if no bytes were forged, and packer
-/// and indexer are faithful. So a fetch fails to complete only for a limit or out of memory.
+/// An event of a round fails only because of a limit or for lack of memory, if no bytes were forged
+/// and the packer and the indexer are faithful. So a fetch fails to complete only because of a
+/// limit or for lack of memory.
 pub fn only_limits_refuse<A: Allocator + Copy, K: Packer<A> + Indexer<A>>()
     ensures { (k : K) → OnlyLimitsRefuse (tools_of (K.packs k) (K.pack_fails k) (K.indexes k)
         (K.index_fails k)) }

@@ -9,28 +9,29 @@
 //! - [`World::new`] returns a world of exactly the given server, client's repository, packer and
 //!   indexer. A new world has no session, no messages and no forged bytes. `World::new` fails with
 //!   `TwoFormats` exactly when the two repositories have different object formats. Otherwise it
-//!   fails with `Disagree` exactly when both repositories hold some id with different objects. The
-//!   fault gives the first such id in the order of the server's objects.
+//!   fails with `Disagree` exactly when both repositories hold different objects under the same id.
+//!   The fault gives the first such id in the order of the server's objects.
 //! - [`World::run`] executes the events in order, and returns the outcome of each. `Step`
 //!   (specs/Events.antt) defines the effect and the outcome of an event. If the world's own lists
 //!   or buffers can't grow, the run stops before an event, and returns the earlier outcomes. It
 //!   stops only before an event that needs memory (`NeedsMemory`, specs/Runs.antt). An event that
 //!   fails at once with fault 83, 90 or 93 needs no memory.
 //! - **Each ref of the client is connected, for any outcomes, any forged bytes, and any packer and
-//!   indexer.** In all cases the session makes at most N + 1 requests for objects, if its tips
-//!   reach N ids. If no bytes were forged, server and client hold each common id.
-//! - The following promises hold if no bytes were forged, and if the indexer reads back the objects
-//!   that the packer packed (both are faithful). After the client accepts a pack, the wants of the
-//!   answered request are connected, even if an older request was answered. The client accepts a
-//!   complete reply to the open fetch request, except for a limit or out of memory. The server
-//!   serves each sent request, unless the pack is too large or the server is out of memory. A
-//!   session that accepted the pack of a complete reply to its request settles. Settling makes
-//!   every allowed update of refs, unless there would be too many refs or the client is out of
-//!   memory. `Promises` (specs/Promises.antt) has a definition for each promise. A reply to an
-//!   older request ends the session, or adds only the objects of that request.
-//! - The client accepts a complete reply to the open ls-refs request, even after forged bytes. The
-//!   exceptions are an invalid name of a local ref, too many wants, and out of memory. A session
-//!   without wants settles.
+//!   indexer.** The session always makes at most N + 1 requests for objects, where N is the number
+//!   of ids that its tips reach. If no bytes were forged, server and client hold each common id.
+//! - The following promises hold if no bytes were forged, and if the packer and the indexer are
+//!   faithful: the indexer reads back exactly the objects that the packer packed. After the client
+//!   accepts a pack, the wants of the request that the pack answers are connected, even if that is
+//!   an older request. The client accepts a complete reply to the open fetch request, unless the
+//!   reply exceeds a limit or the client is out of memory. The server serves each sent request,
+//!   unless the pack is too large or the server is out of memory. A session that accepted the pack
+//!   of a complete reply to its request settles. Settling makes every allowed update of refs,
+//!   unless there would be too many refs or the client is out of memory. `Promises`
+//!   (specs/Promises.antt) has a definition for each promise. A reply to an older request ends the
+//!   session, or adds only the objects of that request.
+//! - The client accepts a complete reply to the open ls-refs request, even after forged bytes. It
+//!   rejects such a reply only for an invalid name of a local ref, for too many wants, or if it is
+//!   out of memory. A session without wants settles.
 //! - **At all times** ([`laws::fronts_are_runs`], [`laws::refs_are_always_connected`]): a prefix of
 //!   a run is a run, and the client's refs are connected in each world of a run.
 //! - **Nothing is lost** ([`laws::graphs_only_grow`], [`laws::others_leave_refs`],
@@ -38,11 +39,11 @@
 //!   refs of the client. Only `ServerAdd` and `ServerRef` change the server. An event that fails
 //!   changes neither end.
 //! - **Honest runs** ([`laws::honest_runs_keep_all`]): each step keeps all promises if no event
-//!   forges bytes, and packer and indexer are faithful.
+//!   forges bytes and the packer and the indexer are faithful.
 //! - **A fetch completes** ([`laws::fetches_complete`]): a session makes at most N + 2 requests, if
-//!   its tips reach N ids, and can then settle. Settling makes every allowed update of refs. The
-//!   premise is that each reply arrives complete, and no event fails. An event of such a fetch
-//!   fails only for a limit or out of memory ([`laws::only_limits_refuse`]).
+//!   its tips reach N ids, and can then settle. Settling makes every allowed update of refs. This
+//!   holds if each reply arrives complete and no event fails. An event of a fetch fails only
+//!   because of a limit or for lack of memory ([`laws::only_limits_refuse`]).
 //! - The promises follow from the definition of a step ([`laws::runs_keep_promises`]). The only
 //!   premise about the worlds of a run is an invariant of their types: refs are sorted by name, and
 //!   sessions are valid.
@@ -55,18 +56,17 @@
 //!
 //! # What the contracts do not rule out
 //!
-//! A run may stop with `Memory` before its first event, or before any event that needs memory,
-//! although memory is available. An event that allocates may also fail for lack of memory although
-//! memory is available. The lists of requests and replies may use the allocator of either end. A
-//! call may take any time, and more memory than it needs. Formatting a fault may return
-//! `fmt::Error` without a cause.
+//! Even if memory is available, a run may stop with `Memory` before its first event, or before any
+//! event that needs memory. Likewise, an event that allocates may report out of memory. The lists
+//! of requests and replies may use the allocator of either end. A call may take any time, and more
+//! memory than it needs. Formatting a fault may return `fmt::Error` for no reason.
 //!
 //! # Dependencies
 //!
-//! `gscenario` for events, `gsession` and `gclientrepo` for the client, and `gserve` and `ganswer`
-//! for the server. `gmsg` and the crates below it for messages, `gpkt` for packets, and `ggraph`
-//! and `gdag` for graphs. `gobject` for objects, packers and indexers, `grefs` for refspecs and
-//! refs, and `gname` for ids and ref names.
+//! The crate uses `gscenario` for events, `gsession` and `gclientrepo` for the client, and `gserve`
+//! and `ganswer` for the server. It uses `gmsg` and the crates below `gmsg` for messages, `gpkt`
+//! for packets, and `ggraph` and `gdag` for graphs. It uses `gobject` for objects, packers and
+//! indexers, `grefs` for refspecs and refs, and `gname` for ids and ref names.
 #![tactic(auto)]
 
 mod fault;

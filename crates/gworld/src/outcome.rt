@@ -17,7 +17,7 @@ pub enum Outcome {
     StrangerServed {
         written: u128,
     },
-    /// The client accepted a reply to ls-refs, which led to this many asks for refs and this many
+    /// The client accepted an ls-refs reply, which led to this many asks for refs and this many
     /// wants.
     LsTaken {
         asks: usize,

@@ -25,7 +25,7 @@ use Rattle.gclient.specs.Turns.{AsksNext, ClientState, IsTurn, Refuses, Turn}
 use Rattle.gclient.specs.declared.fault.FetchFault.{FetchFault}
 use Rattle.gclient.specs.declared.fault.FetchFault.TheVariants as fetch
 
--- the result of reading the advertisement: the session records it, or the client rejects it
+-- the result of reading the advertisement: the session stores its content, or the client rejects it
 abbrev pub HearsServer : {A : Type 0} → Format → SessionState A → Input → SessionState A
     → Result (Unit {0}) (FetchFault A) → Type 0
 HearsServer format old input new (Ok done) =
@@ -34,8 +34,8 @@ HearsServer format old input new (Ok done) =
 HearsServer format old input new (Err (fetch.Client (client.Message cause))) = RefusesAdvert format input cause
 HearsServer format old input new (Err _) = ⊥
 
--- the result of a request: it is flushed and waits for its reply, nothing is written for lack of memory, or the sink
--- failed
+-- the result of sending a request: the request is flushed and waits for its reply, nothing is written because memory
+-- ran out, or the sink failed
 abbrev pub AsksServer : {A : Type 0} → SessionState A → RepoState A → Output → SessionState A
     → Result (Unit {0}) (FetchFault A) → Type 0
 AsksServer old repo output new (Ok done) =
@@ -64,7 +64,7 @@ Closes session old output new (Err _) = ⊥
 abbrev pub client_of : {A : Type 0} → SessionState A → RepoState A → Option Name → ClientState A
 client_of session repo unborn = record { session = session; repo = repo; unborn = unborn }
 
--- the stage of a session after a reply to fetch
+-- the stage of a session after a fetch reply
 abbrev pub stage_after : Taken → Stage
 stage_after (Round common) = Fetching
 stage_after (PackTaken added) = Settling
@@ -107,7 +107,7 @@ module _ {A : Type 0} (indexes : Indexes A) (index_fails : IndexFails) (start : 
   Talks input output session repo (Ok unborn) = HasTalked input output (client_of session repo unborn)
   Talks input output session repo (Err failed) = Fails indexes index_fails start input output repo failed
 
-  -- the result of a part of the turns
+  -- the result of some of the turns
   abbrev pub TalksTo : {T : Type 0} → Input → Output → ClientState A → Result T (FetchFault A) → Type 0
   TalksTo input output now (Ok done) = HasTalked input output now
   TalksTo input output now (Err failed) = Fails indexes index_fails start input output now.repo failed

@@ -1,4 +1,5 @@
--- Definitions for making a client's repository and for settling: the first unconnected id, and the origin of refs.
+-- Definitions for making a client's repository and for settling: the first unconnected id, and where the new refs come
+-- from.
 use Rattle.std.specs.Prelude.{◌⊎◌, List, ℕ, ◌+◌, ◌<◌, All, Contains, length, take}
 use Rattle.gname.specs.Ids.{Id}
 use Rattle.gobject.specs.declared.node.Entry.{Entry}
@@ -11,6 +12,6 @@ pub record IsFirstLost {A : Type 0} (g : List (Entry A)) (ids : List Id) (place 
   pub held : All (IsConnected g) (take place ids)
   pub lost : ¬ (All (IsConnected g) (take (place + 1) ids))
 
--- each ref is one of the other refs, or points at one of the ids
+-- each new ref is one of the old refs, or points at one of the ids
 abbrev pub ComeFrom : RefList → List Id → RefList → Type 0
 ComeFrom others ids refs = All (λ ref. Contains others ref ⊎ Contains ids ref.1) refs

@@ -13,12 +13,12 @@ pub record HasSettled {A : Type 0} (g : List (Entry A)) (old : RefList) (asks : 
   pub settles : Settles g old asks updates new
   pub count : length new ≡ length old + count_by (is_new old) asks
 
--- the change of the refs by one ask, for each outcome
+-- the change of the refs by one ask, given the outcome of the ask
 abbrev pub Sets : {A : Type 0} → RefUpdate → RefList → Ask A → RefList → Type 0
 Sets Moved before ask after = SetsRef before after ask.name ask.id
 Sets Same before ask after = after ≡ before
 Sets NotForward before ask after = after ≡ before
 
--- one ask is done: its outcome depends on the old refs, and the refs change as the outcome says
+-- one ask is settled: its outcome depends on the old refs, and the refs change as the outcome says
 abbrev pub TakesAsk : {A : Type 0} → List (Entry A) → RefList → Ask A → RefList → RefList → RefUpdate → Type 0
 TakesAsk g old ask before after update = IsUpdate g old ask update × Sets update before ask after

@@ -6,7 +6,7 @@ use Rattle.gpkt.specs.Packets.{Bytes}
 use Rattle.gcmd.specs.Faults.{Printed}
 use Rattle.gcmd.specs.declared.print.FaultLine.{FaultLine}
 
--- the printed parts of a fault's line, by value
+-- the printed parts of a fault, as a value of the definitions
 abbrev pub row_view : FaultLine → Printed
 row_view row = record {
   number = row.number;
@@ -26,11 +26,11 @@ max_decimal = 20
 abbrev pub max_fault_name : ℕ
 max_fault_name = 32
 
--- the maximum length of a space and a ref name or an error text
+-- the maximum length of a space followed by a ref name or an error text
 abbrev pub max_subject : ℕ
 max_subject = 1 + max_name
 
--- the maximum length of a fault's line: 32 bytes of fixed words, the name, four numbers and the subject
+-- the maximum length of the line that reports a fault: 32 bytes of fixed words, the name, four numbers and the subject
 abbrev pub max_fault_line : ℕ
 max_fault_line = 32 + max_fault_name + 4 * max_decimal + max_subject
 

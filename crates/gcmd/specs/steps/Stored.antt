@@ -18,8 +18,8 @@ StoresAndReports {A} old text fetched stored report outcome =
     ⊎ ((fault : StorageFault) × IsReplaced old text stored (Err fault) × IsUnwritten report
     × (outcome ≡ Err (storage_fault fault)))
 
--- the rest of a program that wrote its report to the errors' sink: after a fault the fault's line is printed, unless
--- the sink is down
+-- the end of a program that wrote its report to the error sink: the line that reports a fault is printed, unless the
+-- sink has failed
 abbrev pub ExitsNext : {A : Type 0} → ProgramOutcome A → Output → ℕ → Type 0
 ExitsNext (Ok done) errors status = IsUnwritten errors × (status ≡ 0)
 ExitsNext (Err program.WriteFailed) errors status = IsUnwritten errors × (status ≡ 1)

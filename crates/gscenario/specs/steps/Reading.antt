@@ -4,16 +4,16 @@ use Rattle.gscenario.specs.ScenarioText.{AreArguments, command_of, words_of}
 use Rattle.gscenario.specs.declared.command.EventWord.{EventWord}
 use Rattle.gscenario.specs.declared.event.Event.{Event}
 
--- the words of the rest of a line after a word: none, or the words after a space
+-- the words that follow a word on its line: no words at the end of the line, or the words after a space
 abbrev pub words_after : List ℕ → List (List ℕ)
 words_after [] = []
 words_after (space ∷ text) = words_of text
 
--- the words are not the arguments of any event of the command
+-- the words are not the arguments of any event that the command denotes
 abbrev pub NoArguments : Type 0 → EventWord → List (List ℕ) → Type 0
 NoArguments A command words = (event : Event A) → command ≡ command_of event → ¬ (AreArguments event words)
 
--- the words are the arguments of the event, and the event is of the command
+-- the words are the arguments of the event, and the command denotes this kind of event
 abbrev pub HasArguments : {A : Type 0} → EventWord → List (List ℕ) → Event A → Type 0
 HasArguments command words event = (command ≡ command_of event) × AreArguments event words
 

@@ -31,7 +31,8 @@ use Rattle.gsession.specs.declared.taken.Taken.{Taken}
 
 -- ---- asking
 
--- the new list has the added asks, and each added ask is for a valid ref name
+-- the new list is the old list followed by the added asks for refs without an ask, and each added ask is for a valid
+-- ref name
 abbrev pub AddsAsks : {A : Type 0} → List (Ask A) → List (Ask A) → List (Ask A) → Type 0
 AddsAsks old more new = (new ≡ with_asks old more) × AreNamed more
 
@@ -41,7 +42,7 @@ FindsAsks {A} specs lines asks = (asks ≡ asked_of specs lines) × AreNamed {A 
 
 -- ---- the next request
 
--- the prefixes with one more, unless it is already in the list
+-- the list of prefixes, with the given prefix appended unless the list already contains it
 abbrev pub with_prefix : List Bytes → Bytes → List Bytes
 with_prefix prefixes prefix = cond (is_in prefixes prefix) prefixes (prefixes ++ prefix ∷ [])
 
@@ -51,7 +52,7 @@ pub record FitsBatch {A : Type 0} (s : SessionState A) (batch : List Id) : Type 
   pub room : length s.commons + length batch ≤ max_haves
   pub fresh : IsDistinct bytes_eq (s.sent ++ batch)
 
--- ---- the reply to ls-refs
+-- ---- the ls-refs reply
 
 -- the result of accepting the refs of a complete reply, before a fault ends the session
 abbrev pub AnswersRefs : {A : Type 0} → SessionState A → List (Entry A) → LsReply → SessionState A
@@ -59,13 +60,13 @@ abbrev pub AnswersRefs : {A : Type 0} → SessionState A → List (Entry A) → 
 AnswersRefs old g reply new (Ok taken) = TakesLines old g reply new taken
 AnswersRefs old g reply new (Err fault) = IsRefsFault old g reply fault × (new ≡ old)
 
--- the result of reading a reply to ls-refs, before a fault ends the session
+-- the result of reading an ls-refs reply, before a fault ends the session
 abbrev pub AnswersLs : {A : Type 0} → SessionState A → List (Entry A) → Change → SessionState A
     → Result (LsTaken A) (ClientFault A) → Type 0
 AnswersLs old g change new (Ok taken) = TakesLs old g change new (Ok taken)
 AnswersLs old g change new (Err fault) = IsLsFault old g change fault × (new ≡ old)
 
--- ---- the reply to fetch
+-- ---- the fetch reply
 
 -- the indexer read these bytes of a pack, or it failed with a fault that is possible for every pack with this prefix
 abbrev pub MayHaveFed : {F : Type 0} → (F → Bytes → Type 0) → IndexFails → Result F IndexFault → Bytes → Type 0
@@ -83,13 +84,13 @@ IsAcksFault haves acks (StrangeAck id) = IsFirstStrange haves acks id
 IsAcksFault haves acks (Repo (repo.Graph graph.Memory)) = All (Contains haves) acks
 IsAcksFault haves acks _ = ⊥
 
--- the head of a reply fits its request: a reply with only acknowledgments is not for a direct request
+-- the reply fits its request: a direct request, which has `done` or no haves, never gets acknowledgments alone
 abbrev pub FitsHead : FetchAsked → FetchHead → Type 0
 FitsHead asked (head.Acks ids) = is_direct asked ≡ false
 FitsHead asked _ = Unit {0}
 
 module _ {A : Type 0} (indexes : Indexes A) (index_fails : IndexFails) where
-  -- the result of accepting a complete reply to fetch, before a fault ends the session
+  -- the result of accepting a complete fetch reply, before a fault ends the session
   abbrev pub AnswersRead : List Id → SessionState A → RepoState A → FetchReply → SessionState A → RepoState A
       → Result Taken (ClientFault A) → Type 0
   AnswersRead haves old repo_old reply new repo_new (Ok taken) =
@@ -97,7 +98,7 @@ module _ {A : Type 0} (indexes : Indexes A) (index_fails : IndexFails) where
   AnswersRead haves old repo_old reply new repo_new (Err fault) =
       IsReplyFault indexes index_fails haves repo_old reply fault × (new ≡ old) × (repo_new ≡ repo_old)
 
-  -- the result of reading a reply to fetch, before a fault ends the session
+  -- the result of reading a fetch reply, before a fault ends the session
   abbrev pub AnswersReply : SessionState A → RepoState A → Change → SessionState A → RepoState A
       → Result Taken (ClientFault A) → Type 0
   AnswersReply old repo_old change new repo_new (Ok taken) =

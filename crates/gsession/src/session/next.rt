@@ -42,8 +42,8 @@ impl<A: Allocator + Copy> Session<A> {
 
     /// Makes the next request, which then waits for its reply. The first request is for refs, and
     /// all later requests are for objects. The haves of a request for objects are the common ids
-    /// and a batch of new ids. The batch is empty if the haves would be more than 4,096. A request
-    /// with an empty batch has `done`.
+    /// and a batch of new ids. The batch is empty if there would be more than 4,096 haves. A
+    /// request with an empty batch has `done`.
     ///
     /// Fails with `NoOpenRequest` if there is no request to make, and leaves the session unchanged.
     /// Fails with `Repo` if out of memory, and ends the session.

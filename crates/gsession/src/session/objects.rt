@@ -1,4 +1,4 @@
-//! Reading the reply to fetch.
+//! Reading fetch replies.
 
 ghost use Rattle.std.specs.Prelude.{◌≡◌, ◌++◌, false, All, Contains, MatchOption, MatchResult, OnOk, length};
 ghost use Rattle.gpkt.specs.Change.{change_of};
@@ -59,8 +59,8 @@ impl<A: Allocator + Copy> Session<A> {
         }
     }
 
-    // Reads the reply to fetch, if the open request is for objects. A fault does not end the
-    // session yet.
+    // Reads the fetch reply, if the open request is for objects. A fault does not end the session
+    // yet.
     fn read_objects<S: Source, K: Indexer<A>, B: Allocator + Copy>(
         &mut self,
         repo: &mut Repo<A>,
@@ -84,7 +84,7 @@ impl<A: Allocator + Copy> Session<A> {
         }
     }
 
-    // Returns the parameters for reading the awaited reply, if it is a reply to fetch.
+    // Returns the parameters for reading the awaited reply, if it is a fetch reply.
     fn reply_reading(&self) -> Option<FetchReading>
         ensures { MatchOption result
             (¬ (AwaitsObjects self.now))

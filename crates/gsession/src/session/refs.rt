@@ -1,4 +1,4 @@
-//! Reading the reply to ls-refs.
+//! Reading ls-refs replies.
 
 ghost use Rattle.std.specs.Prelude.{◌≡◌, ◌≤◌, List, All, MatchBool, MatchResult, IfOk, None, length};
 ghost use Rattle.gobject.specs.declared.node.Entry.{Entry};
@@ -27,10 +27,10 @@ impl<A: Allocator + Copy> Session<A> {
     ghost use Rattle.gsession.specs.steps.Calls.{AnswersLs, AnswersRefs, FindsAsks};
     ghost use Rattle.gsession.specs.TakingRefs.{AwaitsRefs, IsRefsFault, TakesLines, TakesLs, with_refs};
 
-    /// Reads the reply to ls-refs, and nothing after it. Stores the asks and the wants, and returns
-    /// the target of an unborn `HEAD`. Each ref that matches a refspec gives an ask for the local
-    /// ref to which the refspec maps it. If several asks are for the same local ref, the first one
-    /// counts. The wants are the asked ids that are not connected.
+    /// Reads the ls-refs reply, and nothing after it. Stores the asks and the wants, and returns
+    /// the target of an unborn `HEAD`. For each ref that matches a refspec, there is an ask for the
+    /// local ref to which the refspec maps that ref. If several asks are for the same local ref,
+    /// the first one counts. The wants are the asked ids that are not connected.
     ///
     /// Fails with `NoOpenRequest` if no request for refs is open, and reads nothing. Any other
     /// fault ends the session. Fails with `Message` if a packet of the reply is unreadable or
@@ -53,7 +53,7 @@ impl<A: Allocator + Copy> Session<A> {
         }
     }
 
-    // Reads the reply to ls-refs, if the open request is for refs. A fault does not end the session
+    // Reads the ls-refs reply, if the open request is for refs. A fault does not end the session
     // yet.
     fn read_refs<S: Source, B: Allocator + Copy>(
         &mut self,
@@ -122,7 +122,7 @@ impl<A: Allocator + Copy> Session<A> {
         }
     }
 
-    // Returns the wants of the asks, and the result of the reply.
+    // Returns the wants of the asks, and the result of accepting the reply.
     fn find_wants(
         &self,
         repo: &Repo<A>,

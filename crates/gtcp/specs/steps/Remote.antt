@@ -24,12 +24,13 @@ MakesRequest prefixes (Err cause) = RefusesPrefixes prefixes cause
 
 -- ---- serving
 
--- the faults so far are printed; the flag states whether the sink still works
+-- the faults so far are printed; the flag states whether the error sink still works
 abbrev pub PrintsSoFar : {A : Type 0} → Output → List (ProgramFault A) → Bool → Type 0
 PrintsSoFar errors faults true = PrintsNone errors faults ⊎ Passes errors (fault_lines faults)
 PrintsSoFar errors faults false = SendsSome errors (fault_lines faults)
 
--- the effect of reporting a connection: its fault is printed, if there is one and all earlier faults could be printed
+-- the effect of reporting a connection: the fault of the connection is printed, if it has one and all earlier faults
+-- could be printed
 abbrev pub Tells : {A : Type 0} → ProgramOutcome A → Bool → Bool → Output → Type 0
 Tells (Ok done) could can errors = IsUnwritten errors × (can ≡ could)
 Tells (Err fault) false can errors = IsUnwritten errors × (can ≡ false)
@@ -37,8 +38,8 @@ Tells (Err fault) true true errors = Sends errors (fault_line fault)
 Tells (Err fault) true false errors = SendsSome errors (fault_line fault)
 
 module _ {A : Type 0} (server : Server A) (packs : Packs A) (fails : PackFails A) (path : Bytes) (ends : Ends) where
-  -- this number of connections is served so far, and their faults are printed; the flag states whether the sink of the
-  -- faults still works
+  -- this number of connections is served so far, and their faults are printed; the flag states whether the error sink
+  -- still works
   pub record ServesSoFar (errors : Output) (is_up : Bool) (connections : ℕ) : Type 0 where
     pub outcomes : List (ProgramOutcome A)
     pub each : All (IsServed server packs fails path ends) outcomes

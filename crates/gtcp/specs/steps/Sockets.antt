@@ -56,13 +56,14 @@ module _ {A : Type 0} (asked : LsRefsAsked) (hello : Hello) where
 -- ---- serving
 
 module _ {A : Type 0} (server : Server A) (packs : Packs A) (fails : PackFails A) (path : Bytes) (ends : Ends) where
-  -- a served connection over a reader and a writer, with their bytes before and after, and its end
+  -- a connection that is served over a reader and a writer, with their bytes before and after, and the end of the
+  -- connection
   abbrev pub ServesBetween : Change → Change → GitEnd → Type 0
   ServesBetween read written ended =
       (reader_failed writer_failed : Bool)
       × ServesGit server packs fails path ends (input_by read reader_failed) (output_by written writer_failed) ended
 
-  -- a served connection from a reader, with its bytes before and after, into a socket
+  -- a connection that is served from a reader into a socket, with the reader's remaining bytes before and after
   abbrev pub ServesFrom : Change → GitEnd → Type 0
   ServesFrom read ended =
       (reader_failed : Bool) × (output : Output)

@@ -32,12 +32,12 @@ IsAwaited (Some (Ls asked)) Refs = ⊤
 IsAwaited (Some (Fetches asked)) Objects = ⊤
 IsAwaited _ _ = ⊥
 
--- the outcome of a reply to ls-refs
+-- the outcome of an ls-refs reply
 abbrev pub refs_outcome : {A : Type 0} → Result (LsTaken A) (ClientFault A) → Outcome
 refs_outcome (Ok taken) = outcomes.LsTaken taken.asks taken.wants
 refs_outcome (Err fault) = outcomes.Fault (code_of fault)
 
--- the outcome of a reply to fetch
+-- the outcome of a fetch reply
 abbrev pub objects_outcome : {A : Type 0} → Result Taken (ClientFault A) → Outcome
 objects_outcome (Ok (Round common)) = outcomes.Round common
 objects_outcome (Ok (PackTaken added)) = outcomes.PackTaken added

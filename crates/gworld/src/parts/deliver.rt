@@ -115,7 +115,7 @@ struct Coming<'a, A: Allocator + Copy> {
     count: usize,
 }
 
-// Delivers a kept reply to the session, and sets the mark `answered`.
+// Delivers a kept reply to the session, and updates the mark `answered`.
 fn bring<A: Allocator + Copy, K: Indexer<A>>(
     coming: Coming<'_, A>,
     session: &mut Session<A>,

@@ -17,8 +17,8 @@ use gname::Oid;
 use std::alloc::Allocator;
 
 impl<A: Allocator + Copy> Parts<A> {
-    /// Returns a new world of this server and this client's repository, or the reason against it.
-    /// Allocates nothing.
+    /// Returns a new world of this server and this client's repository, or the reason why they
+    /// can't form a world. Allocates nothing.
     pub(crate) fn new(server: Server<A>, repo: Repo<A>) -> Result<Parts<A>, WorldFault>
         ensures { MatchResult result
             (λ parts. (parts ≡ new_world server repo) × CanStart server repo)
@@ -82,8 +82,8 @@ fn have_one_format<A: Allocator + Copy>(server: &Server<A>, repo: &Repo<A>) -> b
     repo.format() == server.graph().format()
 }
 
-// Returns the first of the server's ids, in insertion order, that the client holds with a different
-// object.
+// Returns the first of the server's ids, in insertion order, under which the client holds a
+// different object.
 fn first_disagreement<A: Allocator + Copy>(server: &Graph<A>, client: &Graph<A>) -> Option<Oid>
     ensures { MatchOption result (Agree server.now.entries client.now.entries)
         (IsFirstDisagreement server.now.entries client.now.entries) }
@@ -98,8 +98,8 @@ fn first_disagreement<A: Allocator + Copy>(server: &Graph<A>, client: &Graph<A>)
     None
 }
 
-// Returns the id at an index of the server's graph, if the client holds the id with a different
-// object.
+// Returns the id at an index of the server's graph, if the client holds a different object under
+// the id.
 fn disagreement_at<A: Allocator + Copy>(
     server: &Graph<A>,
     client: &Graph<A>,
