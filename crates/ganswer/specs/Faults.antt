@@ -1,4 +1,4 @@
--- The tables of faults: the number, name and text of each fault, and its text for the client.
+-- The tables of faults. Each row has a fault's number, its name, its text, and the text that is sent to the client.
 use Rattle.std.specs.Prelude.{Bool, true, false, codes}
 use Rattle.gname.specs.Faults.{FaultRow, missing_parent, out_of_memory, out_of_memory_text}
 use Rattle.gpkt.specs.Faults.{packet_fault_row, packet_fault_text}

@@ -21,7 +21,7 @@ ids_format (request.Fetch fetch) = Some fetch.format
 abbrev pub IsOfFormat : {A : Type 0} → Format → Request A → Type 0
 IsOfFormat format request = IfSome (ids_format request) (λ other. other ≡ format)
 
--- the result of reading, with the contents of the request in place of the request
+-- the result of reading a request, with the request replaced by its contents
 abbrev pub asked_result : {A : Type 0} → Result (Option (Request A)) MessageFault → Result (Option Asked) MessageFault
 asked_result (Ok (Some request)) = Ok (Some (asked_by_request request))
 asked_result (Ok None) = Ok None

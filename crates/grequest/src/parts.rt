@@ -50,7 +50,7 @@ fn copy_prefix<A: Allocator + Copy, B: Allocator + Copy>(
     }
 }
 
-/// Returns whether both agents are the same, or both are missing.
+/// Returns whether both agents are equal, or both are `None`.
 pub(crate) fn is_same_agent(one: Option<&[u8]>, other: Option<&[u8]>) -> bool
     ensures { IsTrue result ↔ (option_copied one.entry ≡ option_copied other.entry) }
 {

@@ -23,11 +23,11 @@ form_in lent.Packfile = Packfile
 form_in (lent.Ack id) = Ack id.now
 form_in lent.Other = OtherForm
 
--- the ids of the head have the same format as those of the reply
+-- the ids of the head have the same format as the ids of the reply
 abbrev pub KeepsFormat : {A : Type 0} → FetchHead A → FetchReply A → Type 0
 KeepsFormat head reply = (format : Format) → IsHeadOf format head → IsReplyOf format reply
 
--- the parameters of reading, with the format of the ids that are kept
+-- the parameters of reading, with the format of the stored ids
 abbrev pub reading_with : {A : Type 0} → FetchReading → Sections A → Reading
 reading_with reading sections = record (reading_in reading) { format = sections.acks.format }
 
