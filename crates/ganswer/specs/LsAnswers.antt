@@ -33,7 +33,7 @@ head_ref (Some id) = (head_name, id) ∷ []
 abbrev pub all_refs : {A : Type 0} → Server A → RefList
 all_refs server = head_ref (head_id server.head server.refs) ++ server.refs
 
--- the request asks for the name: a prefix matches it, or there are no prefixes
+-- the request asks for the name: the name begins with a requested prefix, or the request has no prefixes
 abbrev pub is_asked : List Bytes → Name → Bool
 is_asked [] name = true
 is_asked (prefix ∷ prefixes) name = list_any (starts_with nat_eq name) (prefix ∷ prefixes)

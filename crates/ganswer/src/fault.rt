@@ -110,7 +110,7 @@ pub enum ServeFault {
     Request(MessageFault),
     /// Fault 73: a fetch has no wants.
     NoWants,
-    /// Fault 74: the server does not hold this want, the first such want of the request.
+    /// Fault 74: the first want of the request that the server does not hold.
     NotOurs { id: Oid },
     /// Fault 65: the packer fails for the objects to send.
     Pack(PackFault),

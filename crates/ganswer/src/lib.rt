@@ -24,7 +24,8 @@
 //! - [`Server::answer_fetch`] has the same contract, but accepts only fetch requests.
 //! - [`Server::begin_fetch`] returns the answer to a fetch request before the objects are packed
 //!   (`specs/BegunFetches.antt`). The caller can then pack the objects in parts.
-//! - [`Server::write_ls_answer`] writes the answer to ls-refs, or a prefix of it if the sink fails.
+//! - [`Server::write_ls_answer`] writes the answer to an ls-refs request, or a prefix of the answer
+//!   if the sink fails.
 //! - [`Server::advert`] fails only if memory runs out. The advertisement contains `agent=gitv2/1`,
 //!   `ls-refs=unborn`, `fetch`, and the format of the graph's ids.
 //! - [`laws`]: each client can read the advertisement, and a client of the same object format

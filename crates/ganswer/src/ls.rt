@@ -206,7 +206,7 @@ fn own_line<A: Allocator + Copy>(line: LentLine<'_, A>) -> Result<RefLine<A>, Al
     })
 }
 
-// Returns whether the name begins with one of the prefixes, or there are no prefixes.
+// Returns whether the name begins with one of the prefixes, or `prefixes` is empty.
 fn is_asked<A: Allocator + Copy>(prefixes: &[Prefix<A>], name: &RefName<A>) -> bool
     ensures { result ≡ is_asked prefixes.now name.now }
 {

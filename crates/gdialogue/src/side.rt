@@ -34,7 +34,7 @@ pub trait Reply {
     ghost calls: { Self → ℕ };
 
     /// Adds the next packets of the reply to an empty send queue. One call may add any number of
-    /// packets that fit, or none.
+    /// packets that fit, even zero.
     fn say<A: Allocator + Copy>(&mut self, out: &mut Outgoing<A>) -> Said
         requires empty { out.old ≡ [] }
         ensures says { SaysSome may self.old self.new out.new result }

@@ -1,4 +1,4 @@
--- Values and parameters, wherever their bytes lie in memory.
+-- Values and parameters, independent of where their bytes are in memory.
 use Rattle.std.specs.Prelude.{◌≡◌, ℕ, Bool, Result, Ok, Err}
 use Rattle.gname.specs.declared.formats.Format.{Format}
 use Rattle.gname.specs.declared.formats.Format.TheVariants.{Sha1}

@@ -47,8 +47,8 @@ pub fn limits_are_the_constants()
     ensures acks { MAX_ACKS ≡ max_acks }
 {}
 
-/// The lists of packets that are read as a reply are those of Git's manual, with the same meaning
-/// (gitprotocol-v2(5), "fetch").
+/// A list of packets is read as a reply exactly if Git's manual allows the list, and with the
+/// meaning that the manual states (gitprotocol-v2(5), "fetch").
 pub fn manual()
     ensures { (reading : Reading) → AsInManual (Says reading) (IsFetchReply reading) }
 {}

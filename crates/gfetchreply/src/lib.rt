@@ -22,19 +22,19 @@
 //!   types first reports an id of another format, and then an exceeded limit. A call that fails
 //!   changes nothing. Building a reply moves existing ids and an existing pack into it, unchanged.
 //! - [`write_fetch_reply`] writes exactly the bytes of a reply's packets (`canonical_reply`), or a
-//!   prefix of them if the sink fails. A payload is never too long. The written reply reads back,
-//!   if the reader expects a direct reply exactly if the reply is direct, and its limit is not
-//!   exceeded.
-//! - By [`laws`], the lists of packets that are replies are those of Git's manual
-//!   (`specs/FetchManual.antt`), with the same meaning. A list of packets encodes at most one
-//!   reply, and no reply is a prefix of another, as packets or as bytes. Each unfinished reply can
-//!   be completed with at most four packets, and a rejected packet is the first that does not fit.
-//!   The packets written for a reply encode it, and it reads back, whatever bytes follow. A reply
-//!   is read exactly if the bytes begin with packets that encode it. Every byte sequence begins
-//!   with a reply or is rejected because of its content. Read for another request, the same bytes
-//!   are the same reply or no reply. Read with another limit, the same bytes are the same reply or
-//!   are rejected only because of the limit. The constant `MAX_ACKS` equals the limit in the
-//!   specifications.
+//!   prefix of these bytes if the sink fails. A payload is never too long. The written reply reads
+//!   back, if the reader expects a direct reply exactly if the reply is direct, and its limit is
+//!   not exceeded.
+//! - By [`laws`], a list of packets is a reply exactly if Git's manual allows the list, and with
+//!   the meaning that the manual states (`specs/FetchManual.antt`). A list of packets encodes at
+//!   most one reply, and no reply is a prefix of another, as packets or as bytes. Each unfinished
+//!   reply can be completed with at most four packets, and a rejected packet is the first that does
+//!   not fit. The packets written for a reply encode it, and it reads back, whatever bytes follow.
+//!   A reply is read exactly if the bytes begin with packets that encode it. Every byte sequence
+//!   begins with a reply or is rejected because of its content. Read for another request, the same
+//!   bytes are the same reply or no reply. Read with another limit, the same bytes are the same
+//!   reply or are rejected only because of the limit. The constant `MAX_ACKS` equals the limit in
+//!   the specifications.
 //!
 //! # Only tested
 //!

@@ -77,7 +77,7 @@ module _ {M : Type 0} (judge : Judge) (brings : List Packet → Packet → Bool)
     pub leaves : left message front
 
 -- The fault is an error of the source exactly if the source has failed and the reader had not failed before. The fault
--- is that of a failed reader exactly if the reader had failed before. Reading a packet needs no memory.
+-- is `Failed` exactly if the reader had failed before. Reading a packet needs no memory.
 abbrev pub IsReadFailure : Bool → Bool → Why → Type 0
 IsReadFailure failed down (Line Io) = (failed ≡ false) × (down ≡ true)
 IsReadFailure failed down (Line Failed) = failed ≡ true

@@ -1,5 +1,5 @@
 //! Laws about ls-refs replies. Each function does nothing at run time, and its contract states the
-//! law. A proof may use the law after a call of the function.
+//! law. A proof may use the law after a call to the function.
 
 ghost use Rattle.std.specs.Prelude.{◌≡◌, ◌+◌, List, length};
 ghost use Rattle.gname.specs.declared.formats.Format.{Format};

@@ -50,7 +50,7 @@ pub fn write_ls_reply<A: Allocator + Copy, W: Sink>(
 /// Writes the line of an unborn `HEAD` with this target, or nothing if `target` is `None`.
 /// Allocates nothing.
 ///
-/// To write a reply line by line, a caller calls `write_unborn`, then [`write_ref`] for each ref,
+/// A caller that writes a reply line by line calls `write_unborn`, then [`write_ref`] for each ref,
 /// then [`write_end`]. The bytes are those of [`write_ls_reply`], and each function fails as
 /// [`write_ls_reply`] does.
 pub fn write_unborn<A: Allocator + Copy, W: Sink>(

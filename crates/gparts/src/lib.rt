@@ -3,7 +3,7 @@
 //! # Proved
 //!
 //! - The parts of a [`PartPacker`], in order, are a pack of the entries, of at most
-//!   `gname::MAX_PACK` bytes. A packer fails only with one of its own faults.
+//!   `gname::MAX_PACK` bytes. A packer fails only with a fault that its `pack_fails` permits.
 //! - Any packer of `gobject` becomes a [`PartPacker`] as a [`WholePack`], with the same packs and
 //!   faults.
 //! - No call panics, overflows or reads out of bounds, and each call returns.

@@ -68,7 +68,7 @@ CanonicalSpellsAll = (lines : List Packet) → All Fits lines → SpellsAll line
 abbrev pub CanonicalJoins : Type 0
 CanonicalJoins = (lines more : List Packet) → canonical_all (lines ++ more) ≡ canonical_all lines ++ canonical_all more
 
--- the encoding of one list of packets, followed by that of another, encodes the concatenated list
+-- an encoding of one list of packets, followed by an encoding of another list, encodes the concatenated list
 abbrev pub SpellingsJoin : Type 0
 SpellingsJoin =
     (lines more : List Packet) (front rest : Bytes) → SpellsAll lines front → SpellsAll more rest
@@ -121,7 +121,7 @@ module _
     {W : Type 0} (contents_of passed_on_of : W → Option Bytes) (is_down : W → Bool)
     (loans_of : W → List ℕ)
   where
-    -- the outcome of one call of a writer that writes these bytes
+    -- the outcome of one call to a writer, which writes these bytes
     abbrev pub Writes : Writer W → Writer W → Result Unit WriteFault → Bytes → Type 0
     Writes old new result bytes = HasWritten contents_of passed_on_of is_down loans_of old new result bytes
 
@@ -137,7 +137,7 @@ module _
         (old new : Writer W) (bytes more : Bytes) (fault : WriteFault) → Writes old new (Err fault) bytes
         → fault ≢ write_fault.Payload → Writes old new (Err fault) (bytes ++ more)
 
-    -- a flush keeps the bytes written before it, and a successful flush leaves all of them flushed
+    -- a flush keeps all bytes written before it, and after a successful flush all these bytes are flushed
     abbrev pub PushesWritten : Type 0
     PushesWritten =
         (old mid new : Writer W) (bytes : Bytes) (result : Result Unit WriteFault) → Writes old mid (Ok tt) bytes

@@ -1,4 +1,4 @@
--- The result of one call of a packet reader, and the bytes that the call consumes (gitprotocol-common(5), "pkt-line
+-- The result of one call to a packet reader, and the bytes that the call consumes (gitprotocol-common(5), "pkt-line
 -- Format").
 use Rattle.std.specs.Prelude.{◌≡◌, ℕ, ◌<◌, ◌≤◌, ◌⊎◌, Bool, true, false, List, [], ◌++◌, length, take, drop, Option}
 use Rattle.std.specs.Prelude.{Some, None, option_map, Result, Ok, Err}
@@ -59,7 +59,7 @@ abbrev pub read_of : Result (Option LentPacket) PacketFault → Result (Option P
 read_of (Ok line) = Ok (option_map packet_of line)
 read_of (Err fault) = Err fault
 
--- the faults that a read can have; out of memory is none of them
+-- the faults that a read can return: all faults except `Memory`
 abbrev pub IsReadFault : PacketFault → Type 0
 IsReadFault Memory = ⊥
 IsReadFault _ = Unit {0}
@@ -81,7 +81,7 @@ module _ {S : Type 0} (remaining_of : S → Option Bytes) (is_down : S → Bool)
   IsReaderAfter old new (Err Failed) = (old.failed ≡ true) × (new ≡ old)
   IsReaderAfter old new (Err Memory) = ⊥
 
-  -- the outcome of one call of a packet reader
+  -- the outcome of one call to a packet reader
   pub record HasRead (old new : Reader S) (result : Result (Option Packet) PacketFault) : Type 0 where
     pub bytes : Reads (change_of remaining_of old.source new.source) result
     pub after : IsReaderAfter old new result

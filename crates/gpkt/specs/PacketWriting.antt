@@ -1,4 +1,4 @@
--- The bytes that one call of a packet writer writes, and the state after the call (gitprotocol-common(5), "pkt-line
+-- The bytes that one call to a packet writer writes, and the state after the call (gitprotocol-common(5), "pkt-line
 -- Format").
 use Rattle.std.specs.Io.KnownBytes.{Appends, Keeps}
 use Rattle.std.specs.Prelude.{◌≡◌, ℕ, ◌<◌, Bool, true, false, List, ◌++◌, length, Option, Result, Ok, Err}
@@ -44,7 +44,7 @@ module _
     Wrote old new (Err Payload) bytes = (old.failed ≡ false) × (new ≡ old)
     Wrote old new (Err Failed) bytes = (old.failed ≡ true) × (new ≡ old)
 
-    -- the outcome of one call that writes these bytes and flushes none
+    -- the outcome of one call that writes these bytes and does not flush the sink
     pub record HasWritten (old new : Writer W) (result : Result Unit WriteFault) (bytes : Bytes) : Type 0 where
       pub outcome : Wrote old new result bytes
       pub passed_on : Keeps (passed_on_of old.sink) (passed_on_of new.sink)

@@ -1,4 +1,4 @@
--- The contents of a request value, wherever the value lies in memory.
+-- The contents of a request value, independent of where the value is in memory.
 use Rattle.std.specs.Prelude.{◌≡◌, Option, Some, None, IfSome, Result, Ok, Err}
 use Rattle.gname.specs.declared.formats.Format.{Format}
 use Rattle.ggrammar.specs.declared.fault.MessageFault.{MessageFault}

@@ -152,7 +152,7 @@ impl<A: Allocator + Copy> FetchRequest<A> {
         self.has(FetchFlag::Done) || self.haves.is_empty()
     }
 
-    /// Returns a copy of the request in another allocator. Fails only if out of memory.
+    /// Returns a copy of the request, allocated with `alloc`. Fails only if memory runs out.
     pub fn copy_in<B: Allocator + Copy>(&self, alloc: B) -> Result<FetchRequest<B>, AllocError>
         ensures { IfOk result (λ copy. copy ≡ self.now) }
     {

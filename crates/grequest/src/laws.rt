@@ -25,8 +25,8 @@ pub fn limits_are_the_constants()
     ensures haves { MAX_HAVES ≡ max_haves }
 {}
 
-/// The lists of packets that are read as a request are those of Git's manual, with the same meaning
-/// (gitprotocol-v2(5), "Command Request", "ls-refs" and "fetch").
+/// A list of packets is read as a request exactly if Git's manual allows the list, and with the
+/// meaning that the manual states (gitprotocol-v2(5), "Command Request", "ls-refs" and "fetch").
 pub fn manual()
     ensures { (format : Format) → AsInManual (Says format) (IsRequest format) }
 {

@@ -22,14 +22,14 @@
 //! - [`write_request`] writes the canonical list of packets of a request
 //!   (`specs/RequestWriting.antt`), or a prefix of it if the sink fails. For a request with ids,
 //!   the caller passes the format of these ids, and the request then reads back.
-//! - By [`laws`], the requests that are read are those of Git's manual (`specs/Manual.antt`), and a
-//!   list of packets has at most one meaning. No request is a prefix of another, as packets or as
-//!   bytes. Each prefix can be completed, and a rejected packet is the first that does not fit. The
-//!   packets written for a request mean this request, and each payload fits a packet. A request is
-//!   read exactly if the bytes begin with packets that encode it, and `None` is returned exactly if
-//!   there are no bytes. Every byte sequence begins with a request or is rejected because of its
-//!   content. A written request reads back, whatever bytes follow. The public constants equal the
-//!   limits in the specifications.
+//! - By [`laws`], a list of packets is read as a request exactly if Git's manual allows the list
+//!   (`specs/Manual.antt`), and the list has only one meaning. No request is a prefix of another,
+//!   as packets or as bytes. Each prefix can be completed, and a rejected packet is the first that
+//!   does not fit. The packets written for a request mean this request, and each payload fits a
+//!   packet. A request is read exactly if the bytes begin with packets that encode it, and `None`
+//!   is returned exactly if there are no bytes. Every byte sequence begins with a request or is
+//!   rejected because of its content. A written request reads back, whatever bytes follow. The
+//!   public constants equal the limits in the specifications.
 //!
 //! # Only tested
 //!

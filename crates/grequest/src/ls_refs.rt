@@ -109,7 +109,7 @@ impl<A: Allocator + Copy> LsRefsRequest<A> {
         self.prefixes.as_slice()
     }
 
-    /// Returns a copy of the request in another allocator. Fails only if out of memory.
+    /// Returns a copy of the request, allocated with `alloc`. Fails only if memory runs out.
     pub fn copy_in<B: Allocator + Copy>(&self, alloc: B) -> Result<LsRefsRequest<B>, AllocError>
         ensures { IfOk result (λ copy. copy ≡ self.now) }
     {

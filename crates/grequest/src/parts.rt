@@ -6,7 +6,7 @@ ghost use Rattle.std.specs.Option.{option_copied, option_map};
 use gname::{Oid, Prefix};
 use std::alloc::{AllocError, Allocator};
 
-/// Returns a copy of the agent in another allocator. Fails only if out of memory.
+/// Returns a copy of the agent, allocated with `alloc`. Fails only if memory runs out.
 pub(crate) fn copy_agent<A: Allocator + Copy>(
     alloc: A,
     agent: Option<&[u8]>,
@@ -23,7 +23,7 @@ pub(crate) fn copy_agent<A: Allocator + Copy>(
     }
 }
 
-/// Returns a copy of the prefixes in another allocator. Fails only if out of memory.
+/// Returns a copy of the prefixes, allocated with `alloc`. Fails only if memory runs out.
 pub(crate) fn copy_prefixes<A: Allocator + Copy, B: Allocator + Copy>(
     alloc: B,
     prefixes: &[Prefix<A>],
@@ -37,7 +37,7 @@ pub(crate) fn copy_prefixes<A: Allocator + Copy, B: Allocator + Copy>(
     Ok(copies)
 }
 
-// Returns a copy of a prefix. A prefix is well-formed, so a copy fails only if out of memory.
+// Returns a copy of a prefix. A prefix is well-formed, so a copy fails only if memory runs out.
 fn copy_prefix<A: Allocator + Copy, B: Allocator + Copy>(
     alloc: B,
     prefix: &Prefix<A>,

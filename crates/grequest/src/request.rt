@@ -50,7 +50,7 @@ impl<A: Allocator + Copy> Request<A> {
         }
     }
 
-    /// Returns a copy of the request in another allocator. Fails only if out of memory.
+    /// Returns a copy of the request, allocated with `alloc`. Fails only if memory runs out.
     pub fn copy_in<B: Allocator + Copy>(&self, alloc: B) -> Result<Request<B>, AllocError>
         ensures asked { IfOk result (λ copy. asked_by_request copy ≡ asked_by_request self.now) }
         ensures format { IfOk result (λ copy. ids_format copy ≡ ids_format self.now) }

@@ -61,10 +61,11 @@
 //!   whether the source or the sink has failed.
 //! - If the sink fails, a shorter prefix may have been written, and more than the counted replies
 //!   may have been flushed.
-//! - A call may report out of memory for no reason in place of the advertisement. It may also do so
-//!   in place of a fetch reply, if the packer was not asked and the server holds all wants. A third
-//!   place is a packet whose contents are stored. At the start, a call may report fault 64 in place
-//!   of fault 28 and vice versa, since both mean that nothing was read.
+//! - A call may report out of memory for no reason in place of the advertisement. A call may also
+//!   report out of memory in place of a fetch reply, if the packer was not asked and the server
+//!   holds all wants. A call may also report it at a packet whose contents are stored. At the
+//!   start, a call may report fault 64 in place of fault 28 and vice versa, since both mean that
+//!   nothing was read.
 //! - A call may take any amount of time, flush more often, and write one packet with several calls
 //!   to the sink.
 //!

@@ -23,7 +23,7 @@ module _ {A : Type 0} (server : Server A) (asked : LsRefsAsked) (ends : Ends) (g
     pub all : said ≡ canonical_reply ends reply
     pub goes_so : goes ≡ goes_on
 
-  -- the packets are the lines of those of `refs` that are requested, and the end of the reply
+  -- the packets are the lines of the requested refs among `refs`, and the end of the reply
   pub record SaysRefs (refs : RefList) (said : List Packet) (goes : Bool) : Type 0 where
     pub lines : List RefLine
     pub shows : ShowsLines server asked refs lines

@@ -125,8 +125,7 @@ module _ {C A : Type 0} where
     pub last : SendsSaid holds mid new (record { old = between; new = written.new })
     pub passed : HasPassed before.said between written passed_on
 
--- whether the sink is down after `drive`: given the result, the booleans state whether it was down before, and is down
--- now
+-- for each result of `drive`, whether the sink is down before and after the call
 abbrev pub LeavesSink : Result Unit TalkFault → Bool → Bool → Type 0
 LeavesSink (Ok done) was_down is_down = is_down ≡ false
 LeavesSink (Err Io) was_down is_down = is_down ≡ true

@@ -66,7 +66,7 @@ pub trait Conversation {
         ensures nearer { (talk : Talk) → holds self.old talk → IsNearer turn left self.old self.new };
 
     /// Adds the next packets to an empty send queue. One call may add any number of packets that
-    /// fit, or none.
+    /// fit, even zero.
     fn say<A: Allocator + Copy>(&mut self, out: &mut Outgoing<A>)
         requires turn { turn self.old ≡ Turn.Speaks }
         requires empty { out.old ≡ [] }

@@ -100,7 +100,7 @@ abbrev pub brings_there : Bool → Point → Packet → Bool
 brings_there refuses place (Data payload) = payload_brings refuses place payload
 brings_there refuses place _ = false
 
--- ---- stored values, wherever they lie in memory
+-- ---- stored values, independent of where they are in memory
 
 abbrev pub place_in : coded.Point → Point
 place_in place.Start = Start

@@ -1,4 +1,4 @@
--- The steps of reading a reply: forms, parameters and values, wherever their bytes lie in memory.
+-- The steps of reading a reply: forms, parameters and values, independent of where their bytes are in memory.
 use Rattle.std.specs.Prelude.{Bool, false, Result, Ok, Err}
 use Rattle.gname.specs.declared.formats.Format.{Format}
 use Rattle.ggrammar.specs.declared.ends.Ends.TheVariants.{Plain}

@@ -54,8 +54,7 @@ IsFewer left old new =
     ((left new.conversation).turns < (left old.conversation).turns)
     ⊎ (((left new.conversation).turns ≤ (left old.conversation).turns) × ((why : Stop) × (new.stopped ≡ Some why)))
 
--- whether the sink is down after some calls: given the result, the booleans state whether it was down before, and is
--- down now
+-- for each result of some calls, whether the sink is down before and after these calls
 abbrev pub IsDownBy : Result Unit TalkFault → Bool → Bool → Type 0
 IsDownBy (Ok done) was_down is_down = is_down ≡ was_down
 IsDownBy (Err Io) was_down is_down = is_down ≡ true
