@@ -63,7 +63,7 @@ LsAnswersFit A =
     (server : Server A) (asked : LsRefsAsked) (reply : LsReply)
     → IsServer server → LsAnswer server asked reply → IsLsReplyIn server.graph.format reply
 
--- the server holds the id of each line of an answer to ls-refs
+-- the server holds the id of each line of an ls-refs reply
 abbrev pub LsAnswersAreHeld : Type 0 → Type 0
 LsAnswersAreHeld A =
     (server : Server A) (asked : LsRefsAsked) (reply : LsReply)
@@ -71,7 +71,7 @@ LsAnswersAreHeld A =
 
 -- ---- objects
 
--- the client that sent a fetch request can read the answer, if the pack is within its limit
+-- the client that sent a fetch request can read the answer, if the pack is within the client's limit
 abbrev pub FetchAnswersFit : (A : Type 0) → Packs A → Type 0
 FetchAnswersFit A packs =
     (server : Server A) (asked : FetchAsked) (reply : FetchReply) (reading : Reading)

@@ -41,7 +41,7 @@ pub fn ls_answers_are_held<A: Allocator + Copy>()
 {}
 
 /// An answer to a fetch request is a well-formed message. The client that sent the request can read
-/// it with the server's object format, if the pack is within the client's limit.
+/// the answer with the server's object format, if the pack is within the client's limit.
 pub fn fetch_answers_fit<A: Allocator + Copy, K: Packer<A>>()
     ensures { (packer : K) → FetchAnswersFit A (K.packs packer) }
 {

@@ -18,8 +18,8 @@
 //!   the server does not hold. The ids of an answer have the format of the graph. An answer is
 //!   never refused for its length.
 //! - [`Server::answer`] uses exactly one result of the packer if the answer contains a pack or the
-//!   packer fails. Otherwise it uses no result of the packer. So out of memory never hides a fault
-//!   of the packer (`specs/OnePack.antt`). A packer that has failed is not asked again
+//!   packer fails. Otherwise `answer` uses no result of the packer. So out of memory never hides a
+//!   fault of the packer (`specs/OnePack.antt`). A packer that has failed is not asked again
 //!   ([`OnePack`]).
 //! - [`Server::answer_fetch`] has the same contract, but accepts only fetch requests.
 //! - [`Server::begin_fetch`] returns the answer to a fetch request before the objects are packed

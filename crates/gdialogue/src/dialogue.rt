@@ -29,9 +29,9 @@ enum DialogueStage<M, R> {
 
 /// One end of a dialogue: a conversation of packets ([`Conversation`]).
 ///
-/// A dialogue receives one message after another and sends the answer of its [`Side`] to each,
-/// until a last answer. A message is refused at the first packet that its grammar rejects, or if no
-/// more packets arrive. The answer to a refused message is the last.
+/// A dialogue receives one message after another, and sends the answer of its [`Side`] to each
+/// message, until a last answer. A message is refused at the first packet that its grammar rejects,
+/// or if no more packets arrive. The answer to a refused message is the last.
 #[derive(Drop)]
 pub struct Dialogue<S, M, R> {
     side: S,

@@ -14,7 +14,7 @@ use Rattle.ggrammar.specs.declared.fault.MessageFault.{MessageFault}
 abbrev pub known_bytes : Bytes → Bytes → Change
 known_bytes old new = record { old = Some old; new = Some new }
 
--- the bytes before the rest encode these packets
+-- the part of `bytes` before `rest` encodes these packets
 pub record IsFront (lines : List Packet) (bytes rest : Bytes) : Type 0 where
   pub front : Bytes
   pub parts : bytes ≡ front ++ rest

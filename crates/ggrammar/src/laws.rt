@@ -82,7 +82,7 @@ pub fn writes_packets<W: Sink>()
     writes_join::<W>();
 }
 
-/// Suppose each complete list of packets of a kind means exactly one message. Then a message is
+/// Suppose each complete list of packets of a kind encodes exactly one message. Then a message is
 /// read exactly if the bytes begin with it, and a written value reads back, whatever bytes follow.
 /// Both also hold for a reader that accepts the end of the input in place of a message.
 pub fn kinds_are_read<K: MessageKind>()

@@ -4,9 +4,9 @@
 //! # Proved
 //!
 //! - [`read_message`] reads a message exactly to its end, however its bytes are split into pieces.
-//!   Otherwise it rejects the message at the first packet that does not fit, for the reason that
-//!   the grammar gives. A fault of the packet reader takes precedence, then the end of the input,
-//!   then a fault of the grammar. The packets before the rejected packet begin a message and
+//!   Otherwise the call rejects the message at the first packet that does not fit, for the reason
+//!   that the grammar gives. A fault of the packet reader takes precedence, then the end of the
+//!   input, then a fault of the grammar. The packets before the rejected packet begin a message and
 //!   contain no complete message. Out of memory is reported only at a packet with contents to
 //!   store.
 //! - In every grammar, no message is a prefix of another ([`laws`]). If each prefix can be
@@ -15,7 +15,7 @@
 //!   they begin with no message, and the fault and the remaining bytes are unique. Every byte
 //!   sequence begins with a message or is refused, if each prefix can be completed and the grammar
 //!   rejects packets only because of their content. Suppose each complete list of packets of a kind
-//!   means exactly one message. Then a message is read exactly if the bytes begin with it, and a
+//!   encodes exactly one message. Then a message is read exactly if the bytes begin with it, and a
 //!   written value reads back, whatever bytes follow. Consecutive writes of packets have the effect
 //!   of one write of all these packets, even if one of the writes fails.
 //! - [`capability_of`] splits a text into a key and a value exactly if the text is a capability.

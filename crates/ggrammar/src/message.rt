@@ -45,7 +45,7 @@ pub trait Message {
 
     /// Laws of the message, for generic callers. The call has no effect. If `holds` is true for
     /// some packets, `left` is true for these packets. Each open list of packets can be completed
-    /// to a message. The number of packets of an open message does not overflow.
+    /// to a message. The number of packets in an incomplete message does not overflow.
     fn laws()
         ensures left { (message : Self) (front : List Packet) → holds message front
             → left message front }

@@ -15,8 +15,8 @@
 //!   if no byte is left. For each fault, the contract states when the reader may report it and
 //!   which bytes are consumed (`HasRead` in `specs/PacketReading.antt`, which uses `Spells` and
 //!   `NoPacket`).
-//! - For any source, a reader that has failed returns `Failed` and reads nothing. Every fault
-//!   makes the reader fail. A call that reads reports `Io` exactly when the source is down
+//! - For any source, a reader that has failed returns `Failed` and reads nothing. After any fault
+//!   the reader has failed. A call that reads reports `Io` exactly when the source is down
 //!   afterwards. A payload has at most 65,516 bytes. Only the constructor reports `Memory`.
 //! - A successful write appends exactly the canonical encoding, if the written bytes are known. A
 //!   write reports `Payload` exactly when the payload is too long for a packet, and then changes

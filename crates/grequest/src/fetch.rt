@@ -324,7 +324,7 @@ impl<A: Allocator + Copy> FetchRequest<A> {
     }
 }
 
-// Appends an id if it has the format and `has_room` is true.
+// Appends the id if it has this format and `has_room` is true.
 fn keep_id<A: Allocator + Copy>(
     format: Format,
     ids: &mut Vec<Oid, A>,

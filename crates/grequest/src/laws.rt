@@ -67,7 +67,7 @@ pub fn every_input()
     messages_are_read();
 }
 
-/// The packets written for a request mean this request, and each payload fits a packet.
+/// The packets written for a request encode this request, and each payload fits a packet.
 pub fn canonical_says()
     ensures { (format : Format)
         → CanonicalSays (Says format) (IsAsked format) (IsCanonicalRequest format) }

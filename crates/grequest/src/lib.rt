@@ -25,7 +25,7 @@
 //! - By [`laws`], a list of packets is read as a request exactly if Git's manual allows the list
 //!   (`specs/Manual.antt`), and the list has only one meaning. No request is a prefix of another,
 //!   as packets or as bytes. Each prefix can be completed, and a rejected packet is the first that
-//!   does not fit. The packets written for a request mean this request, and each payload fits a
+//!   does not fit. The packets written for a request encode this request, and each payload fits a
 //!   packet. A request is read exactly if the bytes begin with packets that encode it, and `None`
 //!   is returned exactly if there are no bytes. Every byte sequence begins with a request or is
 //!   rejected because of its content. A written request reads back, whatever bytes follow. The
@@ -38,10 +38,10 @@
 //! # What the contracts do not rule out
 //!
 //! A call that stores or copies a value may always report out of memory. Such a call may take any
-//! amount of time, and more memory than it needs. Even `new` may allocate. If a sink fails, a
-//! shorter prefix may have been written. If the bytes of a source are unknown, the contracts do not
-//! state which packets are read. The contracts still state whether the source or the sink has
-//! failed.
+//! amount of time, and more memory than it needs. Even `new` may allocate. If a sink fails, the
+//! contracts do not state how long the written prefix is. If the bytes of a source are unknown, the
+//! contracts do not state which packets are read. The contracts still state whether the source or
+//! the sink has failed.
 //!
 //! # Dependencies
 //!

@@ -28,7 +28,8 @@ pub enum End {
     Closed,
     /// The input ended before a request, or the server answered [`MAX_REQUESTS`] requests.
     Ended,
-    /// A request was refused. The last packet written is its error packet, which was flushed.
+    /// A request was refused. The error packet for the request is the last packet written, and was
+    /// flushed.
     Refused(ServeFault),
     /// The sink failed. A prefix of the next message was written.
     WriteFailed,

@@ -59,8 +59,8 @@
 //! - If the bytes of a source or of a sink are not known, the contracts do not state the bytes read
 //!   or written. The contracts still state the number of replies, how the connection ends, and
 //!   whether the source or the sink has failed.
-//! - If the sink fails, a shorter prefix may have been written, and more than the counted replies
-//!   may have been flushed.
+//! - If the sink fails, the contracts do not state how long the written prefix is. More than the
+//!   counted replies may have been flushed.
 //! - A call may report out of memory for no reason in place of the advertisement. A call may also
 //!   report out of memory in place of a fetch reply, if the packer was not asked and the server
 //!   holds all wants. A call may also report it at a packet whose contents are stored. At the

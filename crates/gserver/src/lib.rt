@@ -43,7 +43,7 @@
 //! - A host may find or open any repository that its `finds` and `opens` allow, and return any text
 //!   that its `says` allows. By default these members allow every result, and the side need not
 //!   call the host.
-//! - An allocation may fail instead of any reply.
+//! - A connection may end with a failed allocation in place of any reply.
 //! - A call may queue few packets, and may take as long as the packer or the host needs.
 //! - Before a packet on side band 3, the side may send any packets with data of a pack.
 //!
