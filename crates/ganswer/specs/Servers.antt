@@ -59,7 +59,7 @@ pub record IsFirstDangling {A : Type 0} (g : List (Entry A)) (refs : RefList) (n
   pub absent : node_at g id ≡ None
 
 -- The possible faults of making a server: the first missing parent, otherwise the first ref whose id is missing,
--- otherwise HEAD. If no object is missing, memory may run out for the name HEAD.
+-- otherwise a detached HEAD whose id is missing. If no object is missing, memory may run out for the name HEAD.
 abbrev pub IsUnserved : {A : Type 0} → Server A → BuildFault A → Type 0
 IsUnserved server (build.NotClosed id) = IsFirstAbsent server.graph.entries (parents_in server.graph.entries) id
 IsUnserved server (build.RefMissing name) =

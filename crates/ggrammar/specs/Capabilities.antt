@@ -76,7 +76,7 @@ value_text (Some value) = codes "=" ++ value
 abbrev pub capability_text : Capability → Bytes
 capability_text capability = capability.key ++ value_text capability.value
 
--- a text is read as a capability exactly if the capability is well-formed and the text is its text
+-- a text is read as a capability exactly if the capability is well-formed and has this text
 abbrev pub CapabilityIsItsText : Type 0
 CapabilityIsItsText = (text : Bytes) (capability : Capability) → (capability_of text ≡ Some capability)
     ↔ ((text ≡ capability_text capability) × IsWellFormed capability)

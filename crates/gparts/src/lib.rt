@@ -10,9 +10,9 @@
 //!
 //! # What the contracts do not rule out
 //!
-//! A packer may be slow, use more memory than it needs, and need many calls, if each call returns
-//! at least one byte. A packer may fail after any part. The parts before a fault need not be the
-//! start of a pack.
+//! A packer may be slow, use more memory than it needs, and need many calls, as long as each call
+//! returns at least one byte. A packer may fail after any part. The parts before a fault need not
+//! be the start of a pack.
 //!
 //! This crate has no tests.
 //!

@@ -1,12 +1,12 @@
 //! Packets of Git's protocol (gitprotocol-common(5), "pkt-line Format"), read from and written to
 //! devices, and the side bands of a payload (gitprotocol-pack(5), "Packfile Data").
 //!
-//! A packet starts with four hexadecimal digits. The digits announce a flush (`0000`), a delimiter
-//! (`0001`) or a response-end (`0002`). Any other digits are the length of a data packet, including
-//! the digits. [`PacketReader`] reads packets from a [`Source`]. [`PacketWriter`] writes packets to
-//! a [`Sink`], and [`write_all`] writes any bytes. [`FromRead`] and [`ToWrite`] borrow std's
-//! readers and writers as devices. [`memory`] has devices in memory. [`band_of`] decodes the side
-//! band of a payload.
+//! A packet starts with four hexadecimal digits. The digits `0000` announce a flush, `0001` a
+//! delimiter, and `0002` a response-end. Any other digits are the length of a data packet,
+//! including the digits. [`PacketReader`] reads packets from a [`Source`]. [`PacketWriter`] writes
+//! packets to a [`Sink`], and [`write_all`] writes any bytes. [`FromRead`] and [`ToWrite`] borrow
+//! std's readers and writers as devices. [`memory`] has devices in memory. [`band_of`] decodes the
+//! side band of a payload.
 //!
 //! # Proved
 //!

@@ -145,7 +145,7 @@ module _ {S : Type 0} (taken : S → Bytes → Type 0) where
   abbrev pub TakesNone : S → S → Type 0
   TakesNone old new = (before : Bytes) → taken old before → taken new before
 
-  -- if the packet is accepted as the verdict says, the second values are stored and the sink accepts these bytes
+  -- if the packet is accepted as the verdict says, the values `wanted` are stored and the sink accepts the bytes `more`
   abbrev pub TakesBoth : Verdict → Bool → Kept → Kept → Bytes → S → S → Result Step Why → Type 0
   TakesBoth verdict brings wanted kept more old new result =
       TakesOr verdict brings ((kept ≡ wanted) × TakesMore old new more) (TakesNone old new) result
