@@ -58,7 +58,7 @@ lacks_memory (serve.Pack pack.Memory) = true
 lacks_memory (serve.Pack _) = false
 lacks_memory serve.Memory = true
 
--- ---- their texts
+-- ---- the texts of faults
 abbrev pub build_fault_text : {A : Type 0} → BuildFault A → Bytes
 build_fault_text (build.Graph fault) = graph_fault_text fault
 build_fault_text (build.Refs fault) = refs_fault_text fault

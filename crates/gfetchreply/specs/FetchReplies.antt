@@ -311,7 +311,7 @@ heading_packet = text_packet (codes "acknowledgments")
 abbrev pub ready_packet : Packet
 ready_packet = text_packet (codes "ready")
 
--- the packets before the end of the reply
+-- the packets of a reply up to and including its flush
 abbrev pub body_packets : FetchReply → List Packet
 body_packets (Acks ids) = heading_packet ∷ (nak_if_none (map ack_packet ids) ++ Flush ∷ [])
 body_packets (Ready ids pack) = heading_packet ∷ (map ack_packet ids ++ ready_packet ∷ Delim ∷ pack_section pack)

@@ -54,8 +54,8 @@ pub fn endings()
     grammars_are_exact();
 }
 
-/// `judge` refuses a packet only because of its contents. Any input either begins with a reply or
-/// is refused because of its bytes.
+/// `judge` refuses a packet only because of the packet's contents. Any input either begins with a
+/// reply or is refused because of its bytes.
 pub fn every_input()
     ensures packets { (format : Format) (ends : Ends) → RefusesPackets (judge format ends) }
     ensures bytes { (format : Format) (ends : Ends)

@@ -50,8 +50,7 @@
 //!   std's writers may flush twice, or flush without a call to `flush`.
 //! - The allocation of a buffer may always fail, and a constructor may read from the source before
 //!   it fails.
-//! - A [`memory::Limited`] may ignore its limits, and a [`memory::VecSink`] may count flushes
-//!   wrongly.
+//! - A [`memory::Limited`] may ignore its limits, and a [`memory::VecSink`] need not count flushes.
 //! - A sink that flushes at every write has unknown flushed bytes, since a write must not change
 //!   known flushed bytes. A failed flush may have flushed any part of the buffered bytes.
 //! - Formatting a fault may return `fmt::Error` although the text was written correctly.

@@ -123,8 +123,8 @@ kept_in sections = record {
 abbrev pub state_in : {A : Type 0} → Sections A → State
 state_in sections = state_kept (kept_in sections)
 
--- Either the packet is accepted as the verdict says, and the first predicate holds. Or the packet is refused as the
--- verdict says or since memory runs out, and the second predicate holds.
+-- Either the packet is accepted as the verdict says, and the first predicate holds. Or the packet is refused, as the
+-- verdict says or because memory runs out, and the second predicate holds.
 abbrev pub TakesOr : Verdict → Bool → Type 0 → Type 0 → Result Step Why → Type 0
 TakesOr verdict brings taken left (Ok step.Open) = (verdict ≡ Open) × taken
 TakesOr verdict brings taken left (Ok step.Whole) = (verdict ≡ Whole) × taken
