@@ -1,4 +1,4 @@
--- The answer to fetch before the objects to send are packed (gitprotocol-v2(5), "fetch").
+-- The answer to a fetch request, before the objects to send are packed (gitprotocol-v2(5), "fetch").
 use Rattle.std.specs.Prelude.{◌≡◌, true, false, []}
 use Rattle.gdag.specs.Graphs.{IsFirstAbsent}
 use Rattle.grequest.specs.Asked.{FetchAsked, is_direct}
@@ -10,7 +10,7 @@ use Rattle.ganswer.specs.declared.fault.ServeFault.TheVariants as serve
 use Rattle.ganswer.specs.declared.fetch.BegunFetch.{BegunFetch}
 use Rattle.ganswer.specs.declared.fetch.BegunFetch.TheVariants as begun
 
--- the common ids, which the reply acknowledges
+-- the acknowledgments of a reply: the common ids
 abbrev pub acks_for : {A : Type 0} → Server A → FetchAsked → Acks
 acks_for server asked = record { format = server.graph.format; ids = commons_of server asked }
 
@@ -23,12 +23,13 @@ BeginsWith server asked (begun.Ready commons list) =
 BeginsWith server asked (begun.Acks commons) =
     (is_direct asked ≡ false) × (commons ≡ acks_for server asked) × ¬ (IsReadyFor server asked)
 
--- the server can serve the request, and this is its answer before the objects are packed
+-- the server can serve the request, and `fetch` is the answer before the objects are packed
 pub record BeginsFetch {A : Type 0} (server : Server A) (asked : FetchAsked) (fetch : BegunFetch A) : Type 0 where
   pub can : CanServe server asked
   pub begins : BeginsWith server asked fetch
 
--- the possible faults of fetch before packing: no wants, the first want that is not held, or out of memory
+-- the possible faults of a fetch request before packing: no wants, the first want that the server does not hold, or out
+-- of memory
 abbrev pub FetchDeclines : {A : Type 0} → Server A → FetchAsked → ServeFault → Type 0
 FetchDeclines server asked serve.NoWants = asked.wants ≡ []
 FetchDeclines server asked (serve.NotOurs id) = IsFirstAbsent server.graph.entries asked.wants id

@@ -17,14 +17,15 @@ use Rattle.ganswer.specs.declared.fault.BuildFault.TheVariants as build
 
 -- ---- an object
 
--- the reasons to reject a new object: its first missing parent, or a fault of the graph
+-- the reasons to reject a new object: its first parent that the server does not hold, or a fault of the graph
 abbrev pub IsNotAdded : {A : Type 0} → Server A → Entry A → BuildFault A → Type 0
 IsNotAdded server entry (build.MissingParent id) = IsFirstAbsent server.graph.entries entry.node.parents id
 IsNotAdded server entry (build.Graph cause) =
     HoldsParents server.graph.entries entry × IsCause server.graph.format server.graph.entries entry cause
 IsNotAdded server entry _ = ⊥
 
--- only the graph changes: it already held the object with the same node, or the object was appended
+-- only the graph may change: the object is appended, unless the graph already held its id with the same kind and
+-- parents
 pub record AddsObject {A : Type 0} (old : Server A) (entry : Entry A) (new : Server A) : Type 0 where
   pub parents : HoldsParents old.graph.entries entry
   pub format : new.graph.format ≡ old.graph.format
@@ -38,7 +39,7 @@ Adds old entry new (Err fault) = (new ≡ old) × IsNotAdded old entry fault
 
 -- ---- a ref
 
--- the reasons to reject a ref name: it can't be set, or it is new and memory runs out
+-- the reasons to reject a ref name: the list of refs can't hold this name, or the ref is new and memory runs out
 abbrev pub IsNotTaken : RefList → Name → RefsFault → Type 0
 IsNotTaken list name refs.Refs = CannotSet list name
 IsNotTaken list name refs.Memory = (ref_at list name ≡ None) × ¬ (CannotSet list name)

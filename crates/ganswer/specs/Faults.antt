@@ -1,4 +1,4 @@
--- The tables of faults: the number, name and text of each fault, and its text for the client.
+-- The tables of faults. Each row has a fault's number, its name, its text, and the text that is sent to the client.
 use Rattle.std.specs.Prelude.{Bool, true, false, codes}
 use Rattle.gname.specs.Faults.{FaultRow, missing_parent, out_of_memory, out_of_memory_text}
 use Rattle.gpkt.specs.Faults.{packet_fault_row, packet_fault_text}
@@ -58,7 +58,7 @@ lacks_memory (serve.Pack pack.Memory) = true
 lacks_memory (serve.Pack _) = false
 lacks_memory serve.Memory = true
 
--- ---- their texts
+-- ---- the texts of faults
 abbrev pub build_fault_text : {A : Type 0} → BuildFault A → Bytes
 build_fault_text (build.Graph fault) = graph_fault_text fault
 build_fault_text (build.Refs fault) = refs_fault_text fault

@@ -1,5 +1,5 @@
--- The answers to fetch (gitprotocol-v2(5), "fetch"). A request with `done`, or without haves, gets a pack at once. Any
--- other request gets the common ids, and also a pack if each want reaches a common id.
+-- The answers to fetch requests (gitprotocol-v2(5), "fetch"). A request with `done`, or without haves, gets a pack at
+-- once. Any other request gets the common ids, and also a pack if each want reaches a common id.
 use Rattle.std.specs.Prelude.{◌≡◌, ◌≢◌, ◌⊎◌, true, false, List, [], All, if◌then◌else◌}
 use Rattle.std.specs.Map.{values_of}
 use Rattle.gname.specs.Ids.{Id}
@@ -28,11 +28,11 @@ commons_of server asked = common_of server.graph.entries asked.haves
 abbrev pub IsReadyFor : {A : Type 0} → Server A → FetchAsked → Type 0
 IsReadyFor server asked = IsReady server.graph.entries asked.wants (commons_of server asked)
 
--- the ids whose tags are sent: with `include-tag` those of the refs, otherwise none
+-- the ids from which tags are sent: the ids of all refs with `include-tag`, otherwise none
 abbrev pub tag_tips : {A : Type 0} → Server A → FetchAsked → List Id
 tag_tips server asked = if fetch_has asked IncludeTag then values_of server.refs else []
 
--- the objects to send: those that the wants reach and the common ids do not, and requested tags
+-- the objects to send: those that a want reaches and no common id reaches, and the tags requested with `include-tag`
 abbrev pub IsSent : {A : Type 0} → Server A → FetchAsked → List (Entry A) → Type 0
 IsSent server asked list =
     IsListToSend server.graph.entries asked.wants (commons_of server asked) (tag_tips server asked) list
@@ -51,7 +51,7 @@ pub record FailsToPack {A : Type 0} (server : Server A) (fails : PackFails A) (a
   pub sent : IsSent server asked list
   pub failed : fails list fault
 
--- the reply fits the request: a pack at once, common ids and a pack, or common ids alone
+-- the reply has the parts that the request calls for: a pack alone, common ids and a pack, or common ids alone
 abbrev pub RepliesWith : {A : Type 0} → Server A → Packs A → FetchAsked → FetchReply → Type 0
 RepliesWith server packs asked (Pack pack) = (is_direct asked ≡ true) × SendsPack server packs asked pack
 RepliesWith server packs asked (Ready commons pack) =
@@ -60,7 +60,7 @@ RepliesWith server packs asked (Ready commons pack) =
 RepliesWith server packs asked (Acks commons) =
     (is_direct asked ≡ false) × (commons ≡ commons_of server asked) × ¬ (IsReadyFor server asked)
 
--- the server holds all wants, and may answer the request for fetch with this reply
+-- the server holds all wants, and may answer the fetch request with this reply
 pub record FetchAnswer {A : Type 0} (server : Server A) (packs : Packs A) (asked : FetchAsked)
     (reply : FetchReply) : Type 0 where
   pub can : CanServe server asked

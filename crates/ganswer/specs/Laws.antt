@@ -1,4 +1,4 @@
--- The laws of answers and of changes, which follow from their definitions.
+-- Laws about answers and changes, which follow from the definitions of answers and changes.
 use Rattle.std.specs.Prelude.{◌≡◌, ◌⊎◌, ◌≤◌, true, List, length, codes, All, Contains, None, Result, bytes_eq}
 use Rattle.std.specs.List.{IsDistinct}
 use Rattle.gname.specs.declared.formats.Format.{Format}
@@ -34,7 +34,7 @@ use Rattle.ganswer.specs.declared.fault.ServeFault.TheVariants as serve
 
 -- ---- what is advertised
 
--- a client of this object format can read the capabilities, accepts them, and may ask for an unborn HEAD
+-- a client of this object format can read the capabilities, accepts them, and may then ask for an unborn HEAD
 -- (gitprotocol-v2(5), "ls-refs")
 pub record Welcomes (format : Format) (capabilities : List Capability) : Type 0 where
   pub form : AreCapabilities capabilities
@@ -47,23 +47,23 @@ AdvertsWelcome = (format : Format) → Welcomes format (advertisement format)
 
 -- ---- refs
 
--- each request for refs has an answer
+-- each ls-refs request has an answer
 abbrev pub LsRequestsHaveAnswers : Type 0 → Type 0
 LsRequestsHaveAnswers A = (server : Server A) (asked : LsRefsAsked) → (reply : LsReply) × LsAnswer server asked reply
 
--- a request for refs has at most one answer
+-- an ls-refs request has at most one answer
 abbrev pub LsAnswersAreOne : Type 0 → Type 0
 LsAnswersAreOne A =
     (server : Server A) (asked : LsRefsAsked) (a b : LsReply)
     → LsAnswer server asked a → LsAnswer server asked b → a ≡ b
 
--- each answer to a request for refs is a well-formed reply in the server's object format
+-- each answer to an ls-refs request is a well-formed reply in the server's object format
 abbrev pub LsAnswersFit : Type 0 → Type 0
 LsAnswersFit A =
     (server : Server A) (asked : LsRefsAsked) (reply : LsReply)
     → IsServer server → LsAnswer server asked reply → IsLsReplyIn server.graph.format reply
 
--- the server holds the id of each line of an answer to ls-refs
+-- the server holds the id of each line of an ls-refs reply
 abbrev pub LsAnswersAreHeld : Type 0 → Type 0
 LsAnswersAreHeld A =
     (server : Server A) (asked : LsRefsAsked) (reply : LsReply)
@@ -71,7 +71,7 @@ LsAnswersAreHeld A =
 
 -- ---- objects
 
--- the client that sent a fetch request can read the answer, if the pack is within its limit
+-- the client that sent a fetch request can read the answer, if the pack is within the client's limit
 abbrev pub FetchAnswersFit : (A : Type 0) → Packs A → Type 0
 FetchAnswersFit A packs =
     (server : Server A) (asked : FetchAsked) (reply : FetchReply) (reading : Reading)
@@ -79,21 +79,21 @@ FetchAnswersFit A packs =
     → reading.format ≡ server.graph.format → reading.direct ≡ is_direct asked
     → length (pack_of reply) ≤ reading.limit → IsReplyIn reading reply
 
--- the ids are common: the client offered each as a have, the server holds each, and no id occurs twice
+-- the ids are common: the client sent each id as a have, the server holds each id, and no id occurs twice
 pub record AreCommon {A : Type 0} (server : Server A) (asked : FetchAsked) (ids : List Id) : Type 0 where
   pub once : IsDistinct bytes_eq ids
   pub offered : All (Contains asked.haves) ids
   pub held : All (Holds server.graph.entries) ids
 
--- all ids that an answer to fetch acknowledges are common
+-- all ids that a fetch reply acknowledges are common
 abbrev pub AcksAreCommon : (A : Type 0) → Packs A → Type 0
 AcksAreCommon A packs =
     (server : Server A) (asked : FetchAsked) (reply : FetchReply)
     → FetchAnswer server packs asked reply → AreCommon server asked (acknowledged_by reply)
 
--- The pack contains entries of the server's graph. Consider a client whose graph agrees with the server's and where
--- each have is connected. After the client inserts the entries, each want is connected, and the client holds every
--- object that a want reaches at the server.
+-- The pack contains entries of the server's graph. Consider a client whose graph agrees with the server's and that
+-- holds the full history of each have. Once the client has inserted the entries, it holds every object that a want
+-- reaches at the server.
 pub record IsEnough {A : Type 0} (server : Server A) (packs : Packs A) (asked : FetchAsked)
     (pack : Bytes) : Type 0 where
   pub list : List (Entry A)
@@ -111,7 +111,8 @@ PacksAreEnough A packs =
     (server : Server A) (asked : FetchAsked) (pack : Bytes)
     → IsServer server → CanServe server asked → SendsPack server packs asked pack → IsEnough server packs asked pack
 
--- a request whose wants are held fails only if the packer fails for entries of a graph, or if memory runs out
+-- if the server holds all wants, the request fails only if the packer fails for entries of a graph, or if memory runs
+-- out
 abbrev pub ServesWhatIsHeld : (A : Type 0) → PackFails A → Type 0
 ServesWhatIsHeld A fails =
     (server : Server A) (asked : FetchAsked) (cause : ServeFault)

@@ -33,7 +33,7 @@ head_ref (Some id) = (head_name, id) ∷ []
 abbrev pub all_refs : {A : Type 0} → Server A → RefList
 all_refs server = head_ref (head_id server.head server.refs) ++ server.refs
 
--- the request asks for the name: a prefix matches it, or there are no prefixes
+-- the request asks for the name: the name begins with a requested prefix, or the request has no prefixes
 abbrev pub is_asked : List Bytes → Name → Bool
 is_asked [] name = true
 is_asked (prefix ∷ prefixes) name = list_any (starts_with nat_eq name) (prefix ∷ prefixes)
@@ -49,21 +49,21 @@ target_of heads.None = None
 target_of (heads.Id id) = None
 target_of (heads.Symref target) = Some target
 
--- the name that HEAD points at, if the request asks for targets and the line is that of HEAD
+-- the name that HEAD points at, if the request has `symrefs` and this is the line of HEAD
 abbrev pub symref_of : {A : Type 0} → Head A → LsRefsAsked → Name → Option Name
 symref_of head asked name = if ls_has asked Symrefs && bytes_eq name head_name then target_of head else None
 
--- the id is that of a tag, and a chain of tags leads from this tag to the commit
+-- `id` is the id of a tag, and a chain of tags leads from this tag to the commit
 pub record TagPeelsTo {A : Type 0} (g : List (Entry A)) (id commit : Id) : Type 0 where
   pub named : Id
   pub tag : IsTagOf g id named
   pub peels : PeelsTo g id commit
 
--- the commit that a tag peels to, or none if the object is no tag or the tag peels to no commit
+-- the commit that a tag peels to, or `None` if the object is not a tag or the tag peels to no commit
 abbrev pub IsPeeled : {A : Type 0} → List (Entry A) → Id → Option Id → Type 0
 IsPeeled g id peeled = MatchOption peeled ((commit : Id) → ¬ (TagPeelsTo g id commit)) (TagPeelsTo g id)
 
--- the commit that a tag peels to, if the request asks for it
+-- the commit that a tag peels to, if the request has `peel`
 abbrev pub IsPeeledIf : {A : Type 0} → Bool → List (Entry A) → Id → Option Id → Type 0
 IsPeeledIf false g id peeled = peeled ≡ None
 IsPeeledIf true g id peeled = IsPeeled g id peeled
@@ -104,7 +104,7 @@ pub record LsAnswer {A : Type 0} (server : Server A) (asked : LsRefsAsked) (repl
   pub lines : ShowsLines server asked (all_refs server) reply.lines
   pub unborn : reply.unborn ≡ unborn_of server asked
 
--- ---- peeled ids that were looked up before the request
+-- ---- peeled ids that are looked up before a request arrives
 
 -- each entry of the list is the peeled id of the ref at the same position
 abbrev pub KnowsPeels : {A : Type 0} → List (Entry A) → RefList → List (Option Id) → Type 0

@@ -17,18 +17,18 @@ has_failed packing.Unasked = false
 has_failed packing.Packed = false
 has_failed (packing.Failed fault) = true
 
--- the packer's result for a reply to fetch: a pack if the reply contains one, otherwise not asked
+-- the packer's result for a fetch reply: `Packed` if the reply contains a pack, otherwise `Unasked`
 abbrev pub packing_of_fetch : FetchReply → Packing
 packing_of_fetch (Acks commons) = packing.Unasked
 packing_of_fetch (Ready commons pack) = packing.Packed
 packing_of_fetch (Pack pack) = packing.Packed
 
--- the packer's result for any reply: only a reply to fetch can contain a pack
+-- the packer's result for any reply; only a fetch reply can contain a pack
 abbrev pub packing_of_reply : Reply → Packing
 packing_of_reply (Fetch reply) = packing_of_fetch reply
 packing_of_reply _ = packing.Unasked
 
--- the packer's result for a fault: its own fault, or not asked for any other fault
+-- the packer's result if a request fails: `Failed` for a fault of the packer, otherwise `Unasked`
 abbrev pub packing_of_fault : ServeFault → Packing
 packing_of_fault (serve.Reader fault) = packing.Unasked
 packing_of_fault (serve.Request fault) = packing.Unasked

@@ -43,13 +43,13 @@ pub record IsServer {A : Type 0} (server : Server A) : Type 0 where
   pub head : HoldsHead server.graph.entries server.head
   pub target : PointsBelowRefs server.head
 
--- ---- making one
+-- ---- making a server
 
 -- the parents of all objects, in insertion order
 abbrev pub parents_in : {A : Type 0} → List (Entry A) → List Id
 parents_in g = flat_map (λ entry. entry.node.parents) g
 
--- this name is that of the first ref whose id the graph does not hold
+-- `name` is the name of the first ref whose id the graph does not hold
 pub record IsFirstDangling {A : Type 0} (g : List (Entry A)) (refs : RefList) (name : Name) : Type 0 where
   pub front : RefList
   pub id : Id
@@ -59,7 +59,7 @@ pub record IsFirstDangling {A : Type 0} (g : List (Entry A)) (refs : RefList) (n
   pub absent : node_at g id ≡ None
 
 -- The possible faults of making a server: the first missing parent, otherwise the first ref whose id is missing,
--- otherwise HEAD. If nothing is missing, memory may run out for the name HEAD.
+-- otherwise a detached HEAD whose id is missing. If no object is missing, memory may run out for the name HEAD.
 abbrev pub IsUnserved : {A : Type 0} → Server A → BuildFault A → Type 0
 IsUnserved server (build.NotClosed id) = IsFirstAbsent server.graph.entries (parents_in server.graph.entries) id
 IsUnserved server (build.RefMissing name) =
@@ -70,7 +70,7 @@ IsUnserved server build.HeadMissing =
 IsUnserved server build.Memory = IsServer server
 IsUnserved server _ = ⊥
 
--- the result of making a server: exactly the given parts, or a fault
+-- the result of making a server: a server with exactly the given graph, refs and HEAD, or a fault
 abbrev pub Makes : {A : Type 0} → Server A → Result (Server A) (BuildFault A) → Type 0
 Makes parts (Ok server) = (server ≡ parts) × IsServer server
 Makes parts (Err fault) = IsUnserved parts fault

@@ -20,9 +20,9 @@ use std::alloc::Allocator;
 pub enum Reply<A: Allocator + Copy> {
     /// The answer to the empty request, a lone flush packet: nothing is sent.
     Nothing,
-    /// The answer to ls-refs: refs.
+    /// The answer to an ls-refs request: a list of refs.
     Ls(LsReply<A>),
-    /// The answer to fetch: common ids, a pack, or both.
+    /// The answer to a fetch request: common ids, a pack, or both.
     Fetch(FetchReply<A>),
 }
 
@@ -32,23 +32,23 @@ impl<A: Allocator + Copy> Server<A> {
     /// The answer to ls-refs lists HEAD first, then the refs in the byte order of their names. It
     /// lists the names that begin with a requested prefix, or all names if there is no prefix. With
     /// `symrefs`, a HEAD that points at a ref is listed with its target. With `peel`, a tag is
-    /// listed with the commit that it peels to. With `unborn`, the answer has the name that an
-    /// unborn HEAD points at, if the request asks for HEAD.
+    /// listed with the commit that it peels to. With `unborn`, the answer contains the name that an
+    /// unborn HEAD points at, if HEAD is requested.
     ///
-    /// For fetch, the common ids are the distinct haves that the server holds, in the order of
-    /// their first occurrence. With `done`, or without haves, the answer is a pack of the objects
-    /// that a want reaches and no common id reaches. Otherwise, if each want reaches a common id,
-    /// the answer is the common ids and this pack. Otherwise the answer is the common ids alone.
-    /// With `include-tag`, the pack also has the tags that lead from the ids of refs to its
-    /// commits.
+    /// For a fetch request, the common ids are the distinct haves that the server holds, in the
+    /// order of their first occurrence. With `done`, or without haves, the answer is a pack of the
+    /// objects that a want reaches and no common id reaches. Otherwise, if each want reaches a
+    /// common id, the answer is the common ids and this pack. Otherwise the answer is the common
+    /// ids alone. With `include-tag`, the pack also contains the tags that lead from a ref to a
+    /// commit in the pack.
     ///
-    /// Fails with `NoWants` if a fetch wants nothing, or with `NotOurs` for the first want that is
-    /// not held. Otherwise fails with `Pack` and the packer's fault if the packer fails for the
-    /// objects to send.
+    /// Fails with `NoWants` if a fetch request has no wants, or with `NotOurs` for the first want
+    /// that the server does not hold. Otherwise fails with `Pack` and the packer's fault if the
+    /// packer fails for the objects to send.
     ///
-    /// The packer is asked once if the answer has a pack or the fault is the packer's. Otherwise
-    /// the packer is not asked. So a fault of the packer is always reported, and `Memory` is
-    /// reported only if the packer was not asked.
+    /// The packer is asked exactly once if the answer contains a pack or the packer fails.
+    /// Otherwise the packer is not asked. So a fault of the packer is always reported, and `Memory`
+    /// is reported only if the packer was not asked.
     pub fn answer<K: Packer<A>>(
         &self,
         request: &Request<A>,

@@ -23,15 +23,15 @@ pub enum BuildFault<A: Allocator + Copy = Global> {
     Graph(GraphFault),
     /// Faults 69 and 64: the refs reject the name.
     Refs(RefsFault),
-    /// Fault 70: a parent of an object is not held.
+    /// Fault 70: the graph does not hold this parent of an object.
     NotClosed { id: Oid },
-    /// Fault 71: the id of a ref is not held.
+    /// Fault 71: the graph does not hold the id of this ref.
     RefMissing { name: RefName<A> },
-    /// Fault 71: the id of a detached HEAD is not held.
+    /// Fault 71: the graph does not hold the id of a detached HEAD.
     HeadMissing,
-    /// Fault 72: a parent of the object to add is not held.
+    /// Fault 72: the graph does not hold this parent of the object to add.
     MissingParent { id: Oid },
-    /// Fault 64: out of memory for a name.
+    /// Fault 64: out of memory for the name `HEAD`.
     Memory,
 }
 
@@ -104,13 +104,13 @@ impl<A: Allocator + Copy, T: Drop> From<AllocFailed<T>> for BuildFault<A> {
 /// The reason that a request was not answered.
 #[derive(Debug, Drop)]
 pub enum ServeFault {
-    /// Fault 28: out of memory for the reader of requests.
+    /// Fault 28: out of memory while making the reader of requests.
     Reader(PacketFault),
     /// Faults 20 to 54: the request could not be read.
     Request(MessageFault),
     /// Fault 73: a fetch has no wants.
     NoWants,
-    /// Fault 74: this is the first want that the server does not hold.
+    /// Fault 74: the first want of the request that the server does not hold.
     NotOurs { id: Oid },
     /// Fault 65: the packer fails for the objects to send.
     Pack(PackFault),
@@ -132,7 +132,7 @@ fn serve_row(code: u32, name: &'static str, phrase: &'static str) -> ServeRow
     ServeRow { code, name, phrase }
 }
 
-// Returns the number, the name and the text of a packet that can't be read.
+// Returns the number, the name and the text of the fault for a packet that can't be read.
 fn line_row(fault: PacketFault) -> ServeRow
     ensures { row_view result ≡ row_of (packet_fault_row fault) (line_phrase fault) }
 {

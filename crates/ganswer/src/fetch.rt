@@ -1,4 +1,4 @@
-//! The answers to fetch (gitprotocol-v2(5), "fetch").
+//! The answers to fetch requests (gitprotocol-v2(5), "fetch").
 
 ghost use Rattle.std.specs.Prelude.{◌≡◌, ◌↔◌, IfOk, IfErr, IsTrue, MatchResult};
 ghost use Rattle.gdag.specs.declared.fault.GraphFault.TheVariants.{Memory as OutOfMemory};
@@ -21,10 +21,10 @@ use gname::Oid;
 use grequest::{FetchFlag, FetchRequest};
 use std::alloc::Allocator;
 
-/// The answer to a request for objects, before the objects to send are packed.
+/// The answer to a fetch request, before the objects to send are packed.
 #[derive(Drop)]
 pub enum BegunFetch<A: Allocator + Copy> {
-    /// The common ids. Some want reaches none of them, so no pack follows.
+    /// The common ids. At least one want reaches no common id, so no pack follows.
     Acks(Acks<A>),
     /// The common ids and the objects to send. Each want reaches a common id.
     Ready(Acks<A>, Vec<Entry<A>, A>),
@@ -33,9 +33,9 @@ pub enum BegunFetch<A: Allocator + Copy> {
 }
 
 impl<A: Allocator + Copy> Server<A> {
-    /// Returns the answer to a request for objects (gitprotocol-v2(5), "fetch"), as
-    /// [`Server::answer`] does. The packer is asked once if the answer has a pack or the fault is
-    /// the packer's. Otherwise the packer is not asked.
+    /// Returns the answer to a fetch request (gitprotocol-v2(5), "fetch"), as [`Server::answer`]
+    /// does. The packer is asked exactly once if the answer contains a pack or the packer fails.
+    /// Otherwise the packer is not asked.
     ///
     /// So the packer's fault is always reported, and `Memory` is reported only if the packer was
     /// not asked.
@@ -68,11 +68,11 @@ impl<A: Allocator + Copy> Server<A> {
         }
     }
 
-    /// Returns the answer to a request for objects before the objects are packed, so that the
-    /// caller can pack them itself.
+    /// Returns the answer to a fetch request before the objects are packed, so that the caller can
+    /// pack the objects itself.
     ///
     /// Fails with `NoWants` if the request has no wants. Fails with `NotOurs` for the first want
-    /// that is not held. Otherwise fails only with `Memory`.
+    /// that the server does not hold. Otherwise fails only with `Memory`.
     pub fn begin_fetch(&self, asked: &FetchRequest<A>) -> Result<BegunFetch<A>, ServeFault>
         ensures { MatchResult result (BeginsFetch self.now asked.now.asked)
             (FetchDeclines self.now asked.now.asked) }
@@ -175,7 +175,7 @@ impl<A: Allocator + Copy> Server<A> {
     }
 }
 
-// Converts the fault of a graph walk, which is always out of memory.
+// Converts a fault of a graph walk, which is always out of memory, to `Memory`.
 fn no_memory(fault: GraphFault) -> ServeFault
     requires { fault ≡ OutOfMemory }
     ensures { result ≡ Memory }

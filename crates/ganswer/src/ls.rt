@@ -23,7 +23,7 @@ use grequest::{LsRefsFlag, LsRefsRequest};
 use std::alloc::{AllocError, Allocator};
 
 impl<A: Allocator + Copy> Server<A> {
-    // Returns the reply to a request for refs. Fails only with `Memory`.
+    // Returns the reply to an ls-refs request. Fails only with `Memory`.
     pub(crate) fn answer_ls(&self, asked: &LsRefsRequest<A>) -> Result<LsReply<A>, ServeFault>
         ensures answer { IfOk result (LsAnswer self.now asked.now) }
         ensures fault { IfErr result (λ fault. fault ≡ Memory) }
@@ -80,8 +80,8 @@ impl<A: Allocator + Copy> Server<A> {
         Ok(())
     }
 
-    // Appends the line of a ref, if the request asks for the ref. `known` is the peeled id of the
-    // ref, if it was looked up before.
+    // Appends the line of a ref, if the request asks for the ref. `known` is the ref's peeled id,
+    // if the peeled id was looked up before.
     fn add_ref_line(
         &self,
         asked: &LsRefsRequest<A>,
@@ -112,7 +112,7 @@ impl<A: Allocator + Copy> Server<A> {
     }
 
     /// Returns the line of a ref with the requested attributes, or `None` if the request does not
-    /// ask for the ref. `known` is the peeled id of the ref, if it was looked up before.
+    /// ask for the ref. `known` is the ref's peeled id, if the peeled id was looked up before.
     pub fn line<'a>(
         &'a self,
         asked: &LsRefsRequest<A>,
@@ -134,7 +134,7 @@ impl<A: Allocator + Copy> Server<A> {
         })
     }
 
-    /// Returns the id that HEAD points at, directly or through a ref, if there is one.
+    /// Returns the id that HEAD points at, directly or through a ref, or `None` if HEAD is unborn.
     pub fn head_id(&self) -> Option<Oid>
         ensures { result ≡ head_id self.now.head self.now.refs }
     {
@@ -155,7 +155,7 @@ impl<A: Allocator + Copy> Server<A> {
         }
     }
 
-    // Returns the name that HEAD points at, if the request asks for targets and `name` is HEAD.
+    // Returns the name that HEAD points at, if the request has `symrefs` and `name` is HEAD.
     fn symref(&self, asked: &LsRefsRequest<A>, name: &RefName<A>) -> Option<&RefName<A>>
         ensures { option_copied result ≡ symref_of self.now.head asked.now name.now }
     {
@@ -177,8 +177,8 @@ impl<A: Allocator + Copy> Server<A> {
         }
     }
 
-    /// Returns the name that an unborn HEAD points at, if the request asks for it and HEAD is
-    /// unborn.
+    /// Returns the name that an unborn HEAD points at, if the request asks for HEAD and for unborn
+    /// HEADs.
     pub fn unborn(&self, asked: &LsRefsRequest<A>) -> Option<&RefName<A>>
         ensures { option_copied result ≡ unborn_of self.now asked.now }
     {
@@ -206,7 +206,7 @@ fn own_line<A: Allocator + Copy>(line: LentLine<'_, A>) -> Result<RefLine<A>, Al
     })
 }
 
-// Returns whether the name begins with one of the prefixes, or there are no prefixes.
+// Returns whether the name begins with one of the prefixes, or `prefixes` is empty.
 fn is_asked<A: Allocator + Copy>(prefixes: &[Prefix<A>], name: &RefName<A>) -> bool
     ensures { result ≡ is_asked prefixes.now name.now }
 {
@@ -219,7 +219,7 @@ fn begins_with_any<A: Allocator + Copy>(prefixes: &[Prefix<A>], name: &RefName<A
     prefixes.iter().any(|prefix| name.starts_with(prefix))
 }
 
-// Converts the fault of adding a line that fits the reply, which is always out of memory.
+// Converts a fault of adding a line that fits the reply. This fault is always out of memory.
 fn no_memory(fault: MessageFault) -> ServeFault
     requires { fault.why ≡ why.Memory }
     ensures { result ≡ Memory }

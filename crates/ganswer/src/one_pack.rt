@@ -21,8 +21,8 @@ pub enum Packing {
     Failed(PackFault),
 }
 
-/// A packer that is asked for at most one pack for each answer, and its result. A packer that has
-/// failed is not asked again, so its fault is not lost.
+/// A packer that is asked for at most one pack for each answer, and its last result. A packer that
+/// has failed is not asked again, so that its fault is not lost.
 #[derive(Drop)]
 pub struct OnePack<'a, K> {
     packer: &'a K,
@@ -38,7 +38,7 @@ impl<'a, K> Model for OnePack<'a, K> {
 }
 
 impl<'a, K> OnePack<'a, K> {
-    /// Wraps a packer that was not asked yet.
+    /// Wraps a packer. Its result is `Unasked` until the first pack is requested.
     pub fn new(packer: &'a K) -> OnePack<'a, K>
         ensures packer { result.packer ≡ packer.now }
         ensures unasked { result.answered ≡ packing.Unasked }

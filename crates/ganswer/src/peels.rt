@@ -9,7 +9,7 @@ use ggraph::{Graph, Kind};
 use gname::Oid;
 use std::alloc::Allocator;
 
-// Returns an empty list with room for `count` ids, or without room if memory runs out.
+// Returns an empty list with capacity for `count` ids, or with no capacity if memory runs out.
 pub(crate) fn no_peels<A: Allocator + Copy>(alloc: A, count: usize) -> Vec<Option<Oid>, A>
     ensures { result.items ≡ [] }
 {
@@ -19,8 +19,8 @@ pub(crate) fn no_peels<A: Allocator + Copy>(alloc: A, count: usize) -> Vec<Optio
     }
 }
 
-// Appends the peeled id for an index, if the list has exactly the ids before this index and has
-// room. Allocates nothing.
+// Appends the peeled id of the ref at index `place`, if the list contains exactly the ids
+// before this index and has spare capacity. Allocates nothing.
 pub(crate) fn keep_peeled<A: Allocator + Copy>(
     peels: &mut Vec<Option<Oid>, A>,
     place: usize,
@@ -34,8 +34,8 @@ pub(crate) fn keep_peeled<A: Allocator + Copy>(
     }
 }
 
-// Returns the commit that a tag peels to, if the request asks for it. `known` is the peeled id, if
-// it was looked up before.
+// Returns the commit that a tag peels to, if the request has `peel`. `known` is the tag's peeled
+// id, if the peeled id was looked up before.
 pub(crate) fn peeled_if<A: Allocator + Copy>(
     is_asked: bool,
     graph: &Graph<A>,
@@ -62,7 +62,7 @@ fn peel_tag<A: Allocator + Copy>(graph: &Graph<A>, id: &Oid) -> Option<Oid>
 }
 
 // Returns the commit that a tag peels to, or `Some(None)` for other objects. Returns `None` if the
-// object is not held.
+// graph does not hold the object.
 pub(crate) fn look_up<A: Allocator + Copy>(graph: &Graph<A>, id: &Oid) -> Option<Option<Oid>>
     ensures { MatchOption result (node_at graph.now.entries id.now ≡ None)
         (λ peeled. Holds graph.now.entries id.now × IsPeeled graph.now.entries id.now peeled) }

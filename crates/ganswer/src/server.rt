@@ -29,8 +29,8 @@ pub struct Server<A: Allocator + Copy = Global> {
     head: Head<A>,
     // The name HEAD, which answers borrow.
     name_of_head: RefName<A>,
-    // The peeled ids of the refs, in the order of the refs, so that requests need no look-up. The
-    // list is empty if memory ran out, or after a ref was set.
+    // The peeled ids of the refs, in the order of the refs, so that requests need not look them up.
+    // The list is empty if memory ran out, or after a ref was set.
     peels: Vec<Option<Oid>, A>,
 }
 
@@ -48,14 +48,14 @@ impl<A: Allocator + Copy> Model for Server<A> {
 }
 
 impl<A: Allocator + Copy> Server<A> {
-    /// Makes a server of a graph, refs and HEAD.
+    /// Makes a server from a graph, refs and HEAD.
     ///
-    /// Fails with `NotClosed` for the first parent that is not held, in the order of the objects
-    /// and of their parents. Otherwise fails with `RefMissing` for the first ref by name whose id
-    /// is not held. Otherwise fails with `HeadMissing` if HEAD is detached at an id that is not
-    /// held. These three faults are reported even if memory has run out. Fails with `Memory` if
-    /// nothing is missing, but there is no memory for the name HEAD. A failed call drops the graph,
-    /// the refs and HEAD.
+    /// Fails with `NotClosed` for the first parent that the graph does not hold, in the order of
+    /// the objects and of their parents. Otherwise fails with `RefMissing` for the first ref by
+    /// name whose id the graph does not hold. Otherwise fails with `HeadMissing` if HEAD is
+    /// detached at an id that the graph does not hold. These three faults are reported even if
+    /// memory has run out. Fails with `Memory` if no object is missing, but there is no memory for
+    /// the name HEAD. A failed call drops the graph, the refs and HEAD.
     pub fn new(graph: Graph<A>, refs: Refs<A>, head: Head<A>) -> Result<Server<A>, BuildFault<A>>
         ensures { Makes (server_of graph refs head) result }
     {
@@ -72,8 +72,8 @@ impl<A: Allocator + Copy> Server<A> {
         }
     }
 
-    // Makes a server of a closed graph that holds the id of each ref. The id of HEAD may be
-    // missing.
+    // Makes a server from a closed graph that holds the id of each ref. The graph need not hold the
+    // id of HEAD.
     fn with_refs(
         graph: Graph<A>,
         refs: Refs<A>,
@@ -118,7 +118,7 @@ impl<A: Allocator + Copy> Server<A> {
         &self.refs
     }
 
-    /// A law: the invariant of a server.
+    /// A law that states the invariant of a server.
     pub fn laws(&self)
         ensures { IsServer self.now }
     {
@@ -133,11 +133,11 @@ impl<A: Allocator + Copy> Server<A> {
         &self.head
     }
 
-    /// Appends an object to the graph. Changes nothing if the graph already holds it with the same
-    /// node.
+    /// Appends an object to the graph. Changes nothing if the graph already holds its id with the
+    /// same kind and parents.
     ///
-    /// Fails with `MissingParent` for the first of its parents that is not held, and otherwise with
-    /// `Graph` as `Graph::insert` does. A failed call changes nothing.
+    /// Fails with `MissingParent` for the object's first parent that the graph does not hold, and
+    /// otherwise with `Graph` if `Graph::insert` fails. A failed call changes nothing.
     pub fn add(&mut self, entry: Entry<A>) -> Result<(), BuildFault<A>>
         ensures adds { Adds self.old entry self.new result }
         ensures format { self.new.graph.format ≡ self.old.graph.format }
@@ -157,8 +157,8 @@ impl<A: Allocator + Copy> Server<A> {
 
     /// Creates or updates a ref (git-update-ref(1)).
     ///
-    /// Fails with `RefMissing` if the id is not held, and otherwise with `Refs` as `Refs::set`
-    /// does. A failed call changes nothing.
+    /// Fails with `RefMissing` if the graph does not hold the id, and otherwise with `Refs` if
+    /// `Refs::set` fails. A failed call changes nothing.
     pub fn set_ref(&mut self, name: RefName<A>, id: Oid) -> Result<(), BuildFault<A>>
         ensures sets { Sets self.old name id self.new result }
         ensures server { IsServer self.new }
@@ -177,8 +177,8 @@ impl<A: Allocator + Copy> Server<A> {
 
     /// Sets HEAD (git-symbolic-ref(1)). Allocates nothing.
     ///
-    /// Fails with `HeadMissing` if the new HEAD is detached at an id that is not held. A failed
-    /// call changes nothing.
+    /// Fails with `HeadMissing` if the new HEAD is detached at an id that the graph does not hold.
+    /// A failed call changes nothing.
     pub fn set_head(&mut self, head: Head<A>) -> Result<(), BuildFault<A>>
         ensures sets { SetsHead self.old head self.new result }
         ensures server { IsServer self.new }
@@ -199,8 +199,8 @@ impl<A: Allocator + Copy> Server<A> {
         &self.name_of_head
     }
 
-    /// Returns the id that the ref at an index peels to, or `Some(None)` if the ref does not point
-    /// at a tag. Returns `None` if the id was not looked up before.
+    /// Returns the id that the ref at index `place` peels to, or `Some(None)` if the ref does not
+    /// point at a tag. Returns `None` if the peeled id was not looked up before.
     pub fn peeled_at(&self, place: usize) -> Option<Option<Oid>>
         ensures { (ref : Name × Id) → slice_get self.now.refs place ≡ Some ref
             → IfSome result (IsPeeled self.now.graph.entries ref.1) }
@@ -238,7 +238,7 @@ fn first_missing_parent<A: Allocator + Copy>(graph: &Graph<A>) -> Option<Oid>
 }
 
 // Returns the peeled ids of the refs, or fewer if memory runs out. Fails with the index of the
-// first ref whose id is not held.
+// first ref whose id the graph does not hold.
 fn check_refs<A: Allocator + Copy>(
     graph: &Graph<A>,
     refs: &[(RefName<A>, Oid)],

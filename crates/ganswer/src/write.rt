@@ -20,7 +20,7 @@ use grequest::LsRefsRequest;
 use std::alloc::Allocator;
 
 impl<A: Allocator + Copy> Server<A> {
-    /// Writes the answer to a request for refs (gitprotocol-v2(5), "ls-refs"), as
+    /// Writes the answer to an ls-refs request (gitprotocol-v2(5), "ls-refs"), as
     /// [`Server::answer`] returns it. The names are borrowed from the server, so the call allocates
     /// nothing.
     ///
@@ -108,7 +108,7 @@ impl<A: Allocator + Copy> Server<A> {
     }
 }
 
-// Writes a line, if there is one.
+// Writes the line, or nothing if `line` is `None`.
 fn write_line<A: Allocator + Copy, W: Sink>(
     line: Option<&LentLine<'_, A>>,
     text: &mut RefText,

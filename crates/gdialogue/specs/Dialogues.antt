@@ -16,14 +16,14 @@ use Rattle.gdialogue.specs.declared.dialogue.Dialogue.{Dialogue}
 use Rattle.gdialogue.specs.declared.dialogue.DialogueStage.{DialogueStage}
 use Rattle.gdialogue.specs.declared.dialogue.DialogueStage.TheVariants as stage
 
--- the reason to refuse a message when no more packets arrive
+-- the reason to refuse an incomplete message when no more packets arrive
 abbrev pub reason_of : Stop → Why
 reason_of stop.Ended = why.Ended
 reason_of (stop.Refused fault) = why.Line fault
 reason_of stop.Failed = why.Line Io
 
--- the fault for which a message is refused: a packet that the grammar rejects, or a message that is incomplete when no
--- more packets arrive
+-- the fault of a refused message: the grammar rejects a packet, or the message is incomplete when no more packets
+-- arrive
 pub data IsRefused (judge : Judge) (brings : List Packet → Packet → Bool)
     : List Packet → Option Stop → MessageFault → Type 0 where
   packet : (front : List Packet) (packet : Packet) (why : Why) → IsOpen judge front
@@ -40,8 +40,8 @@ turn_of (stage.Says reply) = Speaks
 turn_of (stage.Ends reply) = Speaks
 turn_of stage.Over = Done
 
--- a bound on the rest of a dialogue: two turns for each message still to answer, and fewer than 2^60 packets in the
--- current message
+-- a bound on the rest of a dialogue: two turns for each message that is not yet answered, and fewer than 2^60 packets
+-- in the current message
 abbrev pub left_of : {M R : Type 0} → (R → ℕ) → ℕ → DialogueStage M R → Left
 left_of calls messages (stage.Hears message frame) = record { turns = messages + messages + 2; steps = 2 ^ 60 - frame }
 left_of calls messages (stage.Says reply) = record { turns = messages + messages + 3; steps = calls reply }
@@ -51,15 +51,15 @@ left_of calls messages stage.Over = record { turns = 0; steps = 0 }
 module _ {S : Type 0} (judge : S → Judge) (brings : S → List Packet → Packet → Bool)
     (opens : S → List Packet → Bool → Type 0) (answers : S → List Packet → List Packet → Bool → S → Type 0)
     (refuses : S → MessageFault → List Packet → S → Type 0) where
-  -- The dialogue from the end's first state until now. The end sent its opening, and then answered each of the received
-  -- messages in the state that it had reached.
+  -- The dialogue from the first state of this end until now. This end sent its opening, and then answered each received
+  -- message in the state that it had then reached.
   pub data Answered (first : S) : List Packet → List Packet → S → Type 0 where
     opened : (said : List Packet) → opens first said true → Answered first [] said first
     more : (heard said lines reply : List Packet) (mid last : S) → Answered first heard said mid
         → IsWhole (judge mid) lines → answers mid lines reply true last
         → Answered first (heard ++ lines) (said ++ reply) last
 
-  -- the end of a dialogue: after its opening, after a last answer, or after a refused message
+  -- the ways in which a dialogue ends: after its opening, after a last answer, or after a refused message
   pub data HasEnded (first : S) : List Packet → Option Stop → List Packet → S → Type 0 where
     opened : (said : List Packet) → opens first said false → HasEnded first [] None said first
     last : (heard said lines reply : List Packet) (mid last : S) → Answered first heard said mid
@@ -77,7 +77,7 @@ module _ {S : Type 0} (judge : S → Judge) (brings : S → List Packet → Pack
 
   module _ {M R : Type 0} (judge_of : M → Judge) (brings_of : M → List Packet → Packet → Bool)
       (message_holds : M → List Packet → Type 0) (may : R → List Packet → Bool → Type 0) where
-    -- the end is receiving a message, and all earlier messages are answered
+    -- this end is receiving a message, and has answered all earlier messages
     pub record HoldsHearing (side : S) (message : M) (frame : ℕ) (talk : Talk) : Type 0 where
       pub first : S
       pub heard : List Packet
@@ -91,13 +91,13 @@ module _ {S : Type 0} (judge : S → Judge) (brings : S → List Packet → Pack
       pub count : frame ≡ length front
       pub unstopped : talk.stopped ≡ None
 
-    -- the end is sending an answer, and the message is answered once any permitted rest of the reply is sent
+    -- this end is sending an answer; any permitted rest of the reply completes the answer
     pub record HoldsSaying (side : S) (reply : R) (talk : Talk) : Type 0 where
       pub first : S
       pub due : (rest : List Packet) (goes : Bool) → may reply rest goes
           → IsSoFar first goes talk.heard talk.stopped (talk.said ++ rest) side
 
-    -- the end is sending its last reply, and the dialogue has ended once any permitted rest of the reply is sent
+    -- this end is sending its last reply; any permitted rest of the reply ends the dialogue
     pub record HoldsEnding (side : S) (reply : R) (talk : Talk) : Type 0 where
       pub first : S
       pub due : (rest : List Packet) (goes : Bool) → may reply rest goes

@@ -6,7 +6,7 @@ use Rattle.gdialogue.specs.declared.side.Answer.TheVariants as answer
 use Rattle.gdialogue.specs.declared.side.Said.{Said}
 use Rattle.gdialogue.specs.declared.side.Said.TheVariants.{More, Whole, Last}
 
--- a reply whose packets are known: exactly these packets are still to be sent, and then the dialogue continues
+-- a reply with known packets: exactly these packets are still to be sent, and then the dialogue continues
 abbrev pub SaysExactly : {R : Type 0} → (R → List Packet) → R → List Packet → Bool → Type 0
 SaysExactly rest reply packets goes = (packets ≡ rest reply) × (goes ≡ true)
 
@@ -15,8 +15,7 @@ abbrev pub SaysNothing : List Packet → Bool → Type 0
 SaysNothing packets goes = (packets ≡ []) × (goes ≡ true)
 
 module _ {R : Type 0} (may : R → List Packet → Bool → Type 0) where
-  -- these packets, followed by any packets that may complete the reply from the new state, may complete the reply from
-  -- the old state
+  -- from the old state, the reply may send these packets, and then any packets that may complete it from the new state
   abbrev pub LeadsTo : R → R → List Packet → Said → Type 0
   LeadsTo old new said More = (rest : List Packet) (goes : Bool) → may new rest goes → may old (said ++ rest) goes
   LeadsTo old new said Whole = may old said true

@@ -18,20 +18,20 @@ use std::mem;
 // The current stage of a dialogue.
 #[derive(Drop)]
 enum DialogueStage<M, R> {
-    // The dialogue receives this message, of which it has received this many packets.
+    // The dialogue is receiving a message. The number counts the packets received so far.
     Hears(M, u64),
-    // The dialogue sends this reply, and may continue after it.
+    // The dialogue is sending this reply, and may continue after it.
     Says(R),
-    // The dialogue sends its last reply.
+    // The dialogue is sending its last reply.
     Ends(R),
     Over,
 }
 
 /// One end of a dialogue: a conversation of packets ([`Conversation`]).
 ///
-/// A dialogue receives one message after another and sends the answer of its [`Side`] to each,
-/// until a last answer. A message is refused at the first packet that its grammar rejects, or if no
-/// more packets arrive. The answer to a refused message is the last.
+/// A dialogue receives one message after another, and sends the answer of its [`Side`] to each
+/// message, until a last answer. A message is refused at the first packet that its grammar rejects,
+/// or if no more packets arrive. The answer to a refused message is the last.
 #[derive(Drop)]
 pub struct Dialogue<S, M, R> {
     side: S,
@@ -217,7 +217,7 @@ impl<S: Side<M, R>, M: Message + Drop, R: Reply + Drop> Conversation for Dialogu
     }
 }
 
-// Returns the reason to refuse a message when no more packets arrive.
+// Returns the reason to refuse an incomplete message when no more packets arrive.
 fn reason_of(why: Stop) -> Why
     ensures { result ≡ reason_of why }
 {

@@ -7,23 +7,23 @@
 //!
 //! # Proved
 //!
-//! - Messages and answers alternate. Each message is complete by the grammar of the side's
-//!   current state, and the side answers it in that state. Apart from the opening, the side sends
-//!   nothing that is not an answer (`Answered` in `specs/Dialogues.antt`).
-//! - A dialogue ends with a last answer, with a reply that ends it early, or with a refused
-//!   message (`HasEnded`). A message is refused at the first packet that its grammar rejects, with
-//!   the position of the packet and the reason. An incomplete message is also refused if no more
-//!   packets arrive.
+//! - Messages and answers alternate. Each message is complete by the grammar of the side's current
+//!   state, and the side answers it in that state. Apart from its opening, the side sends only
+//!   answers (`Answered` in `specs/Dialogues.antt`).
+//! - A dialogue ends with a last answer, with a reply that ends the dialogue early, or with a
+//!   refused message (`HasEnded`). A message is refused at the first packet that its grammar
+//!   rejects, with the position of the packet and the reason. An incomplete message is also refused
+//!   if no more packets arrive.
 //! - A reply sends only packets that its contract permits, and sends them completely. The packets
 //!   need not be known beforehand (`SaysSome` in `specs/Sides.antt`).
-//! - Each dialogue ends: every call leaves fewer packets of the message, fewer calls of the
-//!   reply, or fewer messages (`left_of`).
+//! - Each dialogue ends. After every call, fewer packets of the message, fewer calls for the reply,
+//!   or fewer messages are left (`left_of`).
 //!
 //! # What the contracts do not rule out
 //!
-//! - A reply that queues one packet per call, or no packet in many calls.
-//! - Any answer, since each side has its own contract for its answers.
-//! - A side that needs much time to answer. Meanwhile the dialogue neither receives nor sends
+//! - A reply may queue only one packet per call, or no packet in many calls.
+//! - A side may give any answer that its own contract allows.
+//! - A side may need much time for an answer. Meanwhile the dialogue neither receives nor sends
 //!   packets.
 //!
 //! # Dependencies

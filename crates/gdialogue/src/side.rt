@@ -24,7 +24,7 @@ pub enum Said {
 ///
 /// The packets need not be known beforehand. For example, a pack that is read while it is sent may
 /// fail in the middle. The reply then ends with the packet that reports the failure, and the
-/// dialogue ends too. `SaysExactly` is `may` for a reply whose packets are known.
+/// dialogue ends too. A reply with known packets uses `SaysExactly` as its `may`.
 pub trait Reply {
     // The packets that may complete the reply from this state, and whether the dialogue then
     // continues.
@@ -34,7 +34,7 @@ pub trait Reply {
     ghost calls: { Self → ℕ };
 
     /// Adds the next packets of the reply to an empty send queue. One call may add any number of
-    /// packets that fit, or none.
+    /// packets that fit, even zero.
     fn say<A: Allocator + Copy>(&mut self, out: &mut Outgoing<A>) -> Said
         requires empty { out.old ≡ [] }
         ensures says { SaysSome may self.old self.new out.new result }
@@ -72,7 +72,7 @@ pub trait Side<M: Message, R: Reply> {
     // The packets that may answer a refused message, and the side's new state.
     ghost refuses: { Self → MessageFault → List Packet → Self → Type 0 };
 
-    // The maximum number of further messages after whose answer the dialogue continues.
+    // The maximum number of further messages that the side answers without ending the dialogue.
     ghost messages: { Self → ℕ };
 
     /// Returns the next message, before its first packet.
@@ -81,7 +81,7 @@ pub trait Side<M: Message, R: Reply> {
         ensures judge { M.judge result ≡ judge self.now }
         ensures brings { M.brings result ≡ brings self.now };
 
-    /// Answers a complete message. If the dialogue continues, fewer messages are left.
+    /// Answers a complete message. If the dialogue continues, `messages` decreases.
     fn answer(&mut self, message: M) -> Answer<R>
         ensures answers { (lines said : List Packet) (goes : Bool) → M.judge message ≡ judge self.old
             → IsWhole (judge self.old) lines → M.holds message lines → MayAnswer R.may result said goes

@@ -1,4 +1,4 @@
--- The reply to fetch (gitprotocol-v2(5), "fetch") without its pack, which goes to a sink in pieces.
+-- A fetch reply (gitprotocol-v2(5), "fetch") without its pack. The pack is passed to a sink in pieces.
 use Rattle.std.specs.Prelude.{Bool, true, false, List, []}
 use Rattle.gname.specs.Ids.{Id}
 use Rattle.gpkt.specs.Packets.{Bytes}
@@ -15,7 +15,7 @@ head_of (reply.Acks ids) = Acks ids
 head_of (reply.Ready ids pack) = Ready ids
 head_of (reply.Pack pack) = Pack
 
--- the pack of a reply, which is empty if the reply has none
+-- the pack of a reply, or no bytes if the reply has no pack
 abbrev pub pack_of : FetchReply → Bytes
 pack_of (reply.Acks ids) = []
 pack_of (reply.Ready ids pack) = pack

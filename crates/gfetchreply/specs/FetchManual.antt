@@ -1,4 +1,4 @@
--- The replies to fetch that a server may send, as gitprotocol-v2(5) states them: a sequence of sections.
+-- The fetch replies that a server may send, as gitprotocol-v2(5) states them: sequences of sections.
 use Rattle.std.specs.Prelude.{◌≡◌, ℕ, ◌≤◌, ◌⊎◌, true, false, List, [], ◌∷◌, ◌++◌, length, map, codes, All, Result, Ok}
 use Rattle.std.specs.Option.{IsSome}
 use Rattle.gname.specs.Ids.{Id}
@@ -49,7 +49,7 @@ pub record IsNakReply (format : Format) (packets : List Packet) : Type 0 where
   pub is_nak : text nak ≡ codes "NAK"
   pub parts : packets ≡ section ++ Data nak ∷ Flush ∷ []
 
--- a reply with common ids which some want does not reach, so that no pack follows
+-- a reply with common ids but no pack, since at least one want reaches no common id
 pub record IsAckReply (format : Format) (packets : List Packet) (ids : List Id) : Type 0 where
   pub section : List Packet
   pub acks : IsAckSection format section ids

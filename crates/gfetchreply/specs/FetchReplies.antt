@@ -1,12 +1,12 @@
--- The reply to fetch (gitprotocol-v2(5), "fetch"):
+-- The grammar of a fetch reply (gitprotocol-v2(5), "fetch"):
 --
 --   output = acknowledgements flush-pkt | [acknowledgments delim-pkt] packfile flush-pkt
 --   acknowledgments = "acknowledgments" (nak | *ack) (ready)
 --   packfile = "packfile" *(sideband packet)
 --
--- A reply is `direct` if the request had `done` or no haves. A direct reply is the pack's section alone. Any other
--- reply begins with the acknowledgments, and the pack follows exactly if they end with `ready`. If the peer ends each
--- reply with a response-end, this packet follows the flush.
+-- A reply is `direct` if the request had `done` or no haves. A direct reply is only the section of the pack. Any other
+-- reply begins with the acknowledgments, and the pack follows exactly if the acknowledgments end with `ready`. If the
+-- peer ends each reply with a response-end, this packet follows the flush.
 use Rattle.std.specs.Prelude.{◌≡◌, ℕ, zero, suc, ◌+◌, Bool, true, false, ◌&&◌, List, [], ◌∷◌, ◌++◌, length, map, take, drop}
 use Rattle.std.specs.Prelude.{if◌then◌else◌, codes, nat_le, nat_lt, Option, Some, None, is_some, Result, Ok, Err}
 use Rattle.std.specs.List.{filter_map, flat_map, list_any}
@@ -40,7 +40,7 @@ pub record Reading : Type 0 where
   pub limit : ℕ
   pub ends : Ends
 
--- the most ids that a reply acknowledges
+-- the maximum number of ids that a reply acknowledges
 abbrev pub max_acks : ℕ
 max_acks = 4096
 
@@ -55,7 +55,7 @@ abbrev pub ack_or_other : Option Bytes → ReplyForm
 ack_or_other None = OtherForm
 ack_or_other (Some id) = Ack id
 
--- the kind of a text; a text with `ACK ` is an acknowledgment, whatever follows
+-- the kind of a text; a text that starts with `ACK ` is always an acknowledgment
 unfoldable pub reply_form : Bytes → ReplyForm
 reply_form line =
     if bytes_eq line (codes "acknowledgments") then Acknowledgments
@@ -77,7 +77,7 @@ pub data Point : Type 0 where
   AfterReady : Point
   -- the heading of the pack is expected
   BeforePack : Point
-  -- within the bytes of the pack
+  -- within the section of the pack, after its heading
   InPack : Point
   -- a response-end is expected
   Over : Point
@@ -111,7 +111,7 @@ place_of direct packets = place_after next_place (first_place direct) packets
 
 -- ---- the contents of the packets so far
 
--- the acknowledged ids, the pack's bytes and the pack's packets, depending on the position
+-- the acknowledged ids, the bytes of the pack, and the number of the pack's packets, each by the position
 abbrev pub ack_id : Format → ReplyForm → Option Id
 ack_id format (Ack id) = id_of_text format id
 ack_id format _ = None
@@ -176,7 +176,7 @@ state_of reading packets = record {
   byte_count = length (data_of (band_payloads reading.direct packets));
 }
 
--- the most packets of a pack's section
+-- the maximum number of packets in the section of a pack
 abbrev pub max_packets : ℕ
 max_packets = 4294967295
 
@@ -249,8 +249,8 @@ judge reading packets packet = judge_at reading (state_of reading packets) packe
 
 -- ---- the packets that need memory
 
--- The packet needs memory: an acknowledged id is stored, or data of the pack goes to a sink that may refuse pieces.
--- Nothing else is stored.
+-- Accepting the packet needs memory. An acknowledged id is stored, and a sink may run out of memory for data of the
+-- pack. The other packets need no memory.
 abbrev pub form_brings : ReplyForm → Bool
 form_brings (Ack id) = true
 form_brings _ = false
@@ -264,12 +264,12 @@ payload_brings refuses Acking payload = form_brings (reply_form (text payload))
 payload_brings refuses InPack payload = band_brings refuses (band_form payload)
 payload_brings refuses _ payload = false
 
--- the packet needs memory, if the sink may or may not refuse pieces
+-- accepting the packet needs memory, given whether the sink may refuse a piece
 abbrev pub brings_into : Bool → Reading → List Packet → Packet → Bool
 brings_into refuses reading packets (Data payload) = payload_brings refuses (place_of reading.direct packets) payload
 brings_into refuses reading packets _ = false
 
--- the packet needs memory, if the pack is stored in memory
+-- accepting the packet needs memory, if the pack is stored in memory
 abbrev pub brings : Reading → List Packet → Packet → Bool
 brings = brings_into true
 
@@ -287,14 +287,14 @@ abbrev pub nak_if_none : List Packet → List Packet
 nak_if_none [] = text_packet (codes "NAK") ∷ []
 nak_if_none (first ∷ acks) = first ∷ acks
 
--- the pack in at most this many pieces of the largest size; only the last piece may be shorter
+-- the pack in at most this many pieces of the maximum size; only the last piece may be shorter
 abbrev pub pieces_within : ℕ → Bytes → List Bytes
 pieces_within zero pack = []
 pieces_within (suc most) [] = []
 pieces_within (suc most) (byte ∷ rest) =
     take max_band (byte ∷ rest) ∷ pieces_within most (drop max_band (byte ∷ rest))
 
--- the pack in pieces, each of the largest size except the last
+-- the pack in pieces of the maximum size; only the last piece may be shorter
 unfoldable pub pieces : Bytes → List Bytes
 pieces pack = pieces_within (length pack) pack
 
@@ -311,7 +311,7 @@ heading_packet = text_packet (codes "acknowledgments")
 abbrev pub ready_packet : Packet
 ready_packet = text_packet (codes "ready")
 
--- the packets before the end of the reply
+-- the packets of a reply up to and including its flush
 abbrev pub body_packets : FetchReply → List Packet
 body_packets (Acks ids) = heading_packet ∷ (nak_if_none (map ack_packet ids) ++ Flush ∷ [])
 body_packets (Ready ids pack) = heading_packet ∷ (map ack_packet ids ++ ready_packet ∷ Delim ∷ pack_section pack)
@@ -321,6 +321,6 @@ body_packets (Pack pack) = pack_section pack
 unfoldable pub canonical_reply : Ends → FetchReply → List Packet
 canonical_reply ends reply = body_packets reply ++ ends_with ends
 
--- these are the packets that are written for this reply
+-- the packets are those that are written for the reply
 abbrev pub IsCanonical : Ends → List Packet → FetchReply → Type 0
 IsCanonical ends packets reply = packets ≡ canonical_reply ends reply

@@ -1,4 +1,4 @@
--- Definitions for the laws of replies to fetch.
+-- Definitions for the laws about fetch replies.
 use Rattle.std.specs.Prelude.{◌≡◌, ℕ, ◌≤◌, Bool, List, [], ◌++◌, length, Result, Ok, IfErr}
 use Rattle.gpkt.specs.Packets.{Bytes, Packet, canonical_all}
 use Rattle.ggrammar.specs.Grammar.{IsOpen, IsWhole}
@@ -12,32 +12,32 @@ use Rattle.gfetchreply.specs.FetchHeads.{FetchHead, head_of, pack_of}
 use Rattle.gfetchreply.specs.ReplyReading.{ReadsReply, TakesReply}
 use Rattle.gfetchreply.specs.WellFormed.{IsReplyIn}
 
--- the most packets that complete a reply: a delimiter, the pack's heading, a flush and a response-end
+-- the maximum number of packets needed to complete a reply: a delimiter, the pack's heading, a flush and a response-end
 abbrev pub max_ending : ℕ
 max_ending = 4
 
--- at most four packets complete each unfinished reply
+-- each unfinished reply can be completed with at most four packets
 abbrev pub HasShortEndings : Reading → Type 0
 HasShortEndings reading = (front : List Packet) → IsOpen (judge reading) front
     → (more : List Packet) × (length more ≤ max_ending) × IsWhole (judge reading) (front ++ more)
 
--- ---- replies that are read with other parameters: for another request, or with another limit
+-- ---- replies that are read with different parameters: for another request, or with another limit
 
--- Two readings have the same format and end. If packets are a reply under one reading, and begin a reply under the
--- other, both replies are the same, with the same packets.
+-- Consider two readings with the same id format and the same `ends`. If some packets are a reply under one reading and
+-- begin a reply under the other, the two replies and their packets are equal.
 abbrev pub OneInWhateverReading : Type 0
 OneInWhateverReading =
     (reading other : Reading) (packets back : List Packet) (one also : FetchReply) → other.format ≡ reading.format
     → other.ends ≡ reading.ends → Says reading packets one → Says other (packets ++ back) also
     → (back ≡ []) × (also ≡ one)
 
--- a reply is accepted with any limit that its pack does not exceed
+-- a reply is accepted with every limit that its pack does not exceed
 abbrev pub IsInAnyLimit : Type 0
 IsInAnyLimit =
     (reading : Reading) (limit : ℕ) (packets : List Packet) (reply : FetchReply) → Says reading packets reply
     → length (pack_of reply) ≤ limit → Says (record reading { limit = limit }) packets reply
 
--- if a reply is refused with another limit, for a reason in the bytes, then the reason is the limit
+-- if a reply is refused with another limit because of its content, then only because its pack exceeds the limit
 abbrev pub IsRefusedOverLimit : Type 0
 IsRefusedOverLimit =
     (reading : Reading) (limit : ℕ) (packets front : List Packet) (reply : FetchReply) (bytes new rest : Bytes)
@@ -48,7 +48,7 @@ IsRefusedOverLimit =
 -- ---- reading into a sink
 
 module _ {S : Type 0} (taken : S → Bytes → Type 0) where
-  -- the reply was read, nothing after it was read, and the sink has its pack
+  -- the reply was read, nothing after the reply was read, and the sink has accepted the pack
   pub record HasReadInto (rest new : Bytes) (old sink : S) (result : Result FetchHead MessageFault)
       (reply : FetchReply) : Type 0 where
     pub head : result ≡ Ok (head_of reply)

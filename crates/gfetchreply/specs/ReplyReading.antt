@@ -1,4 +1,4 @@
--- The result of reading a reply to fetch (gitprotocol-v2(5), "fetch"), and its effect on the sink.
+-- The result of reading a fetch reply (gitprotocol-v2(5), "fetch"), and the effect on the sink.
 use Rattle.std.specs.Prelude.{◌≡◌, ◌≤◌, Bool, List, ◌++◌, length, Result, Ok, Err}
 use Rattle.gpkt.specs.Change.{Change}
 use Rattle.gpkt.specs.Packets.{Bytes, Packet}
@@ -9,7 +9,8 @@ use Rattle.gfetchreply.specs.FetchReplies.{Reading, FetchReply, Says, band_paylo
 use Rattle.gfetchreply.specs.FetchHeads.{FetchHead, head_of, pack_of}
 
 module _ {S : Type 0} (taken : S → Bytes → Type 0) where
-  -- a complete reply is read; the head is that of the reply, and the sink accepted the pack after its previous bytes
+  -- a complete reply is read; the result is the head of the reply, and the sink accepted the pack after its previous
+  -- bytes
   pub record TakesReply (reading : Reading) (bytes : Change) (had : Bytes → Type 0) (sink : S) (head : FetchHead)
       : Type 0 where
     pub reply : FetchReply
@@ -18,8 +19,8 @@ module _ {S : Type 0} (taken : S → Bytes → Type 0) where
     pub short : length (pack_of reply) ≤ reading.limit
     pub pack : (before : Bytes) → had before → taken sink (before ++ pack_of reply)
 
-  -- The reply is refused after these packets. The sink accepted their data, which is within the limit. Out of memory
-  -- occurs only at an acknowledgment or, if the sink may refuse a piece, at data of the pack.
+  -- The reply is refused after these packets. The sink accepted the data of these packets, which is within the limit.
+  -- Out of memory is reported only at an acknowledgment or, if the sink may refuse a piece, at data of the pack.
   pub record RefusesReply (refuses : Bool) (reading : Reading) (bytes : Change) (had : Bytes → Type 0) (sink : S)
       (fault : MessageFault) : Type 0 where
     pub packets : List Packet

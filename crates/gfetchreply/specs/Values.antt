@@ -1,4 +1,4 @@
--- The values of replies to fetch (gitprotocol-v2(5), "fetch"), and how to build them.
+-- The values that make up fetch replies (gitprotocol-v2(5), "fetch"), and how they are built.
 use Rattle.std.specs.Prelude.{◌≡◌, ℕ, ◌≤◌, ◌<◌, List, [], ◌∷◌, ◌++◌, length, nat_le, if◌then◌else◌}
 use Rattle.std.specs.Prelude.{Option, Some, None, Result, Ok, Err}
 use Rattle.std.specs.List.{list_all}
@@ -11,11 +11,11 @@ use Rattle.ggrammar.specs.declared.fault.Why.TheVariants as why
 use Rattle.ggrammar.specs.declared.fault.MessageFault.{MessageFault}
 use Rattle.gfetchreply.specs.FetchReplies.{max_acks}
 
--- the default limit of a pack, in bytes
+-- the default limit on the length of a pack, in bytes
 abbrev pub default_limit : ℕ
 default_limit = 16777216
 
--- acknowledged ids, which have this format
+-- acknowledged ids, and the format of these ids
 pub record Acks : Type 0 where
   pub format : Format
   pub ids : List Id
@@ -29,13 +29,13 @@ acks_fault format ids =
     if list_all (has_format format) ids then if nat_le (length ids) max_acks then None else Some why.Limit
     else Some why.BadText
 
--- the result of making acknowledgments of these ids: all of the ids, or the fault
+-- the result of making acknowledgments from these ids: all of the ids, or the fault
 abbrev pub MakesAcks : Format → List Id → Result Acks MessageFault → Type 0
 MakesAcks format ids (Ok acks) =
     (acks_fault format ids ≡ None) × (acks ≡ record { format = format; ids = ids })
 MakesAcks format ids (Err fault) = (fault.frame ≡ 0) × (acks_fault format ids ≡ Some fault.why)
 
--- the result of making a pack of these bytes, which must not exceed the limit
+-- the result of making a pack from these bytes, whose number must not exceed the limit
 abbrev pub MakesPack : Bytes → Result Bytes MessageFault → Type 0
 MakesPack bytes (Ok pack) = (length bytes ≤ max_pack) × (pack ≡ bytes)
 MakesPack bytes (Err fault) =

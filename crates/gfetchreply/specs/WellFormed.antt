@@ -1,4 +1,4 @@
--- The replies to fetch that can be written.
+-- The fetch replies that can be written.
 use Rattle.std.specs.Prelude.{◌≡◌, ◌≤◌, true, false, List, length, All}
 use Rattle.gname.specs.Ids.{Id, IsIdOf}
 use Rattle.gname.specs.declared.formats.Format.{Format}
@@ -8,7 +8,7 @@ pub record AreAcks (format : Format) (acked : List Id) : Type 0 where
   pub ids : All (IsIdOf format) acked
   pub few : length acked ≤ max_acks
 
--- a well-formed reply: the pack is alone exactly if the reply is direct, and the pack is within the limit
+-- a well-formed reply: it is only a pack exactly if it is direct, and its pack is within the limit
 abbrev pub IsReplyIn : Reading → FetchReply → Type 0
 IsReplyIn reading (Acks ids) = (reading.direct ≡ false) × AreAcks reading.format ids
 IsReplyIn reading (Ready ids pack) =

@@ -1,4 +1,4 @@
-//! The texts of a reply to fetch.
+//! The texts of a fetch reply.
 
 ghost use Rattle.std.specs.Prelude.{◌≡◌, codes};
 ghost use Rattle.gfetchreply.specs.FetchReplies.{ack_or_other, reply_form};
@@ -7,7 +7,7 @@ ghost use Rattle.ggrammar.specs.PeerErrors.{after_word};
 
 use ggrammar::after_word;
 
-/// The kinds of a text in a reply to fetch (gitprotocol-v2(5), "fetch").
+/// The kinds of texts in a fetch reply (gitprotocol-v2(5), "fetch").
 #[derive(Clone, Copy, Debug, PartialEq, Eq)]
 pub(crate) enum ReplyForm<'a> {
     Acknowledgments,

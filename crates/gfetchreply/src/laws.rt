@@ -1,4 +1,4 @@
-//! Laws of replies to fetch: functions without effect whose contracts state the laws. A caller may
+//! Laws about fetch replies: functions without effect whose contracts state the laws. A caller may
 //! rely on a law after calling its function.
 
 ghost use Rattle.std.specs.Prelude.{◌≡◌, ◌≤◌};
@@ -42,18 +42,18 @@ impl MessageKind for Replies {
     ghost is_canonical = { λ given. IsCanonical given.1.ends };
 }
 
-/// The constant of this crate equals the limit in its definitions.
+/// The constant `MAX_ACKS` equals the limit in the specifications of this crate.
 pub fn limits_are_the_constants()
     ensures acks { MAX_ACKS ≡ max_acks }
 {}
 
-/// The lists of packets that are read as a reply are those of Git's manual, and mean the same
-/// (gitprotocol-v2(5), "fetch").
+/// A list of packets is read as a reply exactly if Git's manual allows the list, and with the
+/// meaning that the manual states (gitprotocol-v2(5), "fetch").
 pub fn manual()
     ensures { (reading : Reading) → AsInManual (Says reading) (IsFetchReply reading) }
 {}
 
-/// A list of packets encodes at most one reply, and encodes one exactly if it is complete.
+/// A list of packets encodes at most one reply. It encodes a reply exactly if the list is complete.
 pub fn one_meaning()
     ensures meaning { (reading : Reading) → OneMeaning (Says reading) }
     ensures whole { (reading : Reading) → SaysWhole (judge reading) (Says reading) }
@@ -69,8 +69,8 @@ pub fn prefix_free()
     messages_are_read();
 }
 
-/// At most four packets complete an unfinished reply, and a rejected packet is the first that does
-/// not fit.
+/// Each unfinished reply can be completed with at most four packets, and a rejected packet is the
+/// first that does not fit.
 pub fn endings()
     ensures endings { (reading : Reading) → HasEndings (judge reading) }
     ensures short { (reading : Reading) → HasShortEndings reading }
@@ -79,8 +79,8 @@ pub fn endings()
     grammars_are_exact();
 }
 
-/// A packet is rejected only for a reason in the packet. All bytes begin with a reply, or are
-/// rejected for a reason in the bytes.
+/// A packet is rejected only because of its content. Every byte sequence begins with a reply, or is
+/// rejected because of its content.
 pub fn every_input()
     ensures packets { (reading : Reading) → RefusesPackets (judge reading) }
     ensures bytes { (reading : Reading) → BeginsOrIsRefused (judge reading) (brings reading) }
@@ -90,7 +90,7 @@ pub fn every_input()
 }
 
 /// The packets written for a reply encode it, and each payload fits a packet. The limit for reading
-/// the reply must be one that a [`PackLimit`](crate::PackLimit) can have.
+/// the reply must be the value of some [`PackLimit`](crate::PackLimit).
 pub fn canonical_says()
     ensures { (reading : Reading) → reading.limit ≤ max_pack
         → CanonicalSays (Says reading) (IsReplyIn reading) (IsCanonical reading.ends) }
@@ -141,10 +141,10 @@ pub fn reads_back_into<T: PackSink>()
     kinds_are_read::<Replies>();
 }
 
-/// A reply may be read as the answer to another request, or with another limit. With any such
+/// A reply may be read as the answer to another request, or with another limit. With all such
 /// parameters, at most one prefix of the packets is a reply, and it is the same reply. A reply is
-/// accepted with each limit that its pack does not exceed. With a smaller limit it is refused only
-/// for the limit.
+/// accepted with every limit that its pack does not exceed. With a smaller limit it is refused only
+/// because of the limit.
 pub fn other_readings()
     ensures whatever_reading { OneInWhateverReading }
     ensures any_limit { IsInAnyLimit }

@@ -32,7 +32,7 @@ impl Model for PackLimit {
 }
 
 impl PackLimit {
-    /// Returns a limit of `bytes` bytes, which may be 0, or `None` above [`MAX_PACK`].
+    /// Returns a limit of `bytes` bytes, which may be 0, or `None` if `bytes` exceeds [`MAX_PACK`].
     pub fn new(bytes: usize) -> Option<PackLimit>
         ensures { result ≡ if nat_le bytes max_pack then Some bytes else None }
     {
@@ -51,7 +51,7 @@ impl PackLimit {
         self.bytes
     }
 
-    /// A law: the invariant of a limit.
+    /// A law that states the invariant of a limit.
     pub fn laws(self)
         ensures { self ≤ max_pack }
     {

@@ -1,4 +1,4 @@
-//! Reading a reply to fetch.
+//! Reading a fetch reply.
 
 ghost use Rattle.std.specs.Prelude.{◌≡◌, ◌≤◌, ◌&&◌, ℕ, List, length, nat_lt, IfOk, OnOk, Ok};
 ghost use Rattle.gpkt.specs.Packets.{Bytes, Data, packet_of};
@@ -26,7 +26,7 @@ use gpkt::{Band, Packet, PacketReader, Source, band_of, text_of};
 use std::alloc::Allocator;
 use std::marker::{Brand, PhantomData};
 
-/// The parameters of reading a reply to fetch.
+/// The parameters of reading a fetch reply.
 #[derive(Clone, Copy, Debug, PartialEq, Eq)]
 pub struct FetchReading {
     /// The format of the ids.
@@ -35,13 +35,13 @@ pub struct FetchReading {
     pub direct: bool,
     /// The maximum length of the pack in bytes.
     pub limit: PackLimit,
-    /// How the reply ends.
+    /// The packet that ends the reply.
     pub ends: Ends,
 }
 
-// The sink that a reading borrows, its previous state and bytes, and how the reply is read. A call
-// at `Brand` chooses these members in its `Invariants.antt`. The members belong to a type, since
-// `Message` only describes a reader and its packets.
+// Specification members for one reading: the borrowed sink, its previous state and bytes, and the
+// parameters. A call at `Brand` chooses the members in its `Invariants.antt`. They are members of a
+// type, since `Message` describes only a reader and its packets.
 trait Lent<T> {
     ghost use Rattle.gfetchreply.specs.FetchReplies.{Reading};
 
@@ -67,7 +67,8 @@ impl<T> Lent<T> for Brand {
     ghost starts = { λ _. ⊥ };
 }
 
-// A reply that is being read: the contents of its packets, and the sink that accepts their data.
+// A reply that is being read: the contents of its packets, and the sink that accepts the pack's
+// data.
 #[derive(Drop)]
 struct ReplyReader<'s, T, A: Allocator + Copy, L> {
     reading: FetchReading,
@@ -214,8 +215,8 @@ impl<T: PackSink, A: Allocator + Copy, L: Lent<T>> Message for ReplyReader<'_, T
     }
 }
 
-/// Reads the reply to fetch of a repository with SHA-1 ids, as [`read_fetch_reply_into_in`] does.
-/// The arguments are whether the pack comes first, its maximum length, and how the reply ends.
+/// Reads a fetch reply with SHA-1 ids, as [`read_fetch_reply_into_in`] does. The arguments
+/// `direct`, `limit` and `ends` are as in [`FetchReading`].
 pub fn read_fetch_reply_into<S: Source, T: PackSink, A: Allocator + Copy, B: Allocator + Copy>(
     reader: &mut PacketReader<S, A>,
     direct: bool,
@@ -241,20 +242,20 @@ pub fn read_fetch_reply_into<S: Source, T: PackSink, A: Allocator + Copy, B: All
     read_fetch_reply_into_in(reader, reading, sink, alloc)
 }
 
-/// Reads one reply to fetch to its end, and nothing after it (gitprotocol-v2(5), "fetch"). The pack
-/// goes to the sink in pieces, from the reader's buffer. A sink gets no empty piece. The ids are
-/// stored in memory of `alloc`.
+/// Reads one fetch reply to its end, and nothing after it (gitprotocol-v2(5), "fetch"). The pack is
+/// passed to the sink in pieces, straight from the reader's buffer. No piece is empty. The ids are
+/// allocated with `alloc`.
 ///
-/// A fault has the reason, and the position of the first packet that does not fit. A fault of the
-/// packet reader ([`Why::Line`]) takes precedence, then the end of the input ([`Why::Ended`]). Next
-/// is an error that the peer reports ([`Why::RemoteErr`]), and then a fault of the grammar. A
-/// well-formed 4,097th id is rejected with [`Why::Limit`]. So is a packet with which the pack would
-/// exceed its limit. The fault [`Why::Memory`] is reported only at an acknowledged id or, if the
-/// sink may refuse a piece, at data of the pack.
+/// A fault contains the reason, and the position of the first packet that does not fit. A fault of
+/// the packet reader ([`Why::Line`]) takes precedence, then the end of the input ([`Why::Ended`]).
+/// Next is an error that the peer reports ([`Why::RemoteErr`]), and then a fault of the grammar. A
+/// well-formed 4,097th id is rejected with [`Why::Limit`]. A packet with which the pack would
+/// exceed its limit is also rejected with [`Why::Limit`]. The fault [`Why::Memory`] is reported
+/// only at an acknowledged id or, if the sink may refuse a piece, at data of the pack.
 ///
 /// If the reply is rejected, the sink has accepted the data of the packets before the rejected
-/// packet, within the limit. The reader has failed exactly if it rejected the packet itself. With
-/// any result, the sink is still the same sink.
+/// packet, within the limit. The packet reader has then failed exactly if it rejected the packet
+/// itself. Whatever the result, the sink is still the same sink.
 pub fn read_fetch_reply_into_in<S: Source, T: PackSink, A: Allocator + Copy, B: Allocator + Copy>(
     reader: &mut PacketReader<S, A>,
     reading: FetchReading,
@@ -286,8 +287,8 @@ pub fn read_fetch_reply_into_in<S: Source, T: PackSink, A: Allocator + Copy, B: 
     }
 }
 
-/// Reads the reply to fetch of a repository with SHA-1 ids, and stores its pack in memory, as
-/// [`read_fetch_reply_in`] does.
+/// Reads a fetch reply with SHA-1 ids, and stores its pack in memory, as [`read_fetch_reply_in`]
+/// does.
 pub fn read_fetch_reply<S: Source, A: Allocator + Copy, B: Allocator + Copy>(
     reader: &mut PacketReader<S, A>,
     direct: bool,
@@ -312,9 +313,9 @@ pub fn read_fetch_reply<S: Source, A: Allocator + Copy, B: Allocator + Copy>(
     read_fetch_reply_in(reader, reading, alloc)
 }
 
-/// Reads one reply to fetch as [`read_fetch_reply_into_in`] does, and stores its pack in memory.
-/// The ids and the pack are stored in memory of `alloc`. If the reply is rejected, nothing is
-/// stored.
+/// Reads one fetch reply as [`read_fetch_reply_into_in`] does, and stores its pack in memory. The
+/// ids and the pack are allocated with `alloc`. If the reply is rejected, the ids and the pack are
+/// dropped.
 pub fn read_fetch_reply_in<S: Source, A: Allocator + Copy, B: Allocator + Copy>(
     reader: &mut PacketReader<S, A>,
     reading: FetchReading,
@@ -337,7 +338,7 @@ pub fn read_fetch_reply_in<S: Source, A: Allocator + Copy, B: Allocator + Copy>(
     }
 }
 
-// Reads a reply to its end into the sink of `reply`.
+// Reads a reply to its end, and passes its pack to the sink of `reply`.
 fn read_to_end<S: Source, T: PackSink, A: Allocator + Copy, B: Allocator + Copy, L: Lent<T>>(
     reader: &mut PacketReader<S, A>,
     reply: &mut ReplyReader<'_, T, B, L>,

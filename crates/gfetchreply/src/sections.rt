@@ -1,4 +1,4 @@
-//! The sections of a reply to fetch, and their contents.
+//! The sections of a fetch reply, and their contents.
 
 ghost use Rattle.std.specs.Prelude.{◌≡◌, ◌+◌, ◌<◌, ◌&&◌, nat_le, nat_lt, if◌then◌else◌, false, true, Some, None};
 ghost use Rattle.gpkt.specs.Packets.{Flush, Delim, ResponseEnd};
@@ -35,7 +35,7 @@ pub(crate) enum Point {
     AfterReady,
     /// The heading of the pack is expected.
     BeforePack,
-    /// Within the bytes of the pack.
+    /// Within the section of the pack, after its heading.
     InPack,
     /// A response-end is expected.
     Over,
@@ -148,8 +148,8 @@ impl<A: Allocator + Copy> Sections<A> {
         }
     }
 
-    /// Returns the length of the pack with `more` bytes, or `None` if these bytes or one more
-    /// packet would exceed a limit.
+    /// Returns the length of the pack after `more` further bytes. Returns `None` if these bytes or
+    /// a further packet would exceed a limit.
     pub(crate) fn with_room(&self, limit: PackLimit, more: usize) -> Option<usize>
         ensures { result ≡ (if nat_lt self.now.band_count max_packets && nat_le
             (self.now.byte_count + more) limit then Some (self.now.byte_count + more) else None) }
@@ -160,7 +160,7 @@ impl<A: Allocator + Copy> Sections<A> {
         }
     }
 
-    /// Counts a packet of the pack's section, after which the pack has `bytes` bytes.
+    /// Counts another packet of the pack's section, and sets the length of the pack to `bytes`.
     pub(crate) fn count(&mut self, bytes: usize)
         requires { self.old.band_count < max_packets }
         ensures { kept_in self.new
@@ -174,7 +174,7 @@ impl<A: Allocator + Copy> Sections<A> {
         self.byte_count = bytes;
     }
 
-    /// Accepts a packet of progress, and counts it.
+    /// Accepts and counts a progress packet.
     pub(crate) fn take_progress(&mut self) -> Result<Step, Why>
         ensures { TakesAs (if_room (nat_lt self.old.band_count max_packets)) false
             (kept_in self.new ≡ with_band (kept_in self.old) 0) result }
@@ -186,7 +186,7 @@ impl<A: Allocator + Copy> Sections<A> {
         Ok(Step::Open)
     }
 
-    /// Accepts a flush, if one is expected.
+    /// Accepts a flush if a flush is expected, and rejects it otherwise.
     pub(crate) fn take_flush(&mut self, ends: Ends) -> Result<Step, Why>
         ensures { (reading : Reading) → reading.ends ≡ ends
             → TakesAs (judge_there reading (place_in self.old.place) (state_in self.old) Flush)
@@ -202,7 +202,7 @@ impl<A: Allocator + Copy> Sections<A> {
         }
     }
 
-    /// Accepts a delimiter, if one is expected.
+    /// Accepts a delimiter if a delimiter is expected, and rejects it otherwise.
     pub(crate) fn take_delim(&mut self) -> Result<Step, Why>
         ensures { (reading : Reading)
             → TakesAs (judge_there reading (place_in self.old.place) (state_in self.old) Delim)
@@ -218,7 +218,7 @@ impl<A: Allocator + Copy> Sections<A> {
         }
     }
 
-    /// Accepts a response-end, if one is expected.
+    /// Accepts a response-end if a response-end is expected, and rejects it otherwise.
     pub(crate) fn take_response_end(&self) -> Result<Step, Why>
         ensures { (reading : Reading)
             → TakesAs (judge_there reading (place_in self.now.place) (state_in self.now)

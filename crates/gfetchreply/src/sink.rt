@@ -5,20 +5,20 @@ ghost use Rattle.gfetchreply.specs.PackSinks.{TakesPiece};
 
 use std::alloc::Allocator;
 
-/// A sink that accepts the pack of a reply to fetch, in pieces.
+/// A sink that accepts the pack of a fetch reply, in pieces.
 pub trait PackSink {
-    // The sink has accepted these bytes, in this order.
+    // Whether the sink has accepted exactly these bytes, in this order.
     ghost taken: { Self → List ℕ → Type 0 };
 
-    // Two states of one sink: the parts that pieces do not change are equal.
+    // Whether two states are states of the same sink: the parts that no piece changes are equal.
     ghost same: { Self → Self → Type 0 };
 
     // Whether a sink of this type may ever refuse a piece.
     ghost refuses: { Bool };
 
-    /// Accepts the next piece of the pack, which is never empty. Returns `false` if out of memory
-    /// for the piece, and then accepts no byte of it. A sink that never refuses a piece never
-    /// returns `false`.
+    /// Accepts the next piece of the pack, which is never empty. Returns `false` if memory runs out
+    /// for the piece, and then accepts no byte of the piece. Returns `false` only if `refuses` is
+    /// true.
     fn piece(&mut self, bytes: &[u8]) -> bool
         requires not_empty { bytes.now ≢ [] }
         ensures takes { TakesPiece taken refuses self.old self.new bytes.now result }
@@ -31,7 +31,7 @@ pub trait PackSink {
             → same second third → same first third };
 }
 
-/// A vector appends the pack to its previous bytes. It may refuse a piece if out of memory.
+/// A vector appends the pack to its previous bytes. It may refuse a piece if memory runs out.
 impl<A: Allocator + Copy> PackSink for Vec<u8, A> {
     ghost taken = { λ bytes taken. bytes.items ≡ taken };
 

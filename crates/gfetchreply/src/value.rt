@@ -1,4 +1,4 @@
-//! The reply to fetch as a value.
+//! A fetch reply as a value.
 
 ghost use Rattle.std.specs.Prelude.{◌≡◌, ◌≤◌, [], length, nat_lt, All, IsTrue};
 ghost use Rattle.std.specs.List.{list_all};
@@ -21,8 +21,8 @@ use std::marker::Model;
 /// The maximum number of ids that a reply acknowledges.
 pub const MAX_ACKS: usize = 4_096;
 
-/// The ids that a server acknowledges: the haves of a request that it holds. A list has at most
-/// 4,096 ids of one format, in order.
+/// The ids that a server acknowledges: the haves of a request that the server holds. The list
+/// contains at most 4,096 ids, which all have the same format.
 #[derive(Debug, Drop)]
 pub struct Acks<A: Allocator + Copy> {
     format: Format,
@@ -51,7 +51,7 @@ impl<A: Allocator + Copy> Acks<A> {
         }
     }
 
-    /// Returns acknowledgments of these ids, without copying them. Allocates nothing.
+    /// Returns acknowledgments of these ids, without copying the ids. Allocates nothing.
     ///
     /// Fails at packet 0 with [`Why::BadText`] if an id has another format. Otherwise fails with
     /// [`Why::Limit`] if there are more than 4,096 ids. A failed call drops the ids.
@@ -86,7 +86,7 @@ impl<A: Allocator + Copy> Acks<A> {
     /// Appends an id.
     ///
     /// Fails at packet 0 with [`Why::BadText`] if the id has another format. Otherwise fails with
-    /// [`Why::Limit`] if there are already 4,096 ids, or with [`Why::Memory`] if out of memory. A
+    /// [`Why::Limit`] if there are already 4,096 ids, or with [`Why::Memory`] if memory runs out. A
     /// failed call changes nothing.
     pub fn push(&mut self, id: Oid) -> Result<(), MessageFault>
         ensures { Builds (has_format self.old.format id) (nat_lt (length self.old.ids) max_acks)
@@ -116,7 +116,7 @@ impl<A: Allocator + Copy> Acks<A> {
     }
 }
 
-// Returns whether an id has the format.
+// Returns whether the id has this format.
 fn is_of(format: Format, id: &Oid) -> bool
     ensures same { result ≡ has_format format id.now }
     ensures of_format { IsTrue result → IsIdOf format id.now }
@@ -124,7 +124,7 @@ fn is_of(format: Format, id: &Oid) -> bool
     id.as_bytes().len() == format.id_length()
 }
 
-// Returns whether each id has the format.
+// Returns whether each id has this format.
 fn are_of(format: Format, ids: &[Oid]) -> bool
     ensures same { result ≡ list_all (has_format format) ids.now }
     ensures of_format { IsTrue result → All (IsIdOf format) ids.now }
@@ -186,10 +186,10 @@ impl<A: Allocator + Copy> PackBytes<A> {
     }
 }
 
-/// The reply to fetch (gitprotocol-v2(5), "fetch").
+/// A fetch reply (gitprotocol-v2(5), "fetch").
 #[derive(Debug, Drop)]
 pub enum FetchReply<A: Allocator + Copy> {
-    /// The common ids. Some want reaches none of them, so no pack follows.
+    /// The common ids. At least one want reaches no common id, so no pack follows.
     Acks(Acks<A>),
     /// The common ids, and the pack. Each want reaches a common id.
     Ready(Acks<A>, PackBytes<A>),
@@ -212,10 +212,10 @@ impl<A: Allocator + Copy> FetchReply<A> {
     }
 }
 
-/// The reply to fetch without its pack.
+/// A fetch reply without its pack.
 #[derive(Debug, Drop)]
 pub enum FetchHead<A: Allocator + Copy> {
-    /// The common ids. Some want reaches none of them, so no pack follows.
+    /// The common ids. At least one want reaches no common id, so no pack follows.
     Acks(Acks<A>),
     /// The common ids. Each want reaches a common id, so a pack follows.
     Ready(Acks<A>),

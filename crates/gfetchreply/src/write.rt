@@ -1,4 +1,4 @@
-//! Writing a reply to fetch (gitprotocol-v2(5), "fetch").
+//! Writing a fetch reply (gitprotocol-v2(5), "fetch").
 
 ghost use Rattle.std.specs.Prelude.{[], ◌≡◌, ◌≤◌, ◌∷◌, ◌++◌, length, map};
 ghost use Rattle.std.specs.Slice.Iter.{chunks_rest, chunks_size};
@@ -20,13 +20,13 @@ use std::alloc::Allocator;
 use std::slice::Chunks;
 
 /// Writes a reply as its canonical list of packets (gitprotocol-v2(5), "fetch"). The pack is
-/// written in pieces of the maximum size, without progress. The call neither copies the ids or the
-/// pack nor allocates.
+/// written in pieces of the maximum size, without progress. The call does not allocate, and copies
+/// neither the ids nor the pack.
 ///
 /// Fails with `Io` if the sink fails, after writing a prefix of the reply. Fails with `Failed` if
-/// the writer failed before the call. A reply meets the conditions of
-/// [`reads_back`](crate::laws::reads_back). So a written reply reads back, for a request of its
-/// kind and with a limit that its pack does not exceed.
+/// the writer failed before the call. Every reply meets the conditions of
+/// [`reads_back`](crate::laws::reads_back). So a written reply reads back, if the reader expects a
+/// direct reply exactly if the reply is direct, and its limit is not exceeded.
 #[tactic(auto, unfolding(crate::specs::FetchReplies::canonical_reply))]
 pub fn write_fetch_reply<A: Allocator + Copy, W: Sink>(
     reply: &FetchReply<A>,
@@ -160,7 +160,7 @@ fn write_id<W: Sink>(id: &Oid, writer: &mut PacketWriter<W>) -> Result<(), Write
     writer.text2(b"ACK ", &digits[..count])
 }
 
-// Writes the flush at the end of a reply, and the response-end if the peer expects one.
+// Writes the flush at the end of a reply, and then a response-end if `ends` requires it.
 fn write_end<W: Sink>(ends: Ends, writer: &mut PacketWriter<W>) -> Result<(), WriteFault>
     ensures { WritesPackets W.contents W.passed_on W.is_down W.loans writer.old writer.new result
         (Flush ∷ ends_with ends) }

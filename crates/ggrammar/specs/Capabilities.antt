@@ -4,21 +4,21 @@
 --   key = 1*(ALPHA | DIGIT | "-_")
 --   value = 1*(ALPHA | DIGIT | " -_.,?\/{}[]()<>!@#$%^&*+=:;")
 --
--- Here, keys and values have at most 1,000 bytes, and a value may have any printable byte.
+-- In this crate, keys and values have at most 1,000 bytes, and a value may contain any printable byte.
 use Rattle.std.specs.Prelude.{◌≡◌, ◌↔◌, ℕ, ◌+◌, Bool, ◌&&◌, ◌||◌, [], ◌++◌, length, drop, take, codes}
 use Rattle.std.specs.Prelude.{if◌then◌else◌, nat_eq, nat_le, Option, Some, None, position, IfSome, IsTrue}
 use Rattle.std.specs.List.{list_all}
 use Rattle.std.specs.Char.{is_ascii_alphanumeric}
 use Rattle.gpkt.specs.Packets.{Bytes}
 
--- the most bytes of a key, and of a value
+-- the maximum length of a key, and of a value, in bytes
 abbrev pub max_capability : ℕ
 max_capability = 1000
 
 abbrev pub has_length : Bytes → Bool
 has_length bytes = nat_le 1 (length bytes) && nat_le (length bytes) max_capability
 
--- the byte may be in a key: a letter, a digit, `-` or `_`
+-- the byte may occur in a key: a letter, a digit, `-` or `_`
 abbrev pub is_key_byte : ℕ → Bool
 is_key_byte byte = is_ascii_alphanumeric byte || nat_eq byte 45 || nat_eq byte 95
 
@@ -76,7 +76,7 @@ value_text (Some value) = codes "=" ++ value
 abbrev pub capability_text : Capability → Bytes
 capability_text capability = capability.key ++ value_text capability.value
 
--- a text is read as a capability exactly if it is the text of this capability, which is well-formed
+-- a text is read as a capability exactly if the capability is well-formed and has this text
 abbrev pub CapabilityIsItsText : Type 0
 CapabilityIsItsText = (text : Bytes) (capability : Capability) → (capability_of text ≡ Some capability)
     ↔ ((text ≡ capability_text capability) × IsWellFormed capability)

@@ -1,4 +1,4 @@
--- The contents of a capability, wherever its bytes lie in memory.
+-- The contents of a capability, independent of where its bytes are in memory.
 use Rattle.std.specs.Option.{option_copied}
 use Rattle.ggrammar.specs.Capabilities.{Capability}
 use Rattle.ggrammar.specs.declared.capability.Capability as lent

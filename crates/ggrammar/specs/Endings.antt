@@ -7,7 +7,7 @@ use Rattle.ggrammar.specs.declared.ends.Ends.{Ends}
 use Rattle.ggrammar.specs.declared.ends.Ends.TheVariants.{Plain, Response}
 use Rattle.ggrammar.specs.declared.fault.Why.TheVariants.{UnexpectedFrame}
 
--- the packets after the flush
+-- the packets that follow the flush
 abbrev pub ends_with : Ends → List Packet
 ends_with Plain = []
 ends_with Response = ResponseEnd ∷ []
@@ -17,7 +17,7 @@ abbrev pub at_flush : Ends → Verdict
 at_flush Plain = Whole
 at_flush Response = Open
 
--- the verdict on a packet after the flush: only a response-end, or the peer's error, is allowed
+-- the verdict on a packet after the flush: only a response-end, or an error that the peer reports, is allowed
 abbrev pub after_flush : Packet → Verdict
 after_flush (Data payload) = judge_unless_error (λ bytes. Refused UnexpectedFrame) payload
 after_flush Flush = Refused UnexpectedFrame

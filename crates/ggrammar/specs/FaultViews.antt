@@ -1,4 +1,4 @@
--- A row of the table of faults, wherever its texts lie in memory.
+-- A row of the table of faults, independent of where its texts are in memory.
 use Rattle.ggrammar.specs.Faults.{WhyRow}
 use Rattle.ggrammar.specs.declared.fault.WhyRow as lent
 

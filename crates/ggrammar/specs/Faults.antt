@@ -1,5 +1,5 @@
 -- The table of faults of messages: the number and the name of each fault, and its text for the peer. Also the part of a
--- peer's error text that is kept.
+-- peer's error text that is stored.
 use Rattle.std.specs.Prelude.{ℕ, ◌++◌, codes, take}
 use Rattle.std.specs.Fmt.{decimal}
 use Rattle.gname.specs.Faults.{out_of_memory_text}
@@ -11,11 +11,11 @@ use Rattle.ggrammar.specs.declared.fault.MessageFault.{MessageFault}
 use Rattle.ggrammar.specs.declared.fault.Why.{Why}
 use Rattle.ggrammar.specs.declared.fault.Why.TheVariants as why
 
--- the most bytes of a peer's error that are kept
+-- the maximum number of bytes that are stored of a peer's error text
 abbrev pub max_peer_text : ℕ
 max_peer_text = 256
 
--- the first 256 bytes of a peer's error text, without a line feed at its end
+-- the stored part of a peer's error text: one line feed at the end is removed, and then all bytes after the first 256
 abbrev pub kept_text : Bytes → Bytes
 kept_text said = take max_peer_text (text said)
 
@@ -28,7 +28,7 @@ pub record WhyRow : Type 0 where
 abbrev pub row_of : FaultRow → Bytes → WhyRow
 row_of row phrase = record { code = row.0; name = row.1; phrase = phrase }
 
--- the text for the peer of a fault of the packet reader
+-- the text that reports a fault of the packet reader to the peer
 abbrev pub line_phrase : PacketFault → Bytes
 line_phrase line.BadDigits = codes "bad packet line"
 line_phrase line.Reserved = codes "bad packet line"

@@ -1,6 +1,6 @@
--- The grammar of a message, as a judge of its packets. For some packets and the next one, a judge says that the message
--- goes on, is complete, or is rejected with a reason. (gitprotocol-v2(5) states for each message which packets may be
--- sent. The judge adds the reasons.)
+-- The grammar of a message, as a judge of its packets. Given the packets so far and the next packet, a judge says that
+-- the message goes on, is complete, or is rejected with a reason. (gitprotocol-v2(5) states for each message which
+-- packets may be sent. The judge adds the reasons.)
 use Rattle.std.specs.Prelude.{◌≡◌, Bool, List, [], ◌∷◌, ◌++◌, if◌then◌else◌}
 use Rattle.gpkt.specs.Packets.{Packet}
 use Rattle.ggrammar.specs.declared.fault.Why.{Why}
@@ -10,7 +10,7 @@ pub data Verdict : Type 0 where
   Open Whole : Verdict
   Refused : (why : Why) → Verdict
 
--- the verdict on a packet that is accepted if there is room for it
+-- the verdict on a packet that is accepted if and only if the message has room for it
 abbrev pub if_room : Bool → Verdict
 if_room has_room = if has_room then Open else Refused Limit
 
@@ -39,22 +39,22 @@ pub record IsUnfinished (judge : Judge) (front : List Packet) : Type 0 where
   pub begins : Begins judge front
   pub unfinished : (whole back : List Packet) → front ≡ whole ++ back → IsWhole judge whole → ⊥
 
--- with this packet, and not before, the packets stop being the beginning of a message
+-- the packets before `packet` are the beginning of a message, but with `packet` they are not
 pub record IsFirstMisfit (judge : Judge) (front : List Packet) (packet : Packet) : Type 0 where
   pub before : IsUnfinished judge front
   pub misfit : Begins judge (front ++ packet ∷ []) → ⊥
 
--- each list of packets after which the message goes on can be completed
+-- each list of packets after which the message goes on can be completed to a message
 abbrev pub HasEndings : Judge → Type 0
 HasEndings judge = (front : List Packet) → IsOpen judge front → Begins judge front
 
--- ---- laws of judges whose open lists can be completed
+-- ---- laws of judges whose open lists can all be completed
 
 -- an open list is the beginning of a message, and no prefix of it is a complete message
 abbrev pub OpenIsUnfinished : Judge → Type 0
 OpenIsUnfinished judge = (front : List Packet) → IsOpen judge front → IsUnfinished judge front
 
--- a rejected packet is the first that does not fit
+-- a rejected packet is the first packet that does not fit
 abbrev pub RefusesFirstMisfits : Judge → Type 0
 RefusesFirstMisfits judge = (front : List Packet) (packet : Packet) (why : Why) → IsOpen judge front
     → judge front packet ≡ Refused why → IsFirstMisfit judge front packet
@@ -67,7 +67,7 @@ IsPrefixFree judge = (lines back : List Packet) → IsWhole judge lines → IsWh
 abbrev pub NothingIsOpen : Judge → Type 0
 NothingIsOpen judge = IsOpen judge []
 
--- an open list stays open with a packet after which the message goes on
+-- an open list stays open if a packet is appended after which the message goes on
 abbrev pub OpenGoesOn : Judge → Type 0
 OpenGoesOn judge = (front : List Packet) (packet : Packet) → IsOpen judge front → judge front packet ≡ Open
     → IsOpen judge (front ++ packet ∷ [])

@@ -11,10 +11,10 @@ abbrev pub ok_of : Result Id FromHexError → Option Id
 ok_of (Ok id) = Some id
 ok_of (Err fault) = None
 
--- the id of a format that a text encodes, with digits in either case
+-- the id of the given format that a text encodes, with hex digits in either case
 unfoldable pub id_of_text : Format → Bytes → Option Id
 id_of_text format text = if length text == id_text_length format then ok_of (decode_of text) else None
 
--- a text is read as an id exactly if it consists of the digits of this id
+-- a text is read as an id exactly if the text consists of the hex digits of this id
 abbrev pub IdIsSpelt : Type 0
 IdIsSpelt = (format : Format) (text : Bytes) (id : Id) → (id_of_text format text ≡ Some id) ↔ IsIdTextOf format text id

@@ -1,4 +1,4 @@
--- The laws of a kind of message: of its judge, of the meaning of complete lists of packets, and of writing.
+-- The laws of a kind of message: about its judge, about the meaning of complete lists of packets, and about writing.
 use Rattle.std.specs.Prelude.{◌≡◌, ◌↔◌, All, Bool, List, ◌++◌, Option, Some, None, Result, Ok, Err, IfErr}
 use Rattle.gpkt.specs.Packets.{Bytes, Packet, canonical_all}
 use Rattle.gpkt.specs.Change.{Change}
@@ -9,31 +9,31 @@ use Rattle.ggrammar.specs.MessageReading.{ReadsWhole, ReadsRefused}
 use Rattle.ggrammar.specs.MessageBytes.{known_bytes, IsFront, IsOfBytes}
 use Rattle.ggrammar.specs.declared.fault.MessageFault.{MessageFault}
 
--- a relation between packets and a message: the packets mean it, or are written for it
+-- a relation between packets and a message: the packets encode the message, or are written for the message
 abbrev pub Meaning : Type 0 → Type 1
 Meaning M = List Packet → M → Type 0
 
 module _ {M : Type 0} where
-  -- a list of packets means at most one message
+  -- a list of packets encodes at most one message
   abbrev pub OneMeaning : Meaning M → Type 0
   OneMeaning Says = (lines : List Packet) (one other : M) → Says lines one → Says lines other → one ≡ other
 
-  -- a list of packets means a message exactly if it is complete
+  -- a list of packets encodes a message exactly if the list is complete
   abbrev pub SaysWhole : Judge → Meaning M → Type 0
   SaysWhole judge Says = (lines : List Packet) → IsWhole judge lines ↔ ((message : M) × Says lines message)
 
-  -- the packets that mean a message are those that Git's manual allows for this message
+  -- the packets that encode a message are those that Git's manual allows for this message
   abbrev pub AsInManual : Meaning M → Meaning M → Type 0
   AsInManual Says IsMessage = (lines : List Packet) (message : M) → Says lines message ↔ IsMessage lines message
 
-  -- the packets that are written for a value mean this value, and no packet is too long
+  -- the packets that are written for a value encode this value, and no packet is too long
   abbrev pub CanonicalSays : Meaning M → (M → Type 0) → Meaning M → Type 0
   CanonicalSays Says IsValue IsCanonical = (lines : List Packet) (message : M) → IsValue message
       → IsCanonical lines message → Says lines message × All Fits lines
 
   -- ---- the result of reading a message
 
-  -- the packets of a complete message are read, and they mean this message
+  -- the packets of a complete message are read, and these packets encode `message`
   pub record ReadsMessage (judge : Judge) (Says : Meaning M) (change : Change) (message : M) : Type 0 where
     pub lines : List Packet
     pub read : ReadsWhole judge change lines
@@ -46,12 +46,12 @@ module _ {M : Type 0} where
   ReadsOrRefuses judge brings Says change (Err fault) =
       (front : List Packet) × ReadsRefused judge brings front change fault
 
-  -- the bytes before the rest encode packets that mean the message
+  -- the first bytes, up to the rest, consist of packets that encode the message
   abbrev pub SaysAtFront : Meaning M → Bytes → Bytes → M → Type 0
   SaysAtFront Says bytes rest message = (lines : List Packet) × IsFront lines bytes rest × Says lines message
 
-  -- A message is read exactly if the bytes begin with packets that mean it. Nothing after these packets is read. The
-  -- law excepts out of memory, a failed device, and a reader that failed before.
+  -- A message is read exactly if the bytes begin with packets that encode it. Nothing after these packets is read. The
+  -- law does not apply if memory runs out, the source fails, or the reader had failed before.
   abbrev pub ReadsExactly : Judge → (List Packet → Packet → Bool) → Meaning M → Type 0
   ReadsExactly judge brings Says =
       (bytes new rest : Bytes) (result : Result M MessageFault) (message : M)
@@ -66,9 +66,9 @@ module _ {M : Type 0} where
       → ReadsOrRefuses judge brings Says (known_bytes (canonical_all lines ++ rest) new) result
       → IfErr result (λ fault. IsOfBytes fault.why) → (result ≡ Ok message) × (new ≡ rest)
 
-  -- ---- a message that may be missing
+  -- ---- a message that the input may lack
 
-  -- the input ends before the message, or the message is read or rejected
+  -- the input ends before the message, or the message is read, or the message is rejected
   abbrev pub ReadsIfAny : Judge → (List Packet → Packet → Bool) → Meaning M → Change
       → Result (Option M) MessageFault → Type 0
   ReadsIfAny judge brings Says change (Ok (Some message)) = ReadsMessage judge Says change message
@@ -76,7 +76,7 @@ module _ {M : Type 0} where
   ReadsIfAny judge brings Says change (Err fault) =
       (front : List Packet) × ReadsRefused judge brings front change fault
 
-  -- a message is read exactly if the bytes begin with packets that mean it
+  -- a message is read exactly if the bytes begin with packets that encode it
   abbrev pub ReadsExactlyIfAny : Judge → (List Packet → Packet → Bool) → Meaning M → Type 0
   ReadsExactlyIfAny judge brings Says =
       (bytes new rest : Bytes) (result : Result (Option M) MessageFault) (message : M)

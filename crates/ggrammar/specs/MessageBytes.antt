@@ -1,4 +1,4 @@
--- Messages at the front of some bytes: the result of reading them, for every kind of message.
+-- The result of reading a message at the front of some bytes, for every kind of message.
 use Rattle.std.specs.Prelude.{◌≡◌, ◌⊎◌, Bool, List, [], ◌++◌, Some, None, Ok}
 use Rattle.gpkt.specs.Packets.{Bytes, Packet, SpellsAll}
 use Rattle.gpkt.specs.Change.{Change}
@@ -14,13 +14,13 @@ use Rattle.ggrammar.specs.declared.fault.MessageFault.{MessageFault}
 abbrev pub known_bytes : Bytes → Bytes → Change
 known_bytes old new = record { old = Some old; new = Some new }
 
--- the bytes before the rest encode these packets
+-- the part of `bytes` before `rest` encodes these packets
 pub record IsFront (lines : List Packet) (bytes rest : Bytes) : Type 0 where
   pub front : Bytes
   pub parts : bytes ≡ front ++ rest
   pub spelt : SpellsAll lines front
 
--- the reason is in the bytes: no memory ran out, no device failed, and no reader had failed before
+-- the reason lies in the bytes: it is not out of memory, a failed source, or a reader that had failed before
 abbrev pub IsOfBytes : Why → Type 0
 IsOfBytes (Line Io) = ⊥
 IsOfBytes (Line Failed) = ⊥
@@ -32,24 +32,24 @@ abbrev pub ReadsFront : Judge → Type 0
 ReadsFront judge = (lines : List Packet) (bytes rest : Bytes) → IsWhole judge lines → IsFront lines bytes rest
     → ReadsWhole judge (known_bytes bytes rest) lines
 
--- no other message than the one at the front of the bytes is read, and the bytes after it are left
+-- only the message at the front of the bytes is read, and the bytes after it are left
 abbrev pub ReadsNoOther : Judge → Type 0
 ReadsNoOther judge = (lines others : List Packet) (bytes rest new : Bytes) → IsWhole judge lines
     → IsFront lines bytes rest → ReadsWhole judge (known_bytes bytes new) others → (others ≡ lines) × (new ≡ rest)
 
--- if reading is refused for a reason in the bytes, no complete message is at the front of the bytes
+-- if reading is refused because of the content of the bytes, they begin with no complete message
 abbrev pub RefusedIsNoMessage : Judge → Type 0
 RefusedIsNoMessage judge =
     (brings : List Packet → Packet → Bool) (front lines : List Packet) (bytes new rest : Bytes) (fault : MessageFault)
     → ReadsRefused judge brings front (known_bytes bytes new) fault → IsOfBytes fault.why → IsFront lines bytes rest
     → ¬ IsWhole judge lines
 
--- if the input has ended, no complete message is at the front of the bytes
+-- if the packet reader reports the end of the input, the bytes begin with no complete message
 abbrev pub EndedIsNoMessage : Judge → Type 0
 EndedIsNoMessage judge = (lines : List Packet) (bytes new rest : Bytes) → Reads (known_bytes bytes new) (Ok None)
     → IsFront lines bytes rest → ¬ IsWhole judge lines
 
--- if bytes are refused for a reason in them, the fault and the bytes that are left are unique
+-- if bytes are refused because of their content, the fault and the bytes that are left are unique
 abbrev pub OneRefusal : Judge → Type 0
 OneRefusal judge =
     (brings : List Packet → Packet → Bool) (front others : List Packet) (bytes new after : Bytes)
@@ -57,19 +57,19 @@ OneRefusal judge =
     → ReadsRefused judge brings others (known_bytes bytes after) other → IsOfBytes fault.why → IsOfBytes other.why
     → (fault ≡ other) × (new ≡ after)
 
--- the reason is in the packet: no fault of the packet reader, no end of the input, no lack of memory
+-- the reason lies in the packet: it is not a fault of the packet reader, the end of the input, or out of memory
 abbrev pub IsOfPacket : Why → Type 0
 IsOfPacket (Line fault) = ⊥
 IsOfPacket Ended = ⊥
 IsOfPacket Memory = ⊥
 IsOfPacket why = Unit {0}
 
--- a verdict that rejects a packet has a reason in the packet
+-- if the verdict rejects a packet, the reason lies in the packet
 abbrev pub IsForPacket : Verdict → Type 0
 IsForPacket (Refused why) = IsOfPacket why
 IsForPacket verdict = Unit {0}
 
--- a judge rejects packets only for reasons in the packet
+-- a judge rejects packets only because of their content
 abbrev pub RefusesPackets : Judge → Type 0
 RefusesPackets judge = (front : List Packet) (packet : Packet) → IsForPacket (judge front packet)
 
@@ -78,7 +78,7 @@ abbrev pub BeginsWithMessage : Judge → Bytes → Type 0
 BeginsWithMessage judge bytes =
     (lines : List Packet) × (rest : Bytes) × IsWhole judge lines × IsFront lines bytes rest
 
--- the bytes are refused for a reason in them
+-- the bytes are refused because of their content
 pub record IsRefused (judge : Judge) (brings : List Packet → Packet → Bool) (bytes : Bytes) : Type 0 where
   pub front : List Packet
   pub rest : Bytes
@@ -86,11 +86,12 @@ pub record IsRefused (judge : Judge) (brings : List Packet → Packet → Bool) 
   pub refused : ReadsRefused judge brings front (known_bytes bytes rest) fault
   pub certain : IsOfBytes fault.why
 
--- all bytes begin with a message or are refused
+-- every byte sequence begins with a message or is refused
 abbrev pub BeginsOrIsRefused : Judge → (List Packet → Packet → Bool) → Type 0
 BeginsOrIsRefused judge brings = (bytes : Bytes) → BeginsWithMessage judge bytes ⊎ IsRefused judge brings bytes
 
--- all bytes begin with a message or are refused, if open lists can be completed and all reasons are in the packets
+-- every byte sequence begins with a message or is refused, if open lists can be completed and packets are rejected only
+-- because of their content
 abbrev pub EveryInput : Judge → Type 0
 EveryInput judge = HasEndings judge → RefusesPackets judge → (brings : List Packet → Packet → Bool)
     → BeginsOrIsRefused judge brings

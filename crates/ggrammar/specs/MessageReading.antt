@@ -12,7 +12,7 @@ use Rattle.ggrammar.specs.declared.fault.MessageFault.{MessageFault}
 use Rattle.ggrammar.specs.declared.message.Step.{Step}
 use Rattle.ggrammar.specs.declared.message.Step.TheVariants as step
 
--- these packets are read, and are a complete message
+-- these packets are read, and form a complete message
 pub record ReadsWhole (judge : Judge) (change : Change) (lines : List Packet) : Type 0 where
   pub whole : IsWhole judge lines
   pub bytes : ReadsPackets change lines
@@ -23,8 +23,8 @@ IsAccepted Open = Unit {0}
 IsAccepted Whole = Unit {0}
 IsAccepted (Refused why) = ⊥
 
--- A reason to reject a packet: the reason of the judge, or out of memory for the contents of a packet that the judge
--- accepts.
+-- The reasons to reject a packet: the reason that the judge gives, or out of memory for the contents of a packet that
+-- the judge accepts.
 abbrev pub IsReason : Verdict → Bool → Why → Type 0
 IsReason verdict brings (Line fault) = ⊥
 IsReason verdict brings Ended = ⊥
@@ -43,7 +43,7 @@ IsReasonAfter judge brings front change (Line fault) = Reads change (Err fault)
 IsReasonAfter judge brings front change Ended = Reads change (Ok None)
 IsReasonAfter judge brings front change why = ReadsRefusedPacket judge brings front change why
 
--- the message is rejected after these packets, which begin a message and contain no complete one
+-- the message is rejected after these packets, which begin a message and contain no complete message
 pub record ReadsRefused (judge : Judge) (brings : List Packet → Packet → Bool) (front : List Packet) (change : Change)
     (fault : MessageFault) : Type 0 where
   pub between : Option Bytes
@@ -57,27 +57,27 @@ pub record ReadsRefused (judge : Judge) (brings : List Packet → Packet → Boo
 
 module _ {M : Type 0} (judge : Judge) (brings : List Packet → Packet → Bool)
     (holds left : M → List Packet → Type 0) where
-  -- The message accepts the packet after these packets as the judge says. If it rejects the packet, the predicate
-  -- `left` holds of the packets before.
+  -- The message accepts or rejects the packet as the judge says. If it rejects the packet, the predicate `left` holds
+  -- of the packets before it.
   abbrev pub TakesPacket : List Packet → Packet → M → Result Step Why → Type 0
   TakesPacket front packet new (Ok step.Open) = (judge front packet ≡ Open) × holds new (front ++ packet ∷ [])
   TakesPacket front packet new (Ok step.Whole) = (judge front packet ≡ Whole) × holds new (front ++ packet ∷ [])
   TakesPacket front packet new (Err why) = IsReason (judge front packet) (brings front packet) why × left new front
 
-  -- a complete message was read, and the value has the contents of its packets
+  -- a complete message was read, and `message` holds the contents of its packets
   pub record HasTaken (change : Change) (message : M) : Type 0 where
     pub lines : List Packet
     pub read : ReadsWhole judge change lines
     pub held : holds message lines
 
-  -- the message was rejected after some packets, and `left` holds of them
+  -- the message was rejected after some packets, and `left` holds of these packets
   pub record HasRefused (change : Change) (message : M) (fault : MessageFault) : Type 0 where
     pub front : List Packet
     pub refused : ReadsRefused judge brings front change fault
     pub leaves : left message front
 
--- The fault is the device's exactly if the device has failed and the reader had not failed before. The fault is that of
--- a failed reader exactly if the reader had failed before. Reading a packet takes no memory.
+-- The fault is an error of the source exactly if the source has failed and the reader had not failed before. The fault
+-- is `Failed` exactly if the reader had failed before. Reading a packet needs no memory.
 abbrev pub IsReadFailure : Bool → Bool → Why → Type 0
 IsReadFailure failed down (Line Io) = (failed ≡ false) × (down ≡ true)
 IsReadFailure failed down (Line Failed) = failed ≡ true
@@ -89,9 +89,9 @@ abbrev pub IsFailedBy : Why → Bool → Type 0
 IsFailedBy (Line fault) failed = failed ≡ true
 IsFailedBy why failed = failed ≡ false
 
--- The state of the packet reader after reading a message. After a message, neither the reader nor its device has
--- failed. After a fault, the reader has failed exactly if the packet was not read. The device has failed exactly if the
--- fault is the device's. If the reader had failed before, the fault is at packet 0.
+-- The state of the packet reader after reading a message. After a message, neither the reader nor its source has
+-- failed. After a fault, the reader has failed exactly if the packet was not read. The source has failed exactly if the
+-- fault is an error of the source. If the reader had failed before, the fault is at packet 0.
 abbrev pub LeavesReader : {S M : Type 0} → (S → Bool) → Reader S → Reader S → Result M MessageFault → Type 0
 LeavesReader is_down old new (Ok message) =
     (old.failed ≡ false) × (new.failed ≡ false) × (is_down new.source ≡ false)
@@ -99,7 +99,7 @@ LeavesReader is_down old new (Err fault) =
     IsReadFailure old.failed (is_down new.source) fault.why × IsFailedBy fault.why new.failed
     × (old.failed ≡ true → fault.frame ≡ 0)
 
--- ---- one packet, in the code of a kind of message
+-- ---- one packet of a message
 
 -- the packet is accepted as the verdict says, and the predicate holds afterwards; or the packet is rejected
 abbrev pub TakesAs : Verdict → Bool → Type 0 → Result Step Why → Type 0

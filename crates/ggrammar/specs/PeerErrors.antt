@@ -6,7 +6,7 @@ use Rattle.ggrammar.specs.Faults.{kept_text}
 use Rattle.ggrammar.specs.Grammar.{Verdict, Refused}
 use Rattle.ggrammar.specs.declared.fault.Why.TheVariants.{RemoteErr}
 
--- the rest of a text after a word at its front
+-- the rest of the text after a word, if the text starts with the word
 unfoldable pub after_word : Bytes → Bytes → Option Bytes
 after_word word text = if starts_with nat_eq text word then Some (drop (length word) text) else None
 
@@ -18,6 +18,6 @@ abbrev pub unless_error : Option Bytes → Verdict → Verdict
 unless_error (Some said) verdict = Refused (RemoteErr (kept_text said))
 unless_error None verdict = verdict
 
--- the verdict on a payload, unless it reports an error
+-- the verdict on a payload: a rejection if the payload reports an error, otherwise the given verdict
 abbrev pub judge_unless_error : (Bytes → Verdict) → Bytes → Verdict
 judge_unless_error table payload = unless_error (peer_error payload) (table payload)

@@ -1,5 +1,5 @@
--- The positions of packets in a message, and the values in the packets. The position of the next packet depends on the
--- grammar.
+-- The positions of packets in a message, and the values in the packets. The grammar determines the position of the next
+-- packet.
 use Rattle.std.specs.Prelude.{List, [], ◌∷◌, ◌++◌}
 use Rattle.gpkt.specs.Packets.{Packet}
 
@@ -8,7 +8,7 @@ abbrev pub place_after : {Place : Type 0} → (Place → Packet → Place) → P
 place_after next place [] = place
 place_after next place (packet ∷ packets) = place_after next (next place packet) packets
 
--- the values in the packets, which depend on the position of each packet, in order
+-- the values in the packets, in order; the value in a packet depends on its position
 abbrev pub collect : {Place X : Type 0} → (Place → Packet → Place) → (Place → Packet → List X) → Place
     → List Packet → List X
 collect next give place [] = []

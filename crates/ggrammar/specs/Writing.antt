@@ -1,4 +1,4 @@
--- Writing the packets of a message, one after the other.
+-- Writing the packets of a message, one after another.
 use Rattle.std.specs.Prelude.{◌≡◌, ◌≢◌, ℕ, ◌<◌, ◌↔◌, Bool, false, List, [], ◌∷◌, ◌++◌, length, Option, Result, Ok, Err}
 use Rattle.std.specs.Prelude.{IfErr, IsErrAnd, IsErrOf}
 use Rattle.gpkt.specs.Packets.{Bytes, Packet, canonical, canonical_all, max_payload, payload_of}
@@ -11,25 +11,25 @@ module _
     {W : Type 0} (contents_of passed_on_of : W → Option Bytes) (is_down : W → Bool)
     (loans_of : W → List ℕ)
   where
-    -- the effect of one call that writes these packets, none of which is too long
+    -- the effect of one call that writes these packets; no packet is too long
     pub record WritesPackets (old new : Writer W) (result : Result Unit WriteFault) (lines : List Packet) : Type 0 where
       pub written : HasWritten contents_of passed_on_of is_down loans_of old new result (canonical_all lines)
       pub fits : IfErr result (λ fault. fault ≢ Payload)
 
-    -- Some packets were written, and the packets in `coming` remain. A call that writes these, and perhaps more,
-    -- completes a write of all packets, and of the same additional packets.
+    -- Some packets were written, and the packets in `coming` remain. A call that writes `coming`, perhaps with more
+    -- packets after it, completes a write of `lines` with the same packets after it.
     pub record IsWriting (start now : Writer W) (lines coming : List Packet) : Type 0 where
       pub joins : (more : List Packet) (new : Writer W) (result : Result Unit WriteFault)
           → WritesPackets now new result (coming ++ more) → WritesPackets start new result (lines ++ more)
 
-    -- the effect of one call that writes a part of a message, which may have no packets
+    -- the effect of one call that writes a part of a message; the part may have no packets
     abbrev pub WritesPart : Writer W → Writer W → Result Unit WriteFault → List Packet → Type 0
     WritesPart old new (Ok done) part = IsWriting old new part []
     WritesPart old new (Err fault) part = WritesPackets old new (Err fault) part
 
     -- ---- laws
 
-    -- a call that never fails for a payload's length writes its packet
+    -- a call that can't fail because of the payload's length writes its packet
     abbrev pub WritesPacket : Type 0
     WritesPacket =
         (old new : Writer W) (result : Result Unit WriteFault) (line : Packet)
@@ -44,7 +44,7 @@ module _
         → (IsErrOf result Payload ↔ ((old.failed ≡ false) × (max_payload < length (payload_of line)))) → Fits line
         → WritesPackets old new result (line ∷ [])
 
-    -- a call that writes packets also writes a part of a message
+    -- a call that writes packets is also a call that writes a part of a message
     abbrev pub PacketsArePart : Type 0
     PacketsArePart =
         (old new : Writer W) (result : Result Unit WriteFault) (lines : List Packet)
@@ -66,7 +66,7 @@ module _
         (start now next : Writer W) (lines coming part rest : List Packet) → IsWriting start now lines coming
         → coming ≡ part ++ rest → WritesPart now next (Ok tt) part → IsWriting start next lines rest
 
-    -- if writing some of the packets fails, and this fault is returned, writing all of them has failed
+    -- if writing some of the packets fails, and this fault is returned, writing all the packets has failed
     abbrev pub FailsWriting : Type 0
     FailsWriting =
         (start now new : Writer W) (lines coming front rest : List Packet) (fault : WriteFault)

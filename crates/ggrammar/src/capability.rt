@@ -18,8 +18,8 @@ pub struct Capability<'a> {
     pub value: Option<&'a [u8]>,
 }
 
-/// Returns the capability (gitprotocol-v2(5), "Capability Advertisement") of a text: a key, or a
-/// key, the first `=` and a value. Returns `None` if the text is not a capability.
+/// Parses a text as a capability (gitprotocol-v2(5), "Capability Advertisement"). The text is
+/// either a key alone, or a key, `=` and a value. Returns `None` if the text is not a capability.
 #[tactic(auto, unfolding(crate::specs::Capabilities::capability_of))]
 pub fn capability_of(text: &[u8]) -> Option<Capability<'_>>
     ensures { option_map capability_view result ≡ capability_of text.now }
@@ -100,7 +100,7 @@ fn is_key_byte(byte: u8) -> bool
     byte.is_ascii_alphanumeric() || byte == b'-' || byte == b'_'
 }
 
-/// Returns whether a byte is from space to `~`.
+/// Returns whether the byte is in the range from space to `~`.
 pub fn is_printable(byte: u8) -> bool
     ensures { result ≡ is_printable byte }
 {
@@ -113,14 +113,14 @@ fn are_key_bytes(bytes: &[u8]) -> bool
     bytes.iter().all(|byte| is_key_byte(*byte))
 }
 
-/// Returns whether all the bytes are from space to `~`.
+/// Returns whether all bytes are in the range from space to `~`.
 pub fn are_printable(bytes: &[u8]) -> bool
     ensures { result ≡ list_all is_printable bytes.now }
 {
     bytes.iter().all(|byte| is_printable(*byte))
 }
 
-/// Returns whether all the bytes are from `!` to `~`.
+/// Returns whether all bytes are in the range from `!` to `~`.
 pub fn are_graphic(bytes: &[u8]) -> bool
     ensures { result ≡ list_all is_graphic bytes.now }
 {

@@ -16,7 +16,7 @@ pub fn add<const N: usize>(piece: &[u8], text: &mut ArrayVec<u8, N>)
     text.try_extend_from_slice(piece).unwrap()
 }
 
-/// Appends the digits of an id to a text that has room for any id.
+/// Appends the hex digits of an id to a text that has room for any id.
 pub fn add_id<const N: usize>(id: &Oid, text: &mut ArrayVec<u8, N>)
     requires { length text.old.items + max_id_text ≤ N }
     ensures text { text.new.items ≡ text.old.items ++ id_text id.now }

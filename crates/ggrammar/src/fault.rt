@@ -12,10 +12,10 @@ use std::error::Error;
 use std::fmt;
 use std::marker::Model;
 
-/// The maximum number of bytes that are kept of a peer's error.
+/// The maximum number of bytes that are stored of a peer's error text.
 pub const MAX_PEER_TEXT: usize = 256;
 
-/// The text of an error that a peer reports, of which the first 256 bytes are kept.
+/// The first 256 bytes of the text of an error that a peer reports.
 #[derive(Drop)]
 pub struct PeerText {
     text: ArrayVec<u8, MAX_PEER_TEXT>,
@@ -63,36 +63,36 @@ impl fmt::Debug for PeerText {
 pub enum Why {
     /// Faults 20 to 25: the packet could not be read.
     Line(PacketFault),
-    /// Faults 29 and 30: the payload has no side band.
+    /// Faults 29 and 30: the payload names no valid side band.
     Band(BandFault),
     /// Fault 41: a flush, delimiter or response-end that the grammar does not allow here, or any
     /// other packet instead of a response-end.
     UnexpectedFrame,
     /// Fault 42: a text that matches no case of the grammar.
     BadText,
-    /// Fault 43: a command that is not served.
+    /// Fault 43: a command that the server does not support.
     UnknownCommand,
-    /// Fault 44: a capability that is not served.
+    /// Fault 44: a capability that the server does not support.
     UnknownCapability,
-    /// Fault 45: an argument that the command does not have.
+    /// Fault 45: an argument that the command does not accept.
     UnknownArgument,
     /// Fault 46: an object id was expected.
     BadId,
     /// Fault 47: a ref name, or a prefix of ref names, was expected.
     BadName,
-    /// Fault 48: one more than the limit.
+    /// Fault 48: the packet would exceed a limit.
     Limit,
     /// Fault 49: the peer reported an error.
     RemoteErr(PeerText),
     /// Fault 50: the peer reported a fatal error on its side band.
     RemoteFatal(PeerText),
-    /// Fault 51: a section, a packet of a section or an end is out of order in a reply to fetch.
+    /// Fault 51: a section, a packet of a section or an end is out of order in a fetch reply.
     WrongSection,
     /// Fault 52: another object format was expected.
     Format,
     /// Fault 53: out of memory for the contents of the packet.
     Memory,
-    /// Fault 54: the input ends before the message does.
+    /// Fault 54: the input ends before the end of the message.
     Ended,
 }
 
@@ -110,7 +110,7 @@ fn why_row(code: u32, name: &'static str, phrase: &'static str) -> WhyRow
     WhyRow { code, name, phrase }
 }
 
-// Returns the text for the peer of a fault of the packet reader.
+// Returns the text that reports a fault of the packet reader to the peer.
 fn line_phrase(fault: &PacketFault) -> &'static str
     ensures { result.now ≡ line_phrase fault.now }
 {
@@ -180,7 +180,7 @@ impl fmt::Display for Why {
 
 impl Error for Why {}
 
-/// The fault of a rejected message: the position of the packet, and the reason.
+/// The fault of a rejected message: the position of the rejected packet, and the reason.
 #[derive(Debug, Drop)]
 pub struct MessageFault {
     /// The position of the packet in the message, counted from 0.
@@ -190,7 +190,7 @@ pub struct MessageFault {
 }
 
 impl MessageFault {
-    /// Returns the fault of a call that builds a value. No packet caused the fault, so its position
+    /// Returns the fault of a call that builds a value. No packet caused the fault, so the position
     /// is 0.
     pub fn of_value(why: Why) -> MessageFault
         ensures { result ≡ record { frame = 0; why = why } }

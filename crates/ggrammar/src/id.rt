@@ -6,8 +6,8 @@ ghost use Rattle.ggrammar.specs.Ids.{id_of_text};
 use gname::laws::texts_have_one_reading;
 use gname::{Format, Oid};
 
-/// Returns the id of a format that a text encodes, with digits in either case, or `None` if the
-/// text is not an id.
+/// Returns the id of this format that the text encodes, with hex digits in either case. Returns
+/// `None` if the text is not an id of this format.
 #[tactic(auto, using(crate::proofs::IdLemmas::id_read, crate::proofs::IdLemmas::id_refused))]
 pub fn id_of_text(format: Format, text: &[u8]) -> Option<Oid>
     ensures { result ≡ id_of_text format text.now }

@@ -1,11 +1,12 @@
-//! Kinds of messages, for the laws of each kind.
+//! Kinds of messages, for laws that hold of every kind.
 
 ghost use Rattle.std.specs.Prelude.{Bool, List};
 ghost use Rattle.gpkt.specs.Packets.{Packet};
 ghost use Rattle.ggrammar.specs.Grammar.{Judge};
 ghost use Rattle.ggrammar.specs.Kinds.{Meaning};
 
-/// A kind of message, for its laws. It is a type without values, which the caller of a law names.
+/// A kind of message, as a type without values. The caller of a law names this type to choose the
+/// kind.
 pub trait MessageKind {
     // The parameters of the grammar, such as the format of ids and the end of a reply.
     ghost Given: { Type 0 };

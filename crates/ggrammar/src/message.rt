@@ -24,13 +24,13 @@ pub trait Message {
     // The grammar's verdict on a packet after the packets before it.
     ghost judge: { Self → Judge };
 
-    // The packet has contents to store, which needs memory.
+    // Whether the packet has contents to store, which needs memory.
     ghost brings: { Self → List Packet → Packet → Bool };
 
-    // The message has exactly these packets so far.
+    // Whether the message consists of exactly these packets so far.
     ghost holds: { Self → List Packet → Type 0 };
 
-    // The state of the message after it was rejected at these packets.
+    // Whether the message may be in this state after it was rejected at these packets.
     ghost left: { Self → List Packet → Type 0 };
 
     /// Accepts the next packet. Fails if the grammar rejects the packet, or if memory runs out for
@@ -43,9 +43,9 @@ pub trait Message {
             → TakesPacket (judge self.old) (brings self.old) holds left front
             (packet_of line.entry) self.new result };
 
-    /// Laws of the message, for generic callers. The call has no effect. A message that stops after
-    /// some packets is left in the state for these packets. Each open list of packets can be
-    /// completed to a message. The number of packets of an open message does not overflow.
+    /// Laws of the message, for generic callers. The call has no effect. If `holds` is true for
+    /// some packets, `left` is true for these packets. Each open list of packets can be completed
+    /// to a message. The number of packets in an incomplete message does not overflow.
     fn laws()
         ensures left { (message : Self) (front : List Packet) → holds message front
             → left message front }
@@ -56,10 +56,10 @@ pub trait Message {
 
 /// Reads a message to its end, and nothing after it.
 ///
-/// The fault has the packet's position, counted from 0. A fault of the packet reader takes
-/// precedence, then the end of the input, then a fault of the grammar. If the message is rejected,
-/// the packet reader has failed exactly if the packet was not read. If the reader had failed before
-/// the call, the call fails at once, at packet 0.
+/// The fault contains the position of the rejected packet, counted from 0. A fault of the packet
+/// reader takes precedence, then the end of the input, then a fault of the grammar. If the message
+/// is rejected, the packet reader has failed exactly if the packet was not read. If the reader had
+/// failed before the call, the call fails at once, at packet 0.
 pub fn read_message<S: Source, A: Allocator + Copy, M: Message>(
     reader: &mut PacketReader<S, A>,
     message: &mut M,

@@ -4,7 +4,7 @@ ghost use Rattle.std.specs.Prelude.{◌≡◌};
 ghost use Rattle.std.specs.Option.{option_copied};
 ghost use Rattle.ggrammar.specs.PeerErrors.{after_word, peer_error};
 
-/// Returns the rest of a text after a word, or `None` if the text does not begin with the word.
+/// Returns the rest of the text after `word`, or `None` if the text does not begin with `word`.
 #[tactic(auto, unfolding(crate::specs::PeerErrors::after_word))]
 pub fn after_word<'a>(word: &[u8], text: &'a [u8]) -> Option<&'a [u8]>
     ensures { option_copied result ≡ after_word word.now text.now }

@@ -24,7 +24,7 @@ version = codes "version 2"
 
 -- ---- the advertisement in the words of the manual
 
--- the packets are an advertisement of these capabilities
+-- the packets are an advertisement with these capabilities
 pub record IsAdvert (packets : List Packet) (capabilities : List Capability) : Type 0 where
   pub first : Bytes
   pub payloads : List Bytes
@@ -49,7 +49,7 @@ abbrev pub judge_capability : ℕ → Option Capability → Verdict
 judge_capability count None = Refused why.BadText
 judge_capability count (Some capability) = if_room (nat_lt count max_advertised)
 
--- the verdict on a text line, from the numbers of earlier lines and of capabilities among those
+-- the verdict on a text line, given the number of earlier lines and the number of capabilities among these lines
 abbrev pub judge_text : ℕ → ℕ → Bytes → Verdict
 judge_text texts capabilities line =
     if texts == 0 then judge_version line else judge_capability capabilities (capability_of line)
@@ -64,19 +64,19 @@ judge_at texts capabilities ResponseEnd = Refused why.UnexpectedFrame
 abbrev pub judge : List Packet → Packet → Verdict
 judge packets packet = judge_at (length (texts_of packets)) (length (capabilities_of packets)) packet
 
--- whether the packet has contents to store: a capability has, and the version line has not
+-- whether the packet has contents to store, as a capability has; the version line has none
 abbrev pub brings : List Packet → Packet → Bool
 brings packets (Data payload) = nat_lt 0 (length (texts_of packets))
 brings packets _ = false
 
--- the packets are a complete advertisement of these capabilities
+-- the packets are a complete advertisement with these capabilities
 pub record Says (packets : List Packet) (capabilities : List Capability) : Type 0 where
   pub whole : IsWhole judge packets
   pub says : capabilities ≡ capabilities_of packets
 
 -- ---- writing
 
--- valid contents of an advertisement: well-formed capabilities, at most 64
+-- valid contents of an advertisement: at most 64 well-formed capabilities
 pub record AreCapabilities (capabilities : List Capability) : Type 0 where
   pub each : All IsWellFormed capabilities
   pub few : length capabilities ≤ max_advertised
@@ -97,10 +97,10 @@ abbrev pub is_value_or_none : Option Bytes → Bool
 is_value_or_none None = true
 is_value_or_none (Some value) = is_value value
 
--- whether the key is well-formed, and also the value if there is one
+-- whether the key is well-formed, and the value is well-formed or absent
 abbrev pub is_capability : Capability → Bool
 is_capability capability = is_key capability.key && is_value_or_none capability.value
 
--- whether another capability can be added
+-- whether the list has room for another capability
 abbrev pub has_room : List Capability → Bool
 has_room capabilities = nat_lt (length capabilities) max_advertised

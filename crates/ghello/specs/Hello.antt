@@ -5,7 +5,7 @@
 --   host-parameter = "host=" hostname
 --   extra-parameters = "version=2" NUL
 --
--- Here the host and the version are mandatory, and no other parameter is allowed.
+-- In this crate the host and the version are mandatory, and no other parameter is allowed.
 use Rattle.std.specs.Prelude.{◌≡◌, ℕ, Bool, true, false, ◌&&◌, IsTrue, List, [], ◌∷◌, ◌++◌, length, codes, nat_eq}
 use Rattle.std.specs.Prelude.{nat_le, if◌then◌else◌, Option, Some, None, is_some, Result, Ok, Err}
 use Rattle.std.specs.List.{list_all, slice_split, starts_with}
@@ -25,7 +25,7 @@ max_path = 1000
 abbrev pub max_host : ℕ
 max_host = 255
 
--- whether the bytes are a path: a slash first, only printable bytes, and at most 1,000
+-- whether the bytes are a path: at most 1,000 printable bytes, of which the first is a slash
 unfoldable pub is_path : Bytes → Bool
 is_path path =
     starts_with nat_eq path (codes "/") && nat_le (length path) max_path && list_all is_printable path
@@ -45,7 +45,7 @@ pub record IsHello (hello : Hello) : Type 0 where
 abbrev pub is_hello : Hello → Bool
 is_hello hello = is_path hello.path && is_host hello.host
 
--- the call returns the hello with this path and host, or a fault at packet 0: a malformed part, or out of memory
+-- the call returns this hello, or fails at packet 0: the path or the host is malformed, or memory runs out
 abbrev pub MakesHello : Hello → Result Hello MessageFault → Type 0
 MakesHello wanted (Ok hello) = (hello ≡ wanted) × IsHello hello
 MakesHello wanted (Err fault) = (fault.frame ≡ 0) × IsBuildReason (is_hello wanted) true fault.why
@@ -83,7 +83,8 @@ hello_with (Some path) (Some host) =
     if is_hello (record { path = path; host = host }) then Some (record { path = path; host = host }) else None
 hello_with path host = None
 
--- the hello whose payload has these parts between NULs: command with path, host, empty, version, empty
+-- the hello whose payload consists of these parts, separated by NULs: the command with the path, the host, an empty
+-- part, the version, and an empty part
 abbrev pub hello_of_parts : List Bytes → Option Hello
 hello_of_parts (command ∷ host ∷ [] ∷ version ∷ [] ∷ []) =
     if bytes_eq version (codes "version=2")
@@ -104,7 +105,7 @@ abbrev pub judge : List Packet → Packet → Verdict
 judge packets (Data payload) = judge_payload (hello_of payload)
 judge packets _ = Refused UnexpectedFrame
 
--- whether the packet has contents to store: a valid hello has
+-- whether the packet has contents to store, as every valid hello has
 abbrev pub brings : List Packet → Packet → Bool
 brings packets (Data payload) = is_some (hello_of payload)
 brings packets _ = false

@@ -15,7 +15,7 @@ use Rattle.ggrammar.specs.declared.fault.Why.TheVariants.{UnknownCommand, Format
 abbrev pub has_key : Bytes → Capability → Bool
 has_key key capability = bytes_eq capability.key key
 
--- the first capability with a key
+-- the first capability with this key
 abbrev pub first_with : Bytes → List Capability → Option Capability
 first_with key [] = None
 first_with key (capability ∷ capabilities) =
@@ -25,16 +25,17 @@ abbrev pub value_in : Option Capability → Option Bytes
 value_in None = None
 value_in (Some capability) = capability.value
 
--- whether the value exists and has the word as one of its parts between spaces
+-- whether the value is present and contains this word; spaces separate its words
 abbrev pub has_word : Bytes → Option Bytes → Bool
 has_word word None = false
 has_word word (Some value) = list_any (λ part. bytes_eq part word) (slice_split is_space value)
 
--- whether the first capability with the key has the word in its value
+-- whether the value of the first capability with this key contains this word
 abbrev pub has_feature : Bytes → Bytes → List Capability → Bool
 has_feature key word capabilities = has_word word (value_in (first_with key capabilities))
 
--- the object format that a server names: SHA-1 without `object-format`, and none if `object-format` has no value
+-- the object format that a server names: `sha1` if there is no `object-format`, and `None` if `object-format` has no
+-- value
 abbrev pub named_format : Option Capability → Option Bytes
 named_format None = Some (format_name Sha1)
 named_format (Some capability) = capability.value

@@ -38,7 +38,7 @@ const VERSION: &[u8] = b"version 2";
 // The maximum length of a capability's text in bytes: a key, `=` and a value.
 const MAX_TEXT: usize = 2_001;
 
-// The commands that a client needs of a server.
+// The commands that a server must support for a client.
 const LS_REFS: &[u8] = b"ls-refs";
 
 const FETCH: &[u8] = b"fetch";
@@ -127,7 +127,7 @@ impl<A: Allocator + Copy> Model for Advert<A> {
 }
 
 impl<A: Allocator + Copy> Advert<A> {
-    /// Returns an advertisement without capabilities. It does not allocate.
+    /// Returns an advertisement without capabilities. Allocates nothing.
     pub fn new(alloc: A) -> Advert<A>
         ensures { result ≡ [] }
     {
@@ -137,7 +137,7 @@ impl<A: Allocator + Copy> Advert<A> {
         }
     }
 
-    /// Adds a capability after the others.
+    /// Appends a capability.
     ///
     /// Fails with `BadText` if the key is not 1 to 1,000 letters, digits, `-` and `_`. Also fails
     /// with `BadText` if the value is not 1 to 1,000 bytes from space to `~`. Otherwise fails with
@@ -159,7 +159,7 @@ impl<A: Allocator + Copy> Advert<A> {
         }
     }
 
-    // Adds a capability to an advertisement with fewer than 64.
+    // Appends a capability to an advertisement that has fewer than 64 capabilities.
     fn add(&mut self, capability: Capability<'_>) -> Result<(), AllocError>
         requires form { IsWellFormed (capability_view capability) }
         requires room { length self.old < max_advertised }
@@ -186,7 +186,7 @@ impl<A: Allocator + Copy> Advert<A> {
         self.capabilities.is_empty()
     }
 
-    /// Returns the capability at a position, counted from 0, or `None` after the last one.
+    /// Returns the capability at a position, counted from 0, or `None` after the last capability.
     pub fn at(&self, place: usize) -> Option<Capability<'_>>
         ensures capability { option_map capability_view result ≡ slice_get self.now place }
         ensures form { AreCapabilities self.now }
@@ -195,16 +195,16 @@ impl<A: Allocator + Copy> Advert<A> {
         Some(kept.as_capability())
     }
 
-    /// Returns the first capability with a key, or `None` if no capability has that key.
+    /// Returns the first capability with this key, or `None` if no capability has the key.
     pub fn value_of(&self, key: &[u8]) -> Option<Capability<'_>>
         ensures { option_map capability_view result ≡ first_with key.now self.now }
     {
         first_with(key, self.capabilities.as_slice()).map(|kept| kept.as_capability())
     }
 
-    /// Returns whether `word` is a space-separated word in the value of the first capability with a
-    /// key. For example, a server whose `ls-refs` has the word `unborn` reports an unborn `HEAD`
-    /// (gitprotocol-v2(5), "ls-refs").
+    /// Returns whether the value of the first capability with this key contains `word` as one of
+    /// its space-separated words. For example, a server whose `ls-refs` has the word `unborn`
+    /// reports an unborn `HEAD` (gitprotocol-v2(5), "ls-refs").
     pub fn has_feature(&self, key: &[u8], word: &[u8]) -> bool
         ensures { result ≡ has_feature key.now word.now self.now }
     {
@@ -299,7 +299,7 @@ fn compose(capability: Capability<'_>, text: &mut ArrayVec<u8, MAX_TEXT>)
     }
 }
 
-// Returns the first capability with a key, or `None`.
+// Returns the first capability with this key, or `None` if no capability has the key.
 fn first_with<'a, A: Allocator + Copy>(
     key: &[u8],
     capabilities: &'a [OwnedCapability<A>],
@@ -314,7 +314,8 @@ fn first_with<'a, A: Allocator + Copy>(
     None
 }
 
-// Returns whether the value exists and has the word as one of its parts between spaces.
+// Returns whether the value is present and contains this word. Spaces separate the words of a
+// value.
 fn has_word(value: Option<&[u8]>, word: &[u8]) -> bool
     ensures { result ≡ has_word word.now (option_copied value.entry) }
 {
@@ -365,9 +366,9 @@ pub fn read_advert<S: Source, A: Allocator + Copy, B: Allocator + Copy>(
 }
 
 /// Writes an advertisement: the version, the capabilities in order, and a flush. The bytes read
-/// back as the same advertisement ([`reads_back`](crate::laws::reads_back)). It does not allocate.
+/// back as the same advertisement ([`reads_back`](crate::laws::reads_back)). Allocates nothing.
 ///
-/// Fails with `Io` if the sink fails, after it may have written a prefix of the advertisement.
+/// Fails with `Io` if the sink fails; a prefix of the advertisement may then have been written.
 /// Fails with `Failed` if the writer had failed before.
 pub fn write_advert<A: Allocator + Copy, W: Sink>(
     advert: &Advert<A>,

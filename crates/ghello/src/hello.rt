@@ -27,7 +27,8 @@ pub const MAX_PATH: usize = 1_000;
 /// The maximum length of a host in bytes.
 pub const MAX_HOST: usize = 255;
 
-// The words of the payload: before the path, before the host, and at the end.
+// The fixed words of the payload: the first is before the path, the second before the host, the
+// third at the end.
 const COMMAND: &[u8] = b"git-upload-pack ";
 
 const HOST: &[u8] = b"host=";
@@ -128,7 +129,7 @@ pub fn is_host(host: &[u8]) -> bool
 ///
 /// The fault is at packet 0. A fault of the packet reader takes precedence, then the end of the
 /// input. Otherwise the fault is `UnexpectedFrame` for a flush, a delimiter or a response-end. The
-/// fault is `BadText` for a malformed payload, even for one that reports an error, and `Memory`
+/// fault is `BadText` for a malformed payload, even if the payload is an `ERR` text, and `Memory`
 /// only if a hello could not be stored. The packet reader is unusable after a refusal exactly if
 /// the packet reader itself refused the packet.
 pub fn read_hello<S: Source, A: Allocator + Copy, B: Allocator + Copy>(
@@ -151,9 +152,9 @@ pub fn read_hello<S: Source, A: Allocator + Copy, B: Allocator + Copy>(
 }
 
 /// Writes a hello as one packet, which reads back as the same hello
-/// ([`reads_back`](crate::laws::reads_back)). It does not allocate.
+/// ([`reads_back`](crate::laws::reads_back)). Allocates nothing.
 ///
-/// Fails with `Io` if the sink fails, after it may have written a prefix of the packet. Fails with
+/// Fails with `Io` if the sink fails; a prefix of the packet may then have been written. Fails with
 /// `Failed` if the writer had failed before.
 #[tactic(auto, unfolding(crate::specs::Hello::canonical_hello))]
 pub fn write_hello<A: Allocator + Copy, W: Sink>(

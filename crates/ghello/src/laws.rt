@@ -1,4 +1,4 @@
-//! The laws of hellos and advertisements. Each function does nothing at run time, and its contract
+//! Laws about hellos and advertisements. Each function does nothing at run time, and its contract
 //! states the law.
 
 ghost use Rattle.std.specs.Prelude.{◌≡◌};
@@ -60,7 +60,7 @@ impl MessageKind for Adverts {
     ghost is_canonical = { λ _. advert.IsCanonical };
 }
 
-/// The constants equal the limits of the specs.
+/// The public constants equal the limits in the specs.
 pub fn limits_are_the_constants()
     ensures path { MAX_PATH ≡ hello.max_path }
     ensures host { MAX_HOST ≡ hello.max_host }
@@ -73,8 +73,8 @@ pub fn one_meaning()
     ensures advert { OneMeaning advert.Says }
 {}
 
-/// No hello is a prefix of another hello, and no advertisement is a prefix of another one. The law
-/// holds for packets and for bytes.
+/// No hello is a prefix of another hello, and no advertisement is a prefix of another
+/// advertisement. The law holds for packets and for bytes.
 pub fn prefix_free()
     ensures hello { IsPrefixFree hello.judge }
     ensures hello_spellings { SpellingsPrefixFree hello.judge }
@@ -99,7 +99,7 @@ pub fn manual()
 }
 
 /// Every accepted prefix of a hello or of an advertisement can be completed. A refused packet is
-/// the first one with which no message can continue.
+/// the first packet with which no message can continue.
 pub fn endings()
     ensures hello { HasEndings hello.judge }
     ensures hello_first { RefusesFirstMisfits hello.judge }
@@ -121,8 +121,8 @@ pub fn every_input()
     messages_are_read();
 }
 
-/// The packets that are written for a hello or an advertisement encode the same value, and each
-/// payload fits in a packet.
+/// The packets that are written for a hello or an advertisement encode that value, and each payload
+/// fits in a packet.
 pub fn canonical_says()
     ensures hello { CanonicalSays hello.Says hello.IsHello hello.IsCanonical }
     ensures advert { CanonicalSays advert.Says advert.AreCapabilities advert.IsCanonical }

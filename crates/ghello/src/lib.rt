@@ -11,8 +11,8 @@
 //!   pieces. They refuse any other input at the first packet that does not fit, for the reason that
 //!   the grammar gives (`specs/Hello.antt`, `specs/Adverts.antt`). They report out of memory only
 //!   at a packet with contents to store. After a message the packet reader is ready for the next
-//!   message. After a refusal the packet reader is unusable exactly if it refused the packet
-//!   itself.
+//!   message. After a refusal the packet reader is unusable exactly if the packet reader itself
+//!   refused the packet.
 //! - [`write_hello`] and [`write_advert`] write the canonical packets of the value, or a prefix of
 //!   them if the sink fails. The written value reads back.
 //! - The look-ups for a client obey `specs/Offers.antt`. [`Advert::value_of`] returns the first
@@ -25,8 +25,8 @@
 //!   refused packet is the first with which no message can continue. Any input begins with a
 //!   message or is refused because of its bytes. The packets that are written for a value encode
 //!   that value, and each payload fits in a packet. A reader returns a message exactly when the
-//!   input begins with it, and a written message reads back. The constants equal the limits of the
-//!   specs.
+//!   input begins with it, and a written message reads back. The public constants equal the limits
+//!   in the specs.
 //!
 //! # What the contracts do not rule out
 //!
@@ -34,12 +34,12 @@
 //! store. A value may use more memory than it needs, and a look-up or a writer may allocate and
 //! free memory. If a sink fails, any prefix of the packets may have been written. If the bytes of a
 //! source or of a sink are unknown, the contracts say nothing about the bytes read or written. The
-//! contracts still state the effect on the device.
+//! contracts still state whether the source or the sink has failed.
 //!
 //! # Dependencies
 //!
-//! The crate uses `ggrammar` for reading by a grammar and for capabilities, `gpkt` for packets,
-//! `gname` for the names of object formats, `arrayvec` for texts of bounded length.
+//! The crate uses `ggrammar` for grammars and capabilities, `gpkt` for packets, `gname` for the
+//! names of object formats, and `arrayvec` for texts of bounded length.
 #![tactic(auto)]
 
 mod advert;

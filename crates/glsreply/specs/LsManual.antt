@@ -1,4 +1,4 @@
--- The replies to ls-refs that a server may send, in the words of gitprotocol-v2(5), "ls-refs":
+-- The ls-refs replies that a server may send, in the words of gitprotocol-v2(5), "ls-refs":
 --
 --   output = *ref flush-pkt
 --   obj-id-or-unborn = (obj-id | "unborn")
@@ -26,12 +26,12 @@ IsSymref text target = (text ≡ codes " symref-target:" ++ target) × IsRefName
 abbrev pub IsPeeled : Format → Bytes → Id → Type 0
 IsPeeled format text id = (digits : Bytes) × (text ≡ codes " peeled:" ++ digits) × IsIdTextOf format digits id
 
--- the text of an optional attribute: empty if the attribute has no value
+-- the text of an optional attribute: empty if the attribute is absent
 abbrev pub IsAttribute : (Bytes → List ℕ → Type 0) → Bytes → Option (List ℕ) → Type 0
 IsAttribute IsTextOf text None = text ≡ []
 IsAttribute IsTextOf text (Some value) = IsTextOf text value
 
--- the text of the two attributes, each at most once, in either order
+-- the text of the attributes `symref-target` and `peeled`, each at most once, in either order
 pub record AreAttributes (format : Format) (text : Bytes) (symref : Option Name) (peeled : Option Id) : Type 0 where
   pub target : Bytes
   pub leads : Bytes
@@ -48,7 +48,7 @@ pub record IsRefText (format : Format) (text : Bytes) (ref : RefLine) : Type 0 w
   pub is_name : IsRefName ref.name
   pub are_attributes : AreAttributes format attributes ref.symref ref.peeled
 
--- the texts are those of the refs, one for each ref, in order
+-- the texts are the lines of the refs, one text for each ref, in order
 abbrev pub AreRefTexts : Format → List Bytes → List RefLine → Type 0
 AreRefTexts format [] [] = Unit {0}
 AreRefTexts format (text ∷ texts) (ref ∷ refs) = IsRefText format text ref × AreRefTexts format texts refs
@@ -60,7 +60,7 @@ IsUnbornFirst None payloads = payloads ≡ []
 IsUnbornFirst (Some target) payloads =
     (payload : Bytes) × (payloads ≡ payload ∷ []) × (text payload ≡ unborn_text target) × IsRefName target
 
--- the packets are a reply to ls-refs with this value
+-- the packets are an ls-refs reply with this value
 pub record IsLsReply (format : Format) (ends : Ends) (packets : List Packet) (reply : LsReply) : Type 0 where
   pub first : List Bytes
   pub refs : List Bytes

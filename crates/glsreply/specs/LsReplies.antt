@@ -1,5 +1,5 @@
--- The grammar of the reply to ls-refs: the value that a list of packets encodes, the packets that are refused and why,
--- and the packets that are written. On a stateless connection a response-end follows the flush (gitprotocol-v2(5),
+-- The grammar of an ls-refs reply: the value that a list of packets encodes, the packets that are refused and why, and
+-- the packets that are written. On a stateless connection a response-end follows the flush (gitprotocol-v2(5),
 -- "Packet-Line Framing": 0002).
 use Rattle.std.specs.Prelude.{◌≡◌, ℕ, Bool, true, false, List, [], ◌∷◌, ◌++◌, length, map, if◌then◌else◌, nat_lt}
 use Rattle.std.specs.Prelude.{◌==◌, Option, Some, None, Result, Ok, Err}
@@ -69,7 +69,7 @@ judge_first format line (UnbornForm (Ok target)) = Open
 judge_first format line (UnbornForm (Err why)) = Refused why
 judge_first format line RefForm = judge_line (line_of format line)
 
--- a well-formed line after the maximum is refused
+-- the given verdict on a well-formed line, unless the reply already has the maximum number of lines
 abbrev pub within_limit : ℕ → Verdict → Verdict
 within_limit count Open = if_room (nat_lt count max_lines)
 within_limit count verdict = verdict
@@ -92,7 +92,7 @@ judge_at format ends over count packet = if over then after_flush packet else ju
 abbrev pub judge : Format → Ends → List Packet → Packet → Verdict
 judge format ends packets packet = judge_at format ends (is_over packets) (length (texts_of packets)) packet
 
--- whether the packet has contents to store: each text line has
+-- whether the packet has contents to store, as every text line has
 abbrev pub brings : List Packet → Packet → Bool
 brings packets (Data payload) = true
 brings packets _ = false

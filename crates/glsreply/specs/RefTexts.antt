@@ -1,5 +1,5 @@
--- The parsing of the lines of the reply to ls-refs (gitprotocol-v2(5), "ls-refs"; its grammar is in `LsManual`). One
--- space separates the parts of a line, and the parts are checked from left to right.
+-- The parsing of the lines of an ls-refs reply (gitprotocol-v2(5), "ls-refs"). `LsManual` has the grammar of the lines.
+-- One space separates the parts of a line, and the parts are checked from left to right.
 use Rattle.std.specs.Prelude.{Bool, List, [], ◌∷◌, ◌++◌, codes, if◌then◌else◌, Option, Some, None, is_none}
 use Rattle.std.specs.Prelude.{Result, Ok, Err}
 use Rattle.std.specs.List.{slice_split}
@@ -42,12 +42,12 @@ abbrev pub symref_or_else : Option Bytes → Attribute → Attribute
 symref_or_else None other = other
 symref_or_else (Some target) other = Symref target
 
--- the attribute in a part after the name, with its value not yet checked
+-- the attribute that one part of a line after the name encodes; the value of the attribute is not checked yet
 unfoldable pub attribute_of : Bytes → Attribute
 attribute_of part =
     symref_or_else (after_word (codes "symref-target:") part) (peeled_or_unknown (after_word (codes "peeled:") part))
 
--- the line with a symref target; a second target is refused before its name is checked
+-- the line with this symref target; a line that already has a target is refused before the new target is checked
 abbrev pub with_symref : RefLine → Bytes → Result RefLine Why
 with_symref line target =
     if is_none line.symref

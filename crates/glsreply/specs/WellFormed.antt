@@ -1,4 +1,4 @@
--- The replies to ls-refs that can be written.
+-- The ls-refs replies that can be written.
 use Rattle.std.specs.Prelude.{ℕ, ◌+◌, ◌≤◌, Bool, true, false, ◌&&◌, ◌||◌, nat_lt, List, [], ◌∷◌, ◌++◌, length, All}
 use Rattle.std.specs.Prelude.{IfSome, is_some, Some, Result}
 use Rattle.std.specs.Option.{option_map_or}
@@ -13,7 +13,7 @@ use Rattle.ggrammar.specs.declared.fault.MessageFault.{MessageFault}
 use Rattle.glsreply.specs.RefTexts.{RefLine}
 use Rattle.glsreply.specs.LsReplies.{LsReply, max_lines, unborn_packets}
 
--- a valid line of a ref whose ids have the given format
+-- a valid line of a ref; the ids in the line have the given format
 pub record IsRefLine (format : Format) (line : RefLine) : Type 0 where
   pub id : IsIdOf format line.id
   pub name : IsRefName line.name
@@ -33,7 +33,7 @@ BeginsIn format (line ∷ lines) = IsIdOf format line.id
 abbrev pub line_count : LsReply → ℕ
 line_count reply = length (unborn_packets reply.unborn) + length reply.lines
 
--- the position of the last packet: the flush after the lines, or the response-end after the flush
+-- the position of the last packet of a reply: the flush after the lines, or the response-end after the flush
 abbrev pub last_frame : Ends → LsReply → ℕ
 last_frame ends reply = line_count reply + length (ends_with ends)
 

@@ -1,5 +1,5 @@
-//! Laws of the reply to ls-refs. Each function does nothing at run time, and its contract states
-//! the law. A proof may use the law after a call of the function.
+//! Laws about ls-refs replies. Each function does nothing at run time, and its contract states the
+//! law. A proof may use the law after a call to the function.
 
 ghost use Rattle.std.specs.Prelude.{◌≡◌, ◌+◌, List, length};
 ghost use Rattle.gname.specs.declared.formats.Format.{Format};
@@ -20,7 +20,7 @@ use gname::laws::{
     texts_have_one_reading,
 };
 
-/// [`MAX_LINES`] equals the limit of the specs, `max_lines`.
+/// The constant [`MAX_LINES`] equals the limit `max_lines` of the specs.
 pub fn limits_are_the_constants()
     ensures lines { MAX_LINES ≡ max_lines }
 {}
@@ -46,7 +46,7 @@ pub fn prefix_free()
 }
 
 /// Every list of packets that `judge` accepts as incomplete is a prefix of some reply. A refused
-/// packet is the first one with which no reply can continue.
+/// packet is the first packet with which no reply can continue.
 pub fn endings()
     ensures endings { (format : Format) (ends : Ends) → HasEndings (judge format ends) }
     ensures first { (format : Format) (ends : Ends) → RefusesFirstMisfits (judge format ends) }
@@ -54,8 +54,8 @@ pub fn endings()
     grammars_are_exact();
 }
 
-/// `judge` refuses a packet only because of its contents. Any input either begins with a reply or
-/// is refused because of its bytes.
+/// `judge` refuses a packet only because of the packet's contents. Any input either begins with a
+/// reply or is refused because of its bytes.
 pub fn every_input()
     ensures packets { (format : Format) (ends : Ends) → RefusesPackets (judge format ends) }
     ensures bytes { (format : Format) (ends : Ends)
@@ -101,7 +101,7 @@ pub fn last_frame()
     manual();
 }
 
-// The kind of message "reply to ls-refs", for an object format and an ending.
+// The kind of message "ls-refs reply", for an object format and an ending.
 struct Replies;
 
 impl MessageKind for Replies {

@@ -56,7 +56,7 @@ impl<'a, A: Allocator + Copy> LentLine<'a, A> {
         }
     }
 
-    /// A law: the ids and the names of a line are well-formed.
+    /// A law: the ids and the names in a line are well-formed.
     pub(crate) fn laws(&self)
         ensures { IsLine (lent_view self.now) }
     {
@@ -71,8 +71,8 @@ impl<'a, A: Allocator + Copy> LentLine<'a, A> {
     }
 }
 
-/// The text of a ref's line. The buffer has room for any such text, so it never allocates. It can
-/// be reused for other lines.
+/// The text of a ref's line. The buffer has room for the text of any line, so it never allocates.
+/// The buffer can be reused for other lines.
 #[derive(Drop)]
 pub struct RefText {
     text: ArrayVec<u8, MAX_REF_TEXT>,
@@ -96,9 +96,9 @@ impl RefText {
         }
     }
 
-    /// Replaces the text by that of a line: the id, a space, the name, ` symref-target:` with its
-    /// name, and ` peeled:` with its id. The two attributes are optional. The text has no line
-    /// feed, and the ids are in lower case.
+    /// Replaces the text by the text of `line`: the id, a space, the name, ` symref-target:` with
+    /// the target, and ` peeled:` with the peeled id. The two attributes are optional. The text has
+    /// no line feed, and the ids are in lower case.
     pub fn set<A: Allocator + Copy>(&mut self, line: &LentLine<'_, A>)
         ensures text { self.new ≡ ref_text (lent_view line.now) }
         ensures long { length self.new ≤ max_ref_text }

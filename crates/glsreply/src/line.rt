@@ -60,8 +60,8 @@ fn is_name(text: &[u8]) -> bool
     RefName::check(text).is_ok()
 }
 
-/// Parses a text as the line of a ref. Returns its parts, or the reason why the text is not such a
-/// line. It does not allocate.
+/// Parses a text as the line of a ref. Returns the parts of the line, or the reason why the text is
+/// not the line of a ref. Allocates nothing.
 #[tactic(auto, unfolding(crate::specs::RefTexts::line_of))]
 pub(crate) fn line_of(format: Format, text: &[u8]) -> Result<LineParts<'_>, Why>
     ensures { line_read result ≡ line_of format text.now }
@@ -147,7 +147,7 @@ fn attribute_of(part: &[u8]) -> Attribute<'_>
 }
 
 /// Returns the kind of a reply's first line. A line whose first word is `unborn` reports an unborn
-/// `HEAD`. It does not allocate.
+/// `HEAD`. Allocates nothing.
 #[tactic(auto, unfolding(crate::specs::RefTexts::first_form))]
 pub(crate) fn first_form(text: &[u8]) -> FirstText<'_>
     ensures { form_view result ≡ first_form text.now }

@@ -22,7 +22,7 @@ use gname::{Format, RefName};
 use gpkt::{Packet, PacketReader, Source, text_of};
 use std::alloc::{AllocError, Allocator};
 
-/// Reads the reply to ls-refs of a repository whose ids are SHA-1, as [`read_ls_reply_in`] does.
+/// Reads an ls-refs reply with SHA-1 ids, as [`read_ls_reply_in`] does.
 pub fn read_ls_reply<S: Source, A: Allocator + Copy, B: Allocator + Copy>(
     reader: &mut PacketReader<S, A>,
     ends: Ends,
@@ -37,14 +37,14 @@ pub fn read_ls_reply<S: Source, A: Allocator + Copy, B: Allocator + Copy>(
     read_ls_reply_in(reader, Format::Sha1, ends, alloc)
 }
 
-/// Reads one reply to ls-refs exactly to its end (gitprotocol-v2(5), "ls-refs"). The ids of the
-/// reply have the given format.
+/// Reads one ls-refs reply exactly to its end (gitprotocol-v2(5), "ls-refs"). The ids of the reply
+/// have the given format.
 ///
 /// The fault states the reason, and the position of the first packet that does not fit. A fault of
-/// the packet reader ([`Why::Packet`]) takes precedence over all others. Next is the end of the
+/// the packet reader ([`Why::Line`]) takes precedence over all other faults. Next is the end of the
 /// input ([`Why::Ended`]), then an error that the peer reports ([`Why::RemoteErr`]), and last a
-/// refusal by the grammar. The grammar checks a line from left to right. A well-formed line 65,538
-/// is refused with [`Why::Limit`]. [`Why::Memory`] is reported only at a line that the grammar
+/// refusal by the grammar. The grammar checks a line from left to right. A well-formed 65,538th
+/// line is refused with [`Why::Limit`]. [`Why::Memory`] is reported only at a line that the grammar
 /// accepts. The packet reader is unusable after a refusal exactly if the packet reader itself
 /// refused the packet.
 pub fn read_ls_reply_in<S: Source, A: Allocator + Copy, B: Allocator + Copy>(

@@ -1,4 +1,4 @@
-//! The reply to ls-refs as an owned value.
+//! An ls-refs reply as an owned value.
 
 ghost use Rattle.std.specs.Prelude.{◌≡◌, [], length, IfErr, None};
 ghost use Rattle.std.specs.List.{slice_get};
@@ -54,7 +54,7 @@ impl<A: Allocator + Copy> RefLine<A> {
     }
 }
 
-/// The reply to ls-refs: the target of an unborn `HEAD`, and the refs, in order. All ids have one
+/// An ls-refs reply: the target of an unborn `HEAD`, and the refs, in order. All ids have the same
 /// format.
 #[derive(Debug, Drop)]
 pub struct LsReply<A: Allocator + Copy> {
@@ -74,7 +74,7 @@ impl<A: Allocator + Copy> Model for LsReply<A> {
 }
 
 impl<A: Allocator + Copy> LsReply<A> {
-    /// Returns a reply without lines. It does not allocate.
+    /// Returns a reply without lines. Allocates nothing.
     pub fn new(alloc: A) -> LsReply<A>
         ensures { result ≡ record { unborn = None; lines = [] } }
     {
@@ -93,7 +93,7 @@ impl<A: Allocator + Copy> LsReply<A> {
     }
 
     /// Sets the target of an unborn `HEAD`. Fails with `Limit` and changes nothing if the reply has
-    /// no room for another line. It does not allocate.
+    /// no room for another line. Allocates nothing.
     pub fn set_unborn(&mut self, target: RefName<A>) -> Result<(), MessageFault>
         ensures sets { SetsUnborn self.old target self.new result }
         ensures full { IfErr result (λ fault. fault.why ≡ Limit) }
@@ -107,9 +107,9 @@ impl<A: Allocator + Copy> LsReply<A> {
         Ok(())
     }
 
-    /// Adds a line. Fails with `BadText` if its ids differ in format from each other or from the
-    /// earlier lines. Otherwise fails with `Limit` if the reply has no room for another line, or
-    /// with `Memory`. A failed call leaves the reply unchanged.
+    /// Adds a line. Fails with `BadText` if the ids of the line differ in format from each other or
+    /// from the ids of earlier lines. Otherwise fails with `Limit` if the reply has no room for
+    /// another line, or with `Memory`. A failed call leaves the reply unchanged.
     pub fn push(&mut self, line: RefLine<A>) -> Result<(), MessageFault>
         ensures { Pushes self.old line self.new result }
     {
@@ -152,8 +152,8 @@ impl<A: Allocator + Copy> LsReply<A> {
         self.lines.len()
     }
 
-    /// Returns the position of the last packet, which is the flush, or the response-end if `ends`
-    /// has one.
+    /// Returns the position of the reply's last packet: the response-end if `ends` requires one,
+    /// otherwise the flush.
     pub fn last_frame(&self, ends: Ends) -> u64
         ensures { result ≡ last_frame ends self.now }
     {
@@ -187,7 +187,7 @@ impl<A: Allocator + Copy> LsReply<A> {
     }
 }
 
-// Returns whether the ids of `line` have one format, the same as the ids of `lines`.
+// Returns whether the ids of `line` and of `lines` all have the same format.
 fn goes_with<A: Allocator + Copy>(lines: &[RefLine<A>], line: &RefLine<A>) -> bool
     ensures { result ≡ has_one_format lines.now line.now }
 {

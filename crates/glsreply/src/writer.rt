@@ -23,12 +23,12 @@ use gpkt::{PacketWriter, Sink, WriteFault};
 use std::alloc::Allocator;
 
 /// Writes a reply: an unborn `HEAD` if there is one, each ref, a flush, and a response-end if
-/// `ends` has one (gitprotocol-v2(5), "ls-refs"). It does not allocate.
+/// `ends` requires one (gitprotocol-v2(5), "ls-refs"). Allocates nothing.
 ///
-/// Fails with `Io` if the sink fails, after it may have written a prefix of the reply. Fails with
-/// `Failed` if the writer had failed before. Never fails with `Payload`. The reply meets the
-/// conditions of [`reads_back`](crate::laws::reads_back) in the format of its ids, so it reads
-/// back.
+/// Fails with `Io` if the sink fails; a prefix of the reply may then have been written. Fails with
+/// `Failed` if the writer had failed before. Never fails with `Payload`. Every reply meets the
+/// conditions of [`reads_back`](crate::laws::reads_back) in the format of its ids, so a written
+/// reply reads back.
 pub fn write_ls_reply<A: Allocator + Copy, W: Sink>(
     reply: &LsReply<A>,
     ends: Ends,
@@ -47,10 +47,10 @@ pub fn write_ls_reply<A: Allocator + Copy, W: Sink>(
     write_refs(lines, ends, writer)
 }
 
-/// Writes the line of an unborn `HEAD` with its target, or nothing if `target` is `None`. It does
-/// not allocate.
+/// Writes the line of an unborn `HEAD` with this target, or nothing if `target` is `None`.
+/// Allocates nothing.
 ///
-/// A caller who writes a reply line by line calls `write_unborn`, then [`write_ref`] for each ref,
+/// A caller that writes a reply line by line calls `write_unborn`, then [`write_ref`] for each ref,
 /// then [`write_end`]. The bytes are those of [`write_ls_reply`], and each function fails as
 /// [`write_ls_reply`] does.
 pub fn write_unborn<A: Allocator + Copy, W: Sink>(
@@ -87,11 +87,12 @@ fn write_refs<A: Allocator + Copy, W: Sink>(
     write_end(ends, writer)
 }
 
-/// Writes the line of a ref. The function uses `text` as a buffer and overwrites it. It does not
-/// allocate, and it fails as [`write_ls_reply`] does.
+/// Writes the line of a ref. The function uses `text` as a buffer and overwrites it. Allocates
+/// nothing, and fails as [`write_ls_reply`] does.
 ///
 /// If both ids of the line have a format, the line is valid in a reply of that format. The caller
-/// ensures that all ids of a reply have one format, because a reader refuses any other id.
+/// must ensure that all ids of a reply have the same format, because a reader refuses an id of
+/// another format.
 pub fn write_ref<A: Allocator + Copy, W: Sink>(
     line: &LentLine<'_, A>,
     text: &mut RefText,
@@ -110,8 +111,8 @@ pub fn write_ref<A: Allocator + Copy, W: Sink>(
     writer.text(text.as_bytes())
 }
 
-/// Writes the end of a reply: a flush, and a response-end if `ends` has one. It does not allocate,
-/// and fails as [`write_ls_reply`] does.
+/// Writes the end of a reply: a flush, and a response-end if `ends` requires one. Allocates
+/// nothing, and fails as [`write_ls_reply`] does.
 pub fn write_end<W: Sink>(ends: Ends, writer: &mut PacketWriter<W>) -> Result<(), WriteFault>
     ensures { WritesPackets W.contents W.passed_on W.is_down W.loans writer.old writer.new result
         (Flush ∷ ends_with ends) }

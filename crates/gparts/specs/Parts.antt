@@ -9,8 +9,8 @@ use Rattle.gobject.specs.declared.node.Entry.{Entry}
 abbrev pub Gives : Type 1
 Gives = List ℕ → Option PackFault → Type 0
 
--- the bytes of a completed pack are a pack of the list, and any other bytes end with a fault that the packer permits
--- for the list
+-- if the bytes complete the pack, they are a pack of the list; if they end with a fault, the packer may fail with this
+-- fault for the list
 pub record Begins {A : Type 0} (packs : Packs A) (fails : PackFails A) (list : List (Entry A)) (gives : Gives)
     (most : ℕ) : Type 0 where
   pub whole : (bytes : List ℕ) → gives bytes None → MayPack packs list bytes

@@ -3,16 +3,16 @@
 //! # Proved
 //!
 //! - The parts of a [`PartPacker`], in order, are a pack of the entries, of at most
-//!   `gname::MAX_PACK` bytes. A packer fails only with one of its own faults.
+//!   `gname::MAX_PACK` bytes. A packer fails only with a fault that its `pack_fails` permits.
 //! - Any packer of `gobject` becomes a [`PartPacker`] as a [`WholePack`], with the same packs and
 //!   faults.
 //! - No call panics, overflows or reads out of bounds, and each call returns.
 //!
 //! # What the contracts do not rule out
 //!
-//! A packer may be slow, use more memory than it needs, and need many calls, if each call returns
-//! at least one byte. A packer may fail after any part. The parts before a fault need not be the
-//! start of a pack.
+//! A packer may be slow, use more memory than it needs, and need many calls, as long as each call
+//! returns at least one byte. A packer may fail after any part. The parts before a fault need not
+//! be the start of a pack.
 //!
 //! This crate has no tests.
 //!

@@ -10,8 +10,8 @@ use std::alloc::Allocator;
 
 /// A packer that writes entries as a pack, and returns it in parts.
 ///
-/// `packs` gives the packs that the packer may return for a list of entries, and `pack_fails` its
-/// possible faults. A fault may occur after some parts.
+/// `packs` states which packs the packer may return for a list of entries, and `pack_fails` states
+/// the faults that it may return. A fault may occur after some parts.
 pub trait PartPacker<A: Allocator + Copy> {
     /// The state of a pack that is being returned in parts.
     type Parts: Drop;
@@ -26,7 +26,8 @@ pub trait PartPacker<A: Allocator + Copy> {
     // The maximum number of bytes that may still be returned.
     ghost most: { Self → Self.Parts → ℕ };
 
-    /// Starts a pack of the entries, of at most `gname::MAX_PACK` bytes, in memory of `alloc`.
+    /// Starts a pack of the entries, of at most `gname::MAX_PACK` bytes. Memory is allocated with
+    /// `alloc`.
     fn begin(&self, alloc: A, entries: &[Entry<A>]) -> Result<Self::Parts, PackFault>
         ensures { MatchResult result
             (λ parts. Begins (packs self.now) (pack_fails self.now) entries.now

@@ -27,7 +27,7 @@ impl<'a, K> WholePack<'a, K> {
 #[derive(Drop)]
 pub struct WholeParts<A: Allocator + Copy> {
     pack: Vec<u8, A>,
-    // The number of bytes that were returned.
+    // The number of bytes returned so far.
     given: usize,
 }
 

@@ -1,5 +1,5 @@
 -- Side bands (gitprotocol-pack(5), "Packfile Data"; gitprotocol-v2(5), "fetch", "packfile"). The first byte of a
--- payload names the band of the other bytes.
+-- payload is the number of the band that carries the other bytes.
 use Rattle.std.specs.Prelude.{◌≡◌, ℕ, ◌-◌, ◌≤◌, ◌↔◌, [], ◌∷◌, length, if◌then◌else◌, ◌==◌, Result, Ok, Err}
 use Rattle.gpkt.specs.Packets.{Bytes, max_payload}
 use Rattle.gpkt.specs.declared.band.Band.{Band}
@@ -13,7 +13,7 @@ pub data BandPacket : Type 0 where
   Progress : (bytes : Bytes) → BandPacket
   Fatal : (bytes : Bytes) → BandPacket
 
--- the first byte of a payload on each band
+-- the first byte of a payload, for each band
 abbrev pub data_band : ℕ
 data_band = 1
 
@@ -51,7 +51,7 @@ unfoldable pub band_form : Bytes → Result BandPacket BandFault
 band_form [] = Err NoBand
 band_form (first ∷ bytes) = band_at first bytes
 
--- a borrowed side-band packet as plain bytes
+-- a borrowed side-band packet as a value without addresses
 abbrev pub band_packet : Band → BandPacket
 band_packet (lent.Data bytes) = Data bytes.now
 band_packet (lent.Progress bytes) = Progress bytes.now

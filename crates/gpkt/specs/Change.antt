@@ -2,7 +2,7 @@
 use Rattle.std.specs.Prelude.{Option, MatchOption, ⊤}
 use Rattle.gpkt.specs.Packets.{Bytes}
 
--- the bytes of a device before and after a call, if they are known
+-- the bytes of a device before and after a call, each if known
 pub record Change : Type 0 where
   pub old : Option Bytes
   pub new : Option Bytes

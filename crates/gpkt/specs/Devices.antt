@@ -1,4 +1,4 @@
--- Devices, and the results of their calls apart from the bytes read or written.
+-- Devices, and the results of calls to them, apart from the bytes read or written.
 use Rattle.std.specs.Prelude.{◌≡◌, ℕ, ◌<◌, Bool, ◌++◌, length, Option, Result, IfOk, IsErr, IsSome, IsTrue}
 use Rattle.gpkt.specs.Change.{Change, WhereKnown}
 use Rattle.gpkt.specs.Packets.{Bytes}
@@ -7,7 +7,7 @@ use Rattle.gpkt.specs.Packets.{Bytes}
 abbrev pub TakesSome : {E : Type 0} → Result ℕ E → Bytes → Type 0
 TakesSome result bytes = 0 < length bytes → IfOk result (λ count. 0 < count)
 
--- a call of a device that is down fails
+-- a call to a device that is down fails
 abbrev pub AnswersDown : {A E : Type 0} → Bool → Result A E → Type 0
 AnswersDown was_down result = IsTrue was_down → IsErr result
 
@@ -19,7 +19,7 @@ PassesAll written passed_on = IsSome passed_on.old → passed_on.new ≡ written
 abbrev pub KeepsPassed : Change → Type 0
 KeepsPassed passed_on = WhereKnown passed_on (λ old new. (more : Bytes) × (new ≡ old ++ more))
 
--- a device over an inner reader or writer, and whether the device has failed
+-- a device that wraps a reader or a writer, and whether the device has failed
 pub record Device (X : Type 0) : Type 0 where
   pub inner : X
   pub down : Bool

@@ -29,7 +29,7 @@ write_fault_row write.Failed = packet_fault_row line.Failed
 write_fault_row write.Payload = (26, codes "Payload")
 write_fault_row write.Io = (27, codes "Io")
 
--- the number and the name of each reason why a payload has no band
+-- the number and the name of each reason why a payload has no valid band
 abbrev pub band_fault_row : BandFault → FaultRow
 band_fault_row band.NoBand = (29, codes "NoBand")
 band_fault_row band.BadBand = (30, codes "BadBand")

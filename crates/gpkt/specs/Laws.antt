@@ -1,4 +1,4 @@
--- Laws of the encoding, reading and writing of packets.
+-- Laws about the encoding, reading and writing of packets.
 use Rattle.std.specs.Io.KnownBytes.{Appends}
 use Rattle.std.specs.Prelude.{◌≡◌, ◌≢◌, ℕ, ◌≤◌, ◌⊎◌, All, Bool, List, [], ◌∷◌, ◌++◌, length, Option, Some, Result, Ok}
 use Rattle.std.specs.Prelude.{Err, OnOk}
@@ -13,7 +13,7 @@ use Rattle.gpkt.specs.declared.fault.WriteFault.{WriteFault}
 use Rattle.gpkt.specs.declared.fault.PacketFault.TheVariants as packet_fault
 use Rattle.gpkt.specs.declared.fault.WriteFault.TheVariants as write_fault
 
--- the front of the bytes encodes at most one packet, and the packet ends at only one position
+-- the bytes begin with at most one encoded packet, and this packet ends at only one position
 abbrev pub OneReading : Type 0
 OneReading =
     (line other : Packet) (front next rest after : Bytes) → Spells line front → Spells other next
@@ -26,11 +26,11 @@ RefusedIsNoPacket =
     (fault : PacketFault) (line : Packet) (bytes front rest : Bytes) → NoPacket fault bytes
     → front ++ rest ≡ bytes → ¬ Spells line front
 
--- there is at most one fault for which a reader rejects the same bytes
+-- a reader can reject the same bytes with only one fault
 abbrev pub OneFault : Type 0
 OneFault = (fault other : PacketFault) (bytes : Bytes) → NoPacket fault bytes → NoPacket other bytes → fault ≡ other
 
--- the result is not a failure of the source, and the reader had not failed before the call
+-- the bytes determine the result: the source did not fail, and the reader had not failed before the call
 abbrev pub IsOfBytes : Result (Option Packet) PacketFault → Type 0
 IsOfBytes result = (result ≢ Err packet_fault.Io) × (result ≢ Err packet_fault.Failed)
 
@@ -45,7 +45,7 @@ OneOutcome =
 abbrev pub SpellsAtFront : Bytes → Type 0
 SpellsAtFront bytes = (line : Packet) × (front : Bytes) × (rest : Bytes) × (bytes ≡ front ++ rest) × Spells line front
 
--- bytes are empty, or begin with an encoded packet, or have a fault for which a reader rejects them
+-- every byte sequence is empty, or begins with an encoded packet, or is rejected by a reader with a fault
 abbrev pub EveryFront : Type 0
 EveryFront =
     (bytes : Bytes) → (bytes ≡ []) ⊎ (SpellsAtFront bytes ⊎ ((fault : PacketFault) × NoPacket fault bytes))
@@ -68,7 +68,7 @@ CanonicalSpellsAll = (lines : List Packet) → All Fits lines → SpellsAll line
 abbrev pub CanonicalJoins : Type 0
 CanonicalJoins = (lines more : List Packet) → canonical_all (lines ++ more) ≡ canonical_all lines ++ canonical_all more
 
--- the encoding of one list of packets, followed by that of another, encodes the concatenated list
+-- an encoding of one list of packets, followed by an encoding of another list, encodes the concatenated list
 abbrev pub SpellingsJoin : Type 0
 SpellingsJoin =
     (lines more : List Packet) (front rest : Bytes) → SpellsAll lines front → SpellsAll more rest
@@ -78,13 +78,14 @@ abbrev pub SpellingsSplit : Type 0
 SpellingsSplit = (lines more : List Packet) (bytes : Bytes) → SpellsAll (lines ++ more) bytes
     → (front : Bytes) × (rest : Bytes) × (bytes ≡ front ++ rest) × SpellsAll lines front × SpellsAll more rest
 
--- the packets are a prefix of the longer list, and the front of `rest` encodes the remaining packets, up to `after`
+-- the first list is a prefix of the second, and `rest` begins with the encoding of the remaining packets, followed by
+-- `after`
 abbrev pub BeginsWith : List Packet → List Packet → Bytes → Bytes → Type 0
 BeginsWith lines longer rest after =
     (more : List Packet) × (bytes : Bytes) × (longer ≡ lines ++ more) × SpellsAll more bytes
     × (rest ≡ bytes ++ after)
 
--- if two lists of packets are encoded at the front of the same bytes, one list is a prefix of the other
+-- if the same bytes begin with the encodings of two lists of packets, one list is a prefix of the other
 abbrev pub OneBegins : Type 0
 OneBegins =
     (lines others : List Packet) (front next rest after : Bytes) → SpellsAll lines front
@@ -99,7 +100,7 @@ TextOfLine = (words : Bytes) → text (words ++ line_feed ∷ []) ≡ words
 abbrev pub TextOrLine : Type 0
 TextOrLine = (payload : Bytes) → (payload ≡ text payload) ⊎ (payload ≡ text payload ++ line_feed ∷ [])
 
--- without a call, no packets are read
+-- if no call is made, the empty list of packets is read
 abbrev pub ReadsNone : Type 0
 ReadsNone = (bytes : Option Bytes) → ReadsPackets (record { old = bytes; new = bytes }) []
 
@@ -120,7 +121,7 @@ module _
     {W : Type 0} (contents_of passed_on_of : W → Option Bytes) (is_down : W → Bool)
     (loans_of : W → List ℕ)
   where
-    -- the outcome of one call of a writer that writes these bytes
+    -- the outcome of one call to a writer, which writes these bytes
     abbrev pub Writes : Writer W → Writer W → Result Unit WriteFault → Bytes → Type 0
     Writes old new result bytes = HasWritten contents_of passed_on_of is_down loans_of old new result bytes
 
@@ -130,13 +131,13 @@ module _
         (old mid new : Writer W) (bytes more : Bytes) (result : Result Unit WriteFault) → Writes old mid (Ok tt) bytes
         → Writes mid new result more → result ≢ Err write_fault.Payload → Writes old new result (bytes ++ more)
 
-    -- a failed write has the outcome of a failed write of more bytes
+    -- a failed write of some bytes has the outcome of a failed write of these bytes and more bytes after them
     abbrev pub FailsOfMore : Type 0
     FailsOfMore =
         (old new : Writer W) (bytes more : Bytes) (fault : WriteFault) → Writes old new (Err fault) bytes
         → fault ≢ write_fault.Payload → Writes old new (Err fault) (bytes ++ more)
 
-    -- a flush keeps the bytes written before it, and a successful flush leaves all of them flushed
+    -- a flush keeps all bytes written before it, and after a successful flush all these bytes are flushed
     abbrev pub PushesWritten : Type 0
     PushesWritten =
         (old mid new : Writer W) (bytes : Bytes) (result : Result Unit WriteFault) → Writes old mid (Ok tt) bytes

@@ -1,4 +1,4 @@
--- The result of one call of a packet reader, and the bytes that the call consumes (gitprotocol-common(5), "pkt-line
+-- The result of one call to a packet reader, and the bytes that the call consumes (gitprotocol-common(5), "pkt-line
 -- Format").
 use Rattle.std.specs.Prelude.{◌≡◌, ℕ, ◌<◌, ◌≤◌, ◌⊎◌, Bool, true, false, List, [], ◌++◌, length, take, drop, Option}
 use Rattle.std.specs.Prelude.{Some, None, option_map, Result, Ok, Err}
@@ -18,13 +18,13 @@ pub record Reader (S : Type 0) : Type 0 where
 abbrev pub AnnouncesAtFront : Bytes → ℕ → Type 0
 AnnouncesAtFront bytes announced = (digit_count ≤ length bytes) × (number_of (take digit_count bytes) ≡ Some announced)
 
--- an incomplete packet: fewer bytes than four digits, or fewer than the digits announce
+-- an incomplete packet: fewer than four bytes, or fewer bytes than the digits announce
 abbrev pub IsPartialPacket : Bytes → Type 0
 IsPartialPacket bytes =
     (length bytes < digit_count)
     ⊎ ((announced : ℕ) × AnnouncesAtFront bytes announced × (announced ≤ max_packet) × (length bytes < announced))
 
--- the fault for which these bytes, the rest of the input, do not begin with an encoded packet
+-- the reason why the rest of the input does not begin with an encoded packet
 abbrev pub NoPacket : PacketFault → Bytes → Type 0
 NoPacket BadDigits bytes = (digit_count ≤ length bytes) × (number_of (take digit_count bytes) ≡ None)
 NoPacket Reserved bytes = AnnouncesAtFront bytes reserved_len
@@ -54,22 +54,23 @@ Reads bytes result = WhereKnown bytes (λ old new. Gives old new result)
 abbrev pub ReadsPackets : Change → List Packet → Type 0
 ReadsPackets bytes lines = WhereKnown bytes (λ old new. (front : Bytes) × (old ≡ front ++ new) × SpellsAll lines front)
 
--- the result of a read with the borrowed payload as plain bytes
+-- the result of a read, with the borrowed payload as a value without address
 abbrev pub read_of : Result (Option LentPacket) PacketFault → Result (Option Packet) PacketFault
 read_of (Ok line) = Ok (option_map packet_of line)
 read_of (Err fault) = Err fault
 
--- the faults of a read, which does not allocate
+-- the faults that a read can return: all faults except `Memory`
 abbrev pub IsReadFault : PacketFault → Type 0
 IsReadFault Memory = ⊥
 IsReadFault _ = Unit {0}
 
 module _ {S : Type 0} (remaining_of : S → Option Bytes) (is_down : S → Bool) (loans_of : S → List ℕ) where
-  -- the reader had not failed before, and afterwards the reader has this failed flag and the source this down flag
+  -- the reader had not failed before the call; the two booleans state whether the reader has failed, and whether the
+  -- source is down, after the call
   abbrev pub SetsReader : Reader S → Reader S → Bool → Bool → Type 0
   SetsReader old new failed down = (old.failed ≡ false) × (new.failed ≡ failed) × (is_down new.source ≡ down)
 
-  -- the failed flag of the reader and the down flag of its source after this result, for any source
+  -- whether the reader has failed, and whether its source is down, after a read with this result
   abbrev pub IsReaderAfter : Reader S → Reader S → Result (Option Packet) PacketFault → Type 0
   IsReaderAfter old new (Ok line) = SetsReader old new false false
   IsReaderAfter old new (Err BadDigits) = SetsReader old new true false
@@ -80,7 +81,7 @@ module _ {S : Type 0} (remaining_of : S → Option Bytes) (is_down : S → Bool)
   IsReaderAfter old new (Err Failed) = (old.failed ≡ true) × (new ≡ old)
   IsReaderAfter old new (Err Memory) = ⊥
 
-  -- the outcome of one call of a packet reader
+  -- the outcome of one call to a packet reader
   pub record HasRead (old new : Reader S) (result : Result (Option Packet) PacketFault) : Type 0 where
     pub bytes : Reads (change_of remaining_of old.source new.source) result
     pub after : IsReaderAfter old new result

@@ -1,4 +1,4 @@
--- The bytes that one call of a packet writer writes, and the state after the call (gitprotocol-common(5), "pkt-line
+-- The bytes that one call to a packet writer writes, and the state after the call (gitprotocol-common(5), "pkt-line
 -- Format").
 use Rattle.std.specs.Io.KnownBytes.{Appends, Keeps}
 use Rattle.std.specs.Prelude.{◌≡◌, ℕ, ◌<◌, Bool, true, false, List, ◌++◌, length, Option, Result, Ok, Err}
@@ -13,7 +13,7 @@ pub record Writer (W : Type 0) : Type 0 where
   pub sink : W
   pub failed : Bool
 
--- a proper prefix of these bytes is appended to the known bytes
+-- if the old bytes are known, a proper prefix of these bytes is appended to them
 abbrev pub AppendsFront : Change → Bytes → Type 0
 AppendsFront written bytes =
     (front : Bytes) × (rest : Bytes) × (bytes ≡ front ++ rest) × (0 < length rest)
@@ -23,7 +23,8 @@ module _
     {W : Type 0} (contents_of passed_on_of : W → Option Bytes) (is_down : W → Bool)
     (loans_of : W → List ℕ)
   where
-    -- the writer had not failed before, and afterwards it has this failed flag and its sink the same down flag
+    -- the writer had not failed before the call; the boolean states whether, after the call, the writer has failed and
+    -- its sink is down
     abbrev pub SetsWriter : Writer W → Writer W → Bool → Type 0
     SetsWriter old new failed = (old.failed ≡ false) × (new.failed ≡ failed) × (is_down new.sink ≡ failed)
 
@@ -43,7 +44,7 @@ module _
     Wrote old new (Err Payload) bytes = (old.failed ≡ false) × (new ≡ old)
     Wrote old new (Err Failed) bytes = (old.failed ≡ true) × (new ≡ old)
 
-    -- the outcome of one call that writes these bytes and flushes none
+    -- the outcome of one call that writes these bytes and does not flush the sink
     pub record HasWritten (old new : Writer W) (result : Result Unit WriteFault) (bytes : Bytes) : Type 0 where
       pub outcome : Wrote old new result bytes
       pub passed_on : Keeps (passed_on_of old.sink) (passed_on_of new.sink)

@@ -8,7 +8,7 @@ use Rattle.hex.specs.declared.error.FromHexError.{FromHexError}
 use Rattle.gpkt.specs.declared.packet.Packet.{Packet as LentPacket}
 use Rattle.gpkt.specs.declared.packet.Packet.TheVariants as lent
 
--- a sequence of bytes: a payload, a text or a pack
+-- a sequence of bytes, such as a payload, a text or a pack
 abbrev pub Bytes : Type 0
 Bytes = List ℕ
 
@@ -19,7 +19,7 @@ pub data Packet : Type 0 where
   Delim : Packet
   ResponseEnd : Packet
 
--- the number of digits at the start of each packet
+-- the number of hexadecimal digits at the start of each packet
 abbrev pub digit_count : ℕ
 digit_count = 4
 
@@ -45,7 +45,7 @@ response_end_len = 2
 abbrev pub reserved_len : ℕ
 reserved_len = 3
 
--- the number of values of a byte
+-- the number of different values of a byte
 abbrev pub byte_values : ℕ
 byte_values = 256
 
@@ -94,7 +94,7 @@ abbrev pub canonical_all : List Packet → Bytes
 canonical_all [] = []
 canonical_all (line ∷ lines) = canonical line ++ canonical_all lines
 
--- a borrowed packet as plain bytes
+-- a borrowed packet as a value without addresses
 abbrev pub packet_of : LentPacket → Packet
 packet_of (lent.Data payload) = Data payload.now
 packet_of lent.Flush = Flush

@@ -1,11 +1,11 @@
--- The bytes read from a source and written to a sink, before and after a call.
+-- The bytes that a call reads from a source and writes to a sink.
 use Rattle.std.specs.Io.KnownBytes.{Appends}
 use Rattle.std.specs.Prelude.{◌≡◌, Bool, true, false, ◌++◌, Option, Some, IsSome}
 use Rattle.gpkt.specs.Change.{Change, change_of}
 use Rattle.gpkt.specs.Devices.{PassesAll}
 use Rattle.gpkt.specs.Packets.{Bytes}
 
--- a source before and after a call: its unread bytes, if they are known, and whether it is down
+-- a source before and after a call: its unread bytes, if known, and whether the source is down
 pub record Input : Type 0 where
   pub read : Change
   pub was_down : Bool
@@ -15,7 +15,7 @@ abbrev pub input_of : {S : Type 0} → (S → Option Bytes) → (S → Bool) →
 input_of remaining is_down old new =
     record { read = change_of remaining old new; was_down = is_down old; is_down = is_down new }
 
--- the change of the source from the point where its unread bytes are `between`
+-- the part of the change after the point where `between` are the unread bytes of the source
 abbrev pub rest_of : Input → Option Bytes → Input
 rest_of input between = record {
   read = record { old = between; new = input.read.new };
@@ -23,7 +23,7 @@ rest_of input between = record {
   is_down = input.is_down;
 }
 
--- a sink before and after a call: its written and flushed bytes, if they are known, and whether it is down
+-- a sink before and after a call: its written and flushed bytes, if known, and whether the sink is down
 pub record Output : Type 0 where
   pub written : Change
   pub passed_on : Change

@@ -1,4 +1,4 @@
-//! Side bands: the first byte of a payload names the band of the other bytes.
+//! Side bands: the first byte of a payload is the number of the band that carries the other bytes.
 
 ghost use Rattle.std.specs.Prelude.{◌≡◌, ◌∷◌};
 ghost use Rattle.gpkt.specs.Bands.{band_at, band_form, band_packet, band_payload, band_read};
@@ -6,7 +6,7 @@ ghost use Rattle.gpkt.specs.Bands.{band_at, band_form, band_packet, band_payload
 use crate::fault::BandFault;
 use crate::packet::MAX_PAYLOAD;
 
-// The first byte of a payload on each band (gitprotocol-v2(5), "fetch", "packfile").
+// The first byte of a payload, for each band (gitprotocol-v2(5), "fetch", "packfile").
 const DATA: u8 = 1;
 
 const PROGRESS: u8 = 2;
@@ -41,7 +41,8 @@ impl<'a> Band<'a> {
     }
 }
 
-/// Returns the band that the first byte of a payload names.
+/// Returns the band of a payload, which the first byte of the payload selects, with the other
+/// bytes.
 ///
 /// Fails with [`NoBand`](BandFault::NoBand) if the payload is empty. Fails with
 /// [`BadBand`](BandFault::BadBand) if the first byte of the payload is not 1, 2 or 3.
@@ -54,7 +55,7 @@ pub fn band_of(payload: &[u8]) -> Result<Band<'_>, BandFault>
     }
 }
 
-// Returns the band of `bytes` that the byte `first` names.
+// Returns `bytes` on the band whose number is `first`.
 fn band_at(first: u8, bytes: &[u8]) -> Result<Band<'_>, BandFault>
     ensures { band_read result ≡ band_at first bytes.now }
 {

@@ -11,8 +11,8 @@ use std::error::Error;
 use std::marker::Model;
 use std::{fmt, io};
 
-/// The failure of a device. The device is down from this call on, and every later call fails in the
-/// same way.
+/// The failure of a device. The device is down from the failed call on, and every later call also
+/// fails.
 #[derive(Clone, Copy, Debug, PartialEq, Eq)]
 pub struct Down;
 
@@ -36,7 +36,7 @@ pub trait Source {
     // Whether the source has failed.
     ghost is_down: { Self → Bool };
 
-    // The names of the borrows through which the source is reached, outermost first.
+    // The identifiers of the borrows through which the source is accessed, outermost first.
     ghost loans: { Self → List ℕ };
 
     /// Reads bytes into the front of `buf` and returns their number. Returns 0 only at the end of
@@ -62,7 +62,7 @@ pub trait Sink {
     // Whether the sink has failed.
     ghost is_down: { Self → Bool };
 
-    // The names of the borrows through which the sink is reached, outermost first.
+    // The identifiers of the borrows through which the sink is accessed, outermost first.
     ghost loans: { Self → List ℕ };
 
     /// Writes bytes from the front of `buf` and returns their number. Returns 0 only if `buf` is
@@ -146,7 +146,8 @@ impl Latch {
         self.down
     }
 
-    /// Records the result of the inner call. The device fails exactly when that call failed.
+    /// Records the result of a call to the wrapped reader or writer. The device fails exactly when
+    /// that call failed.
     pub(crate) fn note<T>(&mut self, answer: io::Result<T>) -> Result<T, Down>
         ensures failed { IsErr result ↔ IsErr answer }
         ensures value { IfOk result (λ value. answer ≡ Ok value) }
@@ -159,8 +160,8 @@ impl Latch {
         }
     }
 
-    /// Records the result of the inner write of `buf`. The device fails exactly when that write
-    /// failed, or when it wrote no byte of a nonempty `buf`.
+    /// Records the result of a write of `buf` to the wrapped writer. The device fails exactly when
+    /// that write failed, or when it wrote no byte of a nonempty `buf`.
     pub(crate) fn note_write(
         &mut self,
         answer: io::Result<usize>,

@@ -145,7 +145,7 @@ impl fmt::Display for WriteFault {
 
 impl Error for WriteFault {}
 
-/// The reasons why a payload has no band.
+/// The reasons why a payload has no valid band.
 #[derive(Clone, Copy, Debug, PartialEq, Eq)]
 pub enum BandFault {
     /// The payload is empty and has no band byte.

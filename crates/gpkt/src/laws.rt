@@ -1,5 +1,5 @@
-//! Laws of packets. Each function does nothing at run time and provides the law to the proof of its
-//! caller.
+//! Laws about packets. Each function does nothing at run time and provides its law to the proof of
+//! the caller.
 
 ghost use Rattle.std.specs.Prelude.{◌≡◌};
 ghost use Rattle.gpkt.specs.Bands.{BandFits, BandIsPayload, BandIsRead, max_band};
@@ -9,22 +9,21 @@ ghost use Rattle.gpkt.specs.Packets.{max_packet, max_payload};
 use crate::device::Sink;
 use crate::{MAX_BAND, MAX_PACKET, MAX_PAYLOAD};
 
-/// The public constants equal the limits in the definitions.
+/// The public constants equal the limits in the specifications.
 pub fn limits_are_the_constants()
     ensures packet { MAX_PACKET ≡ max_packet }
     ensures payload { MAX_PAYLOAD ≡ max_payload }
     ensures band { MAX_BAND ≡ max_band }
 {}
 
-/// At most one packet is encoded at the front of the same bytes, and the packet ends at only one
-/// position.
+/// Bytes begin with at most one encoded packet, and this packet ends at only one position.
 #[tactic(auto, using(crate::proofs::Readings::one_reading_lem))]
 pub fn one_reading()
     ensures { OneReading }
 {}
 
-/// Bytes that a reader rejects do not begin with an encoded packet, and the reader has only one
-/// reason.
+/// Bytes that a reader rejects do not begin with an encoded packet, and there is only one possible
+/// reason to reject them.
 #[tactic(auto, using(crate::proofs::Readings::refused_lem, crate::proofs::Fronts::one_fault_lem))]
 pub fn refused_front()
     ensures no_packet { RefusedIsNoPacket }
@@ -38,8 +37,8 @@ pub fn one_outcome()
     ensures { OneOutcome }
 {}
 
-/// Bytes are empty, or begin with an encoded packet, or have a fault for which a reader rejects
-/// them.
+/// Every byte sequence is empty, or begins with an encoded packet, or is rejected by a reader with
+/// a fault.
 pub fn every_front()
     ensures { EveryFront }
 {}
@@ -66,7 +65,7 @@ pub fn spellings_join()
     ensures split { SpellingsSplit }
 {}
 
-/// If two lists of packets are encoded at the front of the same bytes, one list is a prefix of the
+/// If the same bytes begin with the encodings of two lists of packets, one list is a prefix of the
 /// other.
 #[tactic(auto, using(crate::proofs::Readings::one_begins_lem))]
 pub fn one_begins()
@@ -79,9 +78,9 @@ pub fn text_reads_back()
     ensures nothing_else { TextOrLine }
 {}
 
-/// A payload decodes to a band exactly when it is the band byte and then the bytes of that band.
-/// The payload fits into a packet exactly when it has at most [`MAX_BAND`](crate::MAX_BAND) bytes
-/// after the band byte.
+/// A payload decodes to a band exactly when it consists of the band byte and then the bytes of that
+/// band. The payload fits into a packet exactly when it has at most [`MAX_BAND`](crate::MAX_BAND)
+/// bytes after the band byte.
 #[tactic(auto, using(crate::proofs::Bands::band_is_read, crate::proofs::Bands::band_is_payload))]
 pub fn bands_are_read()
     ensures payload { BandIsRead }
@@ -89,7 +88,7 @@ pub fn bands_are_read()
     ensures fits { BandFits }
 {}
 
-/// Consecutive reads of packets are one read of the list of all these packets.
+/// Consecutive reads of packets have the effect of one read of the list of all these packets.
 #[tactic(auto, using(crate::proofs::Joins::reads_none, crate::proofs::Joins::reads_next, crate::proofs::Joins::reads_join))]
 pub fn reads_join()
     ensures none { ReadsNone }
@@ -97,7 +96,8 @@ pub fn reads_join()
     ensures join { ReadsJoin }
 {}
 
-/// Consecutive writes are one write of all the bytes, and a push flushes all of them.
+/// Consecutive writes have the effect of one write of all the bytes, and a push flushes all these
+/// bytes.
 #[tactic(auto, using(crate::proofs::Joins::writes_join, crate::proofs::Joins::fails_of_more, crate::proofs::Joins::pushes_written))]
 pub fn writes_join<W: Sink>()
     ensures join { WritesJoin W.contents W.passed_on W.is_down W.loans }

@@ -1,5 +1,5 @@
-//! Devices in memory, and a wrapper that limits a device. These devices serve tests, and callers
-//! whose bytes are in memory.
+//! Devices in memory, and a wrapper that limits a device. These devices are for tests, and for
+//! callers whose bytes are in memory.
 
 ghost use Rattle.std.specs.Prelude.{◌≡◌, ◌<◌, ◌≤◌, ◌⊎◌, ◌++◌, [], false, Some, length, take, drop};
 
@@ -52,7 +52,8 @@ impl Source for SliceSource<'_> {
     }
 }
 
-// Copies as many bytes as both slices allow, and returns their number.
+// Copies the front of `from` into the front of `to`, as many bytes as fit, and returns their
+// number.
 fn copy_front(from: &[u8], to: &mut [u8]) -> usize
     ensures bound { result ≤ length from.now }
     ensures room { result ≤ length to.old }
@@ -172,8 +173,8 @@ impl<A: Allocator + Copy> Sink for VecSink<A> {
 
 /// A device that moves only a limited number of bytes per call, and fails at a chosen call.
 ///
-/// The limit and the failing call are only tested. The contracts cover the inner device and whether
-/// the wrapper has failed.
+/// The limit and the failing call are only tested. The contracts cover the wrapped device and
+/// whether the wrapper has failed.
 #[derive(Drop)]
 pub struct Limited<D> {
     device: D,
@@ -215,7 +216,8 @@ impl<D> Limited<D> {
         self
     }
 
-    /// Makes the first read or write after `calls` calls fail. Flushes are not counted.
+    /// Lets `calls` reads or writes proceed, and makes the next read or write fail. Flushes are not
+    /// counted.
     pub fn failing_after(mut self, calls: usize) -> Limited<D>
         ensures { result ≡ self }
     {
@@ -223,7 +225,7 @@ impl<D> Limited<D> {
         self
     }
 
-    /// Returns the inner device, as the calls left it.
+    /// Returns the wrapped device in its current state.
     pub fn into_inner(self) -> D
         ensures { result ≡ self.inner }
     {

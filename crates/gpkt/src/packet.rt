@@ -1,6 +1,6 @@
 //! One packet.
 
-/// The number of digits at the start of a packet.
+/// The number of hexadecimal digits at the start of a packet.
 pub(crate) const DIGITS: usize = 4;
 
 /// The value of the digits of each special packet.

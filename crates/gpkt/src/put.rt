@@ -9,11 +9,11 @@ ghost use Rattle.gpkt.specs.PacketWriting.{AppendsFront};
 use crate::device::{Down, Sink};
 use crate::packet::{DIGITS, MAX_PAYLOAD};
 
-/// Writes all of the bytes, in as many calls of the sink as needed. The sink is not called if
-/// `bytes` is empty.
+/// Writes all bytes, with as many calls to the sink as needed. The sink is not called if `bytes` is
+/// empty.
 ///
-/// After an error, only a prefix of the bytes was written, and the sink is down. Written bytes may
-/// still be buffered until a [`Sink::flush`]. A sink that was down before the call stays down.
+/// If the call fails, only a prefix of the bytes was written, and the sink is down. Written bytes
+/// may still be buffered until a [`Sink::flush`]. A sink that was down before the call stays down.
 pub fn write_all<W: Sink>(sink: &mut W, bytes: &[u8]) -> Result<(), Down>
     ensures ok { OnOk result (Appends (W.contents sink.old) (W.contents sink.new) bytes.now) }
     ensures err { OnErr result
@@ -34,7 +34,7 @@ pub fn write_all<W: Sink>(sink: &mut W, bytes: &[u8]) -> Result<(), Down>
     Ok(())
 }
 
-/// Writes the digits of a packet and then the pieces of its payload.
+/// Writes the digits of a packet and then the three pieces of its payload.
 pub(crate) fn put_packet<W: Sink>(
     sink: &mut W,
     digits: &[u8],

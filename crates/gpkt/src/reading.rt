@@ -38,8 +38,8 @@ impl<S: Source, A: Allocator + Copy> PacketReader<S, A> {
     ghost use Rattle.gpkt.specs.Lending.{LendsPacket};
 
     /// Allocates a buffer and returns a reader that has not failed. Fails only with
-    /// [`PacketFault::Memory`], and then drops the source unread. A caller that must keep a
-    /// borrowed source allocates the buffer first and calls
+    /// [`PacketFault::Memory`], and then drops the source without reading from it. A caller that
+    /// must keep a borrowed source allocates the buffer first and calls
     /// [`with_buffer`](PacketReader::with_buffer).
     pub fn new(alloc: A, source: S) -> Result<PacketReader<S, A>, PacketFault>
     where
@@ -96,7 +96,7 @@ impl<S: Source, A: Allocator + Copy> PacketReader<S, A> {
         }
     }
 
-    /// Returns the source, as the calls left it.
+    /// Returns the source in its current state.
     pub fn into_inner(self) -> S
         ensures { result ≡ self.source }
     {

@@ -27,7 +27,7 @@ impl<'a, R> FromRead<'a, R> {
         }
     }
 
-    /// Returns the reader, as the calls left it.
+    /// Returns the reader in its current state.
     pub fn into_inner(self) -> &'a mut R
         ensures same { result.ghost_name ≡ self.entry.reader.ghost_name }
         ensures reader { result.now ≡ self.entry.reader.now }
@@ -77,7 +77,7 @@ impl<'a, W> ToWrite<'a, W> {
         }
     }
 
-    /// Returns the writer, as the calls left it.
+    /// Returns the writer in its current state.
     pub fn into_inner(self) -> &'a mut W
         ensures same { result.ghost_name ≡ self.entry.writer.ghost_name }
         ensures writer { result.now ≡ self.entry.writer.now }

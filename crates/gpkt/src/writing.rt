@@ -148,7 +148,7 @@ impl<W: Sink> PacketWriter<W> {
         }
     }
 
-    /// Returns the sink, as the calls left it.
+    /// Returns the sink in its current state.
     pub fn into_inner(self) -> W
         ensures { result ≡ self.sink }
     {

@@ -38,7 +38,7 @@ abbrev pub command_after : Option Bytes → CommandForm
 command_after None = BadCommand
 command_after (Some key) = command_of_key key
 
--- the command in the first text of a request, which is `command=` and a key
+-- the command that the first text of a request names; this text is `command=` and a key
 unfoldable pub command_form : Bytes → CommandForm
 command_form text = command_after (after_word (codes "command=") text)
 
@@ -49,7 +49,7 @@ pub data CapabilityForm : Type 0 where
   ObjectFormat : (value : Bytes) → CapabilityForm
   UnknownCapability BadCapability : CapabilityForm
 
--- the agent capability, whose value must have no space
+-- the agent capability, whose value must not contain a space
 abbrev pub agent_with : Option Bytes → CapabilityForm
 agent_with None = BadCapability
 agent_with (Some value) = if is_word_value value then Agent value else BadCapability
@@ -107,7 +107,7 @@ abbrev pub ref_prefix_or_unknown : Option Bytes → LsArgument
 ref_prefix_or_unknown None = UnknownLsArgument
 ref_prefix_or_unknown (Some prefix) = RefPrefix prefix
 
--- the kind of an argument of ls-refs; a text with `ref-prefix ` is a prefix, whatever follows
+-- the kind of an argument of ls-refs; a text that starts with `ref-prefix ` is always a prefix argument
 unfoldable pub ls_argument : Bytes → LsArgument
 ls_argument text =
     ls_flag_or_else (flag_in ls_flags text) (ref_prefix_or_unknown (after_word (codes "ref-prefix ") text))
@@ -130,7 +130,7 @@ abbrev pub want_or_else : Option Bytes → FetchArgument → FetchArgument
 want_or_else None other = other
 want_or_else (Some id) other = Want id
 
--- the kind of an argument of fetch; a text with `want ` or `have ` is such an argument, whatever follows
+-- the kind of an argument of fetch; a text that starts with `want ` or `have ` is always a want or a have
 unfoldable pub fetch_argument : Bytes → FetchArgument
 fetch_argument text =
     fetch_flag_or_else (flag_in fetch_flags text)

@@ -30,13 +30,13 @@ fetch_number = tag_of the_fetch_flags
 
 -- ---- requests
 
--- the contents of a request for ls-refs
+-- the contents of an ls-refs request
 pub record LsRefsAsked : Type 0 where
   pub agent : Option Bytes
   pub flags : FlagsOf ls_flags
   pub prefixes : List Bytes
 
--- the contents of a request for fetch
+-- the contents of a fetch request
 pub record FetchAsked : Type 0 where
   pub agent : Option Bytes
   pub wants : List Id
@@ -66,7 +66,7 @@ fetch_with asked flag is_set = record asked { flags = with_flag same_fetch_flag 
 abbrev pub is_direct : FetchAsked → Bool
 is_direct asked = fetch_has asked Done || length asked.haves == 0
 
--- the most prefixes, wants, haves and arguments of a request
+-- the maximum numbers of prefixes, wants, haves and arguments of a request
 abbrev pub max_prefixes : ℕ
 max_prefixes = 64
 

@@ -1,11 +1,11 @@
--- The values from which a request is built.
+-- The initial values for building a request.
 use Rattle.std.specs.Prelude.{false, [], None}
 use Rattle.gname.specs.declared.formats.Format.{Format}
 use Rattle.grequest.specs.Flags.{flags_where}
 use Rattle.grequest.specs.Arguments.{ls_flags, fetch_flags}
 use Rattle.grequest.specs.Asked.{LsRefsAsked, FetchAsked}
 
--- a request for fetch, with the format of its ids
+-- the contents of a fetch request, with the format of its ids
 pub record FormattedFetch : Type 0 where
   pub format : Format
   pub asked : FetchAsked

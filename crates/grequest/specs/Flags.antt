@@ -19,16 +19,16 @@ abbrev pub FlagsOf : {F : Type 0} → Table F → Type 0
 FlagsOf [] = Unit {0}
 FlagsOf (row ∷ rows) = Bool × FlagsOf rows
 
--- the set of the flags that pass a test
+-- the set of flags for which the test is true
 abbrev pub flags_where : {F : Type 0} (table : Table F) → (F → Bool) → FlagsOf table
 flags_where [] passes = tt
 flags_where (row ∷ rows) passes = (passes row.0, flags_where rows passes)
 
--- the boolean at the flag's number, or false if there is none
+-- the boolean at the index of the flag's number, or false if the list is too short
 abbrev pub flag_at : {F : Type 0} → (F → ℕ) → List Bool → F → Bool
 flag_at number kept flag = slice_index_or kept (number flag) false
 
--- the set of flags in a list of booleans, each at its flag's number
+-- the set of flags that a list of booleans represents, with each boolean at the index of its flag's number
 abbrev pub flags_at : {F : Type 0} → (F → ℕ) → (table : Table F) → List Bool → FlagsOf table
 flags_at number table kept = flags_where table (flag_at number kept)
 

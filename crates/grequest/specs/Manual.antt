@@ -5,7 +5,7 @@
 --   command-request = command capability-list delim-pkt command-args flush-pkt
 --
 -- The delimiter may be left out if there are no arguments. Each part is a list of payloads, and a payload's text is the
--- payload without one line feed at its end. The format is that of the repository's objects.
+-- payload without one line feed at its end. The format is the object format of the repository.
 use Rattle.std.specs.Prelude.{◌≡◌, ◌≤◌, ◌⊎◌, List, [], ◌∷◌, ◌++◌, length, map, codes, All}
 use Rattle.gpkt.specs.Packets.{Bytes, Packet, Data, Flush, Delim, text}
 use Rattle.gname.specs.Names.{IsPrefix}
@@ -59,7 +59,7 @@ AreFew format Fetch arguments =
 abbrev pub IsSection : List Bytes → List Packet → Type 0
 IsSection arguments packets = (packets ≡ Delim ∷ map Data arguments) ⊎ ((arguments ≡ []) × (packets ≡ []))
 
--- the packets are a command with its capabilities and arguments, and these are its contents
+-- the packets are a command with its capabilities and arguments, and `asked` is the contents of this request
 pub record IsCommandRequest (format : Format) (lines : List Packet) (asked : Asked) : Type 0 where
   pub command : Command
   pub first : Bytes
@@ -77,6 +77,6 @@ pub record IsCommandRequest (format : Format) (lines : List Packet) (asked : Ask
   pub few_arguments : length arguments ≤ max_arguments
   pub asks : asked ≡ asked_by_command format command (map text capabilities) (map text arguments)
 
--- the packets are a request with these contents
+-- the packets encode a request with these contents
 abbrev pub IsRequest : Format → List Packet → Asked → Type 0
 IsRequest format lines asked = ((lines ≡ Flush ∷ []) × (asked ≡ Empty)) ⊎ IsCommandRequest format lines asked

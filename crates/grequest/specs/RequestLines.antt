@@ -59,7 +59,7 @@ argument_there place packet = []
 unfoldable pub argument_texts : List Packet → List Bytes
 argument_texts lines = collect next_place argument_there First lines
 
--- ---- the values in the texts, each kind in order
+-- ---- the values in the texts, for each kind in order
 
 abbrev pub agent_value : CapabilityForm → Option Bytes
 agent_value (Agent value) = Some value
@@ -106,14 +106,14 @@ abbrev pub is_fetch_flag : FetchFlag → FetchArgument → Bool
 is_fetch_flag flag (KnownFetchFlag other) = same_fetch_flag flag other
 is_fetch_flag flag _ = false
 
--- one of the texts is an argument that passes the test
+-- at least one of the texts is an argument for which the test is true
 abbrev pub has_ls_argument : (LsArgument → Bool) → List Bytes → Bool
 has_ls_argument is_it texts = list_any (λ line. is_it (ls_argument line)) texts
 
 abbrev pub has_fetch_argument : (FetchArgument → Bool) → List Bytes → Bool
 has_fetch_argument is_it texts = list_any (λ line. is_it (fetch_argument line)) texts
 
--- the set of the flags that are among the texts
+-- the set of the flags that occur among the texts
 abbrev pub ls_flags_among : List Bytes → FlagsOf ls_flags
 ls_flags_among texts = flags_where ls_flags (λ flag. has_ls_argument (is_ls_flag flag) texts)
 

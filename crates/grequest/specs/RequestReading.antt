@@ -1,5 +1,4 @@
--- The input that has no request: the client has hung up, which ends a connection (gitprotocol-v2(5), "Command
--- Request").
+-- An input without a request: the client has closed the connection (gitprotocol-v2(5), "Command Request").
 use Rattle.std.specs.Prelude.{◌≡◌, ◌↔◌, ◌<◌, [], Option, None, Result, Ok, IfErr}
 use Rattle.gname.specs.declared.formats.Format.{Format}
 use Rattle.gpkt.specs.Packets.{Bytes}
@@ -10,11 +9,11 @@ use Rattle.ggrammar.specs.declared.fault.MessageFault.{MessageFault}
 use Rattle.grequest.specs.Asked.{Asked}
 use Rattle.grequest.specs.Requests.{judge, brings, Says}
 
--- the fault is caused by the bytes read, and the end of the input is a fault only after the first packet
+-- the fault is caused by the bytes read, and is not the end of the input before the first packet
 abbrev pub IsNotMissing : MessageFault → Type 0
 IsNotMissing fault = IsOfBytes fault.why × (fault.why ≡ Ended → 0 < fault.frame)
 
--- the reader returns no request exactly if the input is empty
+-- the reader returns `None` exactly if the input is empty
 abbrev pub IsMissingWhereEmpty : Format → Type 0
 IsMissingWhereEmpty format =
     (bytes new : Bytes) (result : Result (Option Asked) MessageFault)

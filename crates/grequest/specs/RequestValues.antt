@@ -1,4 +1,4 @@
--- The contents of a request value, wherever the value lies in memory.
+-- The contents of a request value, independent of where the value is in memory.
 use Rattle.std.specs.Prelude.{◌≡◌, Option, Some, None, IfSome, Result, Ok, Err}
 use Rattle.gname.specs.declared.formats.Format.{Format}
 use Rattle.ggrammar.specs.declared.fault.MessageFault.{MessageFault}
@@ -21,7 +21,7 @@ ids_format (request.Fetch fetch) = Some fetch.format
 abbrev pub IsOfFormat : {A : Type 0} → Format → Request A → Type 0
 IsOfFormat format request = IfSome (ids_format request) (λ other. other ≡ format)
 
--- the result of reading, with the contents of the request in place of the request
+-- the result of reading a request, with the request replaced by its contents
 abbrev pub asked_result : {A : Type 0} → Result (Option (Request A)) MessageFault → Result (Option Asked) MessageFault
 asked_result (Ok (Some request)) = Ok (Some (asked_by_request request))
 asked_result (Ok None) = Ok None

@@ -1,5 +1,5 @@
 -- The packets that are written for a request: each argument that is set, in a fixed order (gitprotocol-v2(5), "Command
--- Request"). Git's manual leaves the order of arguments open; this order is our own.
+-- Request"). Git's manual does not fix the order of arguments, so this order is a choice of this crate.
 use Rattle.std.specs.Prelude.{◌≡◌, Bool, true, false, List, [], ◌∷◌, ◌++◌, map, codes, Option, Some, None}
 use Rattle.gpkt.specs.Packets.{Bytes, Packet, Flush, Delim}
 use Rattle.gname.specs.Ids.{Id, id_text}
@@ -21,7 +21,7 @@ abbrev pub agent_packets : Option Bytes → List Packet
 agent_packets None = []
 agent_packets (Some value) = text_packet (codes "agent=" ++ value) ∷ []
 
--- the packet of the object format, or none for sha1, which is the default
+-- the packet of the object-format capability; there is none for sha1, which is the default
 abbrev pub format_packets : Format → List Packet
 format_packets Sha1 = []
 format_packets Sha256 = text_packet (codes "object-format=" ++ format_name Sha256) ∷ []
@@ -38,7 +38,7 @@ flags_packets (row ∷ rows) flags = flag_packets row.1 flags.0 ++ flags_packets
 abbrev pub prefix_packet : Bytes → Packet
 prefix_packet prefix = text_packet (codes "ref-prefix " ++ prefix)
 
--- a packet with a word and an id after it
+-- a packet with a word followed by an id
 abbrev pub id_packet : Bytes → Id → Packet
 id_packet word id = text_packet (word ++ id_text id)
 
@@ -65,6 +65,6 @@ canonical_request format Empty = Flush ∷ []
 canonical_request format (Ls asked) = command_packets format LsRefs asked.agent (ls_argument_packets asked)
 canonical_request format (Fetches asked) = command_packets format Fetch asked.agent (fetch_argument_packets asked)
 
--- these are the packets that are written for the request
+-- the packets are those that are written for the request
 abbrev pub IsCanonicalRequest : Format → List Packet → Asked → Type 0
 IsCanonicalRequest format lines asked = lines ≡ canonical_request format asked

@@ -1,5 +1,5 @@
--- The grammar of a request (gitprotocol-v2(5), "Command Request"): the packets that are rejected in each section, with
--- the reasons. Only `State` is kept of the packets before the current one.
+-- The grammar of a request (gitprotocol-v2(5), "Command Request"): the packets that are rejected in each section, and
+-- why. The verdict on a packet depends only on the `State` after the packets before it.
 use Rattle.std.specs.Prelude.{◌≡◌, ℕ, Bool, true, false, ◌&&◌, List, [], length, if◌then◌else◌, nat_lt, ◌==◌, Option}
 use Rattle.std.specs.Prelude.{None, is_none, is_some}
 use Rattle.gname.specs.Ids.{Id}
@@ -62,7 +62,7 @@ judge_command (Known command) = Open
 judge_command UnknownCommand = Refused why.UnknownCommand
 judge_command BadCommand = Refused why.BadText
 
--- a capability must not be repeated
+-- the given verdict for the first occurrence of a capability, and a rejection for a repeated one
 abbrev pub once : Bool → Verdict → Verdict
 once is_first verdict = if is_first then verdict else Refused why.BadText
 
@@ -73,22 +73,23 @@ judge_capability format state (ObjectFormat value) =
 judge_capability format state UnknownCapability = Refused why.UnknownCapability
 judge_capability format state BadCapability = Refused why.BadText
 
--- the request has room for another argument after this many
+-- a request with this many arguments may have another argument
 abbrev pub has_room : ℕ → Bool
 has_room arguments = nat_lt arguments max_arguments
 
--- the verdict on a well-formed argument, after this many arguments and these values of its kind
+-- the verdict on a well-formed argument, given the number of arguments before it, the earlier values of its kind, and
+-- their maximum number
 abbrev pub of_few : ℕ → List (List ℕ) → ℕ → Verdict
 of_few arguments before limit = if_room (has_room arguments && nat_lt (length before) limit)
 
--- the verdict on an argument of ls-refs, after this many arguments and these prefixes
+-- the verdict on an argument of ls-refs, given the number of arguments and the prefixes before it
 abbrev pub judge_ls_argument : ℕ → List Bytes → LsArgument → Verdict
 judge_ls_argument arguments prefixes (RefPrefix prefix) =
     if is_none (prefix_fault prefix) then of_few arguments prefixes max_prefixes else Refused why.BadName
 judge_ls_argument arguments prefixes UnknownLsArgument = Refused why.UnknownArgument
 judge_ls_argument arguments prefixes _ = if_room (has_room arguments)
 
--- the verdict on an argument of fetch, after this many arguments and these wants and haves
+-- the verdict on an argument of fetch, given the number of arguments and the wants and haves before it
 abbrev pub judge_fetch_argument : Format → ℕ → List Id → List Id → FetchArgument → Verdict
 judge_fetch_argument format arguments wants haves (Want id) =
     if is_some (id_of_text format id) then of_few arguments wants max_wants else Refused why.BadId
@@ -108,7 +109,7 @@ judge_text format First state line = judge_command (command_form line)
 judge_text format (InCapabilities command) state line = judge_capability format state (capability_form line)
 judge_text format (InArguments command) state line = judge_argument format command state line
 
--- the verdict, except that the capabilities must not end before the object format, unless it is sha1
+-- the verdict, but the packet is rejected if the request must name the object format and has not named it
 abbrev pub unless_unnamed : Format → State → Verdict → Verdict
 unless_unnamed Sha1 state verdict = verdict
 unless_unnamed Sha256 state verdict = if state.format_lines == 0 then Refused why.Format else verdict
@@ -132,7 +133,7 @@ judge_at format state ResponseEnd = Refused why.UnexpectedFrame
 abbrev pub judge : Format → List Packet → Packet → Verdict
 judge format lines packet = judge_at format (state_of format lines) packet
 
--- ---- packets whose contents are kept
+-- ---- packets whose contents are stored
 
 abbrev pub capability_brings : CapabilityForm → Bool
 capability_brings (Agent value) = true
@@ -153,14 +154,14 @@ text_brings (InCapabilities command) line = capability_brings (capability_form l
 text_brings (InArguments LsRefs) line = ls_argument_brings (ls_argument line)
 text_brings (InArguments Fetch) line = fetch_argument_brings (fetch_argument line)
 
--- the packet's contents are kept: an agent, a prefix, a want or a have
+-- the packet's contents are stored: the packet is an agent, a prefix, a want or a have
 abbrev pub brings : List Packet → Packet → Bool
 brings lines (Data payload) = text_brings (place_of lines) (text payload)
 brings lines _ = false
 
 -- ---- the meaning of complete lists
 
--- the packets are a request with these contents
+-- the packets encode a request with these contents
 pub record Says (format : Format) (lines : List Packet) (asked : Asked) : Type 0 where
   pub whole : IsWhole (judge format) lines
   pub asks : asked ≡ asked_by_lines format lines

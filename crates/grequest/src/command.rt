@@ -29,7 +29,7 @@ impl Command {
 #[derive(Clone, Copy, Debug, PartialEq, Eq)]
 pub(crate) enum CommandForm {
     Known(Command),
-    /// `command=` with the key of no known command.
+    /// `command=` and a key that names no known command.
     Unknown,
     Bad,
 }

@@ -1,4 +1,4 @@
-//! Requests for fetch (gitprotocol-v2(5), "fetch").
+//! Fetch requests (gitprotocol-v2(5), "fetch").
 
 ghost use Rattle.std.specs.Prelude.{ℕ, All, ◌≡◌, ◌↔◌, ◌≤◌, ◌<◌, ◌++◌, ◌∷◌, [], true, false, length, nat_lt, IfOk, IfSome, IsTrue, OnOk, OnErr, Some};
 ghost use Rattle.std.specs.Option.{option_copied};
@@ -34,7 +34,7 @@ pub const MAX_WANTS: usize = 1_024;
 /// The maximum number of haves of a request.
 pub const MAX_HAVES: usize = 4_096;
 
-/// A request for fetch (gitprotocol-v2(5), "fetch"), whose ids all have one format.
+/// A fetch request (gitprotocol-v2(5), "fetch"), whose ids all have the same format.
 #[derive(Debug, Drop)]
 pub struct FetchRequest<A: Allocator + Copy = Global> {
     format: Format,
@@ -73,7 +73,7 @@ impl<A: Allocator + Copy> Model for FetchRequest<A> {
 }
 
 impl<A: Allocator + Copy> FetchRequest<A> {
-    /// Returns a request without wants, for ids of this format. The request does not allocate yet.
+    /// Returns a request without wants, for ids of this format. Allocates nothing.
     pub fn new(alloc: A, format: Format) -> FetchRequest<A>
         ensures { result ≡ record { format = format; asked = no_fetch } }
     {
@@ -93,7 +93,7 @@ impl<A: Allocator + Copy> FetchRequest<A> {
         self.format
     }
 
-    /// A law: the invariant of a request for fetch.
+    /// A law that states the invariant of a fetch request.
     pub fn laws(&self)
         ensures { IsFetchAsked self.now.format self.now.asked }
     {
@@ -108,8 +108,8 @@ impl<A: Allocator + Copy> FetchRequest<A> {
         self.agent.as_ref().map(|value| value.as_slice())
     }
 
-    /// Returns the wants, the ids that the client asks for, in their order. A request has at most
-    /// 1,024 wants.
+    /// Returns the wants, the ids that the client asks for, in the order of the request. A request
+    /// has at most 1,024 wants.
     pub fn wants(&self) -> &[Oid]
         ensures wants { result.now ≡ self.now.asked.wants }
         ensures well_formed { IsFetchAsked self.now.format self.now.asked }
@@ -117,8 +117,8 @@ impl<A: Allocator + Copy> FetchRequest<A> {
         self.wants.as_slice()
     }
 
-    /// Returns the haves, the ids that the client offers, in their order. A request has at most
-    /// 4,096 haves.
+    /// Returns the haves, the ids that the client has, in the order of the request. A request has
+    /// at most 4,096 haves.
     pub fn haves(&self) -> &[Oid]
         ensures haves { result.now ≡ self.now.asked.haves }
         ensures well_formed { IsFetchAsked self.now.format self.now.asked }
@@ -126,14 +126,15 @@ impl<A: Allocator + Copy> FetchRequest<A> {
         self.haves.as_slice()
     }
 
-    /// Returns whether the request has a flag.
+    /// Returns whether the request has this flag.
     pub fn has(&self, flag: FetchFlag) -> bool
         ensures { result ≡ fetch_has self.now.asked flag }
     {
         self.flags[flag.number()]
     }
 
-    /// Returns the flags that are written before the ids, each at the index of its number.
+    /// Returns the flags without `done`, which is written after the ids. The boolean of each flag
+    /// is at the index of its number.
     pub(crate) fn early_flags(&self) -> [bool; MAX_FLAGS]
         ensures { flags_at fetch_number fetch_flags result
             ≡ (fetch_with self.now.asked Done false).flags }
@@ -151,7 +152,7 @@ impl<A: Allocator + Copy> FetchRequest<A> {
         self.has(FetchFlag::Done) || self.haves.is_empty()
     }
 
-    /// Returns a copy of the request in another allocator. Fails only if out of memory.
+    /// Returns a copy of the request, allocated with `alloc`. Fails only if memory runs out.
     pub fn copy_in<B: Allocator + Copy>(&self, alloc: B) -> Result<FetchRequest<B>, AllocError>
         ensures { IfOk result (λ copy. copy ≡ self.now) }
     {
@@ -202,7 +203,7 @@ impl<A: Allocator + Copy> FetchRequest<A> {
     /// Sets the agent, the client's name for itself, and replaces the previous one.
     ///
     /// Fails with `BadText` if the agent does not consist of 1 to 1,000 bytes from `!` to `~`, and
-    /// with `Memory` if out of memory. The fault is at packet 0, and the request is unchanged.
+    /// with `Memory` if memory runs out. The fault is at packet 0, and the request is unchanged.
     pub fn set_agent(&mut self, agent: &[u8]) -> Result<(), MessageFault>
         ensures { Builds (is_word_value agent.now) true self.old self.new
             (record self.old { asked = record self.old.asked { agent = Some agent.now } }) result }
@@ -323,7 +324,7 @@ impl<A: Allocator + Copy> FetchRequest<A> {
     }
 }
 
-// Appends an id if there is room for it.
+// Appends the id if it has this format and `has_room` is true.
 fn keep_id<A: Allocator + Copy>(
     format: Format,
     ids: &mut Vec<Oid, A>,
@@ -348,7 +349,7 @@ fn keep_id<A: Allocator + Copy>(
     }
 }
 
-// Returns whether an id has the format.
+// Returns whether the id has this format.
 fn is_of(format: Format, id: &Oid) -> bool
     ensures same { result ≡ has_format format id.now }
     ensures of_format { IsTrue result → IsIdOf format id.now }

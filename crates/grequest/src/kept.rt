@@ -5,7 +5,7 @@ ghost use Rattle.grequest.specs.steps.Building.{build_fault, why_not_kept};
 
 use ggrammar::{MessageFault, Why};
 
-/// The reason that a value can't be added to a request. The first applicable one is reported.
+/// The reason that a value can't be added to a request. The first applicable reason is reported.
 #[derive(Clone, Copy, Debug, PartialEq, Eq)]
 pub(crate) enum NotKept {
     WrongForm,
@@ -14,8 +14,8 @@ pub(crate) enum NotKept {
 }
 
 impl NotKept {
-    /// Returns the reason in the grammar's terms. `wrong_form` is the grammar's reason for a wrong
-    /// form, which depends on the value.
+    /// Returns the grammar's reason to reject the value. `wrong_form` is the reason for a wrong
+    /// form, which depends on the kind of the value.
     pub(crate) fn why(self, wrong_form: Why) -> Why
         ensures { result ≡ why_not_kept wrong_form self }
     {

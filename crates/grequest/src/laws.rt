@@ -1,4 +1,4 @@
-//! Laws of the grammar of requests: functions without effect whose contracts state the laws.
+//! Laws about the grammar of requests: functions without effect whose contracts state the laws.
 
 ghost use Rattle.std.specs.Prelude.{◌≡◌};
 ghost use Rattle.gname.specs.declared.formats.Format.{Format};
@@ -18,22 +18,22 @@ use ggrammar::laws::{grammars_are_exact, kinds_are_read, messages_are_read};
 use gname::laws::{ids_have_one_format, ids_have_texts, prefixes_are_clean};
 use gpkt::laws::has_four_bytes;
 
-/// The constants of this crate equal the limits in its definitions.
+/// The public constants of this crate equal the limits in its specifications.
 pub fn limits_are_the_constants()
     ensures prefixes { MAX_PREFIXES ≡ max_prefixes }
     ensures wants { MAX_WANTS ≡ max_wants }
     ensures haves { MAX_HAVES ≡ max_haves }
 {}
 
-/// The lists of packets that are read as a request are those of Git's manual, and mean the same
-/// (gitprotocol-v2(5), "Command Request", "ls-refs" and "fetch").
+/// A list of packets is read as a request exactly if Git's manual allows the list, and with the
+/// meaning that the manual states (gitprotocol-v2(5), "Command Request", "ls-refs" and "fetch").
 pub fn manual()
     ensures { (format : Format) → AsInManual (Says format) (IsRequest format) }
 {
     grammars_are_exact();
 }
 
-/// A request has one meaning, and each complete list of packets has a meaning.
+/// A list of packets has at most one meaning, and each complete list of packets has a meaning.
 pub fn one_meaning()
     ensures one { (format : Format) → OneMeaning (Says format) }
     ensures whole { (format : Format) → SaysWhole (judge format) (Says format) }
@@ -57,8 +57,8 @@ pub fn endings()
     grammars_are_exact();
 }
 
-/// A packet is rejected only for a reason in the packet. All bytes begin with a request, or are
-/// rejected for a reason in the bytes.
+/// A packet is rejected only because of its content. Every byte sequence begins with a request, or
+/// is rejected because of its content.
 pub fn every_input()
     ensures packets { (format : Format) → RefusesPackets (judge format) }
     ensures bytes { (format : Format) → BeginsOrIsRefused (judge format) brings }
@@ -67,7 +67,7 @@ pub fn every_input()
     messages_are_read();
 }
 
-/// The packets written for a request mean this request, and each payload fits a packet.
+/// The packets written for a request encode this request, and each payload fits a packet.
 pub fn canonical_says()
     ensures { (format : Format)
         → CanonicalSays (Says format) (IsAsked format) (IsCanonicalRequest format) }
@@ -78,8 +78,8 @@ pub fn canonical_says()
     prefixes_are_clean();
 }
 
-/// A request is read exactly if the bytes begin with packets of this meaning. Only these packets
-/// are read. `None` is returned exactly if there are no bytes.
+/// A request is read exactly if the bytes begin with packets that encode it. Nothing after these
+/// packets is read. `None` is returned exactly if there are no bytes.
 pub fn reads_exactly()
     ensures request { (format : Format) → ReadsExactlyIfAny (judge format) brings (Says format) }
     ensures missing { (format : Format) → IsMissingWhereEmpty format }

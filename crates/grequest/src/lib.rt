@@ -5,10 +5,10 @@
 //!
 //! - [`read_request_in`] reads a request exactly to its end, however its bytes are split into
 //!   pieces. It returns the contents of the packets, or `None` if the input ends before the first
-//!   packet. It rejects every other input at the first packet that does not fit, for the reason of
-//!   the grammar (`judge` in `specs/Requests.antt`). The peer's error takes precedence, then a
-//!   wrong form, then a limit. Out of memory is reported only at an agent, a prefix, a want or a
-//!   have.
+//!   packet. It rejects every other input at the first packet that does not fit, for the reason
+//!   that the grammar states (`judge` in `specs/Requests.antt`). An error that the peer reports
+//!   takes precedence, then a wrong form, then a limit. Out of memory is reported only at an agent,
+//!   a prefix, a want or a have.
 //! - In a repository of SHA-256 ids, a request must name the object format, and its ids have this
 //!   format.
 //! - The values of [`LsRefsRequest`] and [`FetchRequest`] are always well-formed and within their
@@ -17,18 +17,19 @@
 //!   Each fault is at packet 0, and the request is unchanged.
 //! - [`FetchRequest::is_direct`] returns whether the reply starts with the pack: the request has
 //!   `done` or no haves.
-//! - A copy of a request has the same contents, and its ids have the same format. `asks_as` holds
-//!   exactly if two requests have the same contents.
+//! - A copy of a request has the same contents, and its ids have the same format. `asks_as` returns
+//!   true exactly if both requests have the same contents.
 //! - [`write_request`] writes the canonical list of packets of a request
 //!   (`specs/RequestWriting.antt`), or a prefix of it if the sink fails. For a request with ids,
 //!   the caller passes the format of these ids, and the request then reads back.
-//! - By [`laws`], the requests that are read are those of Git's manual (`specs/Manual.antt`), and a
-//!   request has one meaning. No request is a prefix of another, as packets or as bytes. Each
-//!   prefix can be completed, and a rejected packet is the first that does not fit. The packets
-//!   written for a request mean this request, and each payload fits a packet. A request is read
-//!   exactly if the bytes begin with one, and `None` is returned exactly if there are no bytes. All
-//!   bytes begin with a request or are rejected for a reason in the bytes. A written request reads
-//!   back, whatever bytes follow. The constants equal the limits of the definitions.
+//! - By [`laws`], a list of packets is read as a request exactly if Git's manual allows the list
+//!   (`specs/Manual.antt`), and the list has only one meaning. No request is a prefix of another,
+//!   as packets or as bytes. Each prefix can be completed, and a rejected packet is the first that
+//!   does not fit. The packets written for a request encode this request, and each payload fits a
+//!   packet. A request is read exactly if the bytes begin with packets that encode it, and `None`
+//!   is returned exactly if there are no bytes. Every byte sequence begins with a request or is
+//!   rejected because of its content. A written request reads back, whatever bytes follow. The
+//!   public constants equal the limits in the specifications.
 //!
 //! # Only tested
 //!
@@ -36,15 +37,16 @@
 //!
 //! # What the contracts do not rule out
 //!
-//! A call that stores or copies a value may always report out of memory. It may take any amount of
-//! time, and more memory than it needs. Even making a new request may allocate. If a sink fails, a
-//! shorter prefix may have been written. If the bytes of a source are unknown, the contracts do not
-//! state the packets read. They still state whether a device has failed.
+//! A call that stores or copies a value may always report out of memory. Such a call may take any
+//! amount of time, and more memory than it needs. Even `new` may allocate. If a sink fails, the
+//! contracts do not state how long the written prefix is. If the bytes of a source are unknown, the
+//! contracts do not state which packets are read. The contracts still state whether the source or
+//! the sink has failed.
 //!
 //! # Dependencies
 //!
-//! `ggrammar` for the reader and the laws that all messages share, `gpkt` for packets, `gname` for
-//! ids and prefixes.
+//! `ggrammar` for the reader and the laws that all messages share, `gpkt` for packets, and `gname`
+//! for ids and prefixes.
 #![tactic(auto)]
 
 mod command;

@@ -16,7 +16,7 @@ use ggrammar::{Capability, after_word, capability_of, is_word_value};
 pub(crate) enum CapabilityForm<'a> {
     Agent(&'a [u8]),
     ObjectFormat(&'a [u8]),
-    /// A capability with another key.
+    /// A capability with any other key.
     Unknown,
     Bad,
 }

@@ -1,4 +1,4 @@
-//! Requests for ls-refs (gitprotocol-v2(5), "ls-refs").
+//! Requests to list refs (gitprotocol-v2(5), "ls-refs").
 
 ghost use Rattle.std.specs.Prelude.{◌≡◌, ◌↔◌, ◌≤◌, ◌<◌, ◌++◌, ◌∷◌, [], true, length, nat_lt, is_none, IfOk, IsTrue, OnOk, OnErr, Some};
 ghost use Rattle.std.specs.Option.{option_copied};
@@ -29,7 +29,7 @@ use std::marker::Model;
 /// The maximum number of prefixes of a request.
 pub const MAX_PREFIXES: usize = 64;
 
-/// A request for ls-refs (gitprotocol-v2(5), "ls-refs").
+/// An ls-refs request (gitprotocol-v2(5), "ls-refs").
 #[derive(Debug, Drop)]
 pub struct LsRefsRequest<A: Allocator + Copy = Global> {
     agent: Option<Vec<u8, A>>,
@@ -60,7 +60,7 @@ impl<A: Allocator + Copy> Model for LsRefsRequest<A> {
 }
 
 impl<A: Allocator + Copy> LsRefsRequest<A> {
-    /// Returns a request for every ref, without flags. The request does not allocate yet.
+    /// Returns a request for every ref, without flags. Allocates nothing.
     pub fn new(alloc: A) -> LsRefsRequest<A>
         ensures { result ≡ no_ls_refs }
     {
@@ -71,7 +71,7 @@ impl<A: Allocator + Copy> LsRefsRequest<A> {
         }
     }
 
-    /// A law: the invariant of a request for ls-refs.
+    /// A law that states the invariant of an ls-refs request.
     pub fn laws(&self)
         ensures { IsLsRefsAsked self.now }
     {
@@ -86,22 +86,22 @@ impl<A: Allocator + Copy> LsRefsRequest<A> {
         self.agent.as_ref().map(|value| value.as_slice())
     }
 
-    /// Returns whether the request has a flag.
+    /// Returns whether the request has this flag.
     pub fn has(&self, flag: LsRefsFlag) -> bool
         ensures { result ≡ ls_has self.now flag }
     {
         self.flags[flag.number()]
     }
 
-    /// Returns the flags that are set, each at the index of its number.
+    /// Returns which flags are set. The boolean of each flag is at the index of its number.
     pub(crate) fn flags(&self) -> &[bool; MAX_FLAGS]
         ensures { flags_at ls_number ls_flags result.now ≡ self.now.flags }
     {
         &self.flags
     }
 
-    /// Returns the prefixes of the requested names, at most 64, in their order. Without a prefix,
-    /// the request asks for every name.
+    /// Returns the prefixes of the requested names, at most 64, in the order of the request.
+    /// Without prefixes, the request asks for every name.
     pub fn prefixes(&self) -> &[Prefix<A>]
         ensures prefixes { result.now ≡ self.now.prefixes }
         ensures well_formed { IsLsRefsAsked self.now }
@@ -109,7 +109,7 @@ impl<A: Allocator + Copy> LsRefsRequest<A> {
         self.prefixes.as_slice()
     }
 
-    /// Returns a copy of the request in another allocator. Fails only if out of memory.
+    /// Returns a copy of the request, allocated with `alloc`. Fails only if memory runs out.
     pub fn copy_in<B: Allocator + Copy>(&self, alloc: B) -> Result<LsRefsRequest<B>, AllocError>
         ensures { IfOk result (λ copy. copy ≡ self.now) }
     {
@@ -149,7 +149,7 @@ impl<A: Allocator + Copy> LsRefsRequest<A> {
     /// Sets the agent, the client's name for itself, and replaces the previous one.
     ///
     /// Fails with `BadText` if the agent does not consist of 1 to 1,000 bytes from `!` to `~`, and
-    /// with `Memory` if out of memory. The fault is at packet 0, and the request is unchanged.
+    /// with `Memory` if memory runs out. The fault is at packet 0, and the request is unchanged.
     pub fn set_agent(&mut self, agent: &[u8]) -> Result<(), MessageFault>
         ensures { Builds (is_word_value agent.now) true self.old self.new
             (record self.old { agent = Some agent.now }) result }
@@ -190,7 +190,7 @@ impl<A: Allocator + Copy> LsRefsRequest<A> {
         Ok(())
     }
 
-    // Appends a prefix if there is room for it.
+    // Appends a prefix if it is well-formed and `has_room` is true.
     fn keep_prefix(&mut self, has_room: bool, prefix: &[u8]) -> Result<(), NotKept>
         requires { has_room ≡ true → length self.old.prefixes < max_prefixes }
         ensures { KeepsAs (is_none (prefix_fault prefix.now)) has_room

@@ -32,15 +32,16 @@ pub fn read_request<S: Source, A: Allocator + Copy, B: Allocator + Copy>(
 
 /// Reads a request to its end, and nothing after it (gitprotocol-v2(5), "Command Request").
 /// `format` is the format of the repository's objects. Returns `None` if the input ends before the
-/// first packet. After a request the reader has not failed, and the next request can be read.
+/// first packet. If the call returns a request, the reader has not failed and can read the next
+/// request.
 ///
-/// A fault has the reason, and the position of the first packet that does not fit, counted from
-/// zero. A fault of the packet reader ([`Why::Line`]) takes precedence. Next is the end of the
+/// A fault contains the reason, and the position of the first packet that does not fit, counted
+/// from zero. A fault of the packet reader ([`Why::Line`]) takes precedence. Next is the end of the
 /// input after the first packet ([`Why::Ended`]), and then a fault of the grammar. The fault
 /// [`Why::Memory`] is reported only at an agent, a prefix, a want or a have. All packets that were
-/// read, even a rejected packet, are consumed from the source. The packet reader has then failed
-/// exactly if it rejected the packet itself. If the reader had failed before the call, the call
-/// fails at once, at packet 0.
+/// read, even a rejected packet, are consumed from the source. After a fault, the packet reader has
+/// failed exactly if the packet reader itself rejected the packet. If the reader had failed before
+/// the call, the call fails at once, at packet 0.
 pub fn read_request_in<S: Source, A: Allocator + Copy, B: Allocator + Copy>(
     reader: &mut PacketReader<S, A>,
     format: Format,

@@ -13,9 +13,9 @@ use std::alloc::{AllocError, Allocator, Global};
 pub enum Request<A: Allocator + Copy = Global> {
     /// The empty request, a lone flush that ends the conversation.
     Empty,
-    /// A request for refs.
+    /// An ls-refs request.
     Ls(LsRefsRequest<A>),
-    /// A request for objects.
+    /// A fetch request.
     Fetch(FetchRequest<A>),
 }
 
@@ -27,7 +27,7 @@ impl<A: Allocator + Copy> Request<A> {
     ghost use Rattle.grequest.specs.RequestValues.{IsOfFormat, asked_by_request, ids_format};
     ghost use Rattle.grequest.specs.WellFormed.{IsAsked};
 
-    /// A law: the invariant of a request whose ids have one format.
+    /// A law that states the invariant of a request: all ids have the same format.
     pub fn laws(&self)
         ensures { (format : Format) → IsOfFormat format self.now
             → IsAsked format (asked_by_request self.now) }
@@ -50,7 +50,7 @@ impl<A: Allocator + Copy> Request<A> {
         }
     }
 
-    /// Returns a copy of the request in another allocator. Fails only if out of memory.
+    /// Returns a copy of the request, allocated with `alloc`. Fails only if memory runs out.
     pub fn copy_in<B: Allocator + Copy>(&self, alloc: B) -> Result<Request<B>, AllocError>
         ensures asked { IfOk result (λ copy. asked_by_request copy ≡ asked_by_request self.now) }
         ensures format { IfOk result (λ copy. ids_format copy ≡ ids_format self.now) }
@@ -68,8 +68,8 @@ impl<A: Allocator + Copy> Request<A> {
         }
     }
 
-    /// Returns whether both requests have the same contents. The formats of requests for fetch
-    /// without ids may differ.
+    /// Returns whether both requests have the same contents. The formats of fetch requests without
+    /// ids may differ.
     pub fn asks_as<B: Allocator + Copy>(&self, other: &Request<B>) -> bool
         ensures { IsTrue result ↔ (asked_by_request self.now ≡ asked_by_request other.now) }
     {

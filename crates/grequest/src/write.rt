@@ -30,7 +30,7 @@ use std::alloc::Allocator;
 /// the format of these ids.
 ///
 /// Allocates nothing. Fails with `Io` if the sink fails, after writing a prefix of the request.
-/// Fails with `Failed` if the writer failed before the call. A request meets the conditions of
+/// Fails with `Failed` if the writer failed before the call. Every request meets the conditions of
 /// [`reads_back`](crate::laws::reads_back), so a written request reads back.
 pub fn write_request<A: Allocator + Copy, W: Sink>(
     request: &Request<A>,
@@ -134,7 +134,7 @@ fn write_format<W: Sink>(format: Format, writer: &mut PacketWriter<W>) -> Result
     }
 }
 
-// Writes the flags of a table that are set.
+// Writes the flags of the table that are set.
 fn write_flags<F: Flag, W: Sink>(
     table: &[(F, &str)],
     flags: &[bool; MAX_FLAGS],
@@ -185,7 +185,7 @@ fn write_prefixes<A: Allocator + Copy, W: Sink>(
     Ok(())
 }
 
-// Writes a packet with a word and an id for each id.
+// Writes one packet for each id: a word followed by the id.
 fn write_ids<W: Sink>(
     word: &[u8],
     ids: &[Oid],
@@ -213,7 +213,7 @@ fn write_id<W: Sink>(word: &[u8], id: &Oid, writer: &mut PacketWriter<W>) -> Res
     write_text(word, &text[..len], writer)
 }
 
-// Writes a packet with a word and the text after it.
+// Writes a packet with a word followed by a text.
 fn write_text<W: Sink>(
     word: &[u8],
     rest: &[u8],

@@ -17,7 +17,7 @@ use Rattle.gserve.specs.Refusals.{err_packets}
 use Rattle.gserve.specs.declared.connection.End.{End}
 use Rattle.gserve.specs.declared.connection.End.TheVariants as end
 
--- the most requests of a connection, after which the server reads nothing more
+-- the maximum number of requests of a connection, after which the server reads nothing more
 abbrev pub max_requests : ℕ
 max_requests = 4294967295
 
@@ -34,7 +34,7 @@ talk_bytes format ends turns = canonical_all (talk format ends turns)
 
 -- ---- before the first request
 
--- memory ran out at the start, and nothing is read
+-- memory runs out at the start, and nothing is read
 abbrev pub CannotBegin : Input → ServeFault → Type 0
 CannotBegin input serve.Memory = IsUnread input
 CannotBegin input fault = LacksBuffer input fault
@@ -46,7 +46,7 @@ pub data IsDueFirst (format : Format) (input : Input) : List Packet → Type 0 w
 
 -- ---- the requests
 
--- the server reads and answers this many requests, and the predicate holds of the rest of the input
+-- the server reads and answers `requests` requests, and the predicate holds of the rest of the input
 pub record Converses {A : Type 0} (server : Server A) (packs : Packs A) (input : Input) (requests : ℕ)
     (turns : List Turn) (Last : Input → Type 0) : Type 0 where
   pub between : Option Bytes
@@ -54,7 +54,7 @@ pub record Converses {A : Type 0} (server : Server A) (packs : Packs A) (input :
   pub count : requests ≡ length turns
   pub last : Last (rest_of input between)
 
--- the input ends, or the most requests were answered and nothing more is read
+-- the input ends, or the server has answered the maximum number of requests and reads nothing more
 abbrev pub HasEnded : ℕ → Input → Type 0
 HasEnded requests rest =
     ((requests < max_requests) × ReadsEnd rest)
@@ -64,7 +64,7 @@ HasEnded requests rest =
 
 module _ {A : Type 0} (server : Server A) (packs : Packs A) (fails : PackFails A) (ends : Ends) where
   -- The input, the output, the number of answered requests and the end of a connection. All replies are written and
-  -- flushed. If the sink failed, a prefix of the next message is written, and each counted reply is flushed.
+  -- flushed. If the sink fails, each counted reply was flushed, and a prefix of the next message was written.
   abbrev pub Serves : Input → Output → ℕ → End → Type 0
   Serves input output requests end.Closed =
       (turns : List Turn) × (requests < max_requests)

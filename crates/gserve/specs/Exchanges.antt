@@ -39,7 +39,7 @@ reply_packets ends (Ls reply) = ls_packets ends reply
 reply_packets ends (Fetch reply) = fetch_packets ends reply
 
 module _ {A : Type 0} (server : Server A) (packs : Packs A) where
-  -- the packets encode a request that is not empty, and the answer is the server's
+  -- the packets encode a request that is not empty, and the server may give this answer to it
   pub record IsTurn (turn : Turn) : Type 0 where
     pub says : Says server.graph.format turn.request turn.asked
     pub asks : turn.asked ≢ Empty
@@ -72,16 +72,16 @@ pub record ReadsEnd (input : Input) : Type 0 where
 
 -- ---- a request that is refused
 
--- The request is refused at the first packet that does not fit. The fault is the source's exactly if the source has
--- failed. The end of the input is a fault only after the first packet.
+-- The request is refused at the first packet that does not fit. The fault is an error of the source exactly if the
+-- source has failed. The end of the input is a fault only after the first packet.
 pub record RefusesToRead (format : Format) (input : Input) (cause : MessageFault) : Type 0 where
   pub front : List Packet
   pub refused : ReadsRefused (judge format) brings front input.read cause
   pub source : IsReadFailure false input.is_down cause.why
   pub begun : cause.why ≡ EndedEarly → cause.frame ≢ 0
 
--- The possible faults of a request after it is read, which are those of fetch. A request for refs is always answered,
--- since its reply takes no memory.
+-- The possible faults of a request after it is read. Only a fetch request can fail here: an ls-refs request is always
+-- answered, since its reply needs no memory.
 abbrev pub Declines : {A : Type 0} → Server A → PackFails A → Asked → ServeFault → Type 0
 Declines server fails (Fetches asked) fault = FetchRefuses server fails asked fault
 Declines server fails _ fault = ⊥
@@ -96,7 +96,7 @@ module _ {A : Type 0} (server : Server A) (fails : PackFails A) where
     pub declines : Declines server fails asked fault
     pub up : IsUp input
 
-  -- the possible faults of a request, while it is read or answered
+  -- the possible faults while a request is read or answered
   abbrev pub IsRefused : Input → ServeFault → Type 0
   IsRefused input (serve.Request cause) = RefusesToRead server.graph.format input cause
   IsRefused input fault = RefusesToAnswer input fault
@@ -110,7 +110,7 @@ module _ {A : Type 0} (server : Server A) (packs : Packs A) (fails : PackFails A
     refusal : (fault : ServeFault) → IsRefused server fails input fault → IsDue input (err_packets fault)
 
   -- The input, the output and the end of an exchange. The reply or the error packet is written and flushed. If the sink
-  -- fails, a prefix is written, and bytes that were flushed before stay flushed.
+  -- fails, a prefix of the reply or of the error packet is written.
   abbrev pub Exchanges : Input → Output → ExchangeEnd → Type 0
   Exchanges input output end.Answered =
       (turn : Turn) × ReadsTurn server packs input turn
@@ -122,14 +122,14 @@ module _ {A : Type 0} (server : Server A) (packs : Packs A) (fails : PackFails A
   Exchanges input output end.WriteFailed =
       (due : List Packet) × IsDue input due × SendsSome output (canonical_all due) × KeepsPassed output.passed_on
 
--- ---- one request of a source that is read for the first time
+-- ---- one request, with a new reader of the source
 
--- memory ran out for the buffer of the reader, and nothing is read
+-- memory runs out for the buffer of the reader, and nothing is read
 abbrev pub LacksBuffer : Input → ServeFault → Type 0
 LacksBuffer input (serve.Reader NoBuffer) = IsUnread input
 LacksBuffer input _ = ⊥
 
--- memory ran out for the reader; the error packet is written, or a prefix of it
+-- memory runs out for the reader, and the error packet or a prefix of it is written
 abbrev pub RefusesAtOnce : Input → Output → ExchangeEnd → Type 0
 RefusesAtOnce input output (end.Refused fault) =
     LacksBuffer input fault × Passes output (canonical_all (err_packets fault))

@@ -31,7 +31,7 @@ pub record ReadsHello (input : Input) (hello : Hello) : Type 0 where
   pub says : Says packets hello
   pub up : IsUp input
 
--- the first line is refused while it is read; the fault is the source's exactly if the source has failed
+-- the first line is refused while it is read; the fault is an error of the source exactly if the source has failed
 pub record RefusesHello (input : Input) (cause : MessageFault) : Type 0 where
   pub front : List Packet
   pub refused : ReadsRefused judge brings front input.read cause
@@ -60,7 +60,7 @@ error_packets text = text_packet (codes "ERR " ++ text) ∷ []
 abbrev pub elsewhere_packets : List Packet
 elsewhere_packets = error_packets (codes "upload-pack: no such repository")
 
--- the packet in place of the advertisement: the client asks for another path, or its first line is refused
+-- the error packet in place of the advertisement, if the client asks for another path or its first line is refused
 pub data IsDueInstead (path : Bytes) (input : Input) : List Packet → Type 0 where
   elsewhere : AsksForAnother path input → IsDueInstead path input elsewhere_packets
   refusal : (fault : ServeFault) → Hears input (Err fault) → IsDueInstead path input (err_packets fault)
@@ -96,7 +96,7 @@ module _ {A : Type 0} (server : Server A) (packs : Packs A) (fails : PackFails A
       (due : List Packet) × IsDueInstead path input due × SendsSome output (canonical_all due)
       × KeepsPassed output.passed_on
 
--- the last result of the packer, which is asked only if the client asks for the served path
+-- the last result of the packer, which is used only if the client asks for the served path
 abbrev pub ReportsGitPacking : GitEnd → Packing → Type 0
 ReportsGitPacking (git.Served served) answered = ReportsLastPacking served.end answered
 ReportsGitPacking _ answered = answered ≡ Unasked

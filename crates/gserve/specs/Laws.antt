@@ -1,4 +1,4 @@
--- Laws of connections and of conversations, which follow from their definitions.
+-- Laws about connections and conversations, which follow from the definitions of both.
 use Rattle.std.specs.Prelude.{◌≡◌, ◌≢◌, ℕ, Some}
 use Rattle.gpkt.specs.Sending.{Input, Output, IsUp, Passes}
 use Rattle.gpkt.specs.Packets.{Bytes}
@@ -10,8 +10,8 @@ use Rattle.gserve.specs.Talks.{Talks, EndsByOwnFault}
 use Rattle.gserve.specs.declared.connection.End.{End}
 use Rattle.gserve.specs.declared.connection.End.TheVariants as end
 
--- if its input is known and neither device fails, a connection is a conversation over these bytes, with all output
--- flushed
+-- if the bytes of the source are known, and neither source nor sink fails, a connection is a conversation over these
+-- bytes, with all output flushed
 abbrev pub ServingIsTalking : (A : Type 0) → Packs A → PackFails A → Type 0
 ServingIsTalking A packs fails =
     (server : Server A) (ends : Ends) (input : Input) (output : Output) (requests : ℕ) (ended : End) (bytes : Bytes)
@@ -19,7 +19,7 @@ ServingIsTalking A packs fails =
     → ended ≢ end.WriteFailed
     → (written : Bytes) × Passes output written × Talks server packs fails ends bytes written ended
 
--- a client's bytes determine the output and the end of a conversation that does not end by the server's own fault
+-- a client's bytes determine the output and the end of a conversation, unless it ends with a fault of the server's own
 abbrev pub TalksAreOne : (A : Type 0) → Packs A → PackFails A → Type 0
 TalksAreOne A packs fails =
     (server : Server A) (ends : Ends) (bytes one other : Bytes) (ended last : End) → IsServer server

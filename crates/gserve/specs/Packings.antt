@@ -1,5 +1,6 @@
 -- The last result of the packer at the end of an exchange or a connection. If the packer fails, its fault is reported.
--- If another fault is reported, the packer was not asked for that request. If the sink fails, the result is left open.
+-- If another fault is reported, the packer was not asked for that request. If the sink fails, the packer may have any
+-- result.
 use Rattle.std.specs.Prelude.{◌≡◌, ⊤, false}
 use Rattle.ganswer.specs.OnePack.{has_failed, packing_of_fault}
 use Rattle.ganswer.specs.declared.one_pack.Packing.TheVariants.{Unasked}

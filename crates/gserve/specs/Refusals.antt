@@ -7,11 +7,11 @@ use Rattle.ganswer.specs.Faults.{serve_fault_row}
 use Rattle.ganswer.specs.declared.fault.ServeFault.{ServeFault}
 use Rattle.ganswer.specs.declared.fault.ServeFault.TheVariants as serve
 
--- the most bytes of a refusal's text
+-- the maximum length of a refusal's text, in bytes
 abbrev pub max_err_text : ℕ
 max_err_text = 128
 
--- the end of a refusal's text: the id of a want that is not held
+-- the end of a refusal's text: the id of a want that the server does not hold
 abbrev pub detail_of : ServeFault → Bytes
 detail_of (serve.NotOurs id) = codes " " ++ id_text id
 detail_of _ = []

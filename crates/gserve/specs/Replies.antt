@@ -12,8 +12,8 @@ module _
     {W : Type 0} (contents_of passed_on_of : W → Option Bytes) (is_down : W → Bool)
     (loans_of : W → List ℕ)
   where
-    -- The effect of one call that writes the packets of a reply. The reply to a lone flush packet has no packets, and
-    -- the call does not change the writer.
+    -- The effect of one call that writes the packets of a reply. The reply to a lone flush packet has no packets. For
+    -- this reply the call does not change the writer.
     abbrev pub WritesReply : Ends → Reply → Writer W → Writer W → Result (Unit {0}) WriteFault → Type 0
     WritesReply ends Nothing old new result = (result ≡ Ok tt) × (new ≡ old)
     WritesReply ends reply old new result =

@@ -16,7 +16,7 @@ use Rattle.gserve.specs.Refusals.{err_packets}
 use Rattle.gserve.specs.declared.connection.End.{End}
 use Rattle.gserve.specs.declared.connection.End.TheVariants as end
 
--- a source that does not fail: these bytes are read from it, up to the rest
+-- the input from a source that does not fail: all of `bytes` except `rest` is read
 abbrev pub input_of_bytes : Bytes → Bytes → Input
 input_of_bytes bytes rest = record { read = known_bytes bytes rest; was_down = false; is_down = false }
 
@@ -26,8 +26,8 @@ last_packets (end.Refused fault) = err_packets fault
 last_packets _ = []
 
 module _ {A : Type 0} (server : Server A) (fails : PackFails A) where
-  -- The end after this many requests, with these bytes left. A lone flush packet is next, no bytes are left, the most
-  -- requests were answered, or the next request is refused.
+  -- The end after this many requests, with these bytes left. A lone flush packet is next, no bytes are left, the
+  -- maximum number of requests was answered, or the next request is refused.
   abbrev pub Stops : ℕ → Bytes → End → Type 0
   Stops requests left end.Closed =
       (requests < max_requests) × (rest : Bytes) × ReadsEmpty server.graph.format (input_of_bytes left rest)
@@ -36,14 +36,14 @@ module _ {A : Type 0} (server : Server A) (fails : PackFails A) where
       (requests < max_requests) × (rest : Bytes) × IsRefused server fails (input_of_bytes left rest) fault
   Stops requests left end.WriteFailed = ⊥
 
--- memory ran out at the start, and only the error packet is written
+-- memory runs out at the start, and only the error packet is written
 abbrev pub HoldsNone : Bytes → Bytes → End → Type 0
 HoldsNone bytes written (end.Refused fault) =
     CannotBegin (input_of_bytes bytes bytes) fault × (written ≡ canonical_all (err_packets fault))
 HoldsNone bytes written _ = ⊥
 
 module _ {A : Type 0} (server : Server A) (packs : Packs A) (fails : PackFails A) (ends : Ends) where
-  -- The bytes begin with the requests of these turns, and the bytes that are left end the conversation. The output is
+  -- The bytes begin with the requests of a list of turns, and the remaining bytes end the conversation. The output is
   -- the advertisement, the replies, and the error packet of a refusal, if any.
   pub record HoldsTurns (bytes written : Bytes) (ended : End) : Type 0 where
     pub turns : List Turn
@@ -52,7 +52,7 @@ module _ {A : Type 0} (server : Server A) (packs : Packs A) (fails : PackFails A
     pub stops : Stops server fails (length turns) left ended
     pub all : written ≡ talk_bytes server.graph.format ends turns ++ canonical_all (last_packets ended)
 
-  -- a conversation with a client that sends these bytes: the output and the end
+  -- the output and the end of a conversation with a client that sends these bytes
   abbrev pub Talks : Bytes → Bytes → End → Type 0
   Talks bytes written ended = HoldsTurns bytes written ended ⊎ HoldsNone bytes written ended
 

@@ -26,9 +26,10 @@ pub const MAX_REQUESTS: u32 = u32::MAX;
 pub enum End {
     /// The client ended the connection with a lone flush packet.
     Closed,
-    /// The input ended before a request, or there were [`MAX_REQUESTS`] requests.
+    /// The input ended before a request, or the server answered [`MAX_REQUESTS`] requests.
     Ended,
-    /// A request was refused. The error packet for it was written last, and flushed.
+    /// A request was refused. The error packet for the request is the last packet written, and was
+    /// flushed.
     Refused(ServeFault),
     /// The sink failed. A prefix of the next message was written.
     WriteFailed,
@@ -47,10 +48,10 @@ pub struct Served {
 /// to each (gitprotocol-v2(5), "Capability Advertisement", "Command Request"). The call flushes
 /// after the advertisement, after each reply and after an error packet. The server is unchanged.
 ///
-/// The connection ends if the client ends it, if the input ends before a request, if a request is
-/// refused, or if the sink fails. An error packet for the refused request is written last. If
-/// memory runs out at the start, the server only writes the error packet that reports this, and
-/// reads nothing.
+/// The connection ends if the client sends a lone flush packet, if the input ends before a request,
+/// if a request is refused, or if the sink fails. After a refused request, the server writes an
+/// error packet. If memory runs out at the start, the server only writes an error packet that
+/// reports out of memory, and reads nothing.
 ///
 /// A fault of the packer is reported as the packer returned it, and ends the connection. The packer
 /// is asked at most once for each request. Any other fault, such as out of memory, is reported only
@@ -109,7 +110,7 @@ fn serve_to<S: Source, W: Sink, A: Allocator + Copy, K: Packer<A>>(
     served
 }
 
-// Writes the advertisement, and replies to all requests.
+// Writes the advertisement, and then replies to requests until the connection ends.
 fn converse<S: Source, W: Sink, A: Allocator + Copy, K: Packer<A>>(
     server: &Server<A>,
     packer: &mut OnePack<'_, K>,
@@ -135,7 +136,7 @@ fn converse<S: Source, W: Sink, A: Allocator + Copy, K: Packer<A>>(
     }
 }
 
-// Replies to one request after the other. The caller has already written and flushed the
+// Replies to one request after another. The caller has already written and flushed the
 // advertisement.
 fn answer_each<S: Source, W: Sink, A: Allocator + Copy, K: Packer<A>>(
     server: &Server<A>,
@@ -187,7 +188,8 @@ fn end_after(exchange: ExchangeEnd) -> Option<End>
     }
 }
 
-// Writes and flushes the advertisement, or an error packet if memory runs out for it.
+// Writes and flushes the advertisement. If memory runs out for the advertisement, writes an error
+// packet instead.
 fn advertise<W: Sink, A: Allocator + Copy>(
     server: &Server<A>,
     writer: &mut PacketWriter<W>,

@@ -25,20 +25,20 @@ pub enum ExchangeEnd {
     Closed,
     /// The input ended before the request. Nothing was written.
     Ended,
-    /// The request was refused. The error packet for it was written and flushed.
+    /// The request was refused. Its error packet was written and flushed.
     Refused(ServeFault),
     /// The sink failed. A prefix of the reply was written.
     WriteFailed,
 }
 
-/// Reads one request and writes the reply to it, without an advertisement before it
-/// (gitprotocol-v2(5), "Command Request"). Nothing after the request's last packet is read. If
-/// memory runs out for the reader's buffer, nothing is read, and the error packet reports this. The
-/// reply to a request for refs takes no memory once the request is read. A fault of the packer is
-/// reported as the packer returned it. Any other fault, such as out of memory, is reported only if
-/// the packer was not asked.
+/// Reads one request and writes its reply, without an advertisement (gitprotocol-v2(5), "Command
+/// Request"). Nothing after the request's last packet is read. If memory runs out for the reader's
+/// buffer, nothing is read, and the error packet reports out of memory. The reply to an ls-refs
+/// request needs no memory once the request is read. A fault of the packer is reported as the
+/// packer returned it. Any other fault, such as out of memory, is reported only if the packer was
+/// not asked.
 ///
-/// If the request got a reply, or if there was no request, the source has not failed.
+/// If the call ends with `Answered`, `Closed` or `Ended`, the source has not failed.
 pub fn serve_one<S: Source, W: Sink, A: Allocator + Copy, K: Packer<A>>(
     server: &Server<A>,
     packer: &mut OnePack<'_, K>,
@@ -91,8 +91,8 @@ fn serve_one_to<S: Source, W: Sink, A: Allocator + Copy, K: Packer<A>>(
     ended
 }
 
-/// Reads one request and writes the reply to it. After a reply, neither the reader nor the writer
-/// has failed.
+/// Reads one request and writes its reply. After a reply, neither the reader nor the writer has
+/// failed.
 pub(crate) fn exchange<S: Source, W: Sink, A: Allocator + Copy, K: Packer<A>>(
     server: &Server<A>,
     packer: &mut OnePack<'_, K>,

@@ -24,22 +24,21 @@ pub struct Export<'a, A: Allocator + Copy> {
     pub server: &'a Server<A>,
     /// The path that a client must ask for, byte for byte.
     pub path: &'a [u8],
-    /// How each reply ends.
+    /// The packet that ends each reply.
     pub ends: Ends,
 }
 
 /// How a `git://` connection ended.
 #[derive(Debug, Drop)]
 pub enum GitEnd {
-    /// The client asked for the served path, and the connection ended in this state.
+    /// The client asked for the served path. The value is the result of the connection.
     Served(Served),
-    /// The client asked for another path. Only the error packet that reports this was written and
-    /// flushed.
+    /// The client asked for another path. Only an error packet was written, and it was flushed.
     Elsewhere,
-    /// The first line was refused, or memory ran out while reading it. Only the error packet that
-    /// reports this was written and flushed.
+    /// The first line was refused, or memory ran out while reading it. Only an error packet was
+    /// written, and it was flushed.
     Refused(ServeFault),
-    /// The sink failed at the error packet. A prefix of the packet was written.
+    /// The sink failed while the error packet was written. A prefix of the packet was written.
     WriteFailed,
 }
 
@@ -51,8 +50,8 @@ pub enum GitEnd {
 /// nothing after the line is read. If memory runs out before the line, nothing is read, and the
 /// `ERR` packet reports out of memory.
 ///
-/// The packer is asked only if the client asks for the served path. Its fault is reported as
-/// [`serve`] reports it.
+/// The packer is asked only if the client asks for the served path. Faults of the packer are
+/// reported as by [`serve`].
 pub fn serve_git<S: Source, W: Sink, A: Allocator + Copy, K: Packer<A>>(
     export: &Export<'_, A>,
     packer: &mut OnePack<'_, K>,
@@ -87,10 +86,10 @@ pub fn serve_git<S: Source, W: Sink, A: Allocator + Copy, K: Packer<A>>(
 /// Reads the first line of a connection (gitprotocol-pack(5), "Git Transport"), and nothing after
 /// it.
 ///
-/// Fails with fault 28 if memory runs out for the reader's buffer, and reads nothing then. Fails
-/// with fault 20 to 25 if the packet is refused, and with `Ended` (54) if the input ends before it.
-/// Fails with `UnexpectedFrame` (41) or `BadText` (42) if it is no first line, and with `Memory`
-/// (53) if memory runs out to keep it.
+/// Fails with fault 28 if memory runs out for the reader's buffer, and then reads nothing. Fails
+/// with a fault from 20 to 25 if the packet is refused, and with `Ended` (54) if the input ends
+/// before the packet. Fails with `UnexpectedFrame` (41) or `BadText` (42) if the packet is not a
+/// first line, and with `Memory` (53) if memory runs out while storing the line.
 pub fn hear<S: Source, A: Allocator + Copy>(
     source: &mut S,
     alloc: A,
@@ -111,7 +110,7 @@ pub fn hear<S: Source, A: Allocator + Copy>(
     }
 }
 
-// Returns whether the first line asks for the path.
+// Returns whether the first line of the client asks for `path`.
 fn asks_for<A: Allocator + Copy>(path: &[u8], hello: &Hello<A>) -> bool
     ensures { IsTrue result ↔ (hello.now.path ≡ path.now) }
 {

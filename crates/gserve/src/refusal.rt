@@ -41,7 +41,7 @@ fn text_of(fault: &ServeFault) -> ArrayVec<u8, MAX_ERR_TEXT>
     text
 }
 
-// Appends the reason of the refusal to the text for the client.
+// Appends the reason for the refusal to the text for the client.
 #[tactic(auto, using(crate::proofs::SendingLemmas::phrase_is_short))]
 fn add_phrase(fault: &ServeFault, text: &mut ArrayVec<u8, MAX_ERR_TEXT>)
     requires { length text.old.items + max_phrase ≤ max_err_text }
@@ -51,7 +51,7 @@ fn add_phrase(fault: &ServeFault, text: &mut ArrayVec<u8, MAX_ERR_TEXT>)
     add(fault.phrase().as_bytes(), text);
 }
 
-// Appends the id of a want that is not held, if the fault has one.
+// Appends the id of the want if the fault is `NotOurs`.
 fn add_detail(fault: &ServeFault, text: &mut ArrayVec<u8, MAX_ERR_TEXT>)
     requires { length text.old.items + max_detail ≤ max_err_text }
     ensures text { text.new.items ≡ text.old.items ++ detail_of fault.now }

@@ -22,7 +22,7 @@ use gpkt::{PacketWriter, Sink, WriteFault};
 use grequest::LsRefsRequest;
 use std::alloc::Allocator;
 
-/// Writes the reply to a request for refs, and flushes the writer. Allocates nothing.
+/// Writes the reply to an ls-refs request, and flushes the writer. Allocates nothing.
 pub(crate) fn send_ls_answer<W: Sink, A: Allocator + Copy>(
     server: &Server<A>,
     asked: &LsRefsRequest<A>,
@@ -43,7 +43,7 @@ pub(crate) fn send_ls_answer<W: Sink, A: Allocator + Copy>(
     writer.push()
 }
 
-/// Writes a reply to a fetch, and flushes the writer.
+/// Writes a fetch reply, and flushes the writer.
 pub(crate) fn send_fetch_reply<W: Sink, A: Allocator + Copy>(
     reply: &FetchReply<A>,
     ends: Ends,

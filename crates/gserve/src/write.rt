@@ -1,4 +1,4 @@
-//! Writing a reply without a connection, to keep it and send it later.
+//! Writing a reply without a connection, for example to store it and send it later.
 
 ghost use Rattle.ganswer.specs.Answers.{reply_of};
 ghost use Rattle.gserve.specs.Replies.{WritesReply};

@@ -23,7 +23,7 @@ module _ {A : Type 0} (server : Server A) (asked : LsRefsAsked) (ends : Ends) (g
     pub all : said ≡ canonical_reply ends reply
     pub goes_so : goes ≡ goes_on
 
-  -- the packets are the requested lines of these refs, and the end of the reply
+  -- the packets are the lines of the requested refs among `refs`, and the end of the reply
   pub record SaysRefs (refs : RefList) (said : List Packet) (goes : Bool) : Type 0 where
     pub lines : List RefLine
     pub shows : ShowsLines server asked refs lines
@@ -37,14 +37,14 @@ module _ {A : Type 0} (server : Server A) (asked : LsRefsAsked) (ends : Ends) (g
   SaysListing (next.Ref at) said goes = SaysRefs (drop at server.refs) said goes
   SaysListing next.ResponseEnd said goes = (said ≡ ResponseEnd ∷ []) × (goes ≡ goes_on)
 
--- the maximum number of steps left, each of which sends at most one packet
+-- the maximum number of steps left; each step sends at most one packet
 abbrev pub steps_of_listing : {A : Type 0} → Server A → NextLine → ℕ
 steps_of_listing server next.Unborn = length server.refs + 4
 steps_of_listing server next.Head = length server.refs + 3
 steps_of_listing server (next.Ref at) = (length server.refs - at) + 2
 steps_of_listing server next.ResponseEnd = 0
 
--- the result at the end of a reply, depending on whether the dialogue continues
+-- the result after the last packet of a reply, depending on whether the dialogue continues
 abbrev pub said_at_end : Bool → Said
 said_at_end true = said.Whole
 said_at_end false = said.Last

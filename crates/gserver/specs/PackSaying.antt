@@ -9,7 +9,7 @@ use Rattle.gfetchreply.specs.FetchReplies.{data_packet, pieces}
 abbrev pub May : Type 1
 May = List Packet → Bool → Type 0
 
--- the side-band 1 packets of a pack, or of a prefix of the pack if the packer fails
+-- the packets that carry a pack on side band 1; if the packer fails, they carry a prefix of the bytes before the fault
 pub record SaysPack (gives : Gives) (packets : List Packet) (end : Option PackFault) : Type 0 where
   pub sent : Bytes
   pub lost : Bytes

@@ -15,11 +15,11 @@ use Rattle.gserver.specs.PackSaying.{May, SaysPack}
 use Rattle.gserver.specs.declared.said.Rest.{Rest}
 use Rattle.gserver.specs.declared.said.Rest.TheVariants as rest
 
--- the side-band 3 packet that reports the fault of a packer
+-- the packet that reports a packer's fault on side band 3
 abbrev pub fatal_packet : PackFault → Packet
 fatal_packet fault = Data (band_payload (Fatal (pack_fault_text fault)))
 
--- the packets `front`, and then packets that `May_rest` permits
+-- the packets `front`, followed by packets that `May_rest` permits
 pub record SaysFirst (front : List Packet) (May_rest : May) (said : List Packet) (goes : Bool) : Type 0 where
   pub rest : List Packet
   pub parts : said ≡ front ++ rest
@@ -30,8 +30,8 @@ module _ (ends : Ends) (goes_on : Bool) where
   abbrev pub SaysEnd : May
   SaysEnd said goes = (said ≡ Flush ∷ ends_with ends) × (goes ≡ goes_on)
 
-  -- the packets of a pack and the end of the reply, or the packets before a packer's fault and the packet that reports
-  -- it
+  -- the packets of a pack and the end of the reply; or, if the packer fails, the packets before the fault and the
+  -- packet that reports the fault
   abbrev pub EndsPack : List Packet → Option PackFault → May
   EndsPack packets None said goes = (said ≡ packets ++ Flush ∷ ends_with ends) × (goes ≡ goes_on)
   EndsPack packets (Some fault) said goes = (said ≡ packets ++ fatal_packet fault ∷ []) × (goes ≡ false)
@@ -46,12 +46,12 @@ module _ (ends : Ends) (goes_on : Bool) where
   abbrev pub SaysSection : Gives → May
   SaysSection gives = SaysFirst (text_packet (codes "packfile") ∷ []) (SaysRestOfPack gives)
 
--- the packets that acknowledge these ids, or `NAK` if there are none and no pack follows
+-- the packets that acknowledge these ids, or `NAK` if there are no ids and no pack follows
 abbrev pub acks_or_nak : {K : Type 0} → List Id → Option K → List Packet
 acks_or_nak ids None = nak_if_none (map ack_packet ids)
 acks_or_nak ids (Some pack) = map ack_packet ids
 
--- ---- from a state of a reply on
+-- ---- the rest of a reply
 
 -- the packets after the acknowledged ids
 abbrev pub SaysAfterAcks : {R P : Type 0} → (R → P → Gives) → Ends → Bool → Option (R × P) → May
@@ -60,7 +60,7 @@ SaysAfterAcks gives ends goes_on (Some pack) =
     SaysFirst (ready_packet ∷ Delim ∷ []) (SaysSection ends goes_on (gives pack.0 pack.1))
 
 module _ {A R P : Type 0} (gives : R → P → Gives) (ends : Ends) (goes_on : Bool) where
-  -- the packets from this state of a reply to its end
+  -- the packets from this state of a reply to the end of the reply
   abbrev pub SaysRest : Rest A R P → May
   SaysRest rest.Nothing said goes = (said ≡ []) × (goes ≡ false)
   SaysRest (rest.Refusal text) said goes = (said ≡ text_packets text) × (goes ≡ false)
@@ -83,7 +83,7 @@ steps_after_acks most None = 2
 steps_after_acks most (Some pack) = most pack.0 pack.1 + 5
 
 module _ {A R P : Type 0} (most : R → P → ℕ) where
-  -- the maximum number of steps left, each of which sends at most one packet
+  -- the maximum number of steps left; each step sends at most one packet
   abbrev pub steps_of : Rest A R P → ℕ
   steps_of rest.Nothing = 0
   steps_of (rest.Refusal text) = 0

@@ -23,7 +23,7 @@ use Rattle.gserver.specs.Fetching.{SaysFetch}
 use Rattle.gserver.specs.Listings.{SaysLsAnswer}
 use Rattle.gserver.specs.declared.side.ServerSide.{ServerSide}
 
--- the maximum number of requests after which a connection accepts another request
+-- the number of requests after which a connection accepts only one more request
 abbrev pub max_requests : ℕ
 max_requests = 4294967295
 
@@ -36,20 +36,20 @@ abbrev pub messages_of : {R : Type 0} → Option R → ℕ → ℕ
 messages_of None requests = max_requests + 1
 messages_of (Some repo) requests = max_requests - requests
 
--- the server sends an error packet whose text satisfies `Why`, and ends the connection
+-- the server sends an error packet with a text for which `Why` holds, and ends the connection
 pub record Refuses (Why : Bytes → Type 0) (said : List Packet) (goes : Bool) : Type 0 where
   pub text : Bytes
   pub why : Why text
   pub all : said ≡ text_packets text
   pub ended : goes ≡ false
 
--- the number of answered requests after this one, where an empty request does not count
+-- the number of requests answered, including this request unless it is empty
 abbrev pub count_request : Asked → ℕ → ℕ
 count_request Empty requests = requests
 count_request (Ls asked) requests = min (requests + 1) max_requests
 count_request (Fetches asked) requests = min (requests + 1) max_requests
 
--- the text is the host's text for a fault that can occur, and the server stores this fault
+-- the text is the host's text for a fault that can occur here, and the server stores this fault
 module _ {H : Type 0} (says : H → ServeFault → Bytes → Type 0) (host : H) where
   pub record IsFault (Can : ServeFault → Type 0) (kept : Option ServeFault) (text : Bytes) : Type 0 where
     pub fault : ServeFault
@@ -57,7 +57,7 @@ module _ {H : Type 0} (says : H → ServeFault → Bytes → Type 0) (host : H) 
     pub keeps : kept ≡ Some fault
     pub words : says host fault text
 
-  -- the fault is a lack of memory for the answer
+  -- the fault is out of memory for the answer
   abbrev pub LacksMemory : Option ServeFault → Bytes → Type 0
   LacksMemory = IsFault (λ fault. fault ≡ serve.Memory)
 
@@ -87,8 +87,8 @@ module _ {A R : Type 0} (server_of : R → Server A) where
     AnswersHello Finds new kept said goes = Greets Finds new said goes ⊎ Refuses (CannotGreet Finds new kept) said goes
 
     module _ (packs_of : R → Packs A) (fails_of : R → PackFails A) (Opens : Result R Bytes → Type 0) (ends : Ends) where
-      -- the server answers a fetch request from the repository as the host opens it now, and serves that repository
-      -- from then on
+      -- the host opens the repository again, and the server answers the fetch request from it and serves it from then
+      -- on
       pub record SendsFrom (asked : FetchAsked) (goes_on : Bool) (new : Option R) (said : List Packet)
           (goes : Bool) : Type 0 where
         pub found : R
@@ -98,7 +98,7 @@ module _ {A R : Type 0} (server_of : R → Server A) where
         pub same : server_of packer ≡ server_of found
         pub sends : SaysFetch (server_of found) (packs_of packer) (fails_of packer) asked ends goes_on said goes
 
-      -- the repository that the host opens cannot answer the fetch request
+      -- the server cannot answer the fetch request from the repository that the host opens
       pub record CannotSendFrom (asked : FetchAsked) (new : Option R) (kept : Option ServeFault)
           (text : Bytes) : Type 0 where
         pub found : R
@@ -109,7 +109,7 @@ module _ {A R : Type 0} (server_of : R → Server A) where
         pub fault : IsFault says host (FetchRefuses (server_of found) (fails_of packer) asked) kept text
 
       -- the reasons to reject a fetch request: the host cannot open the repository, there is not enough memory, or the
-      -- opened repository cannot answer
+      -- opened repository cannot answer the request
       abbrev pub CannotSend : R → FetchAsked → Option R → Option ServeFault → Bytes → Type 0
       CannotSend repo asked new kept text =
           ((new ≡ Some repo) × (Opens (Err text) ⊎ LacksMemory says host kept text))
@@ -139,21 +139,21 @@ pub record IsFresh {A H R : Type 0} (side : ServerSide A H R) : Type 0 where
   pub requests : side.requests ≡ 0
   pub fault : side.fault ≡ None
 
--- a side that has received no message sends no packet
+-- a side that has received no message opens the dialogue without a packet
 abbrev pub OpensFresh : {A H R : Type 0} → ServerSide A H R → List Packet → Bool → Type 0
 OpensFresh side said goes = IsFresh side × SaysNothing said goes
 
 module _ {A H R : Type 0} (server_of : R → Server A) (packs_of : R → Packs A) (fails_of : R → PackFails A)
     (finds : H → Hello → Result R Bytes → Type 0) (opens : H → R → Result R Bytes → Type 0)
     (says : H → ServeFault → Bytes → Type 0) where
-  -- the packets are a first line, and the answer fits the repository that the host finds for this line
+  -- the packets are a first line, and `said` is an answer for the repository that the host finds for this line
   pub record AnswersFirst (old new : ServerSide A H R) (lines said : List Packet) (goes : Bool) : Type 0 where
     pub asked : Hello
     pub says_so : hello.Says lines asked
     pub answers : AnswersHello server_of says old.host.now (finds old.host.now asked) new.repo new.fault said goes
     pub requests : new.requests ≡ old.requests
 
-  -- the packets are a request, and the answer fits the request or is an error packet
+  -- the packets are a request, and `said` is an answer to the request or an error packet
   pub record AnswersRequest (repo : R) (old new : ServerSide A H R) (lines said : List Packet)
       (goes : Bool) : Type 0 where
     pub asked : Asked
@@ -164,7 +164,7 @@ module _ {A H R : Type 0} (server_of : R → Server A) (packs_of : R → Packs A
         repo asked new.repo new.fault) said goes
     pub requests : new.requests ≡ count_request asked old.requests
 
-  -- the packets are a message, and the answer fits this message
+  -- the packets are a message, and `said` is an answer to this message
   abbrev pub AnswersBy : Option R → ServerSide A H R → ServerSide A H R → List Packet → List Packet → Bool → Type 0
   AnswersBy None old new lines said goes = AnswersFirst old new lines said goes
   AnswersBy (Some repo) old new lines said goes = AnswersRequest repo old new lines said goes

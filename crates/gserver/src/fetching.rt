@@ -1,4 +1,5 @@
-//! The reply to a fetch request (gitprotocol-v2(5), "fetch"), whose pack arrives in parts.
+//! The reply to a fetch request (gitprotocol-v2(5), "fetch"). The packer returns the pack of the
+//! reply in parts.
 
 ghost use Rattle.std.specs.Prelude.{Bool, List, MatchResult};
 ghost use Rattle.gpkt.specs.Packets.{Packet};

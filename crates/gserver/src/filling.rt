@@ -1,4 +1,4 @@
-//! The packets of a pack that its packer returns in parts.
+//! The packets of a pack that the packer returns in parts.
 
 ghost use Rattle.std.specs.Prelude.{◌≡◌, ◌<◌, ◌≤◌, ◌+◌, List, [], ℕ, length, MatchResult, Some};
 ghost use Rattle.gpkt.specs.Packets.{max_packet};
@@ -47,8 +47,8 @@ pub(crate) fn say_piece<A: Allocator + Copy, B: Allocator + Copy, K: PartPacker<
     }
 }
 
-// Fills a buffer with the next bytes of a pack, and returns their number. The number is less than
-// the size of the buffer only if the pack has ended.
+// Fills a buffer with the next bytes of a pack, and returns their number. Fewer bytes than the size
+// of the buffer are returned only at the end of the pack.
 fn fill<A: Allocator + Copy, K: PartPacker<A>>(
     packer: &K,
     parts: &mut K::Parts,
@@ -71,7 +71,7 @@ fn fill<A: Allocator + Copy, K: PartPacker<A>>(
     Ok(count)
 }
 
-// Writes the next part of a pack into a buffer, after the bytes that are already in it.
+// Writes the next part of a pack into a buffer, after the bytes that the buffer already contains.
 fn put_part<A: Allocator + Copy, K: PartPacker<A>>(
     packer: &K,
     parts: &mut K::Parts,

@@ -36,7 +36,7 @@ pub struct Greeting<A: Allocator + Copy> {
 }
 
 impl<A: Allocator + Copy> Greeting<A> {
-    /// Returns the complete advertisement, of which no packet is sent yet.
+    /// Returns the advertisement before its first packet is sent.
     pub fn new(advert: Advert<A>) -> Greeting<A>
         ensures advert { result.advert ≡ advert }
         ensures next { result.next ≡ NextPart.Version }

@@ -7,7 +7,7 @@ use ganswer::{ServeFault, Server};
 use ghello::Hello;
 use std::alloc::{AllocError, Allocator};
 
-/// A handle of a repository that a connection serves. One repository may have several handles.
+/// A handle to a repository that a connection serves. One repository may have several handles.
 pub trait ServedRepository<A: Allocator + Copy> {
     ghost use Rattle.ganswer.specs.Servers.{Server};
 
@@ -18,29 +18,30 @@ pub trait ServedRepository<A: Allocator + Copy> {
     fn server(&self) -> &Server<A>
         ensures { result.now ≡ server self.now };
 
-    /// Returns another handle of the repository. Fails only if there is not enough memory.
+    /// Returns another handle to the repository. Fails only if there is not enough memory.
     fn handle(&self) -> Result<Self, AllocError>
         ensures { IfOk result (λ other. server other ≡ server self.now) };
 }
 
 /// The owner of the repositories, shared by all connections of a server.
 ///
-/// `finds`, `opens` and `says` limit the results of the three methods. A host that does not define
-/// them may return anything.
+/// The members `finds`, `opens` and `says` restrict the results of the three methods. By default
+/// they allow every result.
 pub trait Host<A: Allocator + Copy, R> {
     ghost use Rattle.std.specs.Prelude.{Result, ⊤};
     ghost use Rattle.gpkt.specs.Packets.{Bytes};
     ghost use Rattle.ghello.specs.Hello.{Hello};
     ghost use Rattle.ganswer.specs.declared.fault.ServeFault.{ServeFault};
 
-    // The repositories that the host may find for this first line, and the texts of its errors.
+    // The results that `find` may return for this first line: a repository, or a text for the
+    // client.
     ghost finds: { Self → Hello → Result R Bytes → Type 0 } = { λ _ _ _. ⊤ };
 
-    // The repositories that the host may return when it opens this one, and the texts of its
-    // errors.
+    // The results that `open` may return for this repository: a repository, or a text for the
+    // client.
     ghost opens: { Self → R → Result R Bytes → Type 0 } = { λ _ _ _. ⊤ };
 
-    // The texts that the host may return for this fault.
+    // The texts that `words` may return for this fault.
     ghost says: { Self → ServeFault → Bytes → Type 0 } = { λ _ _ _. ⊤ };
 
     /// Returns the repository that the first line asks for. Fails with a text for the client if the

@@ -41,7 +41,7 @@ pub struct Listing<A: Allocator + Copy, R> {
 }
 
 impl<A: Allocator + Copy, R> Listing<A, R> {
-    /// Returns the complete reply to a request, of which no packet is sent yet.
+    /// Returns the reply to a request before its first packet is sent.
     pub fn new(repo: R, asked: LsRefsRequest<A>, ends: Ends, goes_on: bool) -> Listing<A, R>
         ensures repo { result.repo ≡ repo }
         ensures asked { result.asked ≡ asked }
@@ -116,7 +116,7 @@ impl<A: Allocator + Copy, R: ServedRepository<A>> Listing<A, R> {
     }
 }
 
-// Returns the result at the end of a reply, depending on whether the dialogue continues.
+// Returns the result after the last packet of a reply, depending on whether the dialogue continues.
 fn said_at_end(goes_on: bool) -> Said
     ensures { result ≡ said_at_end goes_on }
 {

@@ -16,7 +16,7 @@ use grequest::LsRefsRequest;
 use gtalk::Outgoing;
 use std::alloc::Allocator;
 
-/// Queues the line with the target of HEAD, if HEAD is unborn and the request asks for it.
+/// Queues the line with the target of an unborn HEAD, if the request asks for this line.
 pub(crate) fn say_unborn<A: Allocator + Copy, B: Allocator + Copy>(
     server: &Server<A>,
     asked: &LsRefsRequest<A>,
@@ -77,7 +77,7 @@ pub(crate) fn say_ref<A: Allocator + Copy, B: Allocator + Copy>(
     }
 }
 
-// Queues a line, if there is one.
+// Queues the line, or nothing if `line` is `None`.
 fn say_line<A: Allocator + Copy, B: Allocator + Copy>(
     line: Option<&LentLine<'_, A>>,
     out: &mut Outgoing<B>,

@@ -12,7 +12,7 @@ use gparts::PartPacker;
 use gtalk::Outgoing;
 use std::alloc::Allocator;
 
-/// The reply of a server to a message, sent packet by packet. A pack is never whole in memory.
+/// The reply of a server to a message, sent packet by packet. A whole pack is never in memory.
 #[derive(Drop)]
 pub enum ServerReply<A: Allocator + Copy, R, P> {
     /// The advertisement of a repository.

@@ -166,7 +166,7 @@ fn say_flush<A: Allocator + Copy, B: Allocator + Copy, R: PartPacker<A> + Drop>(
     }
 }
 
-// Returns the result at the end of a reply, depending on whether the dialogue continues.
+// Returns the result after the last packet of a reply, depending on whether the dialogue continues.
 fn end_of<A: Allocator + Copy, R, P>(goes_on: bool) -> Stepped<A, R, P>
     ensures { result ≡ end_of goes_on }
 {

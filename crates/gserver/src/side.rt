@@ -28,7 +28,7 @@ use gparts::PartPacker;
 use grequest::{FetchRequest, LsRefsRequest, Request, RequestReader};
 use std::alloc::Allocator;
 
-/// The maximum number of requests after which a connection accepts another request.
+/// The number of requests after which a connection accepts only one more request.
 pub const MAX_REQUESTS: u32 = u32::MAX;
 
 /// The server's end of a connection. The server receives a first line, which names a repository,
@@ -70,15 +70,16 @@ impl<'h, A: Allocator + Copy, H, R> ServerSide<'h, A, H, R> {
         self.repo.as_ref()
     }
 
-    /// Returns the number of requests that were answered or are being answered. The number never
-    /// exceeds [`MAX_REQUESTS`], even after one more request.
+    /// Returns the number of requests that were answered or are being answered. The count stops at
+    /// [`MAX_REQUESTS`].
     pub fn requests(&self) -> u32
         ensures { result ≡ self.now.requests }
     {
         self.requests
     }
 
-    /// Returns the fault for which this side refused a message, or `None`.
+    /// Returns the fault for which this side refused a message, or `None` if no message was
+    /// refused.
     pub fn fault(&self) -> Option<&ServeFault>
         ensures { option_copied result ≡ self.now.fault }
     {
@@ -212,7 +213,8 @@ where
         }
     }
 
-    // Returns the reply to a fetch request, from the repository as the host opens it now.
+    // Asks the host to open the repository again, and returns the reply to a fetch request from the
+    // opened repository.
     fn send(
         &mut self,
         asked: &FetchRequest<A>,
@@ -280,7 +282,7 @@ fn refusal_of<A: Allocator + Copy, R: ServedRepository<A> + PartPacker<A>>(
     Answer::Last(ServerReply::Speech(Speech::refusal_of(text)))
 }
 
-// Returns an answer with this reply, or with an error packet.
+// Returns an answer with the reply, or with an error packet if `reply` is `Err`.
 fn answer_of<A: Allocator + Copy, R: ServedRepository<A> + PartPacker<A>>(
     answered: Result<ServerReply<A, R, R::Parts>, ErrText>,
     goes_on: bool,

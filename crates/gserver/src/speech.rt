@@ -14,7 +14,7 @@ use std::mem;
 
 /// The reply to a fetch request, an error packet, or no packet.
 ///
-/// The pack arrives from its packer one piece at a time, and is never whole in memory.
+/// The packer returns the pack in parts, so the whole pack is never in memory.
 #[derive(Drop)]
 pub struct Speech<A: Allocator + Copy, R, P> {
     pub(crate) rest: Rest<A, R, P>,
@@ -24,7 +24,7 @@ pub struct Speech<A: Allocator + Copy, R, P> {
 }
 
 impl<A: Allocator + Copy, R, P> Speech<A, R, P> {
-    /// Returns a reply of one error packet, which ends the connection.
+    /// Returns a reply that consists of an error packet and ends the connection.
     pub fn refusal_of(text: ErrText) -> Speech<A, R, P>
         ensures { result.rest ≡ Rest.Refusal text }
     {

@@ -14,19 +14,19 @@ use Rattle.gtalk.specs.declared.conversation.Turn.TheVariants.{Listens, Speaks, 
 use Rattle.gtalk.specs.declared.fault.TalkFault.{TalkFault}
 use Rattle.gtalk.specs.declared.fault.TalkFault.TheVariants.{Io, Memory}
 
--- the received bytes encode the received packets, and the bytes `partial` follow
+-- the received bytes encode the received packets, followed by the bytes `partial`
 pub record Spelt (heard : List Packet) (partial received : Bytes) : Type 0 where
   pub front : Bytes
   pub parts : received ≡ front ++ partial
   pub spells : SpellsAll heard front
 
--- the bytes of the send queue, which is allocated when a packet is first queued
+-- the bytes of the send queue, or no bytes if the queue is not allocated
 abbrev pub bytes_in : Option Bytes → Bytes
 bytes_in None = []
 bytes_in (Some bytes) = bytes
 
--- if no packets were queued, the flushed bytes stay flushed; otherwise, all bytes written before the last turn are
--- flushed
+-- if no packets were queued, the bytes flushed before stay flushed; otherwise all bytes written before the last turn
+-- are flushed
 abbrev pub HasPassed : Bytes → Option Bytes → Change → Change → Type 0
 HasPassed said between written passed_on =
     ((said ≡ []) × KeepsPassed passed_on)
@@ -41,7 +41,7 @@ module _ {C A : Type 0} where
   abbrev pub has_stopped : Connection C A → Option Stop
   has_stopped connection = connection.stopped
 
-  -- the stored bytes of the incomplete packet
+  -- the stored bytes of the packet that is not yet complete
   abbrev pub partial_of : Connection C A → Bytes
   partial_of connection = connection.incoming
 
@@ -55,14 +55,14 @@ module _ {C A : Type 0} where
       (turn connection.conversation ≡ Done)
       ⊎ ((turn connection.conversation ≡ Listens) × ((why : Stop) × (connection.stopped ≡ Some why)))
 
-  -- the end whose turn it is on a connection
+  -- which end of the connection has the turn
   abbrev pub IsTurn : (C → Turn) → Connection C A → Turn → Type 0
   IsTurn turn connection Listens = (turn connection.conversation ≡ Listens) × (connection.stopped ≡ None)
   IsTurn turn connection Speaks = turn connection.conversation ≡ Speaks
   IsTurn turn connection Done = IsDone turn connection
 
-  -- The received and sent bytes match a history that the conversation accepts. The queued packets are encoded as the
-  -- sent bytes and then the pending bytes.
+  -- The received and sent bytes match a history that the conversation accepts. The sent bytes followed by the pending
+  -- bytes encode the queued packets.
   pub record Holds (holds : C → Talk → Type 0) (connection : Connection C A) (received sent : Bytes) : Type 0 where
     pub talk : Talk
     pub held : holds connection.conversation talk
@@ -77,7 +77,7 @@ module _ {C A : Type 0} where
   abbrev pub IsHeld : (C → Talk → Type 0) → Connection C A → Type 0
   IsHeld holds connection = (received : Bytes) × (sent : Bytes) × Holds holds connection received sent
 
-  -- between the two states, these bytes are received and these bytes are sent
+  -- between the two states, the connection receives the first bytes and sends the second bytes
   abbrev pub Moves : (C → Talk → Type 0) → Connection C A → Connection C A → Bytes → Bytes → Type 0
   Moves holds old new more said =
       (received sent : Bytes) → Holds holds old received sent → Holds holds new (received ++ more) (sent ++ said)
@@ -93,19 +93,19 @@ module _ {C A : Type 0} where
       ((new.conversation ≡ old.conversation) × (length new.incoming ≡ length old.incoming + count))
       ⊎ Advances holds turn left old new
 
-  -- the connection receives all bytes that were read
+  -- the connection receives all bytes that are read
   pub record HearsRead (holds : C → Talk → Type 0) (old new : Connection C A) (read : Change) : Type 0 where
     pub more : Bytes
     pub received : Consumes read.old read.new more
     pub moves : Moves holds old new more []
 
-  -- all bytes that the connection sends were written
+  -- all bytes that the connection sends are written
   pub record SendsSaid (holds : C → Talk → Type 0) (old new : Connection C A) (written : Change) : Type 0 where
     pub said : Bytes
     pub sent : Appends written.old written.new said
     pub moves : Moves holds old new [] said
 
-  -- the connection receives all bytes that were read, and all bytes that it sends were written
+  -- the connection receives all bytes that are read, and all bytes that it sends are written
   pub record Drives (holds : C → Talk → Type 0) (old new : Connection C A) (read written : Change) : Type 0 where
     pub more : Bytes
     pub said : Bytes
@@ -125,7 +125,7 @@ module _ {C A : Type 0} where
     pub last : SendsSaid holds mid new (record { old = between; new = written.new })
     pub passed : HasPassed before.said between written passed_on
 
--- whether the sink is down after `drive` returned this result, given whether the sink was down before
+-- for each result of `drive`, whether the sink is down before and after the call
 abbrev pub LeavesSink : Result Unit TalkFault → Bool → Bool → Type 0
 LeavesSink (Ok done) was_down is_down = is_down ≡ false
 LeavesSink (Err Io) was_down is_down = is_down ≡ true

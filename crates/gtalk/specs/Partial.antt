@@ -9,25 +9,26 @@ use Rattle.gpkt.specs.declared.fault.PacketFault.TheVariants.{Truncated, Memory}
 use Rattle.gtalk.specs.declared.conversation.Stop.{Stop}
 use Rattle.gtalk.specs.declared.conversation.Stop.TheVariants as stop
 
--- the bytes do not extend past the four digits, or past the packet that the digits announce
+-- the bytes do not go beyond the four digits, or beyond the packet that the digits announce
 abbrev pub IsWithinPacket : Bytes → Type 0
 IsWithinPacket bytes =
     (length bytes ≤ digit_count)
     ⊎ ((announced : ℕ) × AnnouncesAtFront bytes announced × (length bytes ≤ announced) × (announced ≤ max_packet))
 
--- `missing` more bytes do not extend past the digits, or past the packet that the digits announce
+-- `missing` more bytes do not go beyond the digits, or beyond the packet that the digits announce
 pub record Lacks (bytes : Bytes) (missing : ℕ) : Type 0 where
   pub within : (more : Bytes) → length more ≤ missing → IsWithinPacket (bytes ++ more)
   pub room : length bytes + missing ≤ max_packet
 
--- the bytes are one packet, or an incomplete packet, or have a fault for which they are not a packet
+-- the result of decoding the bytes: a complete packet, `None` for an incomplete packet, or the fault for which the
+-- bytes are not a packet
 abbrev pub IsFound : Bytes → Result (Option Packet) PacketFault → Type 0
 IsFound bytes (Ok (Some packet)) = Spells packet bytes
 IsFound bytes (Ok None) = IsPartialPacket bytes
 IsFound bytes (Err fault) = NoPacket fault bytes
 
--- the bytes after the last packet match the reason why no more packets arrive; after a failed allocation the bytes may
--- be a whole packet
+-- the bytes after the last packet are as the reason for stopping requires; after a failed allocation they may even be a
+-- whole packet
 abbrev pub IsStopped : Option Stop → Bytes → Type 0
 IsStopped None partial = IsPartialPacket partial
 IsStopped (Some stop.Ended) partial = partial ≡ []
@@ -35,7 +36,7 @@ IsStopped (Some (stop.Refused Memory)) partial = IsWithinPacket partial
 IsStopped (Some (stop.Refused fault)) partial = NoPacket fault partial
 IsStopped (Some stop.Failed) partial = IsPartialPacket partial
 
--- these bytes are stored, unless there was no memory for them
+-- the received bytes are stored, unless there was no memory for them
 abbrev pub IsKept : Option Stop → Bytes → Bytes → Type 0
 IsKept (Some (stop.Refused Memory)) partial kept = Unit {0}
 IsKept stopped partial kept = kept ≡ partial
@@ -45,7 +46,7 @@ abbrev pub IsPartial : Option Stop → Bytes → Type 0
 IsPartial None kept = IsPartialPacket kept
 IsPartial (Some why) kept = Unit {0}
 
--- if no more packets arrive, the reason is in the received bytes, and not the end of the input
+-- if no more packets arrive, then because received bytes were refused, not because the input ended
 abbrev pub IsByBytes : Option Stop → Type 0
 IsByBytes None = Unit {0}
 IsByBytes (Some (stop.Refused Truncated)) = ⊥
@@ -58,8 +59,8 @@ IsByEnd (Some stop.Ended) = Unit {0}
 IsByEnd (Some (stop.Refused Truncated)) = Unit {0}
 IsByEnd other = ⊥
 
--- The unread bytes of the source and whether it is down, for each reason why no more packets arrive. The source is at
--- its end after `Ended` and `Truncated`, and down exactly after `Failed`.
+-- The unread bytes of the source and whether the source is down, for each reason why no more packets arrive. The source
+-- is at its end after `Ended` and `Truncated`, and down exactly after `Failed`.
 abbrev pub LeavesSource : Option Stop → Option Bytes → Bool → Type 0
 LeavesSource None remaining down = down ≡ false
 LeavesSource (Some stop.Ended) remaining down = IsAtEnd remaining × (down ≡ false)

@@ -4,7 +4,8 @@ use Rattle.gpkt.specs.Packets.{Bytes, Packet, canonical_all, max_packet}
 use Rattle.gtalk.specs.declared.conversation.Stop.{Stop}
 use Rattle.gtalk.specs.declared.conversation.Turn.{Turn}
 
--- the history of a conversation: the packets received, the reason why no more arrive, and the packets queued to send
+-- the history of a conversation: the packets received, the reason why no more packets arrive, if any, and the packets
+-- queued to send
 pub record Talk : Type 0 where
   pub heard : List Packet
   pub stopped : Option Stop
@@ -18,7 +19,7 @@ no_talk = record { heard = []; stopped = None; said = [] }
 abbrev pub talk_after : Talk → Packet → Talk
 talk_after talk packet = record { heard = talk.heard ++ packet ∷ []; stopped = talk.stopped; said = talk.said }
 
--- the history in which no more packets arrive, for this reason
+-- the history after the news that no more packets arrive, for this reason
 abbrev pub stop_talk : Talk → Stop → Talk
 stop_talk talk why = record { heard = talk.heard; stopped = Some why; said = talk.said }
 
@@ -32,12 +33,12 @@ pub record Says (Holds : Talk → Type 0) (talk : Talk) (bytes : Bytes) : Type 0
   pub spelt : bytes ≡ canonical_all more
   pub held : Holds (talk_with_reply talk more)
 
--- the maximum number of bytes that wait to be sent: two packets
+-- the capacity of the send queue in bytes: two packets of the maximum size
 abbrev pub queue_room : ℕ
 queue_room = 2 * max_packet
 
--- The maximum number of remaining changes of turn, and of remaining steps of the current turn. Each received packet is
--- a step, and so is each call that queues packets.
+-- The maximum number of remaining changes of turn, and of remaining steps in the current turn. Each received packet is
+-- a step, and each call that queues packets is a step.
 pub record Left : Type 0 where
   pub turns : ℕ
   pub steps : ℕ

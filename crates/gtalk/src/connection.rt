@@ -10,9 +10,9 @@ use std::alloc::{Allocator, Global};
 /// A conversation, the bytes of an incomplete packet, and the bytes that are still to be sent.
 ///
 /// While the conversation listens, pass received bytes to [`receive`](Connection::receive), at most
-/// [`receive_limit`](Connection::receive_limit) of them. While it speaks, call
-/// [`speak`](Connection::speak). Send the bytes of [`output`](Connection::output), and report their
-/// number to [`note_sent`](Connection::note_sent).
+/// [`receive_limit`](Connection::receive_limit) bytes at a time. While the conversation speaks,
+/// call [`speak`](Connection::speak). Send the bytes of [`output`](Connection::output), and report
+/// their number to [`note_sent`](Connection::note_sent).
 ///
 /// The buffer for received bytes is allocated with the first received byte, and the send queue when
 /// the conversation first speaks.

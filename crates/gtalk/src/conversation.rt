@@ -8,10 +8,10 @@ use crate::outgoing::Outgoing;
 use gpkt::{Packet, PacketFault};
 use std::alloc::Allocator;
 
-/// The end whose turn it is.
+/// Which end has the turn.
 #[derive(Clone, Copy, Debug, PartialEq, Eq)]
 pub enum Turn {
-    /// The peer's turn: the conversation receives a packet, or the news that no more packets
+    /// The peer's turn: the conversation receives a packet, or is notified that no more packets
     /// arrive.
     Listens,
     /// This end's turn: the conversation queues packets to send, and receives nothing.
@@ -35,11 +35,11 @@ pub enum Stop {
 /// One end of a conversation: a value that receives packets and queues packets to send.
 ///
 /// A conversation does no I/O and does not store its history. `holds` describes the packets
-/// received and queued so far. `left` counts down, so that each conversation ends.
+/// received and queued so far. `left` decreases with each call, so that every conversation ends.
 pub trait Conversation {
     ghost use Rattle.gtalk.specs.declared.conversation.Turn.{Turn};
 
-    // The end whose turn it is.
+    // Which end has the turn.
     ghost turn: { Self → Turn };
 
     // The histories of received and queued packets that lead to this state.
@@ -48,7 +48,7 @@ pub trait Conversation {
     // A bound on the remaining turns and steps.
     ghost left: { Self → Left };
 
-    /// Returns the end whose turn it is.
+    /// Returns which end has the turn.
     fn turn(&self) -> Turn
         ensures { result ≡ turn self.now };
 
@@ -59,14 +59,14 @@ pub trait Conversation {
             → holds self.new (talk_after talk (packet_of line.entry)) }
         ensures nearer { (talk : Talk) → holds self.old talk → IsNearer turn left self.old self.new };
 
-    /// Receives the reason why no more packets arrive.
+    /// Notifies the conversation that no more packets arrive, and why.
     fn stop(&mut self, why: Stop)
         requires { turn self.old ≡ Turn.Listens }
         ensures stopped { (talk : Talk) → holds self.old talk → holds self.new (stop_talk talk why) }
         ensures nearer { (talk : Talk) → holds self.old talk → IsNearer turn left self.old self.new };
 
     /// Adds the next packets to an empty send queue. One call may add any number of packets that
-    /// fit, or none.
+    /// fit, even zero.
     fn say<A: Allocator + Copy>(&mut self, out: &mut Outgoing<A>)
         requires turn { turn self.old ≡ Turn.Speaks }
         requires empty { out.old ≡ [] }

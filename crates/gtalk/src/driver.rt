@@ -1,4 +1,4 @@
-//! Driving a connection between two devices that block.
+//! Driving a connection over a blocking source and a blocking sink.
 
 ghost use Rattle.std.specs.Prelude.{◌≡◌, ◌<◌, ◌≤◌, [], Ok, is_err, None, IfOk, IsSome, OnErr, OnOk, length, take};
 ghost use Rattle.std.specs.Io.KnownBytes.{Consumes, IsAtEnd, Keeps};
@@ -22,7 +22,7 @@ const PIECE: usize = 4_096;
 /// conversation receives all bytes that were read.
 ///
 /// Fails if the sink fails, or if there is no memory for the packets to send. If the source ends or
-/// fails, the conversation is notified.
+/// fails, the conversation is notified, and the call does not fail.
 pub fn drive<C: Conversation, A: Allocator + Copy, S: Source, W: Sink>(
     connection: &mut Connection<C, A>,
     source: &mut S,
@@ -140,7 +140,7 @@ fn send<C: Conversation, A: Allocator + Copy, W: Sink>(
     Ok(())
 }
 
-// Sends a prefix of the pending bytes, by one write.
+// Sends a prefix of the pending bytes with a single write.
 fn send_some<C: Conversation, A: Allocator + Copy, W: Sink>(
     connection: &mut Connection<C, A>,
     sink: &mut W,
@@ -207,7 +207,7 @@ fn listen<C: Conversation, A: Allocator + Copy, S: Source>(
     }
 }
 
-// Reads once, and not past the end of the current packet.
+// Makes a single read, which does not go past the end of the current packet.
 #[tactic(auto, using(crate::proofs::Partials::lacks_fewer))]
 fn hear_some<C: Conversation, A: Allocator + Copy, S: Source>(
     connection: &mut Connection<C, A>,

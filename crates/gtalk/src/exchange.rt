@@ -21,7 +21,7 @@ impl<C, A: Allocator + Copy> Connection<C, A> {
         &self.conversation
     }
 
-    /// Returns the conversation in its current state, and drops pending bytes.
+    /// Returns the conversation in its current state, and drops all pending bytes.
     pub fn into_conversation(self) -> C
     where
         C: Drop,
@@ -58,8 +58,8 @@ impl<C: Conversation, A: Allocator + Copy> Connection<C, A> {
         }
     }
 
-    /// Returns the end whose turn it is. Returns [`Turn::Done`] also if the conversation listens
-    /// and no more packets arrive.
+    /// Returns which end has the turn. Also returns [`Turn::Done`] if the conversation listens but
+    /// no more packets arrive.
     pub fn turn(&self) -> Turn
         ensures { IsTurn C.turn self.now result }
     {
@@ -78,7 +78,7 @@ impl<C: Conversation, A: Allocator + Copy> Connection<C, A> {
         self.incoming.lacks()
     }
 
-    /// Receives bytes, at most [`receive_limit`](Connection::receive_limit) of them.
+    /// Receives bytes. There must be at most [`receive_limit`](Connection::receive_limit) bytes.
     ///
     /// When the bytes complete a packet, the conversation receives the packet. If the bytes are not
     /// a packet, or there is no memory for them, the conversation is notified that no more packets
@@ -139,11 +139,11 @@ impl<C: Conversation, A: Allocator + Copy> Connection<C, A> {
         self.conversation.stop(Stop::Failed);
     }
 
-    /// Queues the next packets of the conversation. All packets queued before must be sent already.
+    /// Queues the next packets of the conversation. All packets queued earlier must have been sent.
     ///
     /// Fails only with [`TalkFault::Memory`], and only in a call that allocates the send queue: the
-    /// first call, or the next after [`give_back`](Connection::give_back). After a failure the
-    /// connection is unchanged.
+    /// first call, or the first call after [`give_back`](Connection::give_back). After a failure
+    /// the connection is unchanged.
     pub fn speak(&mut self) -> Result<(), TalkFault>
         requires turn { C.turn (conversation_of self.old) ≡ Turn.Speaks }
         requires all_sent { pending_of self.old ≡ [] }
@@ -197,7 +197,7 @@ impl<C: Conversation, A: Allocator + Copy> Connection<C, A> {
     }
 }
 
-// Returns the bytes of a send queue, or none if the queue is not allocated.
+// Returns the bytes of a send queue, or an empty slice if the queue is not allocated.
 fn bytes_of<A: Allocator + Copy>(outgoing: &Option<Outgoing<A>>) -> &[u8]
     ensures bytes { result.now ≡ bytes_in outgoing.now }
     ensures few { length result.now ≤ queue_room }

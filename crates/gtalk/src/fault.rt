@@ -11,7 +11,7 @@ use std::fmt;
 pub enum TalkFault {
     /// The sink failed. Only a prefix of the queued packets was written.
     Io,
-    /// There was not enough memory for the packets to send. None of them was queued, and the
+    /// There was not enough memory for the packets to send. No packet was queued, and the
     /// conversation is unchanged.
     Memory,
 }

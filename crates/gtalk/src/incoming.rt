@@ -49,8 +49,8 @@ impl<A: Allocator + Copy> Incoming<A> {
         lacks_after(self.as_bytes())
     }
 
-    /// Appends received bytes, at most as many as are missing. If the allocation fails, the buffer
-    /// is unchanged.
+    /// Appends received bytes, which must be no more than the missing bytes. If the allocation
+    /// fails, the buffer is unchanged.
     #[tactic(auto, using(crate::proofs::Partials::within_after))]
     pub(crate) fn take_bytes(&mut self, bytes: &[u8]) -> Result<(), AllocError>
         requires { Lacks self.old (length bytes.now) }
@@ -60,7 +60,7 @@ impl<A: Allocator + Copy> Incoming<A> {
         self.bytes.extend_from_slice(bytes)
     }
 
-    /// Returns the packet, if it is complete.
+    /// Returns the packet, or `None` if it is incomplete.
     pub(crate) fn line(&self) -> Result<Option<Packet<'_>>, PacketFault>
         ensures found { IsFound self.now (read_of result) }
         ensures fault { IfErr result (λ fault. IsByBytes (Some (Stop.Refused fault))) }
@@ -96,7 +96,7 @@ impl<A: Allocator + Copy> Incoming<A> {
     }
 }
 
-// Returns the number of bytes missing after these, up to the end of the digits or, after the
+// Returns the number of bytes missing after `bytes`, up to the end of the digits or, after the
 // digits, up to the end of the packet.
 #[tactic(auto, using(crate::proofs::Partials::lacks_digits, crate::proofs::Partials::lacks_none, crate::proofs::Partials::partial_none))]
 fn lacks_after(bytes: &[u8]) -> usize

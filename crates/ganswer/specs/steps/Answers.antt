@@ -30,7 +30,7 @@ abbrev pub DanglesAt : {A : Type 0} → List (Entry A) → RefList → ℕ → T
 DanglesAt g refs place =
     (place < length refs) × ((ref : Name × Id) → slice_get refs place ≡ Some ref → IsFirstDangling g refs ref.0)
 
--- ---- answering a fetch
+-- ---- answering a fetch request
 
 -- the result of checking that the server holds all wants
 abbrev pub ChecksWants : {A : Type 0} → Server A → List Id → Result (Unit {0}) ServeFault → Type 0
@@ -65,13 +65,13 @@ abbrev pub line_list : {A : Type 0} → Option (LentLine A) → List RefLine
 line_list None = []
 line_list (Some line) = lent_view line ∷ []
 
--- an unfinished reply that lists the requested refs among these
+-- an unfinished reply that lists the requested refs among `front`
 pub record IsAnswering {A : Type 0} (server : Server A) (asked : LsRefsAsked) (front : RefList)
     (reply : LsReply) : Type 0 where
   pub lines : ShowsLines server asked front reply.lines
   pub unborn : reply.unborn ≡ unborn_of server asked
 
--- an unfinished reply to which the line of this ref is added next
+-- an unfinished reply to which the line of `ref` is added next
 pub record IsNextRef {A : Type 0} (server : Server A) (asked : LsRefsAsked) (ref : Name × Id)
     (reply : LsReply) : Type 0 where
   pub front : RefList

@@ -1,4 +1,4 @@
--- The steps of reading a reply: the values that are kept of the packets so far, and the change with each packet.
+-- The steps of reading a reply: the values stored for the packets so far, and the change with each packet.
 use Rattle.std.specs.Prelude.{◌≡◌, ℕ, ◌+◌, Bool, true, false, List, [], ◌∷◌, ◌++◌, length}
 use Rattle.std.specs.Prelude.{Option, Some, None, Result, Ok, Err}
 use Rattle.gname.specs.Ids.{Id}
@@ -20,8 +20,8 @@ use Rattle.gfetchreply.specs.declared.sections.Point as coded
 use Rattle.gfetchreply.specs.declared.sections.Point.TheVariants as place
 use Rattle.gfetchreply.specs.declared.sections.Sections.{Sections}
 
--- the position of the next packet, the acknowledged ids, whether `ready` was read, and the numbers of packets and bytes
--- of the pack
+-- the position of the next packet, the acknowledged ids, whether `ready` was read, and the numbers of packets and of
+-- bytes of the pack
 pub record Kept : Type 0 where
   pub place : Point
   pub acks : Acks
@@ -29,7 +29,7 @@ pub record Kept : Type 0 where
   pub band_count : ℕ
   pub byte_count : ℕ
 
--- the values that are kept after these packets
+-- the values stored after these packets
 abbrev pub kept_of : Format → Bool → List Packet → Kept
 kept_of format direct packets = record {
   place = place_of direct packets;
@@ -95,12 +95,12 @@ abbrev pub data_there : Point → Packet → Bytes
 data_there place (Data payload) = data_at place payload
 data_there place _ = []
 
--- the packet needs memory
+-- accepting the packet needs memory
 abbrev pub brings_there : Bool → Point → Packet → Bool
 brings_there refuses place (Data payload) = payload_brings refuses place payload
 brings_there refuses place _ = false
 
--- ---- values that are kept, wherever they lie in memory
+-- ---- stored values, independent of where they are in memory
 
 abbrev pub place_in : coded.Point → Point
 place_in place.Start = Start
@@ -123,8 +123,8 @@ kept_in sections = record {
 abbrev pub state_in : {A : Type 0} → Sections A → State
 state_in sections = state_kept (kept_in sections)
 
--- The packet is accepted as the verdict says, and the first predicate holds. Or it is refused for a reason of the
--- verdict or out of memory, and the second predicate holds.
+-- Either the packet is accepted as the verdict says, and the first predicate holds. Or the packet is refused, as the
+-- verdict says or because memory runs out, and the second predicate holds.
 abbrev pub TakesOr : Verdict → Bool → Type 0 → Type 0 → Result Step Why → Type 0
 TakesOr verdict brings taken left (Ok step.Open) = (verdict ≡ Open) × taken
 TakesOr verdict brings taken left (Ok step.Whole) = (verdict ≡ Whole) × taken
@@ -145,14 +145,14 @@ module _ {S : Type 0} (taken : S → Bytes → Type 0) where
   abbrev pub TakesNone : S → S → Type 0
   TakesNone old new = (before : Bytes) → taken old before → taken new before
 
-  -- a packet is accepted as the verdict says; then these values are kept, and the sink accepts these bytes
+  -- if the packet is accepted as the verdict says, the values `wanted` are stored and the sink accepts the bytes `more`
   abbrev pub TakesBoth : Verdict → Bool → Kept → Kept → Bytes → S → S → Result Step Why → Type 0
   TakesBoth verdict brings wanted kept more old new result =
       TakesOr verdict brings ((kept ≡ wanted) × TakesMore old new more) (TakesNone old new) result
 
 module _ {S : Type 0} (taken : S → Bytes → Type 0) (same : S → S → Type 0) where
-  -- The state after the packets so far: the kept values; the sink with the pack's data after its previous bytes. The
-  -- sink is still the same one, and at the same place.
+  -- The state after the packets so far: the stored values, and the sink, which has accepted the pack's data after its
+  -- previous bytes. The sink is still the same sink, at the same address.
   pub record Holds (had : Bytes → Type 0) (starts : S → Type 0) (seat : ℕ) (asked reading : Reading) (kept : Kept)
       (sink : S) (name : ℕ) (packets : List Packet) : Type 0 where
     pub kind : reading ≡ asked
@@ -161,7 +161,7 @@ module _ {S : Type 0} (taken : S → Bytes → Type 0) (same : S → S → Type 
     pub is_same : (start : S) → starts start → same start sink
     pub in_place : name ≡ seat
 
-  -- the state after a refusal at these packets: the sink has their data, and is still the same one
+  -- the state after a refusal at these packets: the sink has accepted their data, and is still the same sink
   pub record Leaves (had : Bytes → Type 0) (starts : S → Type 0) (seat : ℕ) (asked reading : Reading) (sink : S)
       (name : ℕ) (packets : List Packet) : Type 0 where
     pub kind : reading ≡ asked

@@ -1,4 +1,4 @@
--- The steps of reading a reply: forms, parameters and values, wherever their bytes lie in memory.
+-- The steps of reading a reply: forms, parameters and values, independent of where their bytes are in memory.
 use Rattle.std.specs.Prelude.{Bool, false, Result, Ok, Err}
 use Rattle.gname.specs.declared.formats.Format.{Format}
 use Rattle.ggrammar.specs.declared.ends.Ends.TheVariants.{Plain}
@@ -23,11 +23,11 @@ form_in lent.Packfile = Packfile
 form_in (lent.Ack id) = Ack id.now
 form_in lent.Other = OtherForm
 
--- the ids of the head have the same format as those of the reply
+-- the ids of the head have the same format as the ids of the reply
 abbrev pub KeepsFormat : {A : Type 0} → FetchHead A → FetchReply A → Type 0
 KeepsFormat head reply = (format : Format) → IsHeadOf format head → IsReplyOf format reply
 
--- the parameters of reading, with the format of the ids that are kept
+-- the parameters of reading, with the format of the stored ids
 abbrev pub reading_with : {A : Type 0} → FetchReading → Sections A → Reading
 reading_with reading sections = record (reading_in reading) { format = sections.acks.format }
 

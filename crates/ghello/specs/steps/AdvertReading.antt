@@ -13,12 +13,12 @@ abbrev pub texts_at_least : Bool → ℕ
 texts_at_least false = 0
 texts_at_least true = 1
 
--- the capability that a packet adds after the version line
+-- the capability that a packet adds, if the packet follows the version line
 abbrev pub added_by : Bool → Packet → List Capability
 added_by true (Data payload) = option_to_list (capability_of (text payload))
 added_by _ _ = []
 
--- the verdict on a packet, from the state of the reader
+-- the verdict on a packet, given the state of the reader
 abbrev pub judge_after : Bool → List Capability → Packet → Verdict
 judge_after has_version capabilities packet = judge_at (texts_at_least has_version) (length capabilities) packet
 

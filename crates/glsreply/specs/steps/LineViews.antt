@@ -38,7 +38,7 @@ abbrev pub form_view : FirstText → FirstForm
 form_view (first.Unborn target) = UnbornForm (target_read target)
 form_view first.Ref = RefForm
 
--- the parts of the rest of a text
+-- the parts of the rest of a text, or none if there is no rest
 abbrev pub parts_left : Option (Bor Bytes) → List Bytes
 parts_left None = []
 parts_left (Some rest) = parts_of rest.now

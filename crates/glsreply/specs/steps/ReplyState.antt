@@ -77,7 +77,7 @@ IsLineText format line = ((target : Result Name Why) × (first_form line ≡ Unb
 abbrev pub AreLineTexts : Format → List Packet → Type 0
 AreLineTexts format packets = All (IsLineText format) (texts_of packets)
 
--- the state of the reader is the one after these packets, and each of their texts is an accepted line
+-- the state of the reader is the state after these packets, and the text of each packet is an accepted line
 abbrev pub Holds : {A : Type 0} → LsReplyReader A → List Packet → Type 0
 Holds reader packets =
     (state_in reader ≡ state_of reader.format packets) × AreLineTexts reader.format packets

@@ -1,4 +1,4 @@
--- The encodings of device models as pairs, for the generated contracts.
+-- The encodings of device models as pairs, which generated contracts use.
 use Rattle.std.specs.Coded.{Coded, code_by, coded×, coded_bool, coded_list, coded_ℕ}
 use Rattle.std.specs.Prelude.{ℕ, Bool, refl}
 use Rattle.gpkt.specs.Devices.{Device, Written}

@@ -34,11 +34,11 @@ abbrev pub read_in : Bytes → Result (Option Head) PacketFault → Result (Opti
 read_in buffer (Ok found) = Ok (option_map (packet_in buffer) found)
 read_in buffer (Err fault) = Err fault
 
--- the digits announce the head
+-- the bytes are four digits that announce the head
 abbrev pub Announces : Bytes → Head → Type 0
 Announces digits found = (number_of digits ≡ Some (announced_of found)) × (payload_len found ≤ max_payload)
 
--- the head that four digits announce, or the fault if they announce none
+-- the head that four digits announce, or the fault if they announce no head
 abbrev pub Classifies : Bytes → Result Head PacketFault → Type 0
 Classifies digits (Ok found) = Announces digits found
 Classifies digits (Err BadDigits) = number_of digits ≡ None
@@ -55,7 +55,7 @@ abbrev pub EndsBelow : Change → ℕ → Type 0
 EndsBelow bytes limit =
     (taken : Bytes) × Consumes bytes.old bytes.new taken × (length taken < limit) × IsAtEnd bytes.new
 
--- the call consumes four digits, which announce this head or have this fault
+-- the call consumes four digits; the result is the head that they announce, or their fault
 abbrev pub ConsumesDigits : Change → Result Head PacketFault → Type 0
 ConsumesDigits bytes result =
     (digits : Bytes) × Consumes bytes.old bytes.new digits × (length digits ≡ digit_count) × Classifies digits result

@@ -21,7 +21,7 @@ KeepsAs well_formed has_room old new built (Err not_kept.NoRoom) =
 KeepsAs well_formed has_room old new built (Err not_kept.NoMemory) =
     (well_formed ≡ true) × (has_room ≡ true) × (new ≡ old)
 
--- the reason in the grammar's terms, with the given reason for a wrong form
+-- the grammar's reason to reject the value, where the first argument is the reason for a wrong form
 abbrev pub why_not_kept : Why → NotKept → Why
 why_not_kept wrong_form not_kept.WrongForm = wrong_form
 why_not_kept wrong_form not_kept.NoRoom = why.Limit

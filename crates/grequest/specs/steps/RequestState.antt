@@ -1,5 +1,5 @@
--- The steps of reading a request: the state after each accepted packet, the sections, the parts that are kept, and the
--- results.
+-- The steps of reading a request: the state after each accepted packet, the sections, the parts that are stored, and
+-- the results.
 use Rattle.std.specs.Prelude.{◌+◌, true, [], ◌∷◌, ◌++◌, Some, ◌≡◌, ℕ, Bool, false, List}
 use Rattle.std.specs.Option.{option_to_list}
 use Rattle.gpkt.specs.Packets.{Bytes, Packet, Data, Delim, text}
@@ -88,18 +88,18 @@ place_in Capabilities (Fetches asked) = InCapabilities Fetch
 place_in Arguments (Ls asked) = InArguments LsRefs
 place_in Arguments (Fetches asked) = InArguments Fetch
 
--- ---- the parts that are kept
+-- ---- the parts that are stored
 
--- a request to a repository with this object format, as far as it was read
+-- the part of a request read so far, for a repository with this object format
 pub record RequestSoFar : Type 0 where
   pub format : Format
   pub state : State
 
--- the state of reading is the one after these packets
+-- the state of reading is the state after these packets
 abbrev pub HoldsPackets : RequestSoFar → List Packet → Type 0
 HoldsPackets reading lines = reading.state ≡ state_of reading.format lines
 
--- a request that is refused has no further condition
+-- after a refused request, the state of reading may be any state
 abbrev pub LeavesNothing : RequestSoFar → List Packet → Type 0
 LeavesNothing reading front = Unit {0}
 
@@ -107,12 +107,12 @@ abbrev pub one : Bool → ℕ
 one true = 1
 one false = 0
 
--- the value of an agent has no space
+-- if the capability is an agent, its value contains no space
 abbrev pub CarriesWord : CapabilityForm → Type 0
 CarriesWord (Agent value) = is_word_value value ≡ true
 CarriesWord _ = Unit {0}
 
--- the contents of a packet in this section are kept
+-- the contents of a packet in this section are stored
 abbrev pub packet_brings : RequestPlace → Packet → Bool
 packet_brings place (Data payload) = text_brings place (text payload)
 packet_brings place _ = false

@@ -3,7 +3,7 @@ use Rattle.std.specs.Prelude.{ℕ, ◌≤◌, List, length, All}
 use Rattle.std.specs.Borrow.{Bor}
 use Rattle.ggrammar.specs.Capabilities.{max_capability}
 
--- the most bytes of a word before a value
+-- the maximum length of a word before a value, in bytes
 abbrev pub max_word : ℕ
 max_word = 16
 

@@ -1,4 +1,4 @@
--- The steps of reading a request's texts: the contents of a text, wherever its bytes lie in memory.
+-- The steps of reading a request's texts: the contents of a text, independent of where its bytes are in memory.
 use Rattle.grequest.specs.Arguments.{CapabilityForm, Agent, ObjectFormat, UnknownCapability, BadCapability}
 use Rattle.grequest.specs.Arguments.{LsArgument, KnownLsFlag, RefPrefix, UnknownLsArgument}
 use Rattle.grequest.specs.Arguments.{FetchArgument, KnownFetchFlag, Want, Have, UnknownFetchArgument}

@@ -20,12 +20,12 @@ use Rattle.gserve.specs.declared.exchange.ExchangeEnd.TheVariants as exchange
 use Rattle.gserve.specs.declared.connection.End.TheVariants as end
 
 -- The effect of a call that writes these packets and flushes them. `Passes` assumes, unlike `Sends`, that the bytes
--- written before are known. So two such calls in sequence are one call.
+-- written before the call are known. So two such calls in sequence have the effect of one call.
 abbrev pub PassesPackets : {E : Type 0} → Output → Result (Unit {0}) E → List Packet → Type 0
 PassesPackets output (Ok done) packets = Passes output (canonical_all packets)
 PassesPackets output (Err fault) packets = SendsSome output (canonical_all packets) × KeepsPassed output.passed_on
 
--- the refusal is reported, or the sink fails
+-- the error packet of the refusal is written and flushed, or the sink fails
 abbrev pub ReportsRefusal : ServeFault → Output → ExchangeEnd → Type 0
 ReportsRefusal fault output (exchange.Refused reported) =
     (reported ≡ fault) × Passes output (canonical_all (err_packets fault))
@@ -33,7 +33,7 @@ ReportsRefusal fault output exchange.WriteFailed =
     SendsSome output (canonical_all (err_packets fault)) × KeepsPassed output.passed_on
 ReportsRefusal fault output _ = ⊥
 
--- the refusal is reported in place of the advertisement, or the sink fails
+-- an error packet replaces the advertisement, or the sink fails
 abbrev pub RefusesFirst : ServeFault → Output → End → Type 0
 RefusesFirst fault output (end.Refused reported) =
     (reported ≡ fault) × Passes output (canonical_all (err_packets fault))
@@ -41,7 +41,7 @@ RefusesFirst fault output end.WriteFailed =
     SendsSome output (canonical_all (err_packets fault)) × KeepsPassed output.passed_on
 RefusesFirst fault output _ = ⊥
 
--- the advertisement is sent, or the error packet if memory runs out for the advertisement
+-- the advertisement is sent; if memory runs out for the advertisement, an error packet replaces it
 abbrev pub Advertises : Format → Output → Result (Unit {0}) End → Type 0
 Advertises format output (Ok done) = Passes output (canonical_all (advert_packets format))
 Advertises format output (Err (end.Refused reported)) = RefusesFirst serve.Memory output (end.Refused reported)
@@ -49,12 +49,12 @@ Advertises format output (Err end.WriteFailed) = RefusesFirst serve.Memory outpu
     ⊎ (SendsSome output (canonical_all (advert_packets format)) × KeepsPassed output.passed_on)
 Advertises format output (Err _) = ⊥
 
--- the end of an exchange after its reply is written and flushed, or the sink failed
+-- the end of an exchange, by the result of writing and flushing its reply
 abbrev pub end_of_reply : {E : Type 0} → Result (Unit {0}) E → ExchangeEnd
 end_of_reply (Ok done) = exchange.Answered
 end_of_reply (Err fault) = exchange.WriteFailed
 
--- the end of a connection after an exchange, or none if the connection goes on
+-- the end of a connection after an exchange, or `None` if the connection goes on
 abbrev pub end_after : ExchangeEnd → Option End
 end_after exchange.Answered = None
 end_after exchange.Closed = Some end.Closed
@@ -69,7 +69,7 @@ module _ {A : Type 0} (server : Server A) (packs : Packs A) (fails : PackFails A
         → IsDueFor asked (reply_packets ends answer)
     refusal : (fault : ServeFault) → Declines server fails asked fault → IsDueFor asked (err_packets fault)
 
-  -- the request is answered, or the refusal is reported
+  -- the request is answered, or its refusal is reported to the client
   abbrev pub Replies : Asked → Output → ExchangeEnd → Type 0
   Replies asked output exchange.Answered = (answer : Reply) × (asked ≢ Empty)
       × Answers server packs asked answer × Passes output (canonical_all (reply_packets ends answer))
@@ -90,7 +90,7 @@ module _ {A : Type 0} (server : Server A) (packs : Packs A) (fails : PackFails A
 
 -- ---- the text of a refusal
 
--- the most bytes of the reason in a refusal's text
+-- the maximum length of the reason in a refusal's text, in bytes
 abbrev pub max_phrase : ℕ
 max_phrase = 22
 

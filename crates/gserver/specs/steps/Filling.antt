@@ -8,7 +8,7 @@ use Rattle.gserver.specs.PackSaying.{SaysPack}
 use Rattle.gserver.specs.declared.filling.Piece.{Piece}
 use Rattle.gserver.specs.declared.filling.Piece.TheVariants as piece
 
--- `count` more bytes of a pack are in the buffer, after the first `from` bytes
+-- the next `count` bytes of a pack are written to the buffer after its first `from` bytes
 pub record PutsPart (old : Gives) (most_old : ℕ) (new : Gives) (most_new : ℕ) (from count : ℕ)
     (before out : List ℕ) : Type 0 where
   pub part : List ℕ
@@ -31,7 +31,7 @@ pub record Fills (old : Gives) (most_old : ℕ) (new : Gives) (most_new : ℕ) (
   pub full : count ≡ length out → IsFilled old most_old new most_new count out
   pub whole : count < length out → old (take count out) None
 
--- the next piece of a pack is queued, or the last piece if one is left, or the packer fails
+-- the next piece of a pack is queued, or the rest of the pack is queued, or the packer fails
 abbrev pub SaysPiece : Gives → ℕ → Gives → ℕ → Bytes → Bytes → Piece → Type 0
 SaysPiece old most_old new most_new before out piece.More =
     (bytes : Bytes) × (out ≡ before ++ canonical_all (data_packet bytes ∷ [])) × (most_new < most_old)

@@ -15,7 +15,7 @@ use Rattle.gserver.specs.declared.said.Rest.{Rest}
 use Rattle.gserver.specs.declared.said.Stepped.{Stepped}
 use Rattle.gserver.specs.declared.said.Stepped.TheVariants as stepped
 
--- some packets are appended to the bytes, and the rest of the reply has fewer steps left
+-- packets of the reply are appended to the bytes, and fewer steps are left
 pub record PutsSome (old new : May) (steps_old steps_new : ℕ) (before out : Bytes) : Type 0 where
   pub said : List Packet
   pub spelt : out ≡ before ++ canonical_all said
@@ -37,7 +37,7 @@ module _ {A R P : Type 0} (gives : R → P → Gives) (most : R → P → ℕ) (
   StepsFrom from before out stepped.Whole = PutsLast (SaysRest gives ends goes_on from) true before out
   StepsFrom from before out stepped.Last = PutsLast (SaysRest gives ends goes_on from) false before out
 
--- the result at the end of a reply, depending on whether the dialogue continues
+-- the result after the last packet of a reply, depending on whether the dialogue continues
 abbrev pub end_of : {A R P : Type 0} → Bool → Stepped A R P
 end_of true = stepped.Whole
 end_of false = stepped.Last
@@ -55,7 +55,7 @@ FollowsHeading ids pack _ = ⊥
 
 -- ---- several steps
 
--- at least `count` steps of the reply are done, and the queue has room for another packet
+-- at least `count` steps were made since the first state, and the queue has room for another packet
 pub record HasSaid (first now : May) (steps_first steps_now count : ℕ) (out : Bytes) : Type 0 where
   pub said : List Packet
   pub spelt : out ≡ canonical_all said

@@ -25,7 +25,7 @@ calls_left Speaks steps = steps + 1
 calls_left Listens steps = 0
 calls_left Done steps = 0
 
--- 1 while more packets may arrive, and 0 after that
+-- 1 while more packets may arrive, and 0 once no more packets arrive
 abbrev pub count_unstopped : Option Stop → ℕ
 count_unstopped None = 1
 count_unstopped (Some why) = 0
@@ -43,7 +43,7 @@ module _ {C A : Type 0} (turn : C → Turn) (left : C → Left) where
   turns_left connection =
       (left connection.conversation).turns + (left connection.conversation).turns + count_unstopped connection.stopped
 
--- the turn is the same, or fewer turns remain
+-- the same end has the turn, or fewer turns remain
 abbrev pub IsLater : {C : Type 0} → (C → Turn) → (C → Left) → C → C → Type 0
 IsLater turn left old new =
     ((turn new ≡ turn old) × ((left new).turns ≤ (left old).turns)) ⊎ ((left new).turns < (left old).turns)
@@ -54,7 +54,7 @@ IsFewer left old new =
     ((left new.conversation).turns < (left old.conversation).turns)
     ⊎ (((left new.conversation).turns ≤ (left old.conversation).turns) × ((why : Stop) × (new.stopped ≡ Some why)))
 
--- whether the sink is down after calls with this result, given whether the sink was down before
+-- for each result of some calls, whether the sink is down before and after these calls
 abbrev pub IsDownBy : Result Unit TalkFault → Bool → Bool → Type 0
 IsDownBy (Ok done) was_down is_down = is_down ≡ was_down
 IsDownBy (Err Io) was_down is_down = is_down ≡ true
