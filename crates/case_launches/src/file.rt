@@ -1,4 +1,5 @@
-//! The files of a launch, which record each call on the system's files.
+//! The files that a launched program uses. They record each call, and pass it to the system's
+//! files.
 
 use crate::journal::Journal;
 use std::fs::{Metadata, OpenFile, Permissions};
