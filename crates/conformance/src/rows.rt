@@ -58,8 +58,8 @@ fn try_words<R: System>(rt: &R, plain: Attempt<'_>, tally: &mut Tally) -> io::Re
     try_run(rt, ended, tally)
 }
 
-// Tests a case by a launch of the program: a case that describes the launch, or a server and a
-// client in one process.
+// Tests a case by launching the program. The case describes the launch, or names a server and a
+// client for one process.
 fn try_launch<R: System>(rt: &R, run: Attempt<'_>, tally: &mut Tally) -> io::Result<()> {
     tally.count_row();
     tally.count_runs(Way::ByProgram, 1);
@@ -148,7 +148,7 @@ fn new_file_of<'b>(
     }
 }
 
-// Sets the client's text and the scenario of a simulation.
+// Sets the text of the client and the text of the scenario, if the command is a simulation.
 fn add_texts<'b>(script: &'b Script<'b>, command: &mut Invocation<'b>) -> Result<(), Trouble> {
     if command.program != Program::Simulate {
         return Ok(());
@@ -159,8 +159,8 @@ fn add_texts<'b>(script: &'b Script<'b>, command: &mut Invocation<'b>) -> Result
     Ok(())
 }
 
-// Returns whether response-end packets may be added to the replies of a case. A case may forbid
-// these packets, or contain them already.
+// Returns whether response-end packets may be added to the replies of a case. They may not if the
+// case forbids or already contains them.
 fn may_add_ends(command: Invocation<'_>, case: &Case<'_>) -> bool {
     command.program.has_ends()
         && command.ends == Ends::Plain
