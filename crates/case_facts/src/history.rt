@@ -1,6 +1,6 @@
-//! Facts about searches in a repository's history. Their names are `missing`, `counted`, `sent`,
-//! `sent-tags`, `sent-count`, `common`, `ready`, `reaches`, `offered` and `peeled`. ` / ` separates
-//! lists of ids; `none` means no id.
+//! Facts about searches in a repository's history. The names of these facts are `missing`,
+//! `counted`, `sent`, `sent-tags`, `sent-count`, `common`, `ready`, `reaches`, `offered` and
+//! `peeled`. ` / ` separates lists of ids; `none` means no id.
 
 use crate::looking::RefusedAllocation;
 use crate::text::load_text;

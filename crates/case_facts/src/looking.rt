@@ -22,7 +22,7 @@ pub struct Finding {
     pub was_refused: bool,
 }
 
-/// An allocation that fails. Its number counts the allocations after the call of `begin`.
+/// An allocation that fails. `number` counts the allocations from the call of `begin` on.
 #[derive(Clone, Copy)]
 pub(crate) struct RefusedAllocation<'m> {
     scarce: &'m Scarce<Global>,

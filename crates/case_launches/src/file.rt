@@ -1,5 +1,5 @@
-//! The files that a launched program uses. They record each call, and pass it to the system's
-//! files.
+//! The files that a launched program uses. Each file records its calls, and passes them on to a
+//! file of the system.
 
 use crate::journal::Journal;
 use std::fs::{Metadata, OpenFile, Permissions};

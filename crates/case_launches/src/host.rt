@@ -230,7 +230,7 @@ pub(crate) struct Errors<'a> {
 }
 
 impl<'a> Errors<'a> {
-    /// Returns a standard error to which nothing is written yet.
+    /// Returns a standard error stream to which nothing has been written.
     pub(crate) fn new(alloc: Global, journal: &'a Journal<'a>) -> Errors<'a> {
         Errors {
             journal,

@@ -18,8 +18,8 @@ fn nobody() -> IpAddr {
     IpAddr::V4(Ipv4Addr::new(127, 0, 0, 2))
 }
 
-/// The program's listener. It accepts clients that have already connected, and does not wait for
-/// further clients.
+/// The program's listener. The listener accepts clients that have already connected, and does not
+/// wait for further clients.
 #[derive(Drop)]
 pub(crate) struct Listener<'a> {
     listener: TcpListener,

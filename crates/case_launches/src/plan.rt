@@ -10,8 +10,8 @@ use std::alloc::Global;
 /// The line that a listening server prints.
 const LISTENING: &[u8] = b"listening PORT\n";
 
-/// The exit status for arguments that do not match the usage. In that case the program prints the
-/// line `USAGE`.
+/// The exit status for arguments that do not match the usage. For such arguments the program prints
+/// the line `USAGE`.
 pub(crate) const WRONG_USAGE: u8 = 2;
 
 const NOTHING: &[u8] = b"";

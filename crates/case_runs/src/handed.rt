@@ -1,5 +1,5 @@
-//! Packers and indexers for one run. They may fail or break their contracts. Each indexer records
-//! its calls.
+//! Packers and indexers for one run. The packer or the indexer may fail or break its contract. Each
+//! indexer records its calls.
 
 ghost use Rattle.std.specs.Prelude.{⊤};
 

@@ -53,8 +53,8 @@ pub struct Case<'a> {
     pub liar: Option<Liar>,
     /// The fault lines expected when an allocation fails, in order.
     pub memory: Vec<Vec<u8>>,
-    /// The offsets at which packets begin in the last message that the program reads. Empty if the
-    /// case lists none.
+    /// The offsets at which packets begin in the last message that the program reads. The list is
+    /// empty if the case lists no offsets.
     pub packets: Vec<usize>,
     /// The expected results when the request is truncated or one of its bytes is changed.
     pub table: Vec<TableLine<'a>>,

@@ -39,13 +39,14 @@ pub struct Row<'b> {
     /// The expected new text of the client's file, if the file changes.
     pub new_file: Option<&'b [u8]>,
     pub talk: Talk,
-    /// The fault lines expected when an allocation fails, in order. Empty if the row lists no fault
-    /// lines.
+    /// The fault lines expected when an allocation fails, in order. The list is empty if the row
+    /// lists no fault lines.
     pub memory: &'b [Vec<u8>],
-    /// The packet offsets in the last message that the program reads. Empty if the row lists no
-    /// offsets.
+    /// The packet offsets in the last message that the program reads. The list is empty if the row
+    /// lists no offsets.
     pub packets: &'b [usize],
-    /// The expected results of a truncated or changed request. Empty if the row has no table.
+    /// The expected results of a truncated or changed request. The list is empty if the row has no
+    /// table.
     pub table: &'b [TableLine<'b>],
     pub reach: Reach,
     /// Whether the row is also tested with a late peer, and over a socket with allocations refused.

@@ -139,7 +139,7 @@ impl<'a, 'b> Bench<'a, 'b> {
     }
 
     // Tests the row with the input in pieces of one byte and of three bytes, and with one byte
-    // written a call. The events of a simulation also run one by one.
+    // written in each call. The events of a simulation also run one by one.
     fn in_pieces(&mut self) -> Result<Option<usize>, Trouble> {
         for most in [1usize, 3] {
             if !self.goes_as_due(Trial::in_pieces(most))? {
@@ -376,8 +376,8 @@ impl<'a, 'b> Bench<'a, 'b> {
         Ok(self.row.talk.input.len().saturating_sub(whole.left))
     }
 
-    // Returns whether a run of the first `len` input bytes has the expected results. A run of the
-    // whole input reads `read` bytes.
+    // Returns whether a run of the first `len` input bytes has the expected results. `read` is the
+    // number of bytes that a run of the whole input reads.
     fn is_cut_well(&mut self, len: usize, read: usize) -> Result<bool, Trouble> {
         let row = self.row;
         let Some(part) = row.talk.input.as_slice().get(..len) else {

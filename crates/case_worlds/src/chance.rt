@@ -206,7 +206,8 @@ impl Chance {
         };
     }
 
-    // Ends the session if the fault with this number ends a session. Other faults change nothing.
+    // Ends the session if the fault with this number ends a session. Other faults do not change the
+    // session.
     fn give_up(&mut self, code: u32) {
         if self.was_step || matches!(code, 20..=54 | 84..=86) {
             self.step = SessionStep::Begin;

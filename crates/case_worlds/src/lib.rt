@@ -1,4 +1,5 @@
-//! Simulations of a server and a client. Their events are those of a scenario, or are random.
+//! Simulations of a server and a client. The events of a simulation are random, or come from a
+//! scenario.
 //!
 //! - [`simulate_with`] runs a simulation with a packer or an indexer that may fail.
 //! - [`run_one_by_one`] runs a simulation, and checks the client after each event.

@@ -272,8 +272,8 @@ impl<A: Allocator + Copy> ByChance<'_, A> {
         }
     }
 
-    // Returns a kind of outcome that never occurred. Always returns `None` for a faulty packer or
-    // indexer.
+    // Returns a kind of outcome that never occurred. Returns `None` for runs with a faulty packer
+    // or indexer.
     fn missing_kind(&self, outcomes: &[Outcome]) -> Option<&'static str> {
         match self.setting.files.tools.liar {
             Some(_) => None,
@@ -291,7 +291,7 @@ fn refused_number(chance: &mut Chance, is_scarce: bool) -> u64 {
     }
 }
 
-// Runs the events with an allocation refused. If that run stops, runs them again with enough
+// Runs the events with an allocation refused. If that run stops, runs the events again with enough
 // memory.
 fn do_events<A: Allocator + Copy>(
     refusal: &RefusedAllocation<'_>,

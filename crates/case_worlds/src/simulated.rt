@@ -36,7 +36,7 @@ pub fn simulate_with<A: Allocator + Copy, O: Sink, E: Sink>(
     }
 }
 
-// A run of a scenario. Its result is the printed text, or `None` if memory runs out.
+// A run of a scenario. The result of the run is the printed text, or `None` if memory runs out.
 #[derive(Drop)]
 struct ScenarioPlay<'b, A: Allocator + Copy> {
     alloc: Global,

@@ -159,8 +159,8 @@ fn add_texts<'b>(script: &'b Script<'b>, command: &mut Invocation<'b>) -> Result
     Ok(())
 }
 
-// Returns whether response-end packets may be added to the replies of a case. They may not if the
-// case forbids or already contains them.
+// Returns whether response-end packets may be added to the replies of a case. A case may forbid
+// such packets, or already contain them.
 fn may_add_ends(command: Invocation<'_>, case: &Case<'_>) -> bool {
     command.program.has_ends()
         && command.ends == Ends::Plain

@@ -3,10 +3,10 @@
 //!
 //! The arguments of the program name test files. FORMAT.md describes the lines of these files. A
 //! row states the expected result for a pack, a store or a text. A row is tested with its input
-//! unchanged, truncated after each byte, and changed in one bit. It is also tested with files that
-//! change during the run, and with each allocation refused in turn. Packs and stores are in memory.
-//! Refs are files in a folder. Each run creates this folder anew. The program prints a line for
-//! each wrong result. The last lines that it prints count the runs.
+//! unchanged, truncated after each byte, and changed in one bit. A row is also tested with files
+//! that change during the run, and with each allocation refused in turn. Packs and stores are in
+//! memory. Refs are files in a folder. Each run creates this folder anew. The program prints a line
+//! for each wrong result. The last lines that it prints count the runs.
 //!
 //! # Proved
 //!

@@ -1,4 +1,4 @@
-//! Packs that lines of a test file describe, valid or not (gitformat-pack(5)).
+//! Packs, valid or not, that lines of a test file describe (gitformat-pack(5)).
 
 use crate::deltas::low_bits;
 use crate::names::Object;

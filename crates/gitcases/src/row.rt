@@ -71,7 +71,7 @@ pub(crate) struct Row<'a> {
     /// Further results that are allowed if an allocation is refused, if a bit is flipped, or if the
     /// store is replaced.
     pub(crate) others: Vec<Vec<u8>>,
-    /// Whether the row is tested only unchanged.
+    /// Whether the row is tested only with its input unchanged.
     pub(crate) is_large: bool,
     /// Whether the row is also tested with each bit flipped, and with its pack truncated.
     pub(crate) is_swept: bool,

@@ -215,8 +215,8 @@ impl<'a> Script<'a> {
         Ok(())
     }
 
-    // Adds an entry to an index: an object, the number of an entry in the pack, and optionally
-    // another offset.
+    // Adds an entry to an index. The line names an object, the number of an entry in the pack, and
+    // optionally a different offset.
     fn add_to_lines(&mut self, word: &str, rest: &str) -> Result<(), Trouble> {
         let Some(last) = self.lines.last() else {
             return Err(Trouble::NotBegun);

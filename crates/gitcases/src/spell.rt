@@ -46,8 +46,8 @@ fn add_next<'a>(
     Ok(rest.get(length..).unwrap_or(""))
 }
 
-// Returns the bytes before the first unescaped brace, and the bytes after it. The latter are `None`
-// if there is no such brace.
+// Returns the bytes before the first unescaped brace, and the bytes after it. The bytes after the
+// brace are `None` if there is no such brace.
 fn before_brace(text: &[u8]) -> (&[u8], Option<&[u8]>) {
     let mut is_escaped = false;
     for place in 0..text.len() {

@@ -1,4 +1,4 @@
-//! Tests of a row in each way.
+//! Tests of a row in each way that `Treatment` lists.
 
 use crate::answers::{MEMORY, OK, Trial, answer_of};
 use crate::packs::mend_trailer;
@@ -19,7 +19,7 @@ const MAX_REFUSED: u64 = 100_000;
 // The maximum number of calls after which the files are replaced.
 const MAX_CALLS: u64 = 60;
 
-/// Tests a row in each way.
+/// Tests a row in each way that `Treatment` lists.
 pub(crate) fn try_row<R: Files + Print + AllocGlobal>(
     rt: &R,
     script: &Script<'_>,
@@ -44,7 +44,7 @@ pub(crate) fn try_row<R: Files + Print + AllocGlobal>(
     Ok(())
 }
 
-// Tests a subject in each way.
+// Tests a subject in each way that `Treatment` lists.
 fn try_all<R: Files + Print + AllocGlobal>(
     rt: &R,
     trial: Trial<'_, '_>,

@@ -14,13 +14,13 @@ use gname::{HEAD, NameFault, Prefix, RefName};
 use std::alloc::{AllocError, Allocator, Global};
 use std::marker::Model;
 
-/// A refspec: a source and a destination. Both are ref names, or both are patterns whose `*`
-/// matches the rest of a name.
+/// A refspec: a source and a destination. Source and destination are both ref names, or both are
+/// patterns whose `*` matches the rest of a name.
 #[derive(Debug, Drop)]
 pub struct Spec<A: Allocator + Copy = Global> {
     forced: bool,
     pattern: bool,
-    // The source. For a pattern, only the part before the `*`.
+    // The source. For a pattern, this is only the part of the source before the `*`.
     source: Prefix<A>,
     destination: Prefix<A>,
 }
