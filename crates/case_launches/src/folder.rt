@@ -6,7 +6,7 @@ use std::fs::Permissions;
 use std::os::unix::fs::{PermissionsExt, symlink};
 use std::{env, fs};
 
-/// The name of the folder.
+/// The name of the folder in which the launched program runs.
 pub(crate) const FOLDER: &str = "launch";
 
 /// The permissions that allow the owner to read and remove an item.

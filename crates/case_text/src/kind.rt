@@ -11,7 +11,7 @@ pub enum FactKind {
     Client,
     /// The line printed for a fault.
     Shown,
-    /// The results of calls near their size limits.
+    /// The results of calls with inputs near the size limits.
     Large,
     /// The result of parsing a command line: a request.
     Asked,

@@ -1,4 +1,4 @@
-//! Tests of a row in each way. Most functions return the number of the first run that failed.
+//! Tests of a row in each `Way`. Most functions return the number of the first run that failed.
 
 use crate::judge::{
     Reach, Row, Stop, is_as_due, is_errors_failed, is_in_table, is_kept, is_report_failed,
@@ -166,8 +166,8 @@ impl<'a, 'b> Bench<'a, 'b> {
         Ok(happened.has_connected_refs && happened.text.as_bytes() == row.talk.output.as_slice())
     }
 
-    // Tests the row over readers and writers of std: unchanged, and in pieces if the row is not
-    // long. For thorough rows, each read and each write also fails in turn.
+    // Tests the row over readers and writers of std, with its input whole, and also in pieces if
+    // the row is not long. For thorough rows, each read and each write also fails in turn.
     fn over_std(&mut self) -> Result<Option<usize>, Trouble> {
         self.is_std = true;
         let wrong = self.with_devices()?;
@@ -187,7 +187,7 @@ impl<'a, 'b> Bench<'a, 'b> {
         Ok(wrong)
     }
 
-    // Tests the row unchanged, and in pieces if the row is not long.
+    // Tests the row with its input whole, and also in pieces if the row is not long.
     fn whole_and_in_pieces(&mut self) -> Result<Option<usize>, Trouble> {
         let wrong = self.whole()?;
         if wrong.is_some() || self.row.is_long {

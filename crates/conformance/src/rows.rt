@@ -1,4 +1,4 @@
-//! Tests of each case, with each of its programs, in each way.
+//! Tests of cases. Each program of a case is tested in each of the ways that `Way` lists.
 
 use crate::tally::{Tally, tell_trouble};
 use crate::{deadlines, launched, socket};
@@ -180,7 +180,7 @@ fn reach_of(case: &Case<'_>, adds_ends: bool) -> Reach {
     }
 }
 
-// Tests a row in each way, up to the first way in which the row fails.
+// Tests a row in each `Way`, up to the first one in which the row fails.
 fn try_row<R: System>(
     rt: &R,
     run: Attempt<'_>,

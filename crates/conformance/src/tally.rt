@@ -7,7 +7,7 @@ use std::io;
 /// The selection of tests to run.
 #[derive(Clone, Copy, PartialEq, Eq)]
 pub enum Depth {
-    /// Each case is run only unchanged.
+    /// Each case runs only with its input unchanged.
     Once,
     /// Cases are run unchanged, by launching the program, over sockets, with late peers, and with
     /// failing files.

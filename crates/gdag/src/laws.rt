@@ -135,7 +135,7 @@ pub fn closed_stays<A: Allocator + Copy>()
 {}
 
 /// `Graph::node`, `Graph::position` and `Graph::at` agree. Each id of the graph has exactly one
-/// position, and the same node at that position.
+/// position, and the entry at that position has the id's node.
 pub fn positions_are_nodes<A: Allocator + Copy>()
     ensures { PositionsAreNodes A }
 {}

@@ -64,8 +64,9 @@ pub fn send_list_tags<A: Allocator + Copy>(
     Ok(list_to_send(graph, wants, commons, tips.as_slice())?)
 }
 
-// Returns the list to send, with the tags of the tips. If each object of the graph comes after its
-// parents, the function makes one pass over the graph. Otherwise it walks from the wants.
+// Returns the list to send, including the tags in the chains of tags that begin at the tips. If
+// each object of the graph comes after its parents, the function makes one pass over the graph.
+// Otherwise it walks from the wants.
 fn list_to_send<A: Allocator + Copy>(
     graph: &Graph<A>,
     wants: &[Oid],
