@@ -65,16 +65,16 @@ abbrev pub Admits : {A : Type 0} → Format → List (Entry A) → Entry A → B
 Admits format g entry true = IsFit format entry × (node_at g entry.id ≡ None) × (length g < max_nodes)
 Admits format g entry false = IsFit format entry × IsNode g entry.id entry.node
 
--- the outcome of adding one entry: the entry is inserted and the result is whether its id was new, or the result is a
--- fault and the graph is unchanged
+-- The outcome of adding one entry. On success the entry is inserted, and the result is whether its id was new. After a
+-- fault the graph is unchanged.
 abbrev pub AddsOne : {A : Type 0} → History A → Entry A → History A → Result Bool GraphFault → Type 0
 AddsOne old entry new (Ok is_new) =
     (new.format ≡ old.format) × ComesIn old.format old.entries entry new.entries
     × (IsTrue is_new ↔ (node_at old.entries entry.id ≡ None))
 AddsOne old entry new (Err fault) = (new ≡ old) × IsCause old.format old.entries entry fault
 
--- the outcome of adding a list: all entries are inserted and the result is the number of new ids, or the result is a
--- fault and the graph is unchanged
+-- The outcome of adding a list. On success all its entries are inserted, and the result is the number of new ids. After
+-- a fault the graph is unchanged.
 abbrev pub Adds : {A : Type 0} → History A → List (Entry A) → History A → Result ℕ GraphFault → Type 0
 Adds old entries new (Ok added) =
     (new.format ≡ old.format) × Inserts old.format old.entries entries new.entries

@@ -180,8 +180,8 @@ SendingIsEnough A =
     → IdsDiffer s → IsClosed s → Agree s c → All (Holds s) wants → All (IsConnected c) commons
     → IsListToSend s wants commons tips list → Inserts format c list new → HasAll s wants new
 
--- if graph `h` contains all that the wants reach in a closed graph `s`, then `h` contains all that they reach in a
--- graph `t` that keeps the nodes of `s`
+-- if `h` contains all that the wants reach in a closed graph `s`, the same holds for any graph `t` that keeps the nodes
+-- of `s`
 abbrev pub KeepingHasAll : Type 0 → Type 0
 KeepingHasAll A =
     (s t h : List (Entry A)) (wants : List Id)

@@ -147,8 +147,8 @@ fn has_one(list: &[Oid], ids: &[Oid]) -> bool
     false
 }
 
-// The ids that a walk searches for: marks at the positions of the ids in the graph, and a list of
-// the ids that the graph does not contain.
+// The ids that a walk searches for: marks at the positions of those ids that the graph contains,
+// and a list of the other ids.
 #[derive(Drop)]
 struct Goals<A: Allocator + Copy> {
     marks: Vec<bool, A>,
