@@ -1,6 +1,6 @@
-//! Searches in the history of a repository: `missing`, `counted`, `sent`, `sent-tags`,
-//! `sent-count`, `common`, `ready`, `reaches`, `offered` and `peeled`. ` / ` separates lists of
-//! ids; `none` means no id.
+//! Facts about searches in a repository's history. The names of these facts are `missing`,
+//! `counted`, `sent`, `sent-tags`, `sent-count`, `common`, `ready`, `reaches`, `offered` and
+//! `peeled`. ` / ` separates lists of ids; `none` means no id.
 
 use crate::looking::RefusedAllocation;
 use crate::text::load_text;
@@ -32,8 +32,8 @@ enum Found<A: Allocator + Copy> {
     Whether(bool),
 }
 
-/// Returns the result of a fact's search in the repository that `file` holds. One allocation of the
-/// search may fail.
+/// Returns the result of a fact's search in the repository with the text `file`. One allocation of
+/// the search may fail.
 pub(crate) fn answer<A: Allocator + Copy>(
     alloc: Global,
     memory: A,
@@ -175,7 +175,7 @@ fn find_offer<A: Allocator + Copy>(
     Ok(Found::Ids(haves(graph, tips, commons, &[], count)?))
 }
 
-// Returns whether the first id reaches the second.
+// Finds whether the first of the ids reaches the second.
 fn all_reach<A: Allocator + Copy>(graph: &Graph<A>, ids: &[Oid]) -> Result<Found<A>, GraphFault> {
     match ids {
         [from, to] => Ok(Found::Whether(reaches(graph, from, to)?)),
@@ -235,7 +235,7 @@ pub(crate) fn text_of_id(alloc: Global, id: Option<Oid>) -> Result<String, Troub
     }
 }
 
-/// Formats a missing id, and the numbers of visited ids and parents.
+/// Formats a missing id, the number of visited ids and the number of visited parents.
 pub(crate) fn text_of_count(
     alloc: Global,
     missing: Option<Oid>,

@@ -1,7 +1,7 @@
 //! The objects that a client with certain refs knows to be connected. `known` returns the ids that
-//! the client has marked. `unheld` and `counted-past` return an id missing from the ancestry of
-//! other ids; `counted-past` also counts the visited objects. ` / ` separates lists of ids, and the
-//! last list holds the ids of the refs.
+//! the client has marked. `unheld` and `counted-past` return an ancestor of the given ids that the
+//! graph lacks. `counted-past` also counts the visited objects. ` / ` separates lists of ids, and
+//! the last list holds the ids of the refs.
 
 use crate::history::{Asked, asked_of, text_of_count, text_of_id, text_of_ids};
 use crate::looking::RefusedAllocation;
@@ -13,8 +13,8 @@ use ggraph::{Count, Graph, GraphFault, Order, Refs, missing_known};
 use gname::{Oid, RefName};
 use std::alloc::{Allocator, Global};
 
-/// Returns the result of a fact about a client whose repository has the graph that `file` holds.
-/// One allocation of the client may fail.
+/// Returns the result of a fact about a client with the repository text `file`. One allocation of
+/// the client may fail.
 pub(crate) fn answer<A: Allocator + Copy>(
     alloc: Global,
     memory: A,
@@ -118,8 +118,8 @@ fn marked_ids<A: Allocator + Copy>(alloc: Global, repo: &Repo<A>) -> Result<Vec<
     Ok(ids)
 }
 
-// Returns an id missing from the ancestry of `ids`, and the counts of visited objects. The walk
-// stops at marked objects.
+// Returns an ancestor of `ids` that the graph lacks, and the counts of visited objects. The walk
+// does not continue past marked objects.
 fn counted_past<A: Allocator + Copy>(
     repo: &Repo<A>,
     ids: &[Oid],

@@ -10,8 +10,8 @@ use std::alloc::Global;
 // The maximum number of parents of a commit.
 const MOST_PARENTS: usize = 64;
 
-/// Returns the result of adding commits to a graph, or of packing commits; the fact's text holds
-/// their number.
+/// Returns the result of adding commits to a graph, or of packing commits. The fact's text states
+/// the number of commits.
 pub(crate) fn answer(alloc: Global, fact: &Fact<'_>) -> Result<String, Trouble> {
     let mut words = fact.text.split(|byte| *byte == b' ');
     let count = number_of(words.next().unwrap_or(b""));
@@ -26,7 +26,7 @@ pub(crate) fn answer(alloc: Global, fact: &Fact<'_>) -> Result<String, Trouble> 
 }
 
 // Adds commits to a graph, one by one. Returns the final number of objects, or the first fault and
-// the number of objects before it.
+// the number of objects added before that fault.
 fn grow_graph(alloc: Global, format: Format, count: usize) -> Result<String, Trouble> {
     let mut graph = Graph::new_in(alloc, format);
     for number in 0..count {
@@ -39,8 +39,7 @@ fn grow_graph(alloc: Global, format: Format, count: usize) -> Result<String, Tro
     Ok(format!(in alloc; "ok {count}")?)
 }
 
-// Returns the size in bytes of a pack of the commits, after checking that it parses to as many
-// entries.
+// Returns the size in bytes of a pack of the commits. The pack must parse to one entry per commit.
 fn pack_size(alloc: Global, commits: &[Entry]) -> Result<String, Trouble> {
     let pack = match PlainPack.pack(alloc, commits) {
         Ok(pack) => pack,
@@ -70,7 +69,7 @@ fn wide_commits(
     Ok(commits)
 }
 
-// Returns the commit with this number; its parents have the next `count` numbers.
+// Returns the commit with this number. The commit's parents have the `count` numbers after it.
 fn commit(alloc: Global, format: Format, number: usize, count: usize) -> Result<Entry, Trouble> {
     let mut parents = Parents::new(alloc);
     for place in 1..=count {
@@ -85,7 +84,7 @@ fn commit(alloc: Global, format: Format, number: usize, count: usize) -> Result<
     })
 }
 
-// Returns the id whose first eight bytes are the number in big-endian order.
+// Returns an id whose first eight bytes are `number` in big-endian order.
 fn id_of_number(format: Format, number: usize) -> Result<Oid, Trouble> {
     let mut bytes = [0; 32];
     bytes[..8].copy_from_slice(&number.to_be_bytes());

@@ -1,8 +1,8 @@
-//! Facts: expected results of parsing a text, of searching a history, of a client's knowledge of a
-//! history, and of printing a fault.
+//! Checks of facts. A fact is the expected result of parsing a text, of searching a history, of
+//! asking a client about its objects, or of printing a fault.
 //!
-//! [`answer`] returns the actual result of one fact, in the form in which a test file states the
-//! expected result.
+//! [`answer`] returns the actual result for one fact, in the same form as the expected result in a
+//! test file.
 //!
 //! # Proved
 //!
@@ -16,8 +16,8 @@
 //! # Dependencies
 //!
 //! `case_text` defines facts and an allocator that fails. `gname`, `grefs`, `ghello`, `gpkt`,
-//! `gscenario` and `ggraph` parse texts. `gclient` defines a client's knowledge of a history, and
-//! `gcmd` prints faults. `ganswer`, `gclient`, `ggrammar` and other crates define the faults.
+//! `gscenario` and `ggraph` parse texts. `gclient` defines clients and the objects that they know,
+//! and `gcmd` prints faults. `ganswer`, `gclient`, `ggrammar` and other crates define the faults.
 #![tactic(auto)]
 
 mod history;

@@ -9,11 +9,11 @@ use std::alloc::{Allocator, Global};
 pub struct Limits {
     /// The maximum number of bytes in one read or write of a device.
     pub most: usize,
-    /// The number of the allocation that fails, from 1, or 0 for none.
+    /// The number of the allocation that fails, counted from 1. No allocation fails for 0.
     pub refused: u64,
 }
 
-/// The actual result of a fact.
+/// The actual result for a fact.
 #[derive(Drop)]
 pub struct Finding {
     /// The result, in the form used in test files.
@@ -22,7 +22,7 @@ pub struct Finding {
     pub was_refused: bool,
 }
 
-/// An allocation that fails, counted from the call of `begin`.
+/// An allocation that fails. `number` counts the allocations from the call of `begin` on.
 #[derive(Clone, Copy)]
 pub(crate) struct RefusedAllocation<'m> {
     scarce: &'m Scarce<Global>,
@@ -30,14 +30,14 @@ pub(crate) struct RefusedAllocation<'m> {
 }
 
 impl RefusedAllocation<'_> {
-    /// Starts the count of allocations, so that a later one fails.
+    /// Starts the count of allocations, so that the chosen allocation fails.
     pub(crate) fn begin(self) {
         self.scarce.refuse(self.number);
     }
 }
 
-/// Returns the actual result of a fact. `graph` is the text of the repository that a fact on a
-/// history or a client searches.
+/// Returns the actual result for a fact. For a fact about a history or a client, `graph` is the
+/// text of the repository.
 pub fn answer(
     alloc: Global,
     fact: &Fact<'_>,

@@ -1,9 +1,9 @@
 //! Results of parsing or writing one text, such as a ref name, an id, a refspec, a repository, a
 //! pack, a scenario or a payload.
 //!
-//! The result of a valid text is `ok`, followed by counts or parts of the text for some kinds. The
-//! result of an invalid text is the number and the name of the fault, and its position or line. For
-//! `name-text` the result is only the printed text of the fault.
+//! The result of a valid text is `ok`. For some kinds of texts, counts or parts of the text follow.
+//! The result of an invalid text is the fault's number, name, and position or line. For `name-text`
+//! the result is only the printed text of the fault.
 
 use crate::text::{load_text, save_text};
 use crate::told::{fault_words, told_at};
@@ -121,7 +121,7 @@ fn hello_text(alloc: Global, host: &[u8], path: &[u8]) -> Result<String, Trouble
     }
 }
 
-// Parses a repository, and compares its text when written again.
+// Parses a repository, and checks that saving it produces the same text.
 fn repository<A: Allocator + Copy>(
     alloc: Global,
     memory: A,
@@ -223,7 +223,7 @@ fn put_to(sink: &mut Limited<VecSink>, text: &[u8]) -> Result<(), WriteFault> {
     put
 }
 
-// Returns the band of a payload and its number of bytes.
+// Returns the side band of a payload and the number of bytes on it.
 fn band(alloc: Global, text: &[u8]) -> Result<String, Trouble> {
     let (word, bytes) = match band_of(text) {
         Ok(Band::Data(bytes)) => ("data", bytes),

@@ -11,12 +11,12 @@ use gpkt::memory::VecSink;
 use gpkt::{BandFault, PacketFault};
 use std::alloc::Global;
 
-/// The digits of the ids in faults: `ID` for SHA-1, `LONG_ID` for SHA-256.
+/// The digits of the ids in the tested faults: `ID` for SHA-1, `LONG_ID` for SHA-256.
 const ID: &[u8] = b"00112233445566778899aabbccddeeff00112233";
 
 const LONG_ID: &[u8] = b"00112233445566778899aabbccddeeff00112233445566778899aabbccddeeff";
 
-/// The ref name in faults.
+/// The ref name in the tested faults.
 const NAME: &[u8] = b"refs/heads/a\x80";
 
 // The expected line of a fault, without `gitv2: fault`, and its `Display` text.
@@ -26,8 +26,8 @@ struct Look<'a> {
     text: &'a [u8],
 }
 
-/// Returns the expected line if a fault prints this line and has this `Display` text, otherwise `of
-/// no fault`.
+/// Returns the expected line if some fault prints this line and has this `Display` text, otherwise
+/// `of no fault`.
 pub(crate) fn answer(alloc: Global, fact: &Fact<'_>) -> Result<String, Trouble> {
     let look = Look {
         line: fact.due.as_slice(),
@@ -40,7 +40,8 @@ pub(crate) fn answer(alloc: Global, fact: &Fact<'_>) -> Result<String, Trouble> 
     }
 }
 
-// Returns whether a fault has this line and this text. Faults in messages are at packet 7.
+// Returns whether some fault has this line and this text. The tested faults in messages are at
+// packet 7.
 fn is_known(alloc: Global, look: Look<'_>) -> Result<bool, Trouble> {
     Ok(
         is_of_line(alloc, look)?

@@ -8,7 +8,7 @@ pub(crate) fn fault_words(alloc: Global, code: u32, name: &str) -> Result<String
     Ok(format!(in alloc; "{code} {name}")?)
 }
 
-/// Formats the number and the name of a fault, and its position.
+/// Formats the number, the name and the position of a fault.
 pub(crate) fn told_at(
     alloc: Global,
     code: u32,

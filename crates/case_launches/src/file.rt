@@ -1,4 +1,5 @@
-//! The files of a launch, which record each call on the system's files.
+//! The files that a launched program uses. Each file records its calls, and passes them on to a
+//! file of the system.
 
 use crate::journal::Journal;
 use std::fs::{Metadata, OpenFile, Permissions};

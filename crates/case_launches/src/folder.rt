@@ -6,10 +6,10 @@ use std::fs::Permissions;
 use std::os::unix::fs::{PermissionsExt, symlink};
 use std::{env, fs};
 
-/// The name of the folder.
+/// The name of the folder in which the launched program runs.
 pub(crate) const FOLDER: &str = "launch";
 
-/// The permissions with which every item can be read and removed.
+/// The permissions that allow the owner to read and remove an item.
 const ALL: u32 = 0o700;
 
 /// Makes an empty folder, and enters it.
@@ -19,7 +19,7 @@ pub(crate) fn enter<R: System>(rt: &R) -> Result<(), Trouble> {
     Ok(env::set_current_dir(rt, FOLDER)?)
 }
 
-/// Leaves the folder, and removes it with all contents.
+/// Leaves the folder, and removes the folder with all its contents.
 pub(crate) fn leave<R: System>(rt: &R) -> Result<(), Trouble> {
     env::set_current_dir(rt, "..")?;
     Ok(fs::remove_dir_all(rt, FOLDER)?)
@@ -42,7 +42,7 @@ pub(crate) fn fill<R: System>(
     Ok(())
 }
 
-/// Gives back the permissions to read and remove every item.
+/// Restores the permissions to read and remove every item.
 pub(crate) fn unlock<R: System>(rt: &R, found: &[Found<'_>]) -> Result<(), Trouble> {
     for one in found {
         if let Found::Mode { name, mode: _ } = one {

@@ -1,5 +1,5 @@
-//! The runtime of a launch: simulated arguments, standard streams and clock, and the system's
-//! files.
+//! The runtime of a launch. The arguments, the standard streams and the clock are simulated, and
+//! the files are those of the system.
 
 use crate::file::NotedFile;
 use crate::journal::Journal;
@@ -28,7 +28,7 @@ pub(crate) struct Host<'a, R> {
 }
 
 impl<'a, R: System> Host<'a, R> {
-    /// Returns the runtime of a program with this plan.
+    /// Returns the runtime for a program that is launched by this plan.
     pub(crate) fn new(
         rt: &'a R,
         plan: &'a Plan<'a>,
@@ -59,7 +59,7 @@ impl<'a, R: System> Host<'a, R> {
         }
     }
 
-    // Connects the clients once the program has printed only the line with its port.
+    // Connects the clients if the program's whole output is the line with its port.
     fn greet(&self) -> io::Result<()> {
         let written = self.written_bytes()?;
         match listening_port(written.as_slice()) {
@@ -230,7 +230,7 @@ pub(crate) struct Errors<'a> {
 }
 
 impl<'a> Errors<'a> {
-    /// Returns an empty standard error.
+    /// Returns a standard error stream to which nothing has been written.
     pub(crate) fn new(alloc: Global, journal: &'a Journal<'a>) -> Errors<'a> {
         Errors {
             journal,

@@ -1,24 +1,24 @@
-//! The recorded operations of the program, and the operation that fails.
+//! The journal of a program's operations, one of which may fail.
 
 use std::alloc::{AllocError, Global};
 use std::cell::RefCell;
 use std::io;
 use std::io::ErrorKind;
 
-/// The operations so far, separated by commas.
+/// The operations recorded so far, separated by commas.
 #[derive(Drop)]
 pub(crate) struct Journal<'a> {
     alloc: Global,
     // The absolute path of the folder in which the program runs.
     folder: String,
-    // The operation that fails each time, if any.
+    // The operation that fails whenever the program performs it, if any.
     failing: Option<&'a str>,
     steps: RefCell<String>,
 }
 
 impl<'a> Journal<'a> {
-    /// Returns an empty journal of a program in this folder. The operation `failing` fails each
-    /// time.
+    /// Returns an empty journal for a program in this folder. The operation `failing` fails
+    /// whenever the program performs it.
     pub(crate) fn new(alloc: Global, folder: String, failing: Option<&'a str>) -> Journal<'a> {
         Journal {
             alloc,
@@ -28,7 +28,7 @@ impl<'a> Journal<'a> {
         }
     }
 
-    /// Records an operation, and fails if it is the one that fails.
+    /// Records an operation. Fails if the operation is `failing`.
     pub(crate) fn note(&self, step: &str) -> io::Result<()> {
         if let Ok(mut steps) = self.steps.try_borrow_mut() {
             add_step(&mut steps, step)?;

@@ -1,11 +1,11 @@
-//! Launches of the program `gitv2` for tests. A launch gives the program arguments and standard
-//! streams in memory, real files in a folder of its own, and sockets at 127.0.0.1.
+//! Launches of the program `gitv2` for tests. A launched program has arguments and standard streams
+//! in memory, real files in a separate folder, and sockets at 127.0.0.1.
 //!
 //! A [`Plan`] holds the arguments, files and peers of the program, and all expected results. A plan
 //! is made from a row, a pair of repositories, a command line, or a case that describes a launch.
-//! The function [`launch`] runs the program in a folder `launch`, which it creates and removes. The
-//! test itself acts as the peers. The clients connect when the program prints its port. A server
-//! accepts when the program connects.
+//! The function [`launch`] creates the folder `launch`, runs the program in this folder, and
+//! removes the folder. The test itself acts as the peers. The simulated clients connect when the
+//! program prints its port. A simulated server accepts when the program connects.
 //!
 //! # Proved
 //!
@@ -19,7 +19,7 @@
 //! # Dependencies
 //!
 //! `gprogram` is the launched program. `case_text` and `case_tries` define rows and cases, and
-//! `gtcp` locations.
+//! `gtcp` defines locations.
 #![tactic(auto)]
 
 mod file;

@@ -27,7 +27,7 @@ impl<'b> Numbers<'b> {
         Ok(Numbers { numbers })
     }
 
-    /// Returns the first file whose inode number has changed.
+    /// Returns the name of the first file whose inode number has changed, if any.
     pub(crate) fn first_changed<R: System>(&self, rt: &R) -> Option<&'b str> {
         for &(name, number) in self.numbers.as_slice() {
             if number == 0 || number_of(rt, name) != number {
@@ -46,7 +46,7 @@ fn number_of<R: System>(rt: &R, name: &str) -> u64 {
     }
 }
 
-/// Returns the first file with unexpected permissions.
+/// Returns the name of the first file with unexpected permissions, if any.
 pub(crate) fn first_wrong_mode<'b, R: System>(rt: &R, plan: &Plan<'b>) -> Option<&'b str> {
     for left in plan.left.as_slice() {
         if let Left::Mode { name, mode } = left {
@@ -65,8 +65,8 @@ fn has_mode<R: System>(rt: &R, name: &str, mode: u32) -> bool {
     }
 }
 
-/// Returns the first file with unexpected contents, or with a new lockfile. Files that the plan
-/// does not list must be unchanged.
+/// Returns the name of the first file with unexpected contents or with a new lockfile, if any.
+/// Files that the plan does not list must be unchanged.
 pub(crate) fn first_wrong_file<'b, R: System>(
     rt: &R,
     plan: &Plan<'b>,
@@ -84,7 +84,7 @@ pub(crate) fn first_wrong_file<'b, R: System>(
     Ok(None)
 }
 
-// Returns the name of the item if it is not as expected.
+// Returns the item's name if the item is not as expected.
 fn wrong_left<'b, R: System>(
     rt: &R,
     plan: &Plan<'b>,
@@ -99,8 +99,8 @@ fn wrong_left<'b, R: System>(
     Ok(if is_right { None } else { Some(name) })
 }
 
-// Returns the name of a file that changed although the plan does not list it, or that has a new
-// lockfile.
+// Returns the file's name if the file has a new lockfile, or has changed although the plan does not
+// list the file.
 fn wrong_found<'b, R: System>(
     rt: &R,
     plan: &Plan<'b>,

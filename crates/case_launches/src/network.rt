@@ -13,12 +13,13 @@ use std::time::Duration;
 // A host name that resolves to two addresses.
 const TWO_ADDRESSES: &str = "two";
 
-// Returns the first of the two addresses, at which no server listens.
+// Returns the first of the two addresses. No server listens there.
 fn nobody() -> IpAddr {
     IpAddr::V4(Ipv4Addr::new(127, 0, 0, 2))
 }
 
-/// The program's listener, which accepts clients that have connected, and does not wait for more.
+/// The program's listener. The listener accepts clients that have already connected, and does not
+/// wait for further clients.
 #[derive(Drop)]
 pub(crate) struct Listener<'a> {
     listener: TcpListener,
@@ -80,8 +81,8 @@ impl<'a, R: System> Net for Host<'a, R> {
         self.peers.connect(self.rt, addr)
     }
 
-    // Each host name resolves to this host. The name `two` first resolves to an address at which no
-    // server listens.
+    // Every host name resolves to the local host. The name `two` first resolves to an address at
+    // which no server listens.
     fn lookup_host(&self, host: &str, port: u16, found: &mut [SocketAddr]) -> io::Result<usize> {
         let here = SocketAddr::from((Ipv4Addr::LOCALHOST, port));
         match found {

@@ -7,7 +7,7 @@ use std::io;
 use std::io::{ErrorKind, Read, Write};
 use std::net::{Shutdown, SocketAddr, TcpListener, TcpStream};
 
-/// The bytes that a peer writes, and the bytes that the peer must read.
+/// The bytes that a peer sends, and the bytes that the peer must receive.
 #[derive(Drop)]
 pub struct Exchange {
     pub says: Vec<u8>,
@@ -68,8 +68,8 @@ impl<'a> Peers<'a> {
         Ok(())
     }
 
-    /// Returns a stream to the address. The stream leads to the program itself if the program
-    /// listens there, otherwise to the next server.
+    /// Returns a stream to the address. If the program listens there, the stream leads to the
+    /// program itself, otherwise to the next simulated server.
     pub(crate) fn connect<R: System>(&self, rt: &R, address: SocketAddr) -> io::Result<TcpStream> {
         if address.port() == self.port() {
             let stream = TcpStream::connect(rt, address)?;
@@ -90,7 +90,8 @@ impl<'a> Peers<'a> {
         self.waiting.set(self.waiting.get().saturating_add(1));
     }
 
-    /// Returns whether a connection waits to be accepted, and counts it as accepted.
+    /// Returns whether a connection is waiting to be accepted. If so, counts that connection as
+    /// accepted.
     pub(crate) fn take_waiting(&self) -> bool {
         let waiting = self.waiting.get();
         self.waiting.set(waiting.saturating_sub(1));
@@ -105,7 +106,7 @@ impl<'a> Peers<'a> {
         }
     }
 
-    // Writes the bytes of a peer, and shuts down writing.
+    // Sends the bytes of a peer, shuts down writing, and keeps the stream.
     fn keep(&self, stream: TcpStream, exchange: &Exchange) -> io::Result<()> {
         let mut stream = stream;
         stream.write_all(exchange.says.as_slice())?;
@@ -116,8 +117,8 @@ impl<'a> Peers<'a> {
         }
     }
 
-    /// Returns whether every peer was connected and reads its expected bytes to the end. A
-    /// connection that was reset may yield only a prefix of the bytes.
+    /// Returns whether every peer was connected and received its expected bytes. If a connection
+    /// was reset, its peer may have received only a prefix of these bytes.
     pub(crate) fn have_heard(&self, alloc: Global) -> bool {
         let Ok(mut streams) = self.streams.try_borrow_mut() else {
             return false;

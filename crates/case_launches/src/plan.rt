@@ -10,7 +10,8 @@ use std::alloc::Global;
 /// The line that a listening server prints.
 const LISTENING: &[u8] = b"listening PORT\n";
 
-/// The exit status for arguments that do not match the usage. `USAGE` is the line then printed.
+/// The exit status for arguments that do not match the usage. For such arguments the program prints
+/// the line `USAGE`.
 pub(crate) const WRONG_USAGE: u8 = 2;
 
 const NOTHING: &[u8] = b"";
@@ -32,15 +33,15 @@ pub struct Plan<'b> {
     pub(crate) output: Vec<u8>,
     /// The expected standard error, if it is known.
     pub(crate) errors: Option<Vec<u8>>,
-    /// The expected exit status. `None` accepts any status except that of wrong usage.
+    /// The expected exit status. `None` accepts any status except `WRONG_USAGE`.
     pub(crate) status: Option<u8>,
     pub(crate) steps: Option<&'b str>,
-    /// The operation that fails each time, if any.
+    /// The operation that fails whenever the program performs it, if any.
     pub(crate) failing: Option<&'b str>,
 }
 
 impl<'b> Plan<'b> {
-    // Returns a plan with these arguments, an empty folder, and no expected results.
+    // Returns a plan with these arguments, an empty folder and no expected results.
     fn new(alloc: Global, script: &'b Script<'b>, words: Vec<String>) -> Plan<'b> {
         Plan {
             script,
@@ -73,7 +74,7 @@ impl<'b> Plan<'b> {
         Ok(plan)
     }
 
-    /// Returns the plan for the command of a row, with a file for its repository.
+    /// Returns the plan for the command of a row, with a file that holds the row's repository.
     pub fn of_row(
         alloc: Global,
         script: &'b Script<'b>,
@@ -97,14 +98,14 @@ impl<'b> Plan<'b> {
         Ok(plan)
     }
 
-    // Adds a file with the named text, under the same name.
+    // Adds a file that has the name and the contents of a named text.
     fn add_file(&mut self, text: &'b str) -> Result<(), Trouble> {
         let name = name_of_file(text);
         self.found.push(Found::File { name, text })?;
         Ok(())
     }
 
-    // Expects the named text in the file afterwards, if a name is given.
+    // If a text is named, expects the file to contain that text after the launch.
     fn expect_file(&mut self, file: &'b str, text: Option<&'b str>) -> Result<(), Trouble> {
         if let Some(text) = text {
             let name = name_of_file(file);
@@ -113,7 +114,7 @@ impl<'b> Plan<'b> {
         Ok(())
     }
 
-    // Expects the messages of a row on standard streams, or over a socket.
+    // Adds the messages of a row to the plan, on standard streams or over a socket.
     fn expect_talk(&mut self, alloc: Global, row: &Row<'_>) -> Result<(), Trouble> {
         let talk = &row.talk;
         let is_remote = row.command.has_hello();
@@ -141,7 +142,8 @@ impl<'b> Plan<'b> {
         Ok(())
     }
 
-    // Expects the messages of a row over a socket. A client that sends no message opens no socket.
+    // Adds the messages of a row to the plan, over a socket. A client that sends no message opens
+    // no socket.
     fn expect_exchange(&mut self, alloc: Global, row: &Row<'_>) -> Result<(), Trouble> {
         let talk = &row.talk;
         if row.command.program == Program::Serve || !talk.output.is_empty() {
@@ -203,7 +205,7 @@ impl<'b> Plan<'b> {
         add_split(alloc, text, &mut self.words)
     }
 
-    // Expects messages on standard streams, or on one connection after another.
+    // Adds messages to the plan, on standard streams or on one connection after another.
     fn expect_said(
         &mut self,
         alloc: Global,
@@ -244,7 +246,7 @@ impl<'b> Plan<'b> {
     }
 }
 
-// Returns whether a printed fault is expected.
+// Returns whether the messages include a printed fault.
 fn has_fault(said: &[Said]) -> bool {
     for one in said {
         if one.who == Who::Errors {

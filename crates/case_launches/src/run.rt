@@ -15,11 +15,11 @@ use std::env;
 // The word for the port in the expected standard output.
 const PORT: &str = "PORT";
 
-// The permissions of a file's owner to read and to write.
+// The permissions that allow a file's owner to read and write.
 const OWN: u32 = 0o600;
 
-/// Runs the program in a folder of its own. Returns a text with the unexpected results, or `None`
-/// if all results match the plan.
+/// Runs the program in a separate folder. Returns a text with the unexpected results, or `None` if
+/// all results match the plan.
 pub fn launch<R: System>(rt: &R, plan: &Plan<'_>) -> Result<Option<String>, Trouble> {
     enter(rt)?;
     let wrong = launch_here(rt, plan);
@@ -43,7 +43,7 @@ fn launch_here<R: System>(rt: &R, plan: &Plan<'_>) -> Result<Option<String>, Tro
     wrong_file(rt, plan, &numbers)
 }
 
-// Returns whether the owner may not read or not write one of the items.
+// Returns whether the permissions of some item deny its owner reading or writing.
 fn is_barred(found: &[Found<'_>]) -> bool {
     for one in found {
         match one {
@@ -54,7 +54,8 @@ fn is_barred(found: &[Found<'_>]) -> bool {
     false
 }
 
-// Runs the program. Returns its results if the status, streams or operations differ from the plan.
+// Runs the program. If the status, streams or operations differ from the plan, returns the
+// program's results.
 fn wrong_print<R: System>(
     rt: &R,
     plan: &Plan<'_>,
@@ -124,7 +125,7 @@ fn is_steps(plan: &Plan<'_>, steps: &str) -> bool {
     }
 }
 
-// Returns a text with the first file that differs from the plan.
+// Returns a text about the first file that differs from the plan, if any.
 fn wrong_file<R: System>(
     rt: &R,
     plan: &Plan<'_>,

@@ -5,9 +5,9 @@ use case_text::Who;
 /// A stream of the program.
 #[derive(Clone, Copy, PartialEq, Eq)]
 pub(crate) enum Stream {
-    /// The input of the conversation: standard input, or a socket.
+    /// The input from the peer: standard input, or a socket.
     Read,
-    /// The output of the conversation: standard output, or a socket.
+    /// The output to the peer: standard output, or a socket.
     Written,
     /// Standard output.
     Output,
@@ -22,8 +22,8 @@ pub(crate) struct Streams {
     reads_client: bool,
     /// Whether the peers are connected over sockets.
     pub(crate) is_remote: bool,
-    /// Whether the command reports on standard error, because standard output carries the
-    /// conversation.
+    /// Whether the command writes its report to standard error, because standard output carries its
+    /// messages to the peer.
     reports_on_errors: bool,
 }
 

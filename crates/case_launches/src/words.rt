@@ -7,11 +7,12 @@ use gname::MAX_PACK;
 use gtcp::Location;
 use std::alloc::Global;
 
-/// The maximum number of bytes that a test writes to a socket without a reader.
+/// The maximum number of bytes that a test writes to a socket before anyone reads them.
 const MOST_BYTES: usize = 16_384;
 
-/// Returns whether the program can run the row. The packer and the indexer must be `PlainPack`.
-/// Over a socket, all bytes must fit into the socket, and the location must be valid.
+/// Returns whether the program can run the row. The packer and the indexer must be `PlainPack`. For
+/// a row over a socket, the socket must be able to buffer all bytes, and the location must be
+/// valid.
 pub fn is_launched(alloc: Global, row: &Row<'_>) -> Result<bool, Trouble> {
     let command = row.command;
     if command.liar.is_some() {
@@ -55,7 +56,7 @@ pub(crate) fn words_of_command(
     Ok(words)
 }
 
-// Returns the arguments before the options.
+// Returns the command line up to its options.
 fn start_of(command: Invocation<'_>) -> &'static str {
     match command.program {
         Program::Ls => "gitv2 ls --stdio-server",
@@ -122,10 +123,10 @@ pub fn add_split(alloc: Global, text: &str, words: &mut Vec<String>) -> Result<(
     Ok(())
 }
 
-// The file name for a text without a name.
+// The name of the file for an unnamed text.
 const NO_NAME: &str = "none";
 
-/// Returns the name of the file for a text.
+/// Returns the name of the file that holds the text with this name.
 pub(crate) fn name_of_file(text: &str) -> &str {
     if text.is_empty() { NO_NAME } else { text }
 }

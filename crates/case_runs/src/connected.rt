@@ -1,5 +1,5 @@
-//! The network commands of `gitv2` over devices in memory: serving a connection with its first
-//! line, and listing the refs of a server.
+//! The network commands of `gitv2` over devices in memory. One serves a connection, including its
+//! first line, and the other lists a server's refs.
 
 use crate::files::server_of;
 use crate::program::{Devices, Job};
@@ -54,7 +54,7 @@ fn outcome_of<A: Allocator + Copy>(ended: GitEnd) -> Result<(), ProgramFault<A>>
     }
 }
 
-/// Returns the outcome of a served connection as that of the program.
+/// Converts the outcome of a served connection to the outcome of the program.
 pub(crate) fn outcome_of_served<A: Allocator + Copy>(
     served: Served,
 ) -> Result<(), ProgramFault<A>> {
@@ -66,7 +66,7 @@ pub(crate) fn outcome_of_served<A: Allocator + Copy>(
 }
 
 /// Lists the server's refs that begin with one of the words, or all refs if there are no words.
-/// Reports a line for each ref, and returns the exit status.
+/// Writes a line for each ref to the report, and returns the exit status.
 pub(crate) fn list_refs<A: Allocator + Copy, I: Source, O: Sink, R: Sink, E: Sink>(
     job: &Job<'_, '_, '_, A>,
     words: &[String<A>],
@@ -91,7 +91,8 @@ fn run_listing<A: Allocator + Copy, I: Source, O: Sink, R: Sink, E: Sink>(
     end_listing(job, listed, &mut devices.report)
 }
 
-/// Ends a listing like the program: writes the lines of the reply, or returns the fault.
+/// Ends a listing as the program does: writes the lines of the reply to the report, or returns the
+/// fault.
 pub fn end_listing<A: Allocator + Copy, R: Sink>(
     job: &Job<'_, '_, '_, A>,
     listed: Result<LsReply<A>, FetchFault<A>>,
@@ -103,7 +104,7 @@ pub fn end_listing<A: Allocator + Copy, R: Sink>(
     }
 }
 
-/// Parses the ref prefixes, or returns none if the command names none.
+/// Parses the ref prefixes. Returns an empty list if the command names no prefixes.
 pub fn prefixes_of<A: Allocator + Copy>(
     job: &Job<'_, '_, '_, A>,
     words: &[String<A>],
@@ -144,7 +145,7 @@ pub(crate) fn hello_of<A: Allocator + Copy>(
     Hello::new(job.memory, command.path.as_bytes(), command.host.as_bytes())
 }
 
-// Returns an ls-refs request with `symrefs` and `peel`.
+// Returns an ls-refs request with the arguments `symrefs` and `peel`.
 fn request_for<A: Allocator + Copy>(
     memory: A,
     prefixes: &[Prefix<A>],

@@ -10,7 +10,8 @@ use std::alloc::{AllocError, Global};
 use std::io;
 use std::io::{ErrorKind, Read, Write};
 
-/// The limits of a device: the maximum number of bytes in a call, and the call that fails, from 1.
+/// The limits of a device: the maximum number of bytes in a call, and the number of the call that
+/// fails, counted from 1.
 #[derive(Clone, Copy)]
 pub struct Hindrance {
     most: usize,
@@ -24,12 +25,12 @@ impl Hindrance {
         fails_at: 0,
     };
 
-    /// Returns a limit of `most` bytes a call, without a failure.
+    /// Returns limits of `most` bytes a call, without a failure.
     pub fn pieces(most: usize) -> Hindrance {
         Hindrance { most, fails_at: 0 }
     }
 
-    /// Returns a limit of one byte a call, with a failure at this call.
+    /// Returns limits of one byte a call, with a failure at the call with this number.
     pub fn fail_call(call: usize) -> Hindrance {
         Hindrance {
             most: 1,
@@ -44,7 +45,7 @@ struct Turns {
     hindrance: Hindrance,
     calls: usize,
     down: bool,
-    // Whether a call followed the failed call, or a read asked for no bytes.
+    // Whether another call followed the failed call, or a read had an empty buffer.
     again: bool,
 }
 
@@ -97,7 +98,7 @@ impl<'a, 'w> Reader<'a, 'w> {
         self.turns.down
     }
 
-    /// Returns whether a read followed the failure, or asked for no bytes.
+    /// Returns whether another read followed the failed read, or a read had an empty buffer.
     pub fn was_called_again(&self) -> bool {
         self.turns.again
     }
@@ -126,7 +127,7 @@ impl Source for Reader<'_, '_> {
     }
 }
 
-/// A sink in memory that counts the flushed bytes.
+/// A sink in memory, which counts how many of its bytes are flushed.
 #[derive(Drop)]
 pub struct Writer {
     written: Vec<u8>,
@@ -144,7 +145,8 @@ impl Writer {
         }
     }
 
-    /// Returns a sink that already holds these bytes, flushed or not.
+    /// Returns a sink that already holds these bytes. The bytes count as flushed if `is_passed_on`
+    /// is set.
     pub fn with_bytes(
         alloc: Global,
         bytes: &[u8],
@@ -175,7 +177,7 @@ impl Writer {
         self.turns.down
     }
 
-    /// Returns whether a call followed the failed call.
+    /// Returns whether another call followed the failed call.
     pub fn was_called_again(&self) -> bool {
         self.turns.again
     }
@@ -209,7 +211,7 @@ impl Sink for Writer {
     }
 }
 
-// The form in which a std reader or writer fails.
+// The error or result with which a std reader or writer fails.
 #[derive(Clone, Copy)]
 enum Failure {
     // Errors after which std callers often retry, or which they mistake for the end of the input.
@@ -221,7 +223,8 @@ enum Failure {
 }
 
 impl Failure {
-    // Returns the form of the failure for the chosen call: the four forms alternate.
+    // Returns the form of failure for these limits. The four forms alternate with the number of the
+    // failing call.
     fn of(hindrance: Hindrance) -> Failure {
         match hindrance.fails_at % 4 {
             0 => Failure::TakesNone,
@@ -248,7 +251,7 @@ pub struct AsStd<D> {
 }
 
 impl<D> AsStd<D> {
-    /// Wraps a device with these limits.
+    /// Wraps a device that has these limits.
     pub fn new(device: D, hindrance: Hindrance) -> AsStd<D> {
         AsStd {
             device,
@@ -256,7 +259,7 @@ impl<D> AsStd<D> {
         }
     }
 
-    /// Returns the device after all calls.
+    /// Returns the wrapped device.
     pub fn into_inner(self) -> D {
         let AsStd { device, failure: _ } = self;
         device

@@ -1,5 +1,5 @@
-//! Packers and indexers for one run that may fail or break their contracts. The indexers record
-//! each of their calls.
+//! Packers and indexers for one run. The packer or the indexer may fail or break its contract. Each
+//! indexer records its calls.
 
 ghost use Rattle.std.specs.Prelude.{⊤};
 
@@ -9,7 +9,8 @@ use ggraph::{Entry, IndexFault, Indexer, PackFault, Packer};
 use gname::{Format, MAX_PACK};
 use std::alloc::Allocator;
 
-/// A packer or an indexer for ids of one format. A pack is read from the bytes in `input`.
+/// A packer or an indexer for ids of one format. `input` holds the bytes from which the program
+/// reads packs.
 #[derive(Clone, Copy)]
 pub(crate) struct Handed<'i, 'w> {
     pub(crate) liar: Liar,

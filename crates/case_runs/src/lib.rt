@@ -2,9 +2,9 @@
 //! bytes of a call and fail at a chosen call. An allocation may fail. Packers and indexers may
 //! break their contracts, and the calls of each indexer are checked.
 //!
-//! [`run_command`] runs the command of a [`Job`] over [`Devices`]. This function serves connections
-//! with their first line and lists refs, as `gitv2` does on the network. If the packer or the
-//! indexer is not `PlainPack`, this crate replaces the command of `gcmd`.
+//! [`run_command`] runs the command of a [`Job`] over [`Devices`]. The function can also serve a
+//! connection with its first line, or list refs, as `gitv2` does over the network. If the packer or
+//! the indexer is not `PlainPack`, code of this crate replaces the command of `gcmd`.
 //!
 //! # Proved
 //!
@@ -13,8 +13,8 @@
 //!
 //! # What the contracts do not rule out
 //!
-//! No contract states the behavior of a device before its failure. The tests count calls and bytes
-//! of devices.
+//! No contract states the behavior of a device before its failure. The tests count the calls to
+//! each device and the bytes that it transfers.
 //!
 //! # Dependencies
 //!

@@ -1,6 +1,6 @@
 //! Runs with a packer or an indexer other than `PlainPack`. The commands of `gcmd` use `PlainPack`
-//! only, so this module replaces them. The result also holds the final state of the client's
-//! repository.
+//! only, so this module replaces them. The result of such a run also holds the final state of the
+//! client's repository.
 
 use crate::connected::{hello_of, outcome_of_served, serve_connection};
 use crate::files::{client_of, server_of};
@@ -118,8 +118,8 @@ where
     )
 }
 
-/// Ends a fetch like the program: returns the new text of the file and writes the report, or prints
-/// the fault.
+/// Ends a fetch as the program does: returns the new text of the file and writes the report, or
+/// prints the fault.
 pub fn end_fetch<A: Allocator + Copy, R: Sink, E: Sink>(
     job: &Job<'_, '_, '_, A>,
     repo: &Repo<A>,
@@ -133,7 +133,8 @@ pub fn end_fetch<A: Allocator + Copy, R: Sink, E: Sink>(
     }
 }
 
-// Fetches over the devices, and begins with the first line of a connection if the command has one.
+// Fetches over the devices. If the command names a connection's first line, the client sends that
+// line first.
 fn converse<A: Allocator + Copy, K: Indexer<A>, I: Source, O: Sink>(
     job: &Job<'_, '_, '_, A>,
     repo: &mut Repo<A>,
@@ -167,7 +168,8 @@ pub fn end_with_fault<A: Allocator + Copy, E: Sink>(
     ran_without_file(job, status)
 }
 
-// Ends a failed fetch. The file is unchanged, and the result holds the repository as it is.
+// Ends a failed fetch. The file is unchanged, and the result holds the current text of the
+// repository.
 fn give_up<A: Allocator + Copy, E: Sink>(
     job: &Job<'_, '_, '_, A>,
     repo: &Repo<A>,
@@ -180,7 +182,8 @@ fn give_up<A: Allocator + Copy, E: Sink>(
 }
 
 // Ends a fetch that has updated the refs: returns the new text of the file, and writes the report.
-// If memory for the text runs out, the refs in memory have moved but the file is unchanged.
+// If memory runs out before the text is complete, the refs in memory are updated but the file is
+// unchanged.
 fn conclude<A: Allocator + Copy, R: Sink, E: Sink>(
     job: &Job<'_, '_, '_, A>,
     repo: &Repo<A>,
@@ -200,7 +203,7 @@ fn conclude<A: Allocator + Copy, R: Sink, E: Sink>(
     }
 }
 
-// Writes the report, and returns the exit status.
+// Writes the report on a fetch, and returns the exit status.
 fn tell<A: Allocator + Copy, R: Sink, E: Sink>(
     job: &Job<'_, '_, '_, A>,
     fetched: &Fetched<A>,

@@ -16,14 +16,15 @@ use std::alloc::{Allocator, Global};
 #[derive(Clone, Copy)]
 pub struct Job<'b, 'i, 'm, A: Allocator + Copy> {
     pub alloc: Global,
-    /// The allocator of the command. `scarce` is the same allocator, and makes an allocation fail.
+    /// The allocator of the command. `scarce` is the same allocator, and determines which
+    /// allocation fails.
     pub memory: A,
     pub scarce: &'m Scarce<Global>,
     pub watch: &'m Watch,
     pub command: Invocation<'b>,
     pub file: &'b [u8],
     pub input: &'i [u8],
-    /// The number of the allocation that fails, from 1, or 0 for none.
+    /// The number of the allocation that fails, counted from 1. No allocation fails for 0.
     pub refused: u64,
 }
 
@@ -92,7 +93,7 @@ pub fn ran_without_file<A: Allocator + Copy>(job: &Job<'_, '_, '_, A>, status: u
     }
 }
 
-// Runs a command that does not change its file, with `PlainPack`.
+// Runs a command that does not change its file, and that uses `PlainPack`.
 fn run_plainly<A: Allocator + Copy, I: Source, O: Sink, R: Sink, E: Sink>(
     job: &Job<'_, '_, '_, A>,
     devices: &mut Devices<I, O, R, E>,
@@ -210,7 +211,7 @@ fn fetch_file<A: Allocator + Copy, I: Source, O: Sink, R: Sink, E: Sink>(
     )
 }
 
-/// Returns the limit of a pack, or the default limit if this one is too large.
+/// Returns this limit on the size of a pack, or the default limit if `limit` is too large.
 pub fn limit_of(limit: usize) -> PackLimit {
     match PackLimit::new(limit) {
         Some(limit) => limit,
@@ -218,7 +219,7 @@ pub fn limit_of(limit: usize) -> PackLimit {
     }
 }
 
-// Copies a text to the global allocator.
+// Returns a copy of a text that is allocated by the global allocator.
 fn copy_text<A: Allocator + Copy>(
     alloc: Global,
     text: &Option<Vec<u8, A>>,

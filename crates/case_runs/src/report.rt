@@ -1,11 +1,12 @@
-//! A second implementation of the report on a fetch, to compare with that of the program.
+//! A second implementation of the report on a fetch, to be compared with the program's report.
 
 use case_text::Trouble;
 use gclient::{Fetched, RefUpdate};
 use gname::{MAX_ID_TEXT, Oid, RefName};
 use std::alloc::{Allocator, Global};
 
-/// Returns one line for each requested ref, and one for the target of the server's unborn `HEAD`.
+/// Returns one line for each requested ref, and a line for the target of the server's `HEAD` if
+/// that `HEAD` is unborn.
 pub(crate) fn report_of<A: Allocator + Copy>(
     alloc: Global,
     fetched: &Fetched<A>,

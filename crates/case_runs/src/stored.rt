@@ -11,16 +11,16 @@ use glockfile::MemoryFile;
 use gpkt::{Sink, Source};
 use std::alloc::{Allocator, Global};
 
-/// A failure of the stored file during a fetch.
+/// A problem with the stored file during a fetch.
 #[derive(Clone, Copy, PartialEq, Eq)]
 pub enum Mishap {
     /// No failure.
     None,
     /// Another process holds the lock on the file.
     Locked,
-    /// The call with this number fails, from 1.
+    /// The call with this number, counted from 1, fails.
     Fails(usize),
-    /// The run stops before this call: this call and each later one fail without effect.
+    /// The run stops before this call: this call and all later calls fail without effect.
     Stops(usize),
     /// The run stops after this call: the call takes effect but fails, and each later call fails.
     StopsAfter(usize),
@@ -35,7 +35,7 @@ pub struct Stored {
     pub was_refused: bool,
 }
 
-/// Fetches into a stored file that holds the job's repository, with `PlainPack`.
+/// Fetches with `PlainPack` into a stored file that holds the job's repository.
 pub fn fetch_into_stored<A: Allocator + Copy, I: Source, O: Sink, R: Sink, E: Sink>(
     job: &Job<'_, '_, '_, A>,
     mishap: Mishap,

@@ -1,5 +1,5 @@
-//! A check of the pieces of a pack that an indexer receives. Each input piece arrives once and in
-//! order, none is empty, and none follows a failure.
+//! A check of the pieces of a pack that an indexer receives. Each piece of the input must arrive
+//! once and in order. No piece may be empty, and no piece may follow a failure.
 
 use std::cell::Cell;
 
@@ -7,14 +7,15 @@ use std::cell::Cell;
 #[derive(Drop)]
 pub struct Watch {
     given: Cell<usize>,
-    // The number of bytes that the reader had returned at the last piece of the indexer.
+    // The number of bytes that the reader had returned when the indexer received its most recent
+    // piece.
     fed: Cell<usize>,
     has_refused: Cell<bool>,
     is_wrong: Cell<bool>,
 }
 
 impl Watch {
-    /// Returns a watch with no bytes.
+    /// Returns a watch before any byte is read.
     pub fn new() -> Watch {
         Watch {
             given: Cell::new(0),
@@ -34,8 +35,8 @@ impl Watch {
         self.has_refused.set(false);
     }
 
-    /// Records a piece that the indexer receives. The piece must be the end of the bytes returned
-    /// so far, and must begin after all earlier pieces.
+    /// Records a piece that the indexer receives. The bytes returned so far must end with the
+    /// piece, and the piece must begin after all earlier pieces.
     pub(crate) fn feed(&self, input: &[u8], piece: &[u8]) {
         let given = self.given.get();
         let start = given.saturating_sub(piece.len());
@@ -48,7 +49,7 @@ impl Watch {
         self.ask();
     }
 
-    /// Records that the pack ends and the indexer must return its entries.
+    /// Records that the pack ends, so that the indexer must return the pack's entries.
     pub(crate) fn finish(&self) {
         self.ask();
     }

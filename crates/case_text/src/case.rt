@@ -8,7 +8,7 @@ use crate::trouble::Trouble;
 use gname::Format;
 use std::alloc::Global;
 
-/// The sender or the output stream of a test message.
+/// The sender of a test message, or the stream on which the program prints that message.
 #[derive(Clone, Copy, PartialEq, Eq)]
 pub enum Who {
     Client,
@@ -49,12 +49,12 @@ pub struct Case<'a> {
     pub launch: Option<Launch<'a>>,
     pub said: Vec<Said>,
     pub file: Option<&'a str>,
-    /// The packer or the indexer, unless it is `PlainPack`.
+    /// The packer or indexer under test that replaces `PlainPack`, if any.
     pub liar: Option<Liar>,
     /// The fault lines expected when an allocation fails, in order.
     pub memory: Vec<Vec<u8>>,
-    /// The expected packet offsets in the last message that the program reads, if the case lists
-    /// them.
+    /// The offsets at which packets begin in the last message that the program reads. The list is
+    /// empty if the case lists no offsets.
     pub packets: Vec<usize>,
     /// The expected results when the request is truncated or one of its bytes is changed.
     pub table: Vec<TableLine<'a>>,
@@ -86,7 +86,7 @@ impl<'a> Case<'a> {
         }
     }
 
-    /// Reads a line of the file, and returns whether the line is about the case.
+    /// Reads a line of the file. Returns whether the line belongs to a case.
     pub(crate) fn take_word(
         &mut self,
         alloc: Global,
@@ -118,7 +118,7 @@ impl<'a> Case<'a> {
     }
 }
 
-/// One expected result of a call on a text, or on the ids of a graph.
+/// A call on a text or on ids of a graph, with its expected result.
 #[derive(Drop)]
 pub struct Fact<'a> {
     pub source: &'a str,

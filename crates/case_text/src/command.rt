@@ -82,8 +82,8 @@ pub struct Invocation<'a> {
     pub program: Program,
     /// The name of the text block that holds the repository, or an empty string.
     pub repository: &'a str,
-    /// The host and the path in the first line of a client's connection, or the path that is
-    /// served. Both are empty if no connection has a first line.
+    /// The host and the path in the first line of a client's connection, or the path that a server
+    /// serves. The host and the path are empty if connections have no first line.
     pub host: &'a str,
     pub path: &'a str,
     /// The refspecs of a fetch, or the ref prefixes of a listing. A simulation stores the names of
@@ -93,7 +93,7 @@ pub struct Invocation<'a> {
     pub limit: usize,
     pub ends: Ends,
     pub format: Format,
-    /// The packer or the indexer, unless it is `PlainPack`.
+    /// The packer or indexer under test that replaces `PlainPack`, if any.
     pub liar: Option<Liar>,
     /// The client's text and the scenario of a simulation; both are empty for other programs.
     pub client: &'a [u8],
@@ -101,13 +101,13 @@ pub struct Invocation<'a> {
 }
 
 impl Invocation<'_> {
-    /// Returns whether the client's first packet is the first line of a connection.
+    /// Returns whether the client's first packet names a host and a path.
     pub fn has_hello(&self) -> bool {
         !self.path.is_empty()
     }
 }
 
-/// Parses a command line. The packer and the indexer are `PlainPack`.
+/// Parses a command line. The result uses `PlainPack` as its packer and as its indexer.
 pub fn command_of(line: &str, format: Format) -> Result<Invocation<'_>, Trouble> {
     let (name, words) = first_of(line);
     let words = after(words, "--stdio-server ");
@@ -181,7 +181,8 @@ pub fn words_of<A: Allocator + Copy>(memory: A, text: &str) -> Result<Vec<String
     Ok(words)
 }
 
-// Returns the value of the option if `words` begins with it, and the words after the value.
+// If `words` begins with the option, returns the option's value and the words after the value.
+// Otherwise returns an empty value and all words.
 fn option_of<'a>(words: &'a str, option: &'static str) -> (&'a str, &'a str) {
     match words.strip_prefix(option) {
         Some(words) => first_of(words),
@@ -189,7 +190,8 @@ fn option_of<'a>(words: &'a str, option: &'static str) -> (&'a str, &'a str) {
     }
 }
 
-// Returns the words after the option if `words` begins with it, otherwise all words.
+// Returns `words` without the option with which they begin, or all words if they do not begin with
+// the option.
 fn after<'a>(words: &'a str, option: &'static str) -> &'a str {
     match words.strip_prefix(option) {
         Some(rest) => rest,

@@ -1,19 +1,19 @@
 //! The kinds of facts in a test file.
 
-/// The subject of a fact.
+/// The kind of a fact: the calls whose result it states.
 #[derive(Clone, Copy, PartialEq, Eq)]
 pub enum FactKind {
-    /// The value or the fault of parsing a text.
+    /// The result of parsing a text: a value or a fault.
     Text,
     /// The results of searches in a history of commits.
     History,
-    /// The objects that a client knows of a history.
+    /// The objects of a history that a client knows.
     Client,
     /// The line printed for a fault.
     Shown,
-    /// The behavior of functions near their size limits.
+    /// The results of calls with inputs near the size limits.
     Large,
-    /// The request that a command line is parsed into.
+    /// The result of parsing a command line: a request.
     Asked,
     /// The results of random simulations.
     Random,

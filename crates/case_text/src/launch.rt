@@ -13,12 +13,12 @@ pub enum Found<'a> {
     Folder { name: &'a str },
     /// A symbolic link to `target`.
     Link { name: &'a str, target: &'a str },
-    /// The permissions of a file or folder that was created before.
+    /// The permissions of a file or folder that an earlier item creates.
     Mode { name: &'a str, mode: u32 },
 }
 
-/// An item that is expected in the folder after a launch. A file that existed before and is not
-/// listed here must keep its contents.
+/// An item that is expected in the folder after a launch. A file that existed before the launch
+/// must keep its contents unless an item names it.
 #[derive(Clone, Copy)]
 pub enum Left<'a> {
     /// A file that holds the named text of the test file.
@@ -29,12 +29,12 @@ pub enum Left<'a> {
     Mode { name: &'a str, mode: u32 },
     /// A symbolic link.
     Link { name: &'a str },
-    /// The same inode as before the launch, so the file was neither written nor replaced.
+    /// A file that still has the inode from before the launch, because it was not replaced.
     Same { name: &'a str },
 }
 
 /// The arguments of a launch, and the files and exit status expected afterwards. The messages of
-/// the case use standard streams or sockets.
+/// the case are sent over standard streams or sockets.
 #[derive(Drop)]
 pub struct Launch<'a> {
     /// The arguments after the program's name, separated by spaces; `""` is the empty argument.
@@ -46,9 +46,9 @@ pub struct Launch<'a> {
     /// The expected operations on files, sockets and standard streams, in order, if the case lists
     /// them.
     pub steps: Option<&'a str>,
-    /// The indices of the messages with which a new connection begins.
+    /// The index of each message that begins a new connection.
     pub breaks: Vec<usize>,
-    /// An operation of the program that fails each time, if any.
+    /// The operation that fails whenever the program performs it, if any.
     pub failing: Option<&'a str>,
 }
 
@@ -66,8 +66,8 @@ impl<'a> Launch<'a> {
         }
     }
 
-    /// Reads a line, and returns whether the line is about the launch. The case has `said` messages
-    /// before this line.
+    /// Reads a line, and returns whether the line is about the launch. `said` is the number of
+    /// messages of the case before this line.
     pub(crate) fn take_word(
         &mut self,
         word: &str,

@@ -11,22 +11,22 @@ pub enum Liar {
     PacksNothing,
     /// A packer that omits the last entry.
     PacksShort,
-    /// A packer that fails with `Other`; the next two fail with `TooLarge` and `Memory`.
+    /// Packers that fail with `Other`, with `TooLarge` and with `Memory`, in this order.
     PackFails,
     PackTooLarge,
     PackMemory,
     /// An indexer that omits the first entry.
     DropsFirst,
-    /// Indexers that return one entry: a commit with the id of all `a` and one parent, a commit
-    /// with 65 parents, and a tag with two.
+    /// Indexers that return only one invalid entry: a commit with a wrong parent, a commit with 65
+    /// parents, or a tag with two parents.
     OtherParent,
     ManyParents,
     TwoParentTag,
-    /// Indexers that fail at the start, at a piece of the pack, and at the end.
+    /// Indexers that fail in `start`, in `feed` and in `finish`, in this order.
     IndexFails,
     FeedFails,
     FinishFails,
-    /// An indexer that fulfills its contract.
+    /// An indexer that fulfills its contract, and checks the calls that it receives.
     Watches,
 }
 
@@ -181,7 +181,7 @@ fn entry_of<A: Allocator + Copy>(
     }
 }
 
-// Returns the entries of a pack without the first.
+// Returns all entries of a pack except the first.
 fn without_first<A: Allocator + Copy>(
     alloc: A,
     pack: &[u8],

@@ -1,8 +1,8 @@
 //! The parser of test files: rows with their messages, facts, texts, and the programs, packers and
 //! indexers that rows name.
 //!
-//! A [`Script`] parses files in sequence, for ids of one format. A [`Case`] is a row of a file, and
-//! a [`Fact`] one expected result of a call. An [`Invocation`] is the command line of a row. A
+//! A [`Script`] parses files in sequence, for ids of one format. A [`Case`] is a row of a file. A
+//! [`Fact`] is the expected result of one call. An [`Invocation`] is the command line of a row. A
 //! [`Talk`] holds the input and the expected output of a program. A [`Launch`] holds the arguments
 //! and files of a row that launches the program itself. A [`TableLine`] is a line of a row's table.
 //! A [`Liar`] is a packer or an indexer that fails, or that breaks its contract.

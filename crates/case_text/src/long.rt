@@ -1,9 +1,9 @@
 //! Large generated texts: a chain of commits as a repository or as a pack.
 //!
-//! `long 2000` makes the repository `2000`. Its commits are numbered from 1, and the parent of
-//! commit N is commit N + 1. Each commit follows its parent in the text. The one ref,
-//! `refs/heads/main`, points to commit 1. In `2000-late` each commit precedes its parent.
-//! `pack-2000` is the pack of `2000`.
+//! The line `long 2000` generates a repository with the name `2000`. The repository's commits are
+//! numbered from 1, and the parent of commit N is commit N + 1. Each commit follows its parent in
+//! the text. The only ref, `refs/heads/main`, points to commit 1. In the repository `2000-late`
+//! each commit precedes its parent. The text `pack-2000` is the pack of the repository `2000`.
 
 use crate::spell::{add_number, number_of};
 use crate::trouble::Trouble;
@@ -84,7 +84,7 @@ fn add_late_chain(
     Ok(())
 }
 
-// Appends the commit with this number; the last commit, `count`, has no parent.
+// Appends the commit with this number. Commit `count`, the last of the chain, has no parent.
 fn add_commit(
     alloc: Global,
     number: usize,

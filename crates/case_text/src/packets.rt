@@ -34,13 +34,14 @@ pub(crate) fn read_said(
     Ok(Some((who, written)))
 }
 
-/// Returns a packet of side band 1 with as many of the bytes as fit, and the bytes after them.
+/// Returns a packet of side band 1 with as many of the bytes as fit, and the remaining bytes.
 pub(crate) fn full_packet(alloc: Global, bytes: &[u8]) -> Result<(Vec<u8>, &[u8]), Trouble> {
     let (part, rest) = bytes.split_at(bytes.len().min(MAX_ON_BAND));
     Ok((packet(alloc, b"\x01", part, b"")?, rest))
 }
 
-/// Returns a flush, delimiter or response-end packet, or a pkt-line of the text and a line feed.
+/// Returns the flush, delimiter or response-end packet with this text, or otherwise a pkt-line of
+/// the text and a line feed.
 pub fn text_line(alloc: Global, text: &[u8]) -> Result<Vec<u8>, Trouble> {
     match text {
         b"0000" | b"0001" | b"0002" => join_lines(alloc, text, b""),
@@ -48,7 +49,8 @@ pub fn text_line(alloc: Global, text: &[u8]) -> Result<Vec<u8>, Trouble> {
     }
 }
 
-/// Returns a pkt-line with three parts. The length field of an oversized packet is `ffff`.
+/// Returns a pkt-line that contains the three parts in order. The length field of an oversized
+/// packet is `ffff`.
 pub fn packet(alloc: Global, first: &[u8], text: &[u8], last: &[u8]) -> Result<Vec<u8>, Trouble> {
     let len = first
         .len()

@@ -6,7 +6,8 @@
 use std::alloc::{AllocError, Allocator};
 use std::cell::Cell;
 
-/// An allocator that counts allocations down, and fails the one at which the count ends.
+/// An allocator that counts down at each allocation, and fails the allocation at which the count
+/// reaches zero.
 pub struct Scarce<A: Allocator> {
     inner: A,
     countdown: Cell<u64>,
@@ -21,13 +22,14 @@ impl<A: Allocator> Scarce<A> {
         }
     }
 
-    /// Makes one later allocation fail: the next for 1, the second for 2, none for 0. The failing
-    /// call returns [`AllocError`] without a call to the inner allocator.
+    /// Makes one later allocation fail: the next if `number` is 1, the second if it is 2, and so
+    /// on. No allocation fails if `number` is 0. The failing call returns [`AllocError`] without a
+    /// call to the inner allocator.
     pub fn refuse(&self, number: u64) {
         self.countdown.set(number);
     }
 
-    /// Returns whether the allocation to refuse was not yet reached.
+    /// Returns whether the allocation to refuse has not been reached yet.
     pub fn is_due(&self) -> bool {
         self.countdown.get() != 0
     }

@@ -19,7 +19,7 @@ pub struct Script<'a> {
     pub format: Format,
     pub cases: Vec<Case<'a>>,
     pub facts: Vec<Fact<'a>>,
-    /// The file and the number of the line parsed last.
+    /// The file and the number of the most recently parsed line.
     pub source: &'a str,
     pub line: usize,
     texts: Vec<Text<'a>>,
@@ -30,18 +30,18 @@ pub struct Script<'a> {
     graph: &'a str,
     // Whether the next cases run with ids of both formats.
     is_both: bool,
-    // Whether the next lines belong to a case that runs only with SHA-1 ids.
+    // Whether the next lines are skipped, because their case runs only with SHA-1 ids.
     is_skipped: bool,
 }
 
-// Lines that several cases use by name.
+// A named list of lines that cases can refer to.
 #[derive(Drop)]
 struct Shared<'a> {
     name: &'a str,
     lines: Vec<&'a str>,
 }
 
-// The text or talk that continues until an empty line.
+// The kind of block that continues until an empty line: a text or a talk.
 #[derive(Clone, Copy)]
 enum Open {
     Nothing,
@@ -50,7 +50,7 @@ enum Open {
 }
 
 impl<'a> Script<'a> {
-    /// Returns a script for ids of this format, without any file.
+    /// Returns a script for ids of this format, before any file is parsed.
     pub fn new(alloc: Global, format: Format) -> Script<'a> {
         Script {
             format,
@@ -105,7 +105,7 @@ impl<'a> Script<'a> {
         }
     }
 
-    // Parses the first line of a text, talk or row, or a line of another kind.
+    // Parses a line outside a text or a talk.
     fn begin(&mut self, alloc: Global, line: &'a str) -> Result<(), Trouble> {
         let (word, rest) = first_of(line);
         match word {
@@ -278,7 +278,8 @@ impl<'a> Script<'a> {
         Ok(())
     }
 
-    // Returns the text of a fact. The first line of a repository is adapted to the format.
+    // Returns the text of a fact. The first line of a repository's text is adapted to the script's
+    // object format.
     fn fact_text(&self, alloc: Global, line: &str) -> Result<Vec<u8>, Trouble> {
         let form = self.form(1);
         let mut text = Vec::new(alloc);

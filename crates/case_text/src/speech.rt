@@ -8,7 +8,7 @@ use crate::trouble::Trouble;
 use gname::Format;
 use std::alloc::Global;
 
-/// The parameters for parsing a message.
+/// The parameters for parsing a message's line.
 #[derive(Clone, Copy)]
 pub(crate) struct Speech<'b, 'a> {
     pub(crate) texts: &'b [Text<'a>],
@@ -57,7 +57,7 @@ impl Speech<'_, '_> {
     }
 }
 
-// Appends packets of side band 1 that carry the bytes, each as full as possible.
+// Appends the bytes in packets of side band 1, each as full as possible.
 fn say_all(alloc: Global, bytes: &[u8], said: &mut Vec<Said>) -> Result<(), Trouble> {
     let mut rest = bytes;
     for _ in 0..bytes.len() {
@@ -89,7 +89,8 @@ fn say_format(alloc: Global, word: &str, said: &mut Vec<Said>) -> Result<(), Tro
     Ok(())
 }
 
-/// Adapts a line to this format: the first line of a repository, or an advertised format.
+/// Adapts a line to the object format, if the line begins a repository's text or advertises a
+/// format.
 pub(crate) fn in_format<'a>(format: Format, line: &'a str) -> &'a str {
     match (format, line) {
         (Format::Sha256, "gitv2 1") => "gitv2 2 sha256",

@@ -3,11 +3,12 @@
 //! `\n` is a line feed, `\0` the byte 0, `\x1f` the byte 31. A backslash before any other character
 //! stands for that character. `{a}` is an id of forty `a`, or of sixty-four for SHA-256. `{a+1}` is
 //! one digit longer than an id, `{a-4}` four digits shorter. `{a*64}` is sixty-four `a`, `{ab*3}`
-//! is `ababab`. `{NAME}` is the text with this name of at least two characters. In a repeated line,
-//! `{#4}` is the number of the repetition, from 1, with four digits. `{#4+16}` adds sixteen to this
-//! number, and `{#4*2+16}` adds sixteen to twice this number. `{#}` and `{#+16}` are the same
-//! numbers with as many digits as an id, and `{#=17}` is the number 17 in this form. `{@2}` is the
-//! index of a packet: 2, or 3 for SHA-256, whose requests have an extra `object-format` line.
+//! is `ababab`. `{NAME}` is the text with this name, which has at least two characters. In a
+//! repeated line, `{#4}` is the number of the repetition, from 1, with four digits. `{#4+16}` adds
+//! sixteen to this number, and `{#4*2+16}` adds sixteen to twice this number. `{#}` and `{#+16}`
+//! are these numbers with as many digits as an id has. `{#=17}` is the number 17 with as many
+//! digits. `{@2}` is the index of a packet: 2, or 3 for SHA-256, whose requests have an extra
+//! `object-format` line.
 
 use crate::trouble::Trouble;
 use gname::{Format, MAX_ID_TEXT, Oid};
@@ -21,7 +22,7 @@ pub(crate) struct Form {
     pub(crate) time: usize,
 }
 
-/// A text that cases use by name.
+/// A named text that cases can refer to.
 #[derive(Drop)]
 pub(crate) struct Text<'a> {
     pub(crate) name: &'a [u8],
@@ -165,8 +166,8 @@ fn add_text(texts: &[Text<'_>], name: &[u8], bytes: &mut Vec<u8>) -> Result<(), 
     }
 }
 
-// Appends the number of the repetition, scaled and shifted, or a fixed number. The width is the
-// given count of digits, or that of an id.
+// Appends the number of the repetition, scaled and shifted, or a fixed number. The number gets the
+// given count of digits, or as many digits as an id has.
 fn add_counted(
     alloc: Global,
     inside: &[u8],
@@ -207,7 +208,7 @@ pub fn add_number(
     Ok(())
 }
 
-// Splits the text at the first such byte.
+// Splits the text at the first occurrence of `byte`.
 fn split_at_byte(text: &[u8], byte: u8) -> Option<(&[u8], &[u8])> {
     let mut parts = text.splitn(2, |other| *other == byte);
     let before = parts.next()?;

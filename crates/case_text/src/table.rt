@@ -9,8 +9,8 @@
 //!
 //! An outcome is `nothing`, `as it stands`, `use NAME` or `TEXT \| FAULT`. `use NAME` stands for
 //! the messages of a talk. In the last form, `TEXT` is the text of an error to the client, and
-//! `FAULT` the printed line of the fault. `{}` in both stands for the input bytes at the line's
-//! positions, in lower case.
+//! `FAULT` the printed line of the fault. In `TEXT` and `FAULT`, `{}` stands for the input bytes at
+//! the line's positions, in lower case.
 
 use crate::packets::packet;
 use crate::spell::{digit, number_of};
@@ -31,7 +31,7 @@ pub enum Change {
 pub enum Ending {
     /// The same result as for the unchanged input.
     AsItStands,
-    /// These bytes as output, and no fault.
+    /// Exactly the listed bytes as output, and no fault.
     Said,
     /// An error packet with this text, and the printed line of this fault.
     Refused,
@@ -47,7 +47,7 @@ pub struct Due<'a> {
 }
 
 impl<'a> Due<'a> {
-    /// Expects the result of the unchanged row.
+    /// Returns the expectation of the same result as for the unchanged row.
     pub(crate) fn as_it_stands(alloc: Global) -> Due<'a> {
         Due {
             ending: Ending::AsItStands,
@@ -57,7 +57,7 @@ impl<'a> Due<'a> {
         }
     }
 
-    /// Expects these bytes as output.
+    /// Returns the expectation of these bytes as output.
     pub(crate) fn due_bytes(bytes: Vec<u8>) -> Due<'a> {
         Due {
             ending: Ending::Said,
@@ -67,7 +67,7 @@ impl<'a> Due<'a> {
         }
     }
 
-    /// Expects an error to the client and a printed fault.
+    /// Returns the expectation of an error to the client and a printed fault.
     pub(crate) fn due_fault(alloc: Global, text: &'a str, fault: &'a str) -> Due<'a> {
         Due {
             ending: Ending::Refused,
@@ -84,7 +84,7 @@ pub struct TableLine<'a> {
     is_cut: bool,
     first: usize,
     last: usize,
-    // The bytes that a change may have, or `other`.
+    // The new values of the changed byte that the line covers, or `other`.
     bytes: &'a str,
     pub due: Due<'a>,
 }
@@ -109,7 +109,7 @@ impl<'a> TableLine<'a> {
         }
     }
 
-    /// Returns whether the line covers this change.
+    /// Returns whether the table's line covers this change.
     pub fn is_of(&self, change: Change) -> bool {
         match change {
             Change::Cut(place) => self.is_cut && self.has_place(place),
@@ -141,8 +141,8 @@ impl<'a> TableLine<'a> {
     }
 }
 
-// Returns whether `byte` is in the list: `other`, or bytes and ranges of bytes. Each byte is a
-// character or `x` with two hexadecimal digits.
+// Returns whether the list contains `byte`. A list is `other`, or consists of bytes and ranges of
+// bytes. Each byte is a character, or `x` with two hexadecimal digits.
 fn has_byte(bytes: &str, byte: u8) -> bool {
     for token in bytes.split(' ') {
         let (first, last) = match token.split_once('-') {
@@ -170,7 +170,7 @@ pub fn error_packet(alloc: Global, text: &[u8]) -> Result<Vec<u8>, Trouble> {
     packet(alloc, b"ERR upload-pack: ", text, b"\n")
 }
 
-/// Returns whether the bytes are one error packet.
+/// Returns whether the bytes are exactly one error packet.
 pub fn is_error(written: &[u8]) -> bool {
     let Some(digits) = written.get(..4) else {
         return false;

@@ -35,7 +35,7 @@ pub struct PacketStart {
     pub start: usize,
     /// The index of the packet in its message.
     pub frame: usize,
-    /// The number of output bytes that precede the message.
+    /// The number of output bytes that precede this message in the conversation.
     pub before: usize,
 }
 
@@ -54,7 +54,7 @@ pub struct Talk {
     frame: usize,
     before: usize,
     program: Program,
-    // How each reply ends, and whether the response-end packets are added here.
+    // How each reply ends, and whether this talk adds the response-end packets.
     reply_ends: Ends,
     adds_ends: bool,
     // Whether the client has sent a message, so that the server's next message is a reply.
@@ -93,7 +93,7 @@ impl Talk {
         Ok(talk)
     }
 
-    /// Returns the packet that contains offset `len` of the input, or that begins there.
+    /// Returns the packet of the input that begins at or contains offset `len`.
     pub fn place_at(&self, len: usize) -> Option<PacketStart> {
         let mut found = None;
         for place in self.places.as_slice() {
@@ -130,8 +130,8 @@ impl Talk {
         len == 0 || len == self.output.len() || self.ends.as_slice().contains(&len)
     }
 
-    /// Returns whether the packets of the last message read begin at these offsets in the message.
-    /// The last offset in `due` is the end of the message.
+    /// Returns whether the packets of the most recently read message begin at these offsets in the
+    /// message. The last offset in `due` is the end of the message.
     pub fn has_places(&self, due: &[usize]) -> bool {
         let mut base = 0usize;
         let mut count = 0usize;

@@ -1,4 +1,4 @@
-//! Reasons why a test run has no verdict.
+//! Reasons why the cases can't be run.
 
 use std::alloc::{AllocError, AllocFailed};
 use std::io;
@@ -10,17 +10,17 @@ pub enum Trouble {
     Memory,
     /// A brace is not closed.
     OpenBrace,
-    /// No text or talk has the name in a line.
+    /// A line names a text or talk that does not exist.
     NoName,
     /// A line of a row precedes the first row.
     NoRow,
     /// A row names no program.
     NoRun,
-    /// A line has no known form.
+    /// A line does not have any known form.
     UnknownLine,
-    /// No program has the name in a `run` line.
+    /// A `run` line names an unknown program.
     UnknownProgram,
-    /// No packer or indexer has the name in a line.
+    /// A line names an unknown packer or indexer.
     NoLiar,
     /// The limit of a pack is not a number.
     BadLimit,

@@ -21,8 +21,8 @@ const PACK_FAILED: &[u8] = b"0021ERR upload-pack: pack failed\n";
 
 const WRITE_FAILED: &[u8] = b"gitv2: fault 27 Io\n";
 
-/// The numbers of the memory faults: `NO_MEMORY_FAULT` before a connection is served, `PACK_FAULT`
-/// in the creation of a pack.
+/// The numbers of two out-of-memory faults: `NO_MEMORY_FAULT` before a connection is served, and
+/// `PACK_FAULT` while a pack is created.
 const NO_MEMORY_FAULT: usize = 64;
 
 const PACK_FAULT: usize = 65;
@@ -39,15 +39,17 @@ pub struct Row<'b> {
     /// The expected new text of the client's file, if the file changes.
     pub new_file: Option<&'b [u8]>,
     pub talk: Talk,
-    /// The fault lines expected when an allocation fails, in order; empty if the row lists none.
+    /// The fault lines expected when an allocation fails, in order. The list is empty if the row
+    /// lists no fault lines.
     pub memory: &'b [Vec<u8>],
-    /// The packet offsets in the last message that the program reads; empty if the row lists none.
+    /// The packet offsets in the last message that the program reads. The list is empty if the row
+    /// lists no offsets.
     pub packets: &'b [usize],
-    /// The expected results of a truncated or changed request; empty if the row lists none.
+    /// The expected results of a truncated or changed request. The list is empty if the row has no
+    /// table.
     pub table: &'b [TableLine<'b>],
     pub reach: Reach,
-    /// Whether the connection is also tested with a late peer, and over a socket with allocations
-    /// refused.
+    /// Whether the row is also tested with a late peer, and over a socket with allocations refused.
     pub is_late: bool,
     /// Whether the row is tested only with the whole input and with the input in pieces.
     pub is_long: bool,
@@ -60,11 +62,11 @@ pub enum Reach {
     Deep,
     /// Each bit of each byte is flipped.
     Bits,
-    /// One bit of each byte is flipped: the bit after that of the previous byte.
+    /// One bit of each byte is flipped, at a position that moves by one from byte to byte.
     OneBit,
 }
 
-/// How the input stops early.
+/// The two ways in which an input stops early.
 #[derive(Clone, Copy, PartialEq, Eq)]
 pub enum Stop {
     /// The input ends.
@@ -73,7 +75,7 @@ pub enum Stop {
     Failed,
 }
 
-/// Returns whether the run had exactly the row's results, and flushed its output.
+/// Returns whether the run had exactly the row's expected results, and flushed its output.
 pub fn is_as_due(row: &Row<'_>, played: &Played) -> bool {
     (played.status == 1) != row.talk.errors.is_empty()
         && has_written(&played.output, row.talk.output.as_slice(), NOTHING)
@@ -82,8 +84,8 @@ pub fn is_as_due(row: &Row<'_>, played: &Played) -> bool {
         && has_file(played, row.new_file)
 }
 
-// Returns whether the run reported exactly the row's report, or nothing for programs without a
-// report.
+// Returns whether the run wrote exactly the row's expected report, or nothing for programs without
+// a report.
 fn has_reported(row: &Row<'_>, played: &Played) -> bool {
     let due = if row.command.program.reports() {
         row.talk.report.as_slice()
@@ -120,8 +122,8 @@ pub fn is_stopped(
     Ok(is_refused(played, before, told, line.as_bytes()))
 }
 
-// Returns the fault for an input that stops, and the error for the client. An input may stop
-// between packets or within a packet.
+// Returns the expected fault, and the expected error for the client, of an input that stops. The
+// input stops between packets if `is_between` is set, otherwise within a packet.
 fn fault_at(stop: Stop, is_between: bool) -> (&'static str, &'static [u8]) {
     match stop {
         Stop::Failed => ("24 Io", READ_FAILED),
@@ -138,7 +140,8 @@ fn is_done(played: &Played, written: &[u8]) -> bool {
         && played.file.is_none()
 }
 
-// Returns whether the run failed with exactly this output, error and fault line.
+// Returns whether the run failed with exactly this output, this error for the client and this fault
+// line.
 fn is_refused(played: &Played, written: &[u8], told: &[u8], printed: &[u8]) -> bool {
     played.status == 1
         && has_written(&played.output, written, told)
@@ -146,7 +149,7 @@ fn is_refused(played: &Played, written: &[u8], told: &[u8], printed: &[u8]) -> b
         && played.file.is_none()
 }
 
-// Returns the printed line of a fault at a packet.
+// Returns the line that reports a fault at a packet.
 fn fault_line(
     alloc: Global,
     program: Program,
@@ -190,8 +193,8 @@ pub(crate) fn is_errors_failed(row: &Row<'_>, played: &Played) -> bool {
 }
 
 /// Returns whether the run succeeded, or ended as expected after a refused allocation. A run that
-/// stops reports the fault after complete messages of the expected output. A server also reports
-/// the fault to the client.
+/// stops writes only complete messages of the expected output, and then reports the fault. A server
+/// also reports the fault to the client.
 pub fn is_scarce(row: &Row<'_>, played: &Played) -> bool {
     is_as_due(row, played)
         || is_unserved(row, played)
@@ -199,7 +202,8 @@ pub fn is_scarce(row: &Row<'_>, played: &Played) -> bool {
         || (is_out_of_memory(played) && has_stopped(row, played))
 }
 
-// Returns whether the outcomes of a simulation match the row up to a memory fault.
+// Returns whether the run is a simulation whose outcomes match the row up to an out-of-memory
+// fault.
 fn has_event_without_memory(row: &Row<'_>, played: &Played) -> bool {
     if row.command.program != Program::Simulate || played.status != 0 {
         return false;
@@ -221,7 +225,8 @@ fn is_refusal_of_memory(line: &[u8]) -> bool {
     }
 }
 
-/// Returns whether memory ran out before the server wrote anything, while it loaded the repository.
+/// Returns whether memory ran out while the server loaded the repository, before the server wrote
+/// anything.
 pub(crate) fn is_unserved(row: &Row<'_>, played: &Played) -> bool {
     row.command.program.serves()
         && is_out_of_memory(played)
@@ -229,7 +234,7 @@ pub(crate) fn is_unserved(row: &Row<'_>, played: &Played) -> bool {
         && fault_of(played.errors.written_bytes()) == NO_MEMORY_FAULT
 }
 
-// Returns whether the run printed and reported only one memory fault.
+// Returns whether the run printed only one out-of-memory fault, and wrote no report.
 fn is_out_of_memory(played: &Played) -> bool {
     let errors = played.errors.written_bytes();
     played.status == 1
@@ -241,8 +246,8 @@ fn is_out_of_memory(played: &Played) -> bool {
 }
 
 // Returns whether the run wrote complete messages of the expected output, and then, for a server,
-// the error for the client. With a new file, the output must be complete, because only the report
-// can then fail.
+// the error for the client. If the run has written a new file, the output must be complete, because
+// then only the report can have failed.
 fn has_stopped(row: &Row<'_>, played: &Played) -> bool {
     let told = if row.command.program.serves() {
         refusal_of(fault_of(played.errors.written_bytes()))
@@ -259,7 +264,7 @@ fn has_stopped(row: &Row<'_>, played: &Played) -> bool {
     is_kept && played.output.is_passed_on()
 }
 
-// Returns the error packet for the client after a memory fault.
+// Returns the error packet for the client after an out-of-memory fault.
 fn refusal_of(fault: usize) -> &'static [u8] {
     if fault == PACK_FAULT {
         PACK_FAILED
@@ -287,7 +292,7 @@ pub(crate) fn is_in_table(
     Ok(false)
 }
 
-// Returns the expected output before the request is read.
+// Returns the output that is expected before the program reads the request.
 fn written_before<'b>(row: &'b Row<'_>) -> Option<&'b [u8]> {
     let place = row.talk.place_at(0)?;
     row.talk.output.as_slice().get(..place.before)
@@ -337,8 +342,8 @@ pub(crate) fn fault_of(errors: &[u8]) -> usize {
     }
 }
 
-/// Returns whether the run of a changed input printed a fault exactly if it failed. A server's
-/// output must begin with the advertisement.
+/// Returns whether a run with a changed input printed a fault exactly if the run failed. A server's
+/// output must also begin with the advertisement.
 pub(crate) fn is_sound(row: &Row<'_>, played: &Played) -> bool {
     let is_told = (played.status == 1)
         == played.errors.written_bytes().starts_with(b"gitv2: fault ");
@@ -367,8 +372,8 @@ fn has_advert(row: &Row<'_>, played: &Played) -> bool {
 }
 
 /// Returns whether the client's repository still holds all its objects, and each ref is connected.
-/// The new text of the file, if any, must equal the final state in memory. Without a new text the
-/// state may have new objects, but no other refs.
+/// If the file has a new text, that text must equal the final state in memory. Otherwise the state
+/// may have new objects, but the refs must be unchanged.
 pub fn is_kept(alloc: Global, row: &Row<'_>, played: &Played) -> bool {
     match (&played.state, &played.file) {
         (Some(state), Some(text)) => {
@@ -407,7 +412,7 @@ fn check(alloc: Global, file: &[u8], output: &mut Writer, errors: &mut Writer) -
     cmd_check(alloc, file, output, errors)
 }
 
-// Splits a repository's text after its objects.
+// Splits a repository's text after the lines of its objects.
 fn parts_of(file: &[u8]) -> (&[u8], &[u8]) {
     let mut len = 0usize;
     for line in file.split_inclusive(|byte| *byte == b'\n') {
@@ -424,7 +429,7 @@ fn has_written(output: &Writer, first: &[u8], last: &[u8]) -> bool {
     output.is_passed_on() && output.written_bytes().strip_prefix(first) == Some(last)
 }
 
-// Returns whether `errors` is all that was printed, and nothing was reported.
+// Returns whether the run printed exactly `errors`, and wrote no report.
 fn has_printed(played: &Played, errors: &[u8]) -> bool {
     has_written(&played.report, NOTHING, NOTHING) && has_written(&played.errors, errors, NOTHING)
 }

@@ -1,9 +1,10 @@
-//! Tests of one row over devices in memory, and checks of their results.
+//! Tests of one row over devices in memory, with checks of the results.
 //!
 //! A [`Row`] is a program with its input and its expected results. A [`Bench`] tests the row in
 //! each [`Way`].
 //!
-//! - The input is unchanged, whole or in pieces, also over the readers and writers of std.
+//! - The input is unchanged, and is read whole or in pieces, also through readers and writers of
+//!   std.
 //! - The calls of the indexer are checked.
 //! - The request is changed as the row's table lists.
 //! - Each call of each device fails in turn.
@@ -11,7 +12,7 @@
 //! - Each allocation is refused in turn.
 //! - A stored file fails or stops at each of its calls.
 //!
-//! A [`Played`] is the result of a run. Most of the checks also serve for runs over sockets.
+//! A [`Played`] is the result of a run. Most of the checks also apply to runs over sockets.
 //!
 //! # Proved
 //!

@@ -7,7 +7,8 @@ use gpkt::{FromRead, Sink, Source, ToWrite};
 use gsimulate::{Simulation, cmd_simulate};
 use std::alloc::{Allocator, Global};
 
-/// The limits of the devices in a run, and the number of the allocation to refuse, if any.
+/// The parameters of a run: the limits of the devices, and the number of the allocation to refuse,
+/// if any.
 #[derive(Clone, Copy)]
 pub(crate) struct Trial {
     pub(crate) read: Hindrance,
@@ -29,7 +30,8 @@ impl Trial {
         is_std: false,
     };
 
-    /// Returns a trial that reads at most `most` bytes a call, and writes one byte a call.
+    /// Returns the parameters of a run that reads at most `most` bytes a call, and writes one byte
+    /// a call.
     pub(crate) fn in_pieces(most: usize) -> Trial {
         let mut trial = Trial::FREE;
         trial.read = Hindrance::pieces(most);
@@ -37,7 +39,7 @@ impl Trial {
         trial
     }
 
-    /// Returns a trial in which this call of the device fails.
+    /// Returns the parameters of a run in which this call of the device fails.
     pub(crate) fn fail_call(device: Device, call: usize) -> Trial {
         let mut trial = Trial::FREE;
         let hindrance = Hindrance::fail_call(call);
@@ -50,7 +52,7 @@ impl Trial {
         trial
     }
 
-    /// Returns a trial that refuses the allocation with this number.
+    /// Returns the parameters of a run that refuses the allocation with this number.
     pub(crate) fn refuse_at(number: usize) -> Trial {
         let mut trial = Trial::FREE;
         trial.refused = number as u64;

@@ -12,7 +12,7 @@ const FILE_FAILED: &[u8] = b"gitv2: fault 95 File\n";
 /// The number of file calls before the fetch sends anything: one to lock and one to read the file.
 const OPENING_CALLS: usize = 2;
 
-/// The failures in a fetch into a stored file.
+/// The failures to simulate during a fetch into a stored file.
 #[derive(Clone, Copy)]
 pub(crate) struct Hindered {
     pub(crate) mishap: Mishap,
@@ -33,7 +33,7 @@ impl Hindered {
 pub(crate) struct Fetched {
     stored: Stored,
     output: Writer,
-    // The printed report, or the printed line of a fault.
+    // Standard error, with the report or the line that reports a fault.
     errors: Writer,
     // Whether no byte of the input was read.
     is_unread: bool,
@@ -116,8 +116,8 @@ pub(crate) fn fetch_stored(
     })
 }
 
-/// Returns whether a fetch without a failure had the expected results: the new text, if any, and
-/// the report.
+/// Returns whether a fetch without a simulated failure wrote the expected report, and the expected
+/// new text, if any.
 pub(crate) fn is_stored(row: &Row<'_>, fetched: &Fetched) -> bool {
     let talk = &row.talk;
     let status = !talk.errors.is_empty() as u8;
@@ -137,7 +137,8 @@ pub(crate) fn is_failed(row: &Row<'_>, fetched: &Fetched, mishap: Mishap, calls:
         Mishap::Stops(call) | Mishap::StopsAfter(call) => (call, true),
         Mishap::None | Mishap::Locked => (1, false),
     };
-    // The last call of an unchanged file removes the lockfile. Its failure is not reported.
+    // The last call of an unchanged file removes the lockfile. A failure of this call is not
+    // reported.
     let is_unlock = call == calls && !has_change(row);
     let is_ended = if is_unlock {
         is_ended_as_due(row, fetched)
@@ -152,7 +153,8 @@ pub(crate) fn is_failed(row: &Row<'_>, fetched: &Fetched, mishap: Mishap, calls:
         && (may_be_locked || !fetched.stored.file.is_locked())
 }
 
-// Returns whether a fetch that does not change the file had the row's status, report and fault.
+// Returns whether a fetch that does not change the file had the status, report and fault that the
+// row expects.
 fn is_ended_as_due(row: &Row<'_>, fetched: &Fetched) -> bool {
     let printed = fetched.errors.written_bytes();
     (fetched.stored.status == 1) != row.talk.errors.is_empty()
@@ -160,7 +162,8 @@ fn is_ended_as_due(row: &Row<'_>, fetched: &Fetched) -> bool {
 }
 
 /// Returns whether a fetch ended as expected after a refused allocation or a failure of standard
-/// error. The status is 1, and no part of the report precedes the new text of the file.
+/// error. The status must be 1, and the file must get its new text before any part of the report is
+/// written.
 pub(crate) fn is_cut_short(row: &Row<'_>, fetched: &Fetched) -> bool {
     let printed = fetched.errors.written_bytes();
     let is_memory = is_memory_fault(fault_of(printed));
@@ -186,7 +189,8 @@ fn has_change(row: &Row<'_>) -> bool {
     }
 }
 
-// Returns whether the file held only the old text, or the old text and then the complete new text.
+// Returns whether the file held only the old text, or first the old text and then the complete new
+// text.
 fn is_whole(row: &Row<'_>, fetched: &Fetched) -> bool {
     match fetched.stored.file.states() {
         [old] => old.as_slice() == row.file,

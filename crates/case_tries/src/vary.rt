@@ -1,4 +1,4 @@
-//! Tests of a row in each way. Each function returns the number of the first run that failed.
+//! Tests of a row in each `Way`. Most functions return the number of the first run that failed.
 
 use crate::judge::{
     Reach, Row, Stop, is_as_due, is_errors_failed, is_in_table, is_kept, is_report_failed,
@@ -14,13 +14,14 @@ use case_text::{Change, Liar, Program, Trouble, fault_text};
 use case_worlds::{Files, Happened, run_one_by_one, run_scarcely};
 use std::alloc::Global;
 
-/// An upper bound on the calls of a device and on the allocations in any row.
+/// An upper bound on the number of calls to a device, and on the number of allocations, in a run of
+/// any row.
 const MOST_TRIES: usize = 1_000_000;
 
 /// The eight bits of a byte.
 const BITS: [u8; 8] = [1, 2, 4, 8, 16, 32, 64, 128];
 
-// The result of one run in a series.
+// The result of one run in a series of runs.
 #[derive(Clone, Copy, PartialEq, Eq)]
 enum Tried {
     // The run was correct, and more runs follow.
@@ -45,7 +46,7 @@ impl Tried {
 // The state of a series of runs, each of which refuses the next allocation.
 #[derive(Clone, Copy)]
 struct Refusals {
-    // How many of the row's memory faults were printed so far.
+    // The number of out-of-memory faults in the row's list that runs have printed so far.
     met: usize,
     // Whether a server has reported a fault to the client in an earlier run.
     has_served: bool,
@@ -112,8 +113,8 @@ impl<'a, 'b> Bench<'a, 'b> {
         self.play(row.talk.input.as_slice(), trial)
     }
 
-    // Returns whether a run was correct and left the repository as expected. Otherwise the printed
-    // bytes of the run are stored.
+    // Returns whether a run was correct and left the repository as expected. Otherwise stores the
+    // bytes that the run printed.
     fn is_well(&mut self, is_right: bool, played: &Played) -> Result<bool, Trouble> {
         if is_right && !played.was_misused && is_kept(self.alloc, self.row, played) {
             return Ok(true);
@@ -131,14 +132,14 @@ impl<'a, 'b> Bench<'a, 'b> {
         self.is_well(is_right, &played)
     }
 
-    // Tests the row unchanged.
+    // Tests the row with its whole input, unchanged.
     fn whole(&mut self) -> Result<Option<usize>, Trouble> {
         let is_right = self.goes_as_due(Trial::FREE)?;
         Ok(wrong_at(is_right, 0))
     }
 
     // Tests the row with the input in pieces of one byte and of three bytes, and with one byte
-    // written a call. The events of a simulation also run one by one.
+    // written in each call. The events of a simulation also run one by one.
     fn in_pieces(&mut self) -> Result<Option<usize>, Trouble> {
         for most in [1usize, 3] {
             if !self.goes_as_due(Trial::in_pieces(most))? {
@@ -165,8 +166,8 @@ impl<'a, 'b> Bench<'a, 'b> {
         Ok(happened.has_connected_refs && happened.text.as_bytes() == row.talk.output.as_slice())
     }
 
-    // Tests the row over readers and writers of std: unchanged, and in pieces if the row is not
-    // long. For thorough rows, each read and each write also fails in turn.
+    // Tests the row over readers and writers of std, with its input whole, and also in pieces if
+    // the row is not long. For thorough rows, each read and each write also fails in turn.
     fn over_std(&mut self) -> Result<Option<usize>, Trouble> {
         self.is_std = true;
         let wrong = self.with_devices()?;
@@ -186,7 +187,7 @@ impl<'a, 'b> Bench<'a, 'b> {
         Ok(wrong)
     }
 
-    // Tests the row unchanged, and in pieces if the row is not long.
+    // Tests the row with its input whole, and also in pieces if the row is not long.
     fn whole_and_in_pieces(&mut self) -> Result<Option<usize>, Trouble> {
         let wrong = self.whole()?;
         if wrong.is_some() || self.row.is_long {
@@ -195,16 +196,16 @@ impl<'a, 'b> Bench<'a, 'b> {
         self.in_pieces()
     }
 
-    // Returns whether the row is tested completely. Long rows and variants with response-end
-    // packets are not.
+    // Returns whether the row is tested completely. Long rows, and variants with added response-end
+    // packets, are tested only in part.
     fn is_thorough(&self) -> bool {
         let row = self.row;
         !row.is_long && row.reach != Reach::OneBit
     }
 
-    // Tests a fetch with an indexer whose calls are checked, if the row names no other indexer:
-    // unchanged and in pieces. For thorough rows, the input is also truncated and each allocation
-    // refused.
+    // Tests a fetch with an indexer whose calls are checked, with the input whole and in pieces.
+    // Rows that name another indexer are skipped. For thorough rows, the input is also truncated
+    // and each allocation refused.
     fn try_watched(&mut self) -> Result<Option<usize>, Trouble> {
         let row = self.row;
         let is_fetch = row.command.program == Program::Fetch && !row.talk.input.is_empty();
@@ -229,7 +230,7 @@ impl<'a, 'b> Bench<'a, 'b> {
         Ok(wrong)
     }
 
-    // Tests the row with each call of a device failing in turn, one byte a call.
+    // Tests the row with each call of a device failing in turn. Each call moves at most one byte.
     fn try_failures(&mut self, device: Device) -> Result<Option<usize>, Trouble> {
         for call in 1..MOST_TRIES {
             match self.fail_at(device, call)? {
@@ -267,9 +268,9 @@ impl<'a, 'b> Bench<'a, 'b> {
         }
     }
 
-    // Tests a fetch into a stored file: unchanged, with a lock of another process, and with a
-    // failure or stop at each call. For thorough rows, each write to standard error also fails in
-    // turn. For deep rows, each allocation is also refused in turn.
+    // Tests a fetch into a stored file: without a failure, while another process holds the lock,
+    // and with a failure or a stop at each call. For thorough rows, each write to standard error
+    // also fails in turn. For deep rows, each allocation is also refused in turn.
     fn try_stored(&mut self) -> Result<Option<usize>, Trouble> {
         if !has_stored_file(self.row) {
             return Ok(None);
@@ -300,8 +301,8 @@ impl<'a, 'b> Bench<'a, 'b> {
         Ok(Some(number))
     }
 
-    // Tests the row with a failure or stop at each of `calls` calls, and with a lock of another
-    // process.
+    // Tests the row with a failure or a stop at each of `calls` calls, and while another process
+    // holds the lock.
     fn with_mishaps(&mut self, calls: usize) -> Result<Option<usize>, Trouble> {
         for call in 1..=calls {
             let mishaps = [
@@ -369,14 +370,14 @@ impl<'a, 'b> Bench<'a, 'b> {
         Ok(None)
     }
 
-    // Returns the number of input bytes that are read.
+    // Returns the number of input bytes that the program reads.
     fn count_read(&mut self) -> Result<usize, Trouble> {
         let whole = self.play_whole(Trial::FREE)?;
         Ok(self.row.talk.input.len().saturating_sub(whole.left))
     }
 
-    // Returns whether a run of the first `len` input bytes has the expected results. A run of the
-    // whole input reads `read` bytes.
+    // Returns whether a run of the first `len` input bytes has the expected results. `read` is the
+    // number of bytes that a run of the whole input reads.
     fn is_cut_well(&mut self, len: usize, read: usize) -> Result<bool, Trouble> {
         let row = self.row;
         let Some(part) = row.talk.input.as_slice().get(..len) else {
@@ -429,7 +430,7 @@ impl<'a, 'b> Bench<'a, 'b> {
         self.is_well(is_right, &played)
     }
 
-    // Tests the row with the request truncated after each byte, and with each byte changed to each
+    // Tests the row with the request truncated after each byte, and with each byte changed to every
     // other value. Rows without a table are skipped.
     fn by_table(&mut self) -> Result<Option<usize>, Trouble> {
         let row = self.row;
@@ -470,7 +471,7 @@ impl<'a, 'b> Bench<'a, 'b> {
         Ok(true)
     }
 
-    // Returns whether the run of a changed input has the result in the table.
+    // Returns whether a run with a changed input has the result that the row's table lists.
     fn goes_by_table(&mut self, input: &[u8], change: Change) -> Result<bool, Trouble> {
         let played = self.play(input, Trial::FREE)?;
         let is_right = is_in_table(self.alloc, self.row, &played, input, change)?;
@@ -509,7 +510,8 @@ impl<'a, 'b> Bench<'a, 'b> {
     }
 
     // Tests the row with each allocation refused in turn. The row's memory faults must occur in
-    // order. Once a run has reported a fault to the client, each later run must report one.
+    // order. Once a run has reported a fault to the client, each later run must also report a fault
+    // to the client.
     fn scarce_in_turn(&mut self) -> Result<Option<usize>, Trouble> {
         let mut refusals = Refusals {
             met: 0,
@@ -549,8 +551,8 @@ impl<'a, 'b> Bench<'a, 'b> {
         is_right
     }
 
-    // Returns whether the row lists the memory faults of this run. An indexer that the row does not
-    // name may cause others.
+    // Returns whether the row lists all possible out-of-memory faults of this run. An indexer that
+    // the row does not name may cause other faults.
     fn names_faults(&self) -> bool {
         !self.row.memory.is_empty() && self.liar == self.row.command.liar
     }
@@ -559,8 +561,8 @@ impl<'a, 'b> Bench<'a, 'b> {
         !self.names_faults() || met == self.row.memory.len()
     }
 
-    // Returns whether the fault is the last or the next one in the row's list, or the row lists
-    // none.
+    // Returns whether the fault is the most recently met fault or the next fault in the row's list.
+    // Also returns true if the row lists no faults.
     fn is_named(&self, played: &Played, met: &mut usize) -> bool {
         let named = self.row.memory;
         if !self.names_faults() || is_as_due(self.row, played) {
@@ -577,12 +579,13 @@ impl<'a, 'b> Bench<'a, 'b> {
     }
 }
 
-// Returns the number of a run that failed, or `None` if it was correct.
+// Returns `number` if the run with this number failed, or `None` if the run was correct.
 fn wrong_at(is_right: bool, number: usize) -> Option<usize> {
     if is_right { None } else { Some(number) }
 }
 
-// Returns whether a simulation with an allocation refused has outcomes consistent with `ample`.
+// Returns whether a simulation with an allocation refused has outcomes consistent with `ample`, the
+// result with enough memory.
 fn happens_scarcely(
     alloc: Global,
     files: Files<'_>,
@@ -594,7 +597,7 @@ fn happens_scarcely(
     Ok(Tried::of(is_right, !happened.was_refused))
 }
 
-// Returns whether the list has this text at the index.
+// Returns whether the list has this text at the index `place`.
 fn is_at(named: &[Vec<u8>], place: usize, text: &[u8]) -> bool {
     match named.get(place) {
         Some(name) => name.as_slice() == text,

@@ -1,4 +1,4 @@
-//! The ways in which a row is tested.
+//! The variations with which a row is tested.
 
 /// A way of testing a row.
 #[derive(Clone, Copy)]
@@ -68,7 +68,8 @@ impl Way {
         matches!(&self, Way::Changed)
     }
 
-    /// Returns whether the way tests the ends of a connection, or a stored file.
+    /// Returns whether the option `--edge` includes this way: it tests a connection or a stored
+    /// file.
     pub fn is_edge(self) -> bool {
         matches!(
             &self,

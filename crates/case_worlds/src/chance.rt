@@ -1,6 +1,6 @@
-//! Random events, each as a line of a scenario. Most are the next step of an honest session. The
-//! others are late, repeated, truncated or forged messages, and changes or restarts of the server
-//! or the client.
+//! Random events, each as a line of a scenario. Most events are the next step of an honest session.
+//! The other events are late, repeated, truncated or forged messages, and changes or restarts of
+//! the server or the client.
 
 use crate::dice::Dice;
 use crate::forgery::Forger;
@@ -9,7 +9,7 @@ use gworld::Outcome;
 use std::alloc::{AllocError, Global};
 use std::ops::Range;
 
-// The numbers of ids that no repository uses yet.
+// The numbers of unused ids, which no repository contains at first.
 const NEW_IDS: Range<usize> = 900..924;
 
 const NAMES: [&str; 5] = [
@@ -55,7 +55,7 @@ pub(crate) struct Chance {
 }
 
 impl Chance {
-    /// Returns a generator of events for the server and the client of `files`.
+    /// Returns a generator of events for the server and the client in `files`.
     pub(crate) fn new(alloc: Global, seed: usize, files: Files<'_>) -> Result<Chance, AllocError> {
         let ids = ids_of(alloc, files)?;
         Ok(Chance {
@@ -101,7 +101,7 @@ impl Chance {
         }
     }
 
-    // Appends a session step out of order.
+    // Appends a step of the session that is out of order.
     fn add_other(&mut self, roll: usize, line: &mut String) -> Result<(), AllocError> {
         let request = self.dice.roll(self.sent.saturating_add(1));
         let reply = self.dice.roll(self.kept.saturating_add(1));
@@ -206,7 +206,8 @@ impl Chance {
         };
     }
 
-    // Ends the session after a fault that ends it; other faults change nothing.
+    // Ends the session if the fault with this number ends a session. Other faults do not change the
+    // session.
     fn give_up(&mut self, code: u32) {
         if self.was_step || matches!(code, 20..=54 | 84..=86) {
             self.step = SessionStep::Begin;
@@ -222,7 +223,7 @@ fn pick(words: &[&'static str], dice: &mut Dice) -> &'static str {
     }
 }
 
-// Appends a line of a word and the bytes in hexadecimal, or `-` for no bytes.
+// Appends a line with a word, and with the bytes in hexadecimal or `-` if there are none.
 fn add_bytes(word: &str, bytes: &[u8], line: &mut String) -> Result<(), AllocError> {
     line.push_str(word)?;
     if bytes.is_empty() {
@@ -234,7 +235,7 @@ fn add_bytes(word: &str, bytes: &[u8], line: &mut String) -> Result<(), AllocErr
     line.push('\n')
 }
 
-// Returns the ids of all objects in both repositories, and unused ids.
+// Returns the ids of all objects in both repositories, followed by unused ids.
 fn ids_of(alloc: Global, files: Files<'_>) -> Result<Vec<String>, AllocError> {
     let mut ids = Vec::new(alloc);
     add_ids(alloc, files.server, &mut ids)?;
@@ -253,7 +254,7 @@ fn add_ids(alloc: Global, text: &[u8], ids: &mut Vec<String>) -> Result<(), Allo
     Ok(())
 }
 
-// Returns the id of the object that a line of a repository holds, if any.
+// Returns the id in the line of a repository's text if the line describes an object.
 fn id_of(line: &[u8]) -> Option<&str> {
     let line = std::str::from_utf8(line).ok()?;
     let mut words = line.split(' ');

@@ -1,11 +1,11 @@
-//! Random forged replies, requests from other clients, and objects.
+//! Generation of random forged replies, random requests from other clients, and random objects.
 
 use crate::dice::Dice;
 use case_text::{packet, text_line};
 use gname::Format;
 use std::alloc::{AllocError, Global};
 
-/// A generator of random messages and objects with the given ids.
+/// A generator of random messages and objects that uses the given ids.
 #[derive(Drop)]
 pub(crate) struct Forger {
     pub(crate) alloc: Global,
@@ -27,7 +27,7 @@ impl Forger {
         }
     }
 
-    /// Appends a random object in the form of a pack's line.
+    /// Appends a random object as a line of a plain pack.
     pub(crate) fn add_entry(&mut self, text: &mut String) -> Result<(), AllocError> {
         let is_tag = self.dice.is_one_of(5);
         let count = if is_tag { 1 } else { self.dice.roll(3) };
@@ -39,7 +39,7 @@ impl Forger {
         Ok(())
     }
 
-    /// Appends a random reply, mostly of the form that the client expects.
+    /// Appends a random reply, which mostly has the form that the client expects.
     pub(crate) fn add_reply(&mut self, bytes: &mut Vec<u8>) -> Result<(), AllocError> {
         if self.dice.is_one_of(8) {
             self.add_noise(bytes)?;
@@ -148,7 +148,7 @@ impl Forger {
         }
     }
 
-    // Appends a packet with a word and an id.
+    // Appends a packet that contains a word and an id.
     fn add_named(&mut self, word: &str, bytes: &mut Vec<u8>) -> Result<(), AllocError> {
         let mut line = String::from_str(self.alloc, word)?;
         self.add_id(&mut line)?;
@@ -188,7 +188,7 @@ impl Forger {
         byte
     }
 
-    // Changes a byte or removes the end, in one of six messages on average.
+    // Changes a byte of the message or removes its end, for one in six messages on average.
     fn spoil(&mut self, bytes: &mut Vec<u8>) {
         let place = self.dice.roll(bytes.len());
         match self.dice.roll(12) {

@@ -1,8 +1,9 @@
-//! Simulations of a server and a client, with the events of a scenario or with random events.
+//! Simulations of a server and a client. The events of a simulation are random, or come from a
+//! scenario.
 //!
 //! - [`simulate_with`] runs a simulation with a packer or an indexer that may fail.
-//! - [`run_one_by_one`] checks the client after each event.
-//! - [`run_scarcely`] refuses an allocation.
+//! - [`run_one_by_one`] runs a simulation, and checks the client after each event.
+//! - [`run_scarcely`] runs a simulation with one allocation refused.
 //! - [`answer_by_chance`] runs many random events, and checks the client after each event.
 //!
 //! # Proved

@@ -1,8 +1,9 @@
 //! Simulations with random events: `random whole: SEED COUNT / CLIENT`. CLIENT is the text of the
-//! client's repository, and the graph of the fact is that of the server. COUNT events run with
-//! `PlainPack`, and again with allocations refused. A fourth of COUNT runs with each faulty packer
-//! and indexer. The client's refs must be connected after each event. With `PlainPack`, each kind
-//! of outcome must occur; rounds of acknowledgments only if `rounds` follows COUNT.
+//! client's repository. The graph of the fact is the server's repository. COUNT events run with
+//! `PlainPack`, and again with allocations refused. A quarter of COUNT events run with each faulty
+//! packer and each faulty indexer. The client's refs must be connected after each event. With
+//! `PlainPack`, each kind of outcome must occur. Rounds of acknowledgments are required only if
+//! `rounds` follows COUNT.
 
 use crate::chance::Chance;
 use crate::simulated::run_scarcely;
@@ -32,7 +33,7 @@ const LIARS: [Liar; 12] = [
     Liar::FinishFails,
 ];
 
-/// The word after the count that requires rounds of acknowledgments.
+/// The word after COUNT that requires rounds of acknowledgments to occur.
 const ROUNDS: &[u8] = b"rounds";
 
 /// The highest number of an allocation that may be refused.
@@ -89,7 +90,7 @@ fn found_with_liars(alloc: Global, setting: Setting<'_>) -> Result<Option<String
     Ok(None)
 }
 
-// Returns the parameters for a fourth of the events, with this faulty packer or indexer.
+// Returns the parameters for a run of a quarter of the events with this faulty packer or indexer.
 fn setting_with(setting: Setting<'_>, liar: Liar, seed: usize) -> Setting<'_> {
     let tools = Tools {
         liar: Some(liar),
@@ -177,8 +178,8 @@ impl<A: Allocator + Copy> ByChance<'_, A> {
         }
     }
 
-    // Runs the events until the client has a ref that is not connected. Returns `false` in that
-    // case.
+    // Runs the events until the client has a ref that is not connected. Returns `false` if that
+    // happens.
     fn keeps_connected_refs(
         &self,
         chance: &mut Chance,
@@ -229,8 +230,8 @@ impl<A: Allocator + Copy> ByChance<'_, A> {
         }
     }
 
-    // Returns a text if a second run of all events has another result, or if a required kind of
-    // outcome never occurred.
+    // Returns a description of the failure if a second run of all events has a different result, or
+    // if a required kind of outcome never occurred.
     fn conclude(
         &self,
         log: &str,
@@ -263,7 +264,7 @@ impl<A: Allocator + Copy> ByChance<'_, A> {
         }
     }
 
-    // Returns a text with the first kind of outcome that never occurred.
+    // Returns a text that names the first required kind of outcome that never occurred.
     fn never_came(&self, outcomes: &[Outcome]) -> Result<Option<String>, Trouble> {
         match self.missing_kind(outcomes) {
             Some(kind) => Ok(Some(format!(in self.alloc; "never {kind}")?)),
@@ -271,7 +272,8 @@ impl<A: Allocator + Copy> ByChance<'_, A> {
         }
     }
 
-    // Returns a kind of outcome that never occurred, or `None` with a faulty packer or indexer.
+    // Returns a kind of outcome that never occurred. Returns `None` for runs with a faulty packer
+    // or indexer.
     fn missing_kind(&self, outcomes: &[Outcome]) -> Option<&'static str> {
         match self.setting.files.tools.liar {
             Some(_) => None,
@@ -289,7 +291,8 @@ fn refused_number(chance: &mut Chance, is_scarce: bool) -> u64 {
     }
 }
 
-// Runs the events with an allocation refused, and again with enough memory if that run stopped.
+// Runs the events with an allocation refused. If that run stops, runs the events again with enough
+// memory.
 fn do_events<A: Allocator + Copy>(
     refusal: &RefusedAllocation<'_>,
     world: &mut World<Tools, A>,
@@ -305,7 +308,8 @@ fn do_events<A: Allocator + Copy>(
     Ok(())
 }
 
-// Returns the first kind that no outcome has. Rounds are required only if `has_rounds` is set.
+// Returns the first kind that no outcome has. Rounds of acknowledgments are required only if
+// `has_rounds` is set.
 fn first_missing(outcomes: &[Outcome], has_rounds: bool) -> Option<&'static str> {
     for kind in KINDS {
         let is_due = has_rounds || kind != ROUND;

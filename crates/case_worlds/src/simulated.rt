@@ -16,8 +16,8 @@ const NO_MEMORY: &[u8] = b"gitv2: fault 91 Memory\n";
 
 const WRITE_FAILED: &[u8] = b"gitv2: fault 27 Io\n";
 
-/// Runs a simulation like the program, but with the packer and indexer of `files`. Returns the exit
-/// status.
+/// Runs a simulation as the program does, but with the packer and indexer in `files`. Returns the
+/// exit status.
 pub fn simulate_with<A: Allocator + Copy, O: Sink, E: Sink>(
     alloc: Global,
     memory: A,
@@ -36,7 +36,7 @@ pub fn simulate_with<A: Allocator + Copy, O: Sink, E: Sink>(
     }
 }
 
-// A run of a scenario, which returns the printed text, or `None` if memory runs out.
+// A run of a scenario. The result of the run is the printed text, or `None` if memory runs out.
 #[derive(Drop)]
 struct ScenarioPlay<'b, A: Allocator + Copy> {
     alloc: Global,
@@ -94,7 +94,7 @@ fn print_failure<E: Sink>(text: &[u8], errors: &mut E) -> u8 {
     1
 }
 
-// Writes and flushes a text. Returns whether both calls succeeded.
+// Writes a text and flushes the sink. Returns whether both calls succeeded.
 fn is_sent<O: Sink>(text: &[u8], output: &mut O) -> bool {
     match send_text::<Global, O>(text, output) {
         Ok(()) => true,
@@ -106,7 +106,7 @@ fn is_sent<O: Sink>(text: &[u8], output: &mut O) -> bool {
 #[derive(Drop)]
 pub struct Happened {
     pub outcomes: Vec<Outcome>,
-    /// The lines of the outcomes and of the client's final refs.
+    /// A line for each outcome and each of the client's final refs.
     pub text: String,
     /// Whether the client's refs were connected at each check.
     pub has_connected_refs: bool,
@@ -124,7 +124,7 @@ impl Happened {
     }
 }
 
-// Returns whether the outcomes agree up to the first memory fault.
+// Returns whether both lists of outcomes agree up to the first memory fault.
 fn agree(outcomes: &[Outcome], others: &[Outcome]) -> bool {
     for (outcome, other) in outcomes.iter().zip(others) {
         if outcome != other {
@@ -167,14 +167,14 @@ fn happen<A: Allocator + Copy>(
     }
 }
 
-// How the events of a scenario run.
+// The mode in which the events of a scenario run.
 #[derive(Drop)]
 enum EventPace<'m> {
     Scarcely(RefusedAllocation<'m>),
     OneByOne,
 }
 
-// Events, and how they run.
+// The events of a scenario, and the mode in which they run.
 #[derive(Drop)]
 struct Happening<'e, A: Allocator + Copy> {
     alloc: Global,
@@ -234,7 +234,7 @@ impl<A: Allocator + Copy> Happening<'_, A> {
         Ok(())
     }
 
-    // Runs the remaining events of the scenario.
+    // Runs the events that do not have an outcome yet.
     fn finish(
         &self,
         world: &mut World<Tools, A>,

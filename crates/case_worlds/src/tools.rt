@@ -1,4 +1,4 @@
-//! The packer and the indexer of a world, one of which may fail or break its contract.
+//! The packer and the indexer of a world. One of the two may fail or break its contract.
 
 ghost use Rattle.std.specs.Prelude.{⊤};
 
@@ -54,7 +54,7 @@ impl<A: Allocator + Copy> Indexer<A> for Tools {
 }
 
 impl Tools {
-    // Returns the indexer, or one that fulfills its contract if `liar` is `None`.
+    // Returns the indexer: `liar`, or an indexer that fulfills its contract if `liar` is `None`.
     fn indexer(&self) -> Liar {
         match self.liar {
             Some(liar) => liar,

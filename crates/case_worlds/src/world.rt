@@ -19,7 +19,7 @@ pub struct Files<'b> {
 }
 
 impl<'b> Files<'b> {
-    /// Returns the files of a simulation for this text of the server's repository.
+    /// Returns the texts and tools of a simulation for this text of the server's repository.
     pub fn of(command: Invocation<'b>, server: &'b [u8]) -> Files<'b> {
         Files {
             server,
@@ -33,7 +33,7 @@ impl<'b> Files<'b> {
     }
 }
 
-/// The allocation to refuse, or none if `number` is 0.
+/// The number of the allocation to refuse, or 0 to refuse no allocation.
 #[derive(Drop)]
 pub(crate) struct RefusedAllocation<'m> {
     pub(crate) scarce: &'m Scarce<Global>,
@@ -73,8 +73,8 @@ pub(crate) fn play_in_world<A: Allocator + Copy, P: Play<A>>(
     }
 }
 
-/// Runs the action, or returns the fault in the text of a repository. Repositories that do not fit
-/// one world result in `ProgramFault::Memory`.
+/// Runs the action, or returns the fault in the text of a repository. If the two repositories can't
+/// form a world, the fault is `ProgramFault::Memory`.
 pub(crate) fn play_or_fault<A: Allocator + Copy, P: Play<A>>(
     memory: A,
     files: Files<'_>,
@@ -86,7 +86,8 @@ pub(crate) fn play_or_fault<A: Allocator + Copy, P: Play<A>>(
     }
 }
 
-// Runs the action and drops the world. Only this function drops a world, since the proof is long.
+// Runs the action and drops the world. Only this function drops a world, because the proof for the
+// drop is long.
 fn lend<A: Allocator + Copy, P: Play<A>>(
     world: World<Tools, A>,
     play: &P,
@@ -105,7 +106,7 @@ fn world_of<A: Allocator + Copy>(
     }
 }
 
-// Returns the world of this server and the client of `files`.
+// Returns the world of this server and of the client in `files`.
 fn meet<A: Allocator + Copy>(
     memory: A,
     server: Server<A>,
@@ -143,7 +144,8 @@ fn or_trouble<A: Allocator + Copy>(
     }
 }
 
-/// Runs the events and appends their outcomes. Returns `false` if memory ran out before the last.
+/// Runs the events and appends their outcomes. Returns `false` if memory ran out before the last
+/// event.
 pub(crate) fn run_events<A: Allocator + Copy>(
     world: &mut World<Tools, A>,
     events: &[Event<A>],

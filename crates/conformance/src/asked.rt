@@ -1,10 +1,10 @@
-//! The request that a command line is parsed into, as one line.
+//! The result of parsing a command line, as one line of text.
 //!
 //! The text of an `asked` fact holds the arguments, separated by spaces; `""` is the empty
 //! argument. The result is `none` for arguments that do not match the usage. Otherwise the result
 //! lists the command, the source or the address, the limit of a pack, and the number of
-//! connections. Then follow `plain` or `response-end` for the ends of replies, and the files,
-//! refspecs or prefixes in order.
+//! connections. The next word is `plain` or `response-end`, which states how replies end. The
+//! files, refspecs or prefixes come last, in order.
 
 use case_launches::add_split;
 use case_text::Trouble;
@@ -16,7 +16,7 @@ use std::alloc::Global;
 // The empty argument in a test file.
 const EMPTY: &str = "\"\"";
 
-/// Returns the request that the arguments are parsed into.
+/// Returns the request to which the arguments parse, as text.
 pub fn answer(alloc: Global, text: &[u8]) -> Result<String, Trouble> {
     let Ok(text) = std::str::from_utf8(text) else {
         return Ok(String::from_str(alloc, "no text")?);
@@ -99,7 +99,7 @@ fn simulate_shown(alloc: Global, asked: &Simulate) -> Result<String, Trouble> {
     command_text(alloc, "simulate", &files, &[])
 }
 
-// Returns the address and the path; the path is ASCII.
+// Returns the address and the path as text. The path is ASCII.
 fn place_shown(alloc: Global, place: &Location) -> Result<String, Trouble> {
     let address = place.address();
     let path = match std::str::from_utf8(place.hello().path()) {
@@ -116,7 +116,7 @@ fn ends_shown(ends: Ends) -> &'static str {
     }
 }
 
-// Returns a line with this start, the files and the arguments.
+// Returns a line that consists of this start, the files and the arguments.
 fn command_text(
     alloc: Global,
     start: &str,

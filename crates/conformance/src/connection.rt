@@ -1,4 +1,4 @@
-//! Calls of `gtcp` over any type of stream, and the results of the calls.
+//! Calls to `gtcp` over any type of stream, with the results of the calls.
 
 use case_runs::{
     Hindrance, Job, Ran, Watch, Writer, client_of, end_fetch, end_listing, end_with_fault,
@@ -25,7 +25,7 @@ pub struct Held {
     pub errors: Writer,
 }
 
-// The printed lines of a run.
+// The lines that a run prints: its report and its faults.
 #[derive(Drop)]
 struct Printed {
     report: Writer,
@@ -33,7 +33,7 @@ struct Printed {
 }
 
 /// A listener, the number of connections to serve, and the clock for their deadlines. A client uses
-/// one connection of the listener.
+/// only one connection of the listener.
 #[derive(Drop)]
 pub struct Door<'c, C, L> {
     pub clock: &'c C,
@@ -41,8 +41,8 @@ pub struct Door<'c, C, L> {
     pub connections: u32,
 }
 
-/// Runs a row on connections. The allocation with number `refused` fails, counted from the first
-/// call of `gtcp`.
+/// Runs a row on connections. The allocation with number `refused`, counted from the first call to
+/// `gtcp`, fails.
 pub fn hold_row<C, L, S>(
     alloc: Global,
     row: &Row<'_>,
@@ -69,8 +69,8 @@ where
     hold(&job, door)
 }
 
-// Runs a command on connections. The job's chosen allocation fails, counted from the first call of
-// `gtcp`.
+// Runs a command on connections. One allocation fails: the job's `refused` is its number, counted
+// from the first call to `gtcp`.
 fn hold<A, C, L, S>(job: &Job<'_, '_, '_, A>, door: Door<'_, C, L>) -> Result<Held, Trouble>
 where
     A: Allocator + Copy,

@@ -1,8 +1,8 @@
 //! Tests of deadlines: connections with a late peer and a simulated clock.
 //!
-//! These tests state the deadlines again. A server waits 10 seconds for the first line of a client,
-//! and 60 seconds for each request. A client waits 60 seconds for the next bytes of a server. A
-//! server waits 60 seconds for a client to accept bytes.
+//! These tests restate the deadlines of `gtcp`. A server waits 10 seconds for the first line of a
+//! client, and 60 seconds for each request. A client waits 60 seconds for the next bytes of a
+//! server. A server waits 60 seconds for a client to accept bytes.
 
 use crate::connection::{Door, Held, hold_row};
 use crate::late::{LateListener, Line, Manner, OwnClock, Pulse};
@@ -12,7 +12,7 @@ use case_tries::{Played, Row, Stop, is_as_due, is_kept, is_stopped, is_write_fai
 use std::alloc::Global;
 use std::time::Duration;
 
-/// The limits in seconds for a first line, for a request, and for silence.
+/// The limits in seconds on the time for a first line, on the time for a request, and on silence.
 const FIRST_LINE: u64 = 10;
 
 const REQUEST: u64 = 60;
@@ -22,23 +22,24 @@ const SILENCE: u64 = 60;
 /// The seconds within which a server answers an honest client after two silent clients.
 const PATIENCE: u64 = 25;
 
-/// The milliseconds that a slow peer waits before each byte. Some gaps meet the deadlines of a
-/// first line and of a request, and others miss one deadline or both. The last two gaps are just
-/// below and at the limit for silence.
+/// The milliseconds that a slow peer waits before each byte. With some gaps a first line or a
+/// request meets its deadline, and with others it is late. The last gap equals the limit on
+/// silence, and the gap before it is just below that limit.
 const GAPS: [u64; 8] = [100, 240, 250, 400, 900, 6_000, 59_999, 60_000];
 
 // The expected result of a connection.
 #[derive(Clone, Copy)]
 struct Due {
-    // The index of the byte for which the peer is late, if any.
+    // The index of the first byte that arrives too late, if any.
     late_at: Option<usize>,
     // The expected duration of the connection.
     time: Duration,
 }
 
-/// Tests a `late` row with peers that are silent after some byte, or slow after some message. A
-/// client may also stop accepting bytes. The next client of a server must be served. Counts the
-/// runs in `runs`, and returns the index of the byte at which the first run failed.
+/// Tests a `late` row with peers that become silent at some byte, or slow at some message. A client
+/// may also stop accepting bytes. After a late client, a server must serve the next client. Counts
+/// the runs in `runs`. If a run fails, returns the index of the byte that the first failed run
+/// tested.
 pub fn first_wrong(alloc: Global, row: &Row<'_>, runs: &mut u64) -> Result<Option<usize>, Trouble> {
     if !row.is_late || !row.command.has_hello() {
         return Ok(None);
@@ -112,8 +113,8 @@ fn is_slow_as_due(
     Ok(true)
 }
 
-// Tests a server with clients that accept only the output up to the end of a message, or one byte
-// less.
+// Tests a server with clients that stop accepting output at the end of a message, or one byte
+// before that end.
 fn wrong_where_full(
     alloc: Global,
     row: &Row<'_>,
@@ -149,8 +150,8 @@ fn wrong_server(alloc: Global, row: &Row<'_>, runs: &mut u64) -> Result<Option<u
     Ok(if is_right { None } else { Some(0) })
 }
 
-// Returns whether a connection with this late peer has the expected results. The next client of a
-// server must be served.
+// Returns whether a connection with this late peer has the expected results. After a late client, a
+// server must serve the next client.
 fn is_late_as_due(
     alloc: Global,
     row: &Row<'_>,
@@ -168,8 +169,8 @@ fn is_late_as_due(
     Ok(is_right && is_next_served && met.time == due.time && is_kept(alloc, row, &met.first))
 }
 
-// Returns the index of the byte for which the peer is late, and the expected duration. A peer is
-// late if the time for its message, or since its last byte, runs out.
+// Returns the index of the first byte that arrives too late, and the expected duration. A byte is
+// too late if the deadline for its message or the limit on silence has passed.
 fn due_of(row: &Row<'_>, manner: Manner) -> Due {
     let mut time = Duration::ZERO;
     let mut left = Duration::from_secs(SILENCE);
@@ -192,7 +193,8 @@ fn due_of(row: &Row<'_>, manner: Manner) -> Due {
     }
 }
 
-// Returns the time that the peer has for this byte; `left` is the rest of the message's time.
+// Returns the time within which the peer must send this byte. `left` is the remaining time for the
+// message.
 fn time_at(row: &Row<'_>, at: usize, left: Duration) -> Duration {
     if row.command.program != Program::Serve {
         Duration::from_secs(SILENCE)
@@ -205,7 +207,7 @@ fn time_at(row: &Row<'_>, at: usize, left: Duration) -> Duration {
     }
 }
 
-// Returns whether a server drops a client that accepts only `takes` bytes.
+// Returns whether a server drops a client that stops accepting output after `takes` bytes.
 fn is_left_as_due(alloc: Global, row: &Row<'_>, takes: usize) -> Result<bool, Trouble> {
     let mut manner = Manner::PROMPT;
     manner.takes = takes;
@@ -214,7 +216,7 @@ fn is_left_as_due(alloc: Global, row: &Row<'_>, takes: usize) -> Result<bool, Tr
     Ok(is_write_failed(row, &met.first) && met.is_last_served && is_in_time)
 }
 
-// Returns whether a server reads nothing if its clock fails or goes back.
+// Returns whether a server reads nothing from its client if its clock fails or goes back.
 fn is_refused_by_clock(alloc: Global, row: &Row<'_>, pulse: Pulse) -> Result<bool, Trouble> {
     let met = meet(alloc, row, &[Manner::PROMPT], pulse)?;
     is_stopped(alloc, row, &met.first, 0, Stop::Failed)
@@ -228,18 +230,18 @@ fn is_answered_after_two(alloc: Global, row: &Row<'_>) -> Result<bool, Trouble> 
     Ok(met.is_last_served && met.time <= Duration::from_secs(PATIENCE))
 }
 
-// The results of a row's connections.
+// The results of running a row on some connections.
 #[derive(Drop)]
 struct Met {
     // The output of the first connection, and the printed lines of all connections.
     first: Played,
-    // Whether the last connection had the output of the row.
+    // Whether the last connection had the row's expected output.
     is_last_served: bool,
     time: Duration,
 }
 
-// Runs the row on one connection for each manner, with a peer of that manner. A client uses only
-// the first connection.
+// Runs the row on one connection for each of the manners, to a peer that behaves in that manner. A
+// client uses only the first connection.
 fn meet(alloc: Global, row: &Row<'_>, manners: &[Manner], pulse: Pulse) -> Result<Met, Trouble> {
     let Ok(connections) = u32::try_from(manners.len()) else {
         return Err(Trouble::NoSocket);

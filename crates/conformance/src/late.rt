@@ -1,5 +1,5 @@
-//! Connections in memory with a late peer and a simulated clock. Time passes only while a read or a
-//! write waits.
+//! Connections in memory with a late peer and a simulated clock. The clock advances only while a
+//! read or a write waits.
 
 ghost use Rattle.std.specs.Io.{ReadsAtMost, WritesAtMost};
 
@@ -27,7 +27,7 @@ pub enum Pulse {
 pub struct OwnClock {
     now: Cell<Duration>,
     pulse: Pulse,
-    // The time by which the clock went back.
+    // The total time by which the clock has gone back.
     back: Cell<Duration>,
 }
 
@@ -43,7 +43,7 @@ impl OwnClock {
         }
     }
 
-    /// Returns the time that has passed.
+    /// Returns the time that calls have waited.
     pub fn time_passed(&self) -> Duration {
         self.now.get()
     }
@@ -75,11 +75,11 @@ impl Clock for OwnClock {
 /// The delays and limits of a peer.
 #[derive(Clone, Copy)]
 pub struct Manner {
-    /// The index of the first byte that is sent alone.
+    /// The index of the first byte that the peer sends in a separate piece.
     pub from: usize,
-    /// The delay before each byte that is sent alone.
+    /// The delay before each byte that the peer sends in a separate piece.
     pub gap: Duration,
-    /// The index of the first byte that is never sent.
+    /// The index of the first byte that the peer never sends.
     pub silent: usize,
     /// The number of bytes that the peer accepts.
     pub takes: usize,
@@ -105,7 +105,7 @@ impl Manner {
         }
     }
 
-    // Returns the end of the piece that starts at this byte and arrives at once.
+    // Returns the end of the piece that starts at this byte. The bytes of a piece arrive together.
     fn piece_end(&self, at: usize) -> usize {
         if at >= self.from {
             at.saturating_add(1)
@@ -125,7 +125,7 @@ pub struct Line<'r> {
     read_limit: Cell<Option<Duration>>,
     write_limit: Cell<Option<Duration>>,
     is_nonblocking: Cell<bool>,
-    // Whether a call waited without a timeout.
+    // Whether some call would have waited forever, because no timeout was set.
     is_stuck: Cell<bool>,
 }
 
@@ -144,7 +144,7 @@ impl<'r> Line<'r> {
         }
     }
 
-    /// Returns the bytes that the peer accepted. If a call waited without a timeout, the bytes
+    /// Returns the bytes that the peer accepted. If a call would have waited forever, the bytes
     /// count as not flushed.
     pub fn taken_bytes(&self, alloc: Global) -> Result<Writer, Trouble> {
         match self.taken.try_borrow() {
@@ -153,7 +153,8 @@ impl<'r> Line<'r> {
         }
     }
 
-    // Waits for this time, or forever for `None`, but at most until the limit.
+    // Lets the simulated clock advance by this delay, but by at most the limit. A delay of `None`
+    // never ends.
     fn wait(
         &self,
         clock: &OwnClock,
@@ -201,7 +202,7 @@ impl<'r> Line<'r> {
         Ok(count)
     }
 
-    // Accepts a prefix of the bytes, and returns its length.
+    // Accepts a prefix of the bytes, and returns the prefix's length.
     fn take_bytes(&self, clock: &OwnClock, buf: &[u8]) -> io::Result<usize>
         ensures { WritesAtMost result buf.now }
     {

@@ -4,8 +4,9 @@ use case_launches::{Plan, System, add_split, is_launched, launch};
 use case_text::{Case, Fact, Script, Trouble};
 use case_tries::{Bench, Row};
 
-/// Launches the program with the arguments of a row and a file of its repository, if the program
-/// can run the row. Returns 0 after unexpected results, and stores the printed lines.
+/// Launches the program with the arguments of a row and a file that holds the row's repository, if
+/// the program can run the row. If the results are unexpected, stores the printed lines and returns
+/// 0.
 pub fn wrong_row<R: System>(
     rt: &R,
     script: &Script<'_>,
@@ -51,8 +52,8 @@ pub fn wrong_launch<R: System>(
 }
 
 /// Launches the program with the arguments of a fact, in an empty folder. Returns a text with the
-/// unexpected results, if any. The program must report wrong usage exactly if the fact expects no
-/// command.
+/// unexpected results, if any. The program must report wrong usage exactly if the expected result
+/// of the fact is `none`.
 pub fn wrong_words<R: System>(
     rt: &R,
     script: &Script<'_>,

@@ -1,4 +1,4 @@
-//! Checks of facts: with the whole text, in pieces, and with each allocation refused.
+//! Checks of facts, with the text whole and in pieces, and with each allocation refused.
 
 use crate::asked;
 use crate::launched::wrong_words;
@@ -54,8 +54,8 @@ fn tell_wrong_fact<R: Print>(
     println!(rt; "{source}:{line}: {kind} {answer}")
 }
 
-// The maximum size of a text for runs with refused allocations. Longer graphs than `LONG_GRAPH` are
-// searched only once.
+// The maximum size of a text for runs with refused allocations. The text of a graph longer than
+// `LONG_GRAPH` is searched only once.
 const LONG_TEXT: usize = 10_000;
 
 const LONG_GRAPH: usize = 150_000;
@@ -113,7 +113,7 @@ fn wrong_without_memory(
     Ok(None)
 }
 
-// Returns the actual result of the fact.
+// Returns the actual result for the fact.
 fn answer(
     alloc: Global,
     fact: &Fact<'_>,
@@ -127,7 +127,7 @@ fn answer(
     }
 }
 
-// Returns the text as a finding without a refused allocation.
+// Returns a finding with this text, in which no allocation was refused.
 fn plain(text: Result<String, Trouble>) -> Result<Finding, Trouble> {
     Ok(Finding {
         text: text?,

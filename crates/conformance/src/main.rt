@@ -1,18 +1,20 @@
-//! Tests of Git's fetch protocol from files. The tests run the programs of `gcmd` and the calls
-//! below these programs, and check the parsing of command lines.
+//! Tests of Git's fetch protocol from files. The tests run the programs of `gcmd`, call the
+//! functions that those programs use, and check the parsing of command lines.
 //!
-//! The arguments of the command line name test files; `case_text` parses them. The first argument
-//! may be `--quick` to leave out changed bytes, `--once` to run each case only unchanged, or
-//! `--edge` to run only connections and stored files.
+//! The arguments of the command line name test files. `case_text` parses these files. The first
+//! argument may be an option. `--quick` omits the tests that change bytes, and `--once` runs each
+//! case only with its input unchanged. `--edge` runs only the tests of connections and stored
+//! files.
 //!
-//! Each case runs with its programs, and with ids of both formats. Replies also run with
-//! response-end packets added. A case may exclude one format or the added packets.
+//! Each case runs with each of its programs, and with ids of both formats. Cases with replies also
+//! run with response-end packets added. A case may exclude one format or the added packets.
 //!
-//! - The input is unchanged, whole or in pieces, also over the readers and writers of std.
+//! - The input is unchanged, and is read whole or in pieces, also through readers and writers of
+//!   std.
 //! - The calls of the indexer are checked.
 //! - The program `gitv2` itself runs over files, standard streams and sockets.
-//! - A connection with its first line runs over a socket in this process, and both ends take turns.
-//! - A peer is late, by a simulated clock.
+//! - A connection with a first line runs over a socket in this process, and both ends take turns.
+//! - A peer is late, according to a simulated clock.
 //! - Each call of each device fails in turn.
 //! - A stored file fails or stops at each of its calls.
 //! - The input is truncated after each byte, or one of its bytes is changed.
@@ -20,9 +22,9 @@
 //! - Each allocation is refused in turn.
 //!
 //! Facts about texts are also checked in pieces, and with each allocation refused. Simulations also
-//! run in worlds of their own, and in worlds with random events. Pairs of a server and a client,
-//! and cases that describe a launch, run only in the program itself. Each failure is a line on
-//! standard output, and the last lines count the runs.
+//! run in separate worlds, and in worlds with random events. Pairs of a server and a client, and
+//! cases that describe a launch, run only by launching the program. The tests print a line for each
+//! failure. The last lines that they print count the runs.
 //!
 //! # Proved
 //!
@@ -37,9 +39,9 @@
 //!
 //! `case_text` parses the files and defines an allocator that fails. `case_tries` tests rows,
 //! `case_launches` launches the program, and `case_facts` checks facts. `case_runs` runs programs
-//! over devices, and `case_worlds` runs simulations. `gtcp` defines sockets, `gargs` command lines,
-//! and `gcmd` the shared parts of programs. `gclient`, `glsreply`, `ggraph`, `ggrammar`, `gpkt` and
-//! `gname` define the types in use.
+//! over devices, and `case_worlds` runs simulations. `gtcp` serves and opens connections, `gargs`
+//! parses command lines, and `gcmd` defines the shared parts of programs. `gclient`, `glsreply`,
+//! `ggraph`, `ggrammar`, `gpkt` and `gname` define the other types.
 #![tactic(auto)]
 
 mod asked;
@@ -73,7 +75,7 @@ fn main(rt: HostRuntime) -> ExitCode {
     }
 }
 
-// Runs all tests of the files in the arguments. Returns whether all succeeded.
+// Runs all tests of the files that the arguments name. Returns whether all tests succeeded.
 fn run_cases<R>(rt: &R) -> io::Result<bool>
 where
     R: AllocGlobal + Clock + Env + Files + Print + Net<Stream = TcpStream, Listener = TcpListener>,

@@ -8,14 +8,14 @@ use std::io::{self, ErrorKind, Read, Write};
 use std::net::{Net, OpenListener, OpenStream, Shutdown, SocketAddr, TcpListener, TcpStream};
 use std::time::Duration;
 
-/// How the peer and the tested program take turns.
+/// The pace at which the peer and the tested program take turns.
 #[derive(Clone, Copy, PartialEq, Eq)]
 pub enum Pace {
     /// The peer sends everything at once, before it reads anything.
     AtOnce,
     /// The peer sends a message after it has read the whole reply to the previous message.
     Turns,
-    /// The ends take turns, and each of them moves one byte a call.
+    /// The peer and the program take turns, and each of their calls moves one byte.
     Bytes,
 }
 
@@ -31,8 +31,8 @@ impl Pace {
     }
 }
 
-// The seconds that the peer waits for bytes that were already written. The peer waits only for a
-// faulty program.
+// The seconds that the peer waits for bytes that should already have arrived. The peer has to wait
+// only if the program is faulty.
 const PATIENCE: u64 = 5;
 
 // The maximum number of bytes that the peer reads in one call.
@@ -44,8 +44,7 @@ pub struct Peer<'r> {
     talk: &'r Talk,
     far: TcpStream,
     pace: Pace,
-    // The number of bytes that the peer has sent, and the number of bytes that the program has
-    // read.
+    // The number of bytes that the peer has sent, and the number that the program has read.
     said: Cell<usize>,
     read: Cell<usize>,
     // The number of bytes that the program has written, and the bytes that the peer has read.
@@ -108,7 +107,7 @@ impl<'r> Peer<'r> {
         matches!(far.read(&mut byte), Ok(0))
     }
 
-    // Lets the peer read and then send, if the program has read all bytes sent so far.
+    // If the program has read all bytes sent so far, lets the peer read and then send.
     fn take_turn(&self) -> io::Result<()> {
         if self.has_ended.get() || self.read.get() < self.said.get() {
             return Ok(());
@@ -122,8 +121,8 @@ impl<'r> Peer<'r> {
         }
     }
 
-    // Returns the bytes that the peer sends next. The result is empty if all bytes are sent, or if
-    // the reply is not complete.
+    // Returns the bytes that the peer sends next. The result is empty if the peer has sent all
+    // bytes, or if the program's reply is not complete.
     fn next_part(&self) -> &'r [u8] {
         let said = self.said.get();
         if !self.may_say(said) {
@@ -236,7 +235,7 @@ impl OpenStream for Turned<'_, '_> {
         self.near.set_nodelay(nodelay)
     }
 
-    // A nonblocking read gives the peer no turn.
+    // In nonblocking mode, a read does not give the peer a turn.
     fn set_nonblocking(&self, nonblocking: bool) -> io::Result<()> {
         self.peer.has_ended.set(nonblocking);
         self.near.set_nonblocking(nonblocking)

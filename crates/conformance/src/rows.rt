@@ -1,4 +1,4 @@
-//! Tests of each case, with each of its programs, in each way.
+//! Tests of cases. Each program of a case is tested in each of the ways that `Way` lists.
 
 use crate::tally::{Tally, tell_trouble};
 use crate::{deadlines, launched, socket};
@@ -58,8 +58,8 @@ fn try_words<R: System>(rt: &R, plain: Attempt<'_>, tally: &mut Tally) -> io::Re
     try_run(rt, ended, tally)
 }
 
-// Tests a case by a launch of the program: a case that describes the launch, or a server and a
-// client in one process.
+// Tests a case by launching the program. The case describes the launch, or names a server and a
+// client for one process.
 fn try_launch<R: System>(rt: &R, run: Attempt<'_>, tally: &mut Tally) -> io::Result<()> {
     tally.count_row();
     tally.count_runs(Way::ByProgram, 1);
@@ -148,7 +148,7 @@ fn new_file_of<'b>(
     }
 }
 
-// Sets the client's text and the scenario of a simulation.
+// Sets the text of the client and the text of the scenario, if the command is a simulation.
 fn add_texts<'b>(script: &'b Script<'b>, command: &mut Invocation<'b>) -> Result<(), Trouble> {
     if command.program != Program::Simulate {
         return Ok(());
@@ -160,7 +160,7 @@ fn add_texts<'b>(script: &'b Script<'b>, command: &mut Invocation<'b>) -> Result
 }
 
 // Returns whether response-end packets may be added to the replies of a case. A case may forbid
-// these packets, or contain them already.
+// such packets, or already contain them.
 fn may_add_ends(command: Invocation<'_>, case: &Case<'_>) -> bool {
     command.program.has_ends()
         && command.ends == Ends::Plain
@@ -180,7 +180,7 @@ fn reach_of(case: &Case<'_>, adds_ends: bool) -> Reach {
     }
 }
 
-// Tests a row in each way, up to the first way in which the row fails.
+// Tests a row in each `Way`, up to the first one in which the row fails.
 fn try_row<R: System>(
     rt: &R,
     run: Attempt<'_>,

@@ -10,10 +10,10 @@ use std::alloc::Global;
 use std::net::{Net, TcpListener, TcpStream};
 use std::time::Clock;
 
-/// The maximum number of bytes that a test writes to a socket without a reader.
+/// The maximum number of bytes that a test writes to a socket before anyone reads them.
 const MOST_BYTES: usize = 16_384;
 
-/// An upper bound on the allocations in any row.
+/// An upper bound on the number of allocations in a run of any row.
 const MOST_TRIES: u64 = 1_000_000;
 
 // The parameters of a run over a socket: how the ends take turns, and the allocation to refuse.
@@ -23,7 +23,7 @@ struct Trial {
     refused: u64,
 }
 
-/// Tests a row over a socket: with all messages of the peer at once, in turns, and one byte at a
+/// Tests a row over a socket. The peer sends all its messages at once, in turns, or one byte at a
 /// time. A `late` row is also tested with each allocation refused. Counts the runs in `runs`, and
 /// returns the number of the first run that failed.
 pub fn first_wrong<R>(
@@ -56,8 +56,8 @@ where
 }
 
 // Returns whether the row is tested at this pace. The row must be a short connection with a first
-// line, without a faulty packer or indexer. `AtOnce` skips clients that fail, because their unread
-// input resets the connection.
+// line, and may not use a faulty packer or indexer. `AtOnce` skips clients that fail, because the
+// input that they do not read resets the connection.
 fn is_tried(row: &Row<'_>, pace: Pace) -> bool {
     let command = row.command;
     let fits = row.talk.input.len() <= MOST_BYTES && row.talk.output.len() <= MOST_BYTES;

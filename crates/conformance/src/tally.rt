@@ -7,18 +7,18 @@ use std::io;
 /// The selection of tests to run.
 #[derive(Clone, Copy, PartialEq, Eq)]
 pub enum Depth {
-    /// Each case is run only unchanged.
+    /// Each case runs only with its input unchanged.
     Once,
-    /// Cases are run unchanged, as the program, over sockets, with late peers, and with failing
-    /// files.
+    /// Cases are run unchanged, by launching the program, over sockets, with late peers, and with
+    /// failing files.
     Edge,
-    /// All tests run except those with changed bytes, which need most of the time.
+    /// All tests run, except the tests that change bytes and take most of the time.
     Quick,
     Full,
 }
 
 impl Depth {
-    /// Returns the depth that an argument selects, or `None` for a file name.
+    /// Returns the depth that an argument selects, or `None` if the argument is a file name.
     pub fn of(word: &str) -> Option<Depth> {
         match word {
             "--once" => Some(Depth::Once),
@@ -45,7 +45,7 @@ pub struct Tally {
     pub depth: Depth,
     pub rows: u64,
     pub facts: u64,
-    /// The number of runs for facts.
+    /// The number of runs that check facts.
     pub tries: u64,
     pub runs: [u64; Way::ALL.len()],
     pub wrong: u64,

@@ -19,7 +19,8 @@ use Rattle.gdag.specs.Levels.{distinct_of, level, AreDistances}
 use Rattle.gdag.specs.Offer.{IsExact}
 use Rattle.gdag.specs.Walks.{CountsReached, common_of}
 
--- the entry could be appended: its id is new, its ids have the format, its node is well-shaped, and there is room
+-- the entry could be appended to the graph: its id is new, its ids have the format, its node is well-shaped, and the
+-- graph has room
 pub record MayComeNext {A : Type 0} (format : Format) (g : List (Entry A)) (entry : Entry A) : Type 0 where
   pub absent : node_at g entry.id ≡ None
   pub ids : HasIdsOf format entry
@@ -32,7 +33,7 @@ EntriesComeInOrder A =
     (format : Format) (front : List (Entry A)) (entry : Entry A) (back : List (Entry A))
     → IsGraph (record { format = format; entries = front ++ entry ∷ back }) → MayComeNext format front entry
 
--- a refused entry is refused for only one reason
+-- there is only one possible reason to refuse an entry
 abbrev pub OneCause : Type 0 → Type 0
 OneCause A =
     (format : Format) (g : List (Entry A)) (entry : Entry A) (fault other : GraphFault)
@@ -45,7 +46,7 @@ OneRefusal A =
     → IsRefused format old entries fault → IsRefused format old entries other
     → fault ≢ Memory → other ≢ Memory → fault ≡ other
 
--- a list whose entries all fit is refused only if out of memory, and its insertion has only one result
+-- a list whose entries all fit is refused only if memory runs out, and the graph after the insertion is unique
 abbrev pub WholeListsComeIn : Type 0 → Type 0
 WholeListsComeIn A =
     (format : Format) (old entries new : List (Entry A))
@@ -57,7 +58,7 @@ WholeListsComeIn A =
 abbrev pub ClosedIsConnected : Type 0 → Type 0
 ClosedIsConnected A = (g : List (Entry A)) → IsClosed g ↔ ((a : Id) → Holds g a → IsConnected g a)
 
--- reaching is transitive
+-- reachability is transitive
 abbrev pub ReachingGoesOn : Type 0 → Type 0
 ReachingGoesOn A = (g : List (Entry A)) (a b c : Id) → Reaches g a b → Reaches g b c → Reaches g a c
 
@@ -75,7 +76,7 @@ PathsAreShared A = (g h : List (Entry A)) (a b : Id) → Agree g h → IsConnect
 abbrev pub GrowingKeeps : Type 0 → Type 0
 GrowingKeeps A = (g h : List (Entry A)) → Grows g h → Keeps g h
 
--- growing is transitive
+-- growth of graphs is transitive
 abbrev pub GrowingGoesOn : Type 0 → Type 0
 GrowingGoesOn A = (f g h : List (Entry A)) → Grows f g → Grows g h → Grows f h
 
@@ -106,7 +107,7 @@ AgreeingStays A =
     (g h entries new : List (Entry A)) (format : Format)
     → Agree g h → All (AgreesWith g) entries → Inserts format h entries new → Agree g new
 
--- if two graphs agree, one refuses entries of the other only as too many or out of memory
+-- if two graphs agree, each refuses entries of the other only with `TooMany` or `Memory`
 abbrev pub AgreeingEntriesFit : Type 0 → Type 0
 AgreeingEntriesFit A =
     (g h entries : List (Entry A)) (format : Format) (fault : GraphFault)
@@ -118,7 +119,8 @@ AgreeingEntriesFit A =
 abbrev pub PeelsToOne : Type 0 → Type 0
 PeelsToOne A = (g : List (Entry A)) (a b c : Id) → PeelsTo g a b → PeelsTo g a c → b ≡ c
 
--- peeling follows only tags: the id is the commit itself, or a tag of an id that peels to the commit
+-- peeling follows only tags: an id that peels to a commit is that commit itself, or a tag of an id that peels to that
+-- commit
 abbrev pub PeelsAlongTags : Type 0 → Type 0
 PeelsAlongTags A =
     (g : List (Entry A)) (a c : Id) → PeelsTo g a c
@@ -134,17 +136,17 @@ ReachingGoesDown A =
     (g : List (Entry A)) (a b : Id) (p : ℕ)
     → IdsDiffer g → IsOrdered g → Reaches g a b → position_of g a ≡ Some p → (q : ℕ) × (position_of g b ≡ Some q) × (q ≤ p)
 
--- a closed graph stays closed when an entry is inserted whose parents it contains
+-- a closed graph stays closed when an entry is inserted and the graph contains all parents of that entry
 abbrev pub ClosedStays : Type 0 → Type 0
 ClosedStays A =
     (format : Format) (g : List (Entry A)) (entry : Entry A) (h : List (Entry A))
     → IsClosed g → HoldsParents g entry → ComesIn format g entry h → IsClosed h
 
--- the entry at this position has this id and this node
+-- the entry at position `position` has this id and this node
 abbrev pub IsAt : {A : Type 0} → List (Entry A) → ℕ → Id → Node A → Type 0
 IsAt g position a node = slice_get g position ≡ Some (entry_of a node)
 
--- an id has a node exactly if an entry at some position has both, and the id has no other position
+-- the graph maps an id to a node exactly if some entry has that id and that node, and each id has only one position
 abbrev pub PositionsAreNodes : Type 0 → Type 0
 PositionsAreNodes A =
     (g : List (Entry A)) → IdsDiffer g
@@ -165,19 +167,21 @@ SentAreEntries A =
     → IsGraph (record { format = g.format; entries = list }) × AreEntries list
     × All (λ entry. IsNode g.entries entry.id entry.node) list
 
--- in graph `h` each want is connected, and `h` contains every id that the want reaches in graph `s`
+-- each want is connected in graph `h`, and `h` contains every id that the want reaches in graph `s`
 abbrev pub HasAll : {A : Type 0} → List (Entry A) → List Id → List (Entry A) → Type 0
 HasAll s wants h = All (λ want. IsConnected h want × ((a : Id) → Reaches s want a → Holds h a)) wants
 
--- Inserting the list that a server with graph `s` sends makes the wants connected at a client with graph `c`. `s` is
--- closed and contains the wants, the two graphs agree, and the common ids are connected in `c`.
+-- If a client with graph `c` inserts the list that a server with graph `s` sends, each want is connected in the
+-- client's new graph. The graph `s` must be closed and contain the wants, the graphs `s` and `c` must agree, and the
+-- common ids must be connected in `c`.
 abbrev pub SendingIsEnough : Type 0 → Type 0
 SendingIsEnough A =
     (s c list new : List (Entry A)) (wants commons tips : List Id) (format : Format)
     → IdsDiffer s → IsClosed s → Agree s c → All (Holds s) wants → All (IsConnected c) commons
     → IsListToSend s wants commons tips list → Inserts format c list new → HasAll s wants new
 
--- a graph that contains all that the wants reach in a closed graph still does after the closed graph gets more nodes
+-- if `h` contains all that the wants reach in a closed graph `s`, the same holds for any graph `t` that keeps the nodes
+-- of `s`
 abbrev pub KeepingHasAll : Type 0 → Type 0
 KeepingHasAll A =
     (s t h : List (Entry A)) (wants : List Id)
@@ -185,14 +189,14 @@ KeepingHasAll A =
 
 -- ---- counts
 
--- the count is at least the number of distinct ids in the graph that the tips reach
+-- the counted number of ids is at least the number of distinct ids in the graph that the tips reach
 abbrev pub ReachedAreCounted : Type 0 → Type 0
 ReachedAreCounted A =
     (g : List (Entry A)) (tips ids : List Id) (held parents : ℕ)
     → CountsReached g tips held parents → IsDistinct bytes_eq ids
     → All (λ a. Holds g a × SomeReaches g tips a) ids → length ids ≤ held
 
--- growth of the graph does not change the counts for connected tips
+-- when the graph grows, the counts for connected tips do not change
 abbrev pub CountsStay : Type 0 → Type 0
 CountsStay A =
     (g h : List (Entry A)) (tips : List Id) (held parents : ℕ)
@@ -222,7 +226,8 @@ CommonsAreHeld A =
     → IsDistinct bytes_eq (common_of g haves)
     × ((a : Id) → Contains (common_of g haves) a ↔ (Contains haves a × Holds g a))
 
--- the distinct ids of a list are its ids, each once; those of a prefix of the list come first
+-- the distinct ids of a list are the ids of the list, each once, and begin with the distinct ids of any prefix of the
+-- list
 pub record AreDistinct (ids : List Id) : Type 0 where
   pub once : IsDistinct bytes_eq (distinct_of ids)
   pub same : (a : Id) → Contains (distinct_of ids) a ↔ Contains ids a

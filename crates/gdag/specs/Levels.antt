@@ -27,11 +27,11 @@ distinct_of ids = new_ids [] ids
 abbrev pub parents_of : {A : Type 0} → List (Entry A) → Id → List Id
 parents_of g a = unwrap_or (option_map (λ node. node.parents) (node_at g a)) []
 
--- the parents of all ids: first those of the first id, then those of the second, and so on
+-- the parents of all ids in the list: first the parents of the first id, then the parents of the second, and so on
 abbrev pub parents_of_each : {A : Type 0} → List (Entry A) → List Id → List Id
 parents_of_each g ids = flat_map (parents_of g) ids
 
--- a level: the ids of all earlier levels, and its own ids
+-- a level: the ids of all earlier levels, and the ids of this level
 pub record Depth : Type 0 where
   pub before : List Id
   pub ids : List Id
@@ -44,7 +44,7 @@ down_to depth = depth.before ++ depth.ids
 abbrev pub next_depth : {A : Type 0} → List (Entry A) → Depth → Depth
 next_depth g depth = record { before = down_to depth; ids = new_ids (down_to depth) (parents_of_each g depth.ids) }
 
--- level k with the ids before it; level 0 has the tips in order, each once
+-- level k with the ids of all earlier levels; level 0 has the tips in order, each once
 abbrev pub depth_at : {A : Type 0} → List (Entry A) → List Id → ℕ → Depth
 depth_at g tips zero = record { before = []; ids = distinct_of tips }
 depth_at g tips (suc k) = next_depth g (depth_at g tips k)
@@ -65,7 +65,7 @@ pub record AreLevels {A : Type 0} (g : List (Entry A)) (tips ids : List Id) : Ty
 
 -- ---- the distance of an id from the tips
 
--- a path of k steps leads from some tip to the id, each step from an id in the graph to a parent
+-- a path of k steps leads from some tip to the id, where each step leads from an id in the graph to a parent
 abbrev pub Steps : {A : Type 0} → List (Entry A) → List Id → ℕ → Id → Type 0
 Steps g tips zero a = Contains tips a
 Steps g tips (suc k) a = (b : Id) × Steps g tips k b × HasParent g b a
@@ -75,8 +75,9 @@ pub record IsAtDistance {A : Type 0} (g : List (Entry A)) (tips : List Id) (k : 
   pub path : Steps g tips k a
   pub least : (j : ℕ) → j < k → ¬ (Steps g tips j a)
 
--- Level k has exactly the ids at distance k. No id occurs twice, in one level or in two. The levels have at most as
--- many ids as there are tips and parents in the graph. After some level all levels are empty.
+-- Level k has exactly the ids at distance k. No id occurs twice, either in one level or in two levels. All levels
+-- together have at most as many ids as there are tips and parents in the graph. From some level on, all levels are
+-- empty.
 pub record AreDistances {A : Type 0} (g : List (Entry A)) (tips : List Id) : Type 0 where
   pub exact : (k : ℕ) (a : Id) → Contains (level g tips k) a ↔ IsAtDistance g tips k a
   pub once : (k : ℕ) → IsDistinct bytes_eq (levels_below g tips k)

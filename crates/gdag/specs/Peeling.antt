@@ -19,7 +19,7 @@ pub record IsCommit {A : Type 0} (g : List (Entry A)) (a : Id) : Type 0 where
   pub held : IsNode g a node
   pub commit : node.kind ≡ Commit
 
--- a chain of exactly this many tags leads from `a` to `b`
+-- a chain of exactly the given number of tags leads from `a` to `b`
 abbrev pub Tags : {A : Type 0} → List (Entry A) → ℕ → Id → Id → Type 0
 Tags g zero a b = a ≡ b
 Tags g (suc m) a b = (next : Id) × IsTagOf g a next × Tags g m next b

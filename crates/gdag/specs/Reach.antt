@@ -1,5 +1,5 @@
--- Reachability (gitglossary(7), "reachable"): a commit reaches its parents, a tag reaches its object, and each of these
--- reaches further objects.
+-- Reachability (gitglossary(7), "reachable"): a commit reaches its parents and all that they reach, and a tag reaches
+-- its object and all that the object reaches.
 use Rattle.std.specs.Prelude.{◌≡◌, List, ◌++◌, Contains}
 use Rattle.gname.specs.Ids.{Id}
 use Rattle.gobject.specs.declared.node.Node.{Node}
@@ -15,7 +15,7 @@ pub data Reaches {A : Type 0} (g : List (Entry A)) : Id → Id → Type 0 where
 abbrev pub SomeReaches : {A : Type 0} → List (Entry A) → List Id → Id → Type 0
 SomeReaches g ids b = (a : Id) × Contains ids a × Reaches g a b
 
--- the id `a` is connected: the graph contains all that `a` reaches, and so also `a`
+-- the id `a` is connected: the graph contains `a` and all that `a` reaches
 abbrev pub IsConnected : {A : Type 0} → List (Entry A) → Id → Type 0
 IsConnected g a = (b : Id) → Reaches g a b → Holds g b
 
@@ -27,10 +27,10 @@ IsClosed g = (a b : Id) → HasParent g a b → Holds g b
 abbrev pub Agree : {A : Type 0} → List (Entry A) → List (Entry A) → Type 0
 Agree {A} g h = (a : Id) (m n : Node A) → IsNode g a m → IsNode h a n → m ≡ n
 
--- the graph `h` is `g` with more entries appended
+-- the graph `g` grows to `h`: `h` is `g` with more entries appended
 abbrev pub Grows : {A : Type 0} → List (Entry A) → List (Entry A) → Type 0
 Grows {A} g h = (more : List (Entry A)) × (h ≡ g ++ more)
 
--- the graph `h` contains each node of `g` under the same id
+-- `h` keeps the nodes of `g`: the graph `h` contains each node of `g` under the same id
 abbrev pub Keeps : {A : Type 0} → List (Entry A) → List (Entry A) → Type 0
 Keeps {A} g h = (a : Id) (node : Node A) → IsNode g a node → IsNode h a node

@@ -1,4 +1,4 @@
--- Selection of the elements of a list with a property.
+-- Selection of the elements of a list that satisfy a property.
 use Rattle.std.specs.Prelude.{List, [], ◌∷◌}
 
 -- the second list has exactly the elements of the first that satisfy P, in order

@@ -1,4 +1,4 @@
--- The objects that a server sends for some wants to a client that already has the common ids with their ancestries
+-- The objects that a server sends for some wants, to a client that already has the common ids and all their ancestors
 -- (gitprotocol-v2(5), "fetch": `want`, `have`, `include-tag`).
 use Rattle.std.specs.Prelude.{◌⊎◌, ℕ, List, Contains}
 use Rattle.gname.specs.Ids.{Id}
@@ -7,7 +7,7 @@ use Rattle.gdag.specs.Reach.{SomeReaches}
 use Rattle.gdag.specs.Peeling.{IsTagOf, Tags, PeelsTo}
 use Rattle.gdag.specs.Selecting.{Selects}
 
--- an id that a want reaches and no common id reaches
+-- an id that some want reaches, and that no common id reaches
 pub record IsNew {A : Type 0} (g : List (Entry A)) (wants commons : List Id) (a : Id) : Type 0 where
   pub wanted : SomeReaches g wants a
   pub unknown : ¬ (SomeReaches g commons a)

@@ -8,8 +8,8 @@ use crate::graph::Graph;
 use std::alloc::Allocator;
 
 impl<A: Allocator + Copy> Graph<A> {
-    /// Returns whether the graph is closed: it contains each parent of each of its objects. It does
-    /// not allocate.
+    /// Returns whether the graph is closed: it contains each parent of each of its objects. The
+    /// call does not allocate.
     pub fn is_closed(&self) -> bool
         ensures { IsTrue result ↔ IsClosed self.now.entries }
     {

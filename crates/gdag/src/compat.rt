@@ -1,4 +1,4 @@
-//! Aliases of items of this crate.
+//! Alternative names for items of this crate.
 
 ghost use Rattle.std.specs.Prelude.{◌≡◌};
 ghost use Rattle.gobject.specs.Objects.{position_of};

@@ -12,7 +12,7 @@ use std::fmt;
 /// The reason why a call on a graph failed.
 #[derive(Clone, Copy, Debug, PartialEq, Eq, Drop)]
 pub enum GraphFault {
-    /// The object format of the entry's `id` or of one of its parents is not that of the graph.
+    /// The entry's `id`, or one of the entry's parents, does not have the graph's object format.
     OtherFormat { id: Oid },
     /// The `id` already has a different node, in the graph or earlier in the list.
     Conflict { id: Oid },
@@ -41,7 +41,7 @@ impl GraphFault {
         self.fault_row().1
     }
 
-    /// Returns the row of the fault in the table: its number and its name.
+    /// Returns the fault's row in the table of faults: the number and the name of the fault.
     pub fn fault_row(&self) -> (u32, &'static str)
         ensures { (result.0, result.1.now) ≡ graph_fault_row self.now }
     {

@@ -1,4 +1,4 @@
-//! The graph: a map from ids to nodes, in the order of their insertion.
+//! The graph: a map from ids to nodes, in insertion order.
 
 ghost use Rattle.std.specs.Prelude.{◌≡◌, [], length, IsTrue, ◌↔◌, slice_get, take, MatchOption, OnOk, OnErr, IfOk, IfErr, All, None, Some, ◌≤◌, ◌<◌, ◌++◌, ◌∷◌};
 ghost use Rattle.std.specs.Option.{option_copied, option_map};
@@ -18,8 +18,9 @@ use std::marker::Model;
 /// The maximum number of nodes of a graph.
 pub const MAX_NODES: usize = 1_048_576;
 
-/// The hasher for the ids of a graph. An attacker can choose ids, and can easily construct
-/// collisions of std's fast hasher. Collisions of `DefaultHasher` must be searched for one by one.
+/// The hasher for the ids of a graph. An attacker who chooses ids can easily construct ids that
+/// collide under std's fast hasher. Under `DefaultHasher` the attacker must search for each
+/// collision.
 pub type IdHasher = BuildHasherDefault<DefaultHasher>;
 
 /// The commits and tags of a repository in the order of their insertion. The ids are distinct and
@@ -44,7 +45,7 @@ impl<A: Allocator + Copy> Model for Graph<A> {
 }
 
 impl<A: Allocator + Copy> Graph<A> {
-    /// Returns a graph without nodes, for ids of the given format. It does not allocate.
+    /// Returns a graph without nodes, for ids of the given format. The call does not allocate.
     pub fn new_in(alloc: A, format: Format) -> Graph<A>
         ensures { result ≡ record { format = format; entries = [] } }
     {
@@ -55,15 +56,16 @@ impl<A: Allocator + Copy> Graph<A> {
         }
     }
 
-    /// Returns a graph without nodes, for SHA-1 ids. It does not allocate.
+    /// Returns a graph without nodes, for SHA-1 ids. The call does not allocate.
     pub fn new(alloc: A) -> Graph<A>
         ensures { result ≡ record { format = Sha1; entries = [] } }
     {
         Graph::new_in(alloc, Format::Sha1)
     }
 
-    /// Reserves room for `more` nodes, so that adding them does not move the others. Without enough
-    /// memory the call frees what it allocated. The contents of the graph are unchanged.
+    /// Reserves room for `more` nodes, so that adding these nodes does not move the existing nodes.
+    /// If memory runs out, the call frees what it has allocated. The contents of the graph are
+    /// unchanged.
     pub fn make_room(&mut self, more: usize)
         ensures { self.new ≡ self.old }
     {
@@ -88,7 +90,8 @@ impl<A: Allocator + Copy> Graph<A> {
         self.nodes.len()
     }
 
-    /// A law: a graph has distinct ids of its format, well-shaped nodes, and at most [`MAX_NODES`].
+    /// A law: a graph has distinct ids of its format and at most [`MAX_NODES`] nodes, which are
+    /// well-shaped.
     pub fn laws(&self)
         ensures { IsGraph self.now }
     {
@@ -102,8 +105,8 @@ impl<A: Allocator + Copy> Graph<A> {
         self.nodes.is_empty()
     }
 
-    /// Returns whether each node was inserted after all its parents. If so, the graph is closed,
-    /// and an id reaches no id at a higher position. It does not allocate.
+    /// Returns whether each node was inserted after all its parents. A graph in this order is
+    /// closed, and none of its ids reaches an id at a higher position. The call does not allocate.
     pub fn is_ordered(&self) -> bool
         ensures graph { IsGraph self.now }
         ensures ordered { IsTrue result ↔ IsOrdered self.now.entries }
@@ -111,7 +114,7 @@ impl<A: Allocator + Copy> Graph<A> {
         self.ordered
     }
 
-    /// Returns whether the graph contains the id. It does not allocate.
+    /// Returns whether the graph contains the id. The call does not allocate.
     #[tactic(auto, using(crate::proofs::Pairs::node_at_pairs))]
     pub fn contains(&self, id: &Oid) -> bool
         ensures { IsTrue result ↔ Holds self.now.entries id.now }
@@ -119,15 +122,15 @@ impl<A: Allocator + Copy> Graph<A> {
         self.nodes.contains_key(id)
     }
 
-    /// Returns whether the graph contains each of the ids. It does not allocate.
+    /// Returns whether the graph contains each of the ids. The call does not allocate.
     pub fn contains_all(&self, ids: &[Oid]) -> bool
         ensures { IsTrue result ↔ All (Holds self.now.entries) ids.now }
     {
         ids.iter().all(|id| self.contains(id))
     }
 
-    /// Returns the first of the ids that the graph does not contain, or `None`. It does not
-    /// allocate.
+    /// Returns the first of the ids that the graph does not contain, or `None` if it contains all
+    /// of them. The call does not allocate.
     pub fn first_absent(&self, ids: &[Oid]) -> Option<Oid>
         ensures { MatchOption result (All (Holds self.now.entries) ids.now)
             (IsFirstAbsent self.now.entries ids.now) }
@@ -140,7 +143,7 @@ impl<A: Allocator + Copy> Graph<A> {
         None
     }
 
-    /// Returns the node under the id, or `None` if the graph does not contain the id.
+    /// Returns the node with this id, or `None` if the graph does not contain the id.
     #[tactic(auto, using(crate::proofs::Pairs::node_at_pairs))]
     pub fn node(&self, id: &Oid) -> Option<&Node<A>>
         ensures { option_copied result ≡ node_at self.now.entries id.now }
@@ -260,8 +263,8 @@ impl<A: Allocator + Copy> Graph<A> {
         Ok(())
     }
 
-    /// Keeps only the first `count` entries. `ordered` states whether each of them comes after all
-    /// its parents.
+    /// Keeps only the first `count` entries. `ordered` states whether each of these entries comes
+    /// after all its parents.
     #[tactic(auto, using(crate::proofs::Pairs::taken_pairs))]
     pub(crate) fn cut_back(&mut self, count: usize, ordered: bool)
         requires { IsTrue ordered ↔ IsOrdered (take count self.old.entries) }

@@ -1,4 +1,4 @@
-//! Adding of entries to a graph. Either all are added or none.
+//! Insertion of entries into a graph. Either all entries of a list are inserted, or none of them.
 
 ghost use Rattle.std.specs.Prelude.{◌≡◌, ◌<◌, ◌++◌, ◌∷◌, ◌↔◌, [], length, None, MatchResult, OnOk, IsTrue, All};
 ghost use Rattle.gobject.specs.Objects.{IsShaped, node_at};
@@ -18,7 +18,7 @@ impl<A: Allocator + Copy> Graph<A> {
     /// Appends an entry, and returns whether its id is new. If the graph already maps the id to the
     /// same node, nothing changes.
     ///
-    /// Fails as `insert_all` does with a list of this one entry. A failed call leaves the graph
+    /// Fails as `insert_all` does for a list with only this entry. A failed call leaves the graph
     /// unchanged.
     pub fn insert(&mut self, entry: Entry<A>) -> Result<bool, GraphFault>
         ensures adds { AddsOne self.old entry self.new result }
@@ -43,8 +43,8 @@ impl<A: Allocator + Copy> Graph<A> {
     /// same node adds nothing. New entries keep the order of the list, and no entry is copied.
     ///
     /// The call checks the entries in order, and fails at the first one that can't be added. A
-    /// failed call leaves the graph unchanged. The fault is the first in this list that applies to
-    /// the entry:
+    /// failed call leaves the graph unchanged. The fault is the first of the following that applies
+    /// to the entry:
     ///
     /// - `OtherFormat`: the entry's id or one of its parents does not have the graph's format.
     /// - `TooManyParents`.

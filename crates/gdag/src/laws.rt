@@ -57,7 +57,7 @@ pub fn paths_are_shared<A: Allocator + Copy>()
     ensures { PathsAreShared A }
 {}
 
-/// A graph that only had objects appended keeps its nodes.
+/// A graph keeps its nodes when objects are appended.
 #[tactic(auto, using(crate::proofs::Growing::grows_keeps))]
 pub fn growing_keeps<A: Allocator + Copy>()
     ensures { GrowingKeeps A }
@@ -128,13 +128,14 @@ pub fn reaching_goes_down<A: Allocator + Copy>()
     ensures { ReachingGoesDown A }
 {}
 
-/// A closed graph stays closed when an entry is added whose parents it contains.
+/// A closed graph stays closed when an entry is added and the graph contains all parents of that
+/// entry.
 pub fn closed_stays<A: Allocator + Copy>()
     ensures { ClosedStays A }
 {}
 
 /// `Graph::node`, `Graph::position` and `Graph::at` agree. Each id of the graph has exactly one
-/// position, and the same node at that position.
+/// position, and the entry at that position has the id's node.
 pub fn positions_are_nodes<A: Allocator + Copy>()
     ensures { PositionsAreNodes A }
 {}
@@ -161,14 +162,15 @@ pub fn sending_is_enough<A: Allocator + Copy>()
     ensures { SendingIsEnough A }
 {}
 
-/// A client's graph with every id that the wants reach in a server's graph stays complete when the
-/// server's graph grows. A closed server's graph that contains the wants already has everything
-/// that they reach.
+/// If a client's graph contains every id that the wants reach in a server's graph, it still does
+/// when the server's graph grows. The server's graph must be closed and contain the wants, so
+/// growth adds no id that the wants reach.
 pub fn keeping_has_all<A: Allocator + Copy>()
     ensures { KeepingHasAll A }
 {}
 
-/// The counted number is at least the number of distinct ids in the graph that some tips reach.
+/// The counted number of ids is at least the number of distinct ids in the graph that the tips
+/// reach.
 pub fn reached_are_counted<A: Allocator + Copy>()
     ensures { ReachedAreCounted A }
 {}
@@ -180,20 +182,22 @@ pub fn counts_stay<A: Allocator + Copy>()
     ensures { CountsStay A }
 {}
 
-/// Level k has exactly the ids at distance k, which is the least number of steps to a parent from a
-/// tip. No id occurs twice, in one level or in two. The number of ids in all levels is at most the
-/// number of tips and parents, so only finitely many levels have ids.
+/// Level k has exactly the ids at distance k from the tips, which is the length of the shortest
+/// path from a tip. Each step of a path leads from an object to a parent. No id occurs twice,
+/// either in one level or in two levels. All levels together have at most as many ids as there are
+/// tips and parents, so only finitely many levels have ids.
 pub fn levels_are_distances<A: Allocator + Copy>()
     ensures { LevelsAreDistances A }
 {}
 
-/// An id is in a level of some tips exactly when one of the tips reaches it.
+/// An id is in some level exactly when one of the tips reaches that id.
 pub fn levels_are_reached<A: Allocator + Copy>()
     ensures { LevelsAreReached A }
 {}
 
-/// The offer of at most `n` ids is unique. Its ids are distinct, may be offered, and are reachable
-/// from a tip. An offer of fewer than `n` ids contains every such id.
+/// The offer of at most `n` ids is unique. The ids of the offer are distinct, may be offered, and
+/// are reachable from a tip. An offer of fewer than `n` ids contains every id that may be offered
+/// and is reachable from a tip.
 #[tactic(auto, using(crate::proofs::OfferLaws::offers_are_exact))]
 pub fn offers_are_exact<A: Allocator + Copy>()
     ensures { OffersAreExact A }

@@ -11,11 +11,11 @@ use Rattle.grefs.specs.RefLists.{RefList, SetsRef}
 abbrev pub HasConnectedRefs : {A : Type 0} → List (Entry A) → RefList → Type 0
 HasConnectedRefs g refs = All (IsConnected g) (values_of refs)
 
--- refs stay connected when a graph keeps all its nodes
+-- connected refs stay connected when the graph keeps all its nodes
 abbrev pub ConnectedRefsStay : Type 0 → Type 0
 ConnectedRefsStay A = (g h : List (Entry A)) (refs : RefList) → Keeps g h → HasConnectedRefs g refs → HasConnectedRefs h refs
 
--- refs stay connected when a ref is set to a connected id
+-- connected refs stay connected when one of them is set to a connected id
 abbrev pub SettingKeepsConnectedRefs : Type 0 → Type 0
 SettingKeepsConnectedRefs A =
     (g : List (Entry A)) (old new : RefList) (name : Name) (id : Id)

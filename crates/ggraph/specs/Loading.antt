@@ -1,4 +1,4 @@
--- Loading of a repository text: the line at which it is refused, and the reason.
+-- Loading of a repository text: the line at which the text is refused, and the reason.
 use Rattle.std.specs.Prelude.{◌≡◌, ◌≢◌, ◌⊎◌, ℕ, ◌+◌, List, [], ◌∷◌, ◌++◌, length, Result, MatchResult}
 use Rattle.gname.specs.Ids.{Id}
 use Rattle.gname.specs.Names.{Name}
@@ -32,34 +32,34 @@ pub record IsWholeText (A : Type 0) (order : Order) (lines : List (List ℕ)) : 
   pub loadable : IsLoadable order graph refs head
   pub parts : lines_of graph refs head ≡ lines
 
--- the next line may not follow these lines in any order of nodes
+-- the line after these lines is wrong: no repository text, with its nodes in any order, begins with all of them
 abbrev pub IsWrongLine : (A : Type 0) → List ℕ → List (List ℕ) → Type 0
 IsWrongLine A text lines = (line : List ℕ) × GoesOn text lines line × ¬ (BeginsText A Any (lines ++ line ∷ []))
 
--- the text ends too early after these lines: inside a line, or before the last line
+-- after these lines the text ends too early: inside a line, or before the last line of a repository text
 abbrev pub EndsEarly : (A : Type 0) → Order → List ℕ → List (List ℕ) → Type 0
 EndsEarly A order text lines =
     (rest : List ℕ) × (text ≡ text_of lines ++ rest) × IsInLine rest × (rest ≡ [] → ¬ (IsWholeText A order lines))
 
--- the next line is wrong only because a parent is not on an earlier line
+-- the line after these lines is wrong only because a parent is not on an earlier line
 abbrev pub NamesLaterParent : (A : Type 0) → List ℕ → List (List ℕ) → Type 0
 NamesLaterParent A text lines =
     (line : List ℕ) × GoesOn text lines line
     × ¬ (BeginsText A ParentsFirst (lines ++ line ∷ [])) × BeginsText A Any (lines ++ line ∷ [])
 
--- a line whose contents need memory: that of a node, of a ref, or of a symbolic HEAD
+-- a line with contents to store: the line of a node, of a ref, or of a symbolic HEAD
 abbrev pub IsKeptLine : (A : Type 0) → List ℕ → Type 0
 IsKeptLine A line =
     ((entry : Entry A) × (line ≡ node_text entry)) ⊎ ((ref : Name × Id) × (line ≡ ref_line ref))
     ⊎ ((target : Name) × (line ≡ head_line {A = A} (Symref target)))
 
--- the next line may follow these lines, and its contents need memory
+-- the line after these lines is valid, and has contents to store
 abbrev pub TakesMemory : (A : Type 0) → Order → List ℕ → List (List ℕ) → Type 0
 TakesMemory A order text lines =
     (line : List ℕ) × GoesOn text lines line × BeginsText A order (lines ++ line ∷ []) × IsKeptLine A line
 
 -- The reason to refuse a text. All lines before the reported line are valid, and the reported line is wrong or missing.
--- Out of memory is reported only at a valid line.
+-- Out of memory is reported only at a valid line with contents to store.
 abbrev pub StopsAt : (A : Type 0) → Order → List ℕ → LoadFault → Type 0
 StopsAt A order text Memory = (lines : List (List ℕ)) × TakesMemory A order text lines
 StopsAt A order text (Text number) =
@@ -69,7 +69,7 @@ StopsAt A order text (ParentLater number) =
     (order ≡ ParentsFirst)
     × ((lines : List (List ℕ)) × (number ≡ length lines + 1) × BeginsText A order lines × NamesLaterParent A text lines)
 
--- the text of a valid repository is loaded as that repository, unless out of memory
+-- the text of a valid repository is loaded as that repository, unless memory runs out
 abbrev pub AcceptsText : (A : Type 0) → Order → List ℕ → Result (Repository A) LoadFault → Type 0
 AcceptsText A order text result =
     (graph : History A) (refs : RefList) (head : Head A) → IsLoadable order graph refs head
@@ -82,7 +82,7 @@ ParentsFirstIsOrdered A =
     (graph : History A) (refs : RefList) (head : Head A) → IsLoadable ParentsFirst graph refs head
     → IsOrdered graph.entries
 
--- apart from out of memory, a text is refused at only one line and for only one reason
+-- apart from out of memory, there is only one line at which a text may be refused, and only one reason
 abbrev pub TextsStopOnce : Type 0 → Type 0
 TextsStopOnce A =
     (order : Order) (text : List ℕ) (a b : LoadFault) → StopsAt A order text a → StopsAt A order text b

@@ -1,4 +1,4 @@
--- The text format of a repository. The first line names the object format. Then follow a line for each node in
+-- The text format of a repository. The first line names the object format. After it come a line for each node in
 -- insertion order, a line for each ref in name order, a line for HEAD and a last line. Each line ends with LF, and ids
 -- are in lower case.
 use Rattle.std.specs.Prelude.{◌≡◌, ⊤, ℕ, List, [], ◌∷◌, ◌++◌, map, codes}
@@ -36,12 +36,12 @@ head_line _ = codes "h none"
 abbrev pub last_line : List ℕ
 last_line = codes "end"
 
--- the lines of a repository; the line of a node is the same as in a plain pack
+-- the lines of a repository's text; a node has the same line as in a plain pack
 abbrev pub lines_of : {A : Type 0} → History A → RefList → Head A → List (List ℕ)
 lines_of g refs head =
     first_line g.format ∷ (map node_text g.entries ++ (map ref_line refs ++ (head_line head ∷ last_line ∷ [])))
 
--- the text of a repository
+-- the text of a repository: all its lines
 abbrev pub repository_text : {A : Type 0} → History A → RefList → Head A → List ℕ
 repository_text g refs head = text_of (lines_of g refs head)
 
@@ -58,19 +58,19 @@ abbrev pub ComesAfter : {A : Type 0} → Order → List (Entry A) → Entry A �
 ComesAfter Any g entry = ⊤
 ComesAfter ParentsFirst g entry = HoldsParents g entry
 
--- the entry may follow these entries: it could be appended to their graph, and it comes after its parents if the order
--- demands it
+-- the entry may follow these entries: the entry could be appended to their graph, and comes after its parents if the
+-- order demands this
 pub record MayFollow {A : Type 0} (order : Order) (format : Format) (g : List (Entry A))
     (entry : Entry A) : Type 0 where
   pub comes : MayComeNext format g entry
   pub after : ComesAfter order g entry
 
--- the ref may follow these refs: its name is allowed next, and its id has the format
+-- the ref may follow these refs: a ref with its name could be appended to them, and its id has the format
 pub record RefMayFollow (format : Format) (refs : RefList) (ref : Name × Id) : Type 0 where
   pub comes : NameMayComeNext refs ref.0
   pub id : IsIdOf format ref.1
 
--- P holds of each element together with the elements before it
+-- P holds of each element of the list and the elements before that element
 abbrev pub EachFollows : {X : Type 0} → (List X → X → Type 0) → List X → Type 0
 EachFollows {X} P xs = (front : List X) (x : X) (rest : List X) → xs ≡ front ++ x ∷ rest → P front x
 

@@ -1,4 +1,4 @@
--- The reasons to refuse saving a repository.
+-- The reasons why a repository is not saved.
 use Rattle.std.specs.Prelude.{◌≡◌, List, [], ◌∷◌, ◌++◌, map, All}
 use Rattle.gname.specs.Ids.{Id, IsIdOf}
 use Rattle.gname.specs.declared.formats.Format.{Format}
@@ -29,8 +29,8 @@ pub record IsFirstOther (format : Format) (ids : List Id) (id : Id) : Type 0 whe
   pub before : All (IsIdOf format) front
   pub other : ¬ (IsIdOf format id)
 
--- the reason to refuse saving refs and HEAD with a graph: the first id of another format, or out of memory if there is
--- none
+-- the reason why refs and HEAD are not saved with a graph: the first id of another format, or out of memory if all ids
+-- have the graph's format
 abbrev pub SaveRefuses : {A : Type 0} → Format → RefList → Head A → SaveFault → Type 0
 SaveRefuses format refs head (OtherFormat id) = IsFirstOther format (named_ids refs head) id
 SaveRefuses format refs head Memory = All (IsIdOf format) (named_ids refs head)

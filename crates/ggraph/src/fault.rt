@@ -14,9 +14,9 @@ use std::fmt;
 /// The reason why a repository text was not loaded.
 #[derive(Clone, Copy, Debug, PartialEq, Eq, Drop)]
 pub enum LoadFault {
-    /// The first line, counted from 1, that is malformed, exceeds a limit or is missing.
+    /// The `line`, counted from 1, is the first that is malformed, exceeds a limit or is missing.
     Text { line: usize },
-    /// The first line, counted from 1, with a parent that is not on an earlier line.
+    /// The `line`, counted from 1, is the first with a parent that is not on an earlier line.
     ParentLater { line: usize },
     /// Out of memory.
     Memory,
@@ -37,7 +37,7 @@ impl LoadFault {
         self.fault_row().1
     }
 
-    // Returns the row of the fault in the table: its number and its name.
+    // Returns the fault's row in the table of faults: the number and the name of the fault.
     fn fault_row(&self) -> (u32, &'static str)
         ensures { (result.0, result.1.now) ≡ load_fault_row self.now }
     {
@@ -85,7 +85,7 @@ impl<T: Drop> From<AllocFailed<T>> for LoadFault {
 /// The reason why a repository was not saved.
 #[derive(Clone, Copy, Debug, PartialEq, Eq, Drop)]
 pub enum SaveFault {
-    /// The object format of this `id` of a ref or of `HEAD` is not that of the graph.
+    /// The `id` is the first id of a ref or of `HEAD` that does not have the graph's object format.
     OtherFormat { id: Oid },
     /// Out of memory.
     Memory,
@@ -106,7 +106,7 @@ impl SaveFault {
         self.fault_row().1
     }
 
-    // Returns the row of the fault in the table: its number and its name.
+    // Returns the fault's row in the table of faults: the number and the name of the fault.
     fn fault_row(&self) -> (u32, &'static str)
         ensures { (result.0, result.1.now) ≡ save_fault_row self.now }
     {

@@ -8,14 +8,14 @@ use crate::text::text_laws;
 use gdag::laws::connected_stays_connected;
 use std::alloc::Allocator;
 
-/// Refs stay connected when a graph keeps all its nodes.
+/// Connected refs stay connected when the graph keeps all its nodes.
 pub fn connected_refs_stay<A: Allocator + Copy>()
     ensures { ConnectedRefsStay A }
 {
     connected_stays_connected::<A>();
 }
 
-/// Refs stay connected when a ref is set to a connected id.
+/// Connected refs stay connected when one of them is set to a connected id.
 pub fn setting_keeps_connected_refs<A: Allocator + Copy>()
     ensures { SettingKeepsConnectedRefs A }
 {}
@@ -25,8 +25,8 @@ pub fn parents_first_is_ordered<A: Allocator + Copy>()
     ensures { ParentsFirstIsOrdered A }
 {}
 
-/// Apart from out of memory, [`load`](crate::load) has only one possible fault for a text. It
-/// reports the first wrong line.
+/// Apart from out of memory, [`load`](crate::load) has only one possible fault for a text. This
+/// fault states the first wrong line.
 #[tactic(auto, using(crate::proofs::StoppingOnce::stop_once))]
 pub fn texts_stop_once<A: Allocator + Copy>()
     ensures { TextsStopOnce A }

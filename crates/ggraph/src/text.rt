@@ -15,7 +15,7 @@ use gdag::Graph;
 use grefs::{Head, Refs};
 use std::alloc::{Allocator, Global};
 
-/// The order of nodes that `load` demands of a text.
+/// The order in which `load` requires the nodes of a text.
 #[derive(Clone, Copy, Debug, PartialEq, Eq)]
 pub enum Order {
     /// The nodes may be in any order.

@@ -21,7 +21,7 @@ pub(crate) const OK: &str = "ok";
 pub(crate) const MEMORY: &str = "out of memory";
 
 /// The inputs of one test run: the subject, the pack, the files of the store, and the files that
-/// replace the store after `calls` calls.
+/// replace those of the store after `calls` calls.
 #[derive(Clone, Copy)]
 pub(crate) struct Trial<'t, 'a> {
     pub(crate) row: &'t Row<'a>,
@@ -75,7 +75,7 @@ fn of_index<A: Allocator + Copy>(
     }
 }
 
-// Returns the number of objects in an index, if the index holds all the ids.
+// Returns the number of objects in an index as text, if the index holds all the ids.
 fn told_index<A: Allocator + Copy>(
     alloc: Global,
     index: &IndexedPack<A>,
@@ -90,7 +90,7 @@ fn told_index<A: Allocator + Copy>(
     Ok(format!(in alloc; "{OK} {count}")?)
 }
 
-// Opens the store, and reads the object if the subject has an id. Returns `ok` or the fault.
+// Opens the store, and reads an object if the subject names one. Returns `ok` or the fault.
 fn of_reading<A: Allocator + Copy>(
     alloc: Global,
     memory: A,

@@ -17,9 +17,9 @@ const PIECE: usize = 1_000;
 enum Refused<A: Allocator + Copy> {
     // The indexer rejected the pack.
     Repository(RepositoryFault<A>),
-    // The graph of commits and tags rejected the pack.
+    // The graph rejected a commit or a tag of the pack.
     Graph(GraphFault),
-    // The indexer rejected the pack but kept a part of it.
+    // The indexer rejected the pack, but kept a part of the pack.
     Kept,
 }
 

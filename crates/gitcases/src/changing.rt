@@ -4,7 +4,7 @@ use gitobjects::{Cause, FolderTime, MemoryFiles, MemoryPack, ObjectFiles};
 use std::alloc::Allocator;
 use std::cell::Cell;
 
-/// Files that are replaced by other files after some calls.
+/// Files that are replaced by other files after a number of calls.
 #[derive(Drop)]
 pub(crate) struct Changing<'f, A: Allocator + Copy> {
     before: &'f MemoryFiles<A>,
@@ -13,7 +13,7 @@ pub(crate) struct Changing<'f, A: Allocator + Copy> {
 }
 
 impl<'f, A: Allocator + Copy> Changing<'f, A> {
-    /// Returns files that `after` replaces after this number of calls.
+    /// Returns files that are replaced by those in `after` after this number of calls.
     pub(crate) fn new(
         before: &'f MemoryFiles<A>,
         after: &'f MemoryFiles<A>,
@@ -26,7 +26,7 @@ impl<'f, A: Allocator + Copy> Changing<'f, A> {
         }
     }
 
-    // Returns the files that the next call reads.
+    // Returns the files that the next call uses: the original files or their replacements.
     fn files(&self) -> &'f MemoryFiles<A> {
         match self.calls.get().checked_sub(1) {
             Some(calls) => {
@@ -75,7 +75,7 @@ impl<'f, A: Allocator + Copy> ObjectFiles for Changing<'f, A> {
         self.files().open_pack(path)
     }
 
-    // The time of the folder changes when the files are replaced.
+    // A folder's time of change differs before and after the replacement.
     fn change_time(&self, path: &str) -> Result<Option<FolderTime>, Cause> {
         let is_after = self.calls.get() == 0;
         match self.files().change_time(path)? {

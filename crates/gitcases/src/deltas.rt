@@ -47,7 +47,8 @@ pub(crate) fn copy_of(alloc: Global, offset: usize, size: usize) -> Result<Vec<u
     Ok(instruction)
 }
 
-// Appends a byte unless it is 0, and sets the bit for this byte in the first byte.
+// Appends a byte unless the byte is 0. Sets the bit in the instruction's first byte that marks the
+// byte as present.
 fn put_byte(instruction: &mut Vec<u8>, bit: u8, byte: u8) -> Result<(), Trouble> {
     if byte != 0 {
         instruction.push(byte)?;

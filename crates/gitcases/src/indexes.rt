@@ -41,7 +41,7 @@ impl<'a> Lines<'a> {
         Ok(())
     }
 
-    /// Keeps the entries in the order of addition, not sorted by id.
+    /// Makes the index keep its entries in the order of addition, instead of sorting them by id.
     pub(crate) fn set_unsorted(&mut self) {
         self.is_unsorted = true;
     }
@@ -68,8 +68,8 @@ impl<'a> Lines<'a> {
     }
 }
 
-// Appends the fan-out table: for each byte, the number of ids whose first byte is at most that
-// byte.
+// Appends the fan-out table: for each byte value, the number of ids whose first byte is at most
+// that value.
 fn put_fan_out(text: &mut Vec<u8>, lines: &[Line]) -> Result<(), Trouble> {
     for first in 0..=u8::MAX {
         let count = count_up_to(lines, first);
@@ -102,7 +102,7 @@ fn put_crcs(text: &mut Vec<u8>, lines: &[Line]) -> Result<(), Trouble> {
     Ok(())
 }
 
-// The bit that marks an index into the table of 64-bit offsets.
+// The bit that marks an offset as an index into the table of 64-bit offsets.
 const IS_LONG: u32 = 0x8000_0000;
 
 fn put_offsets(text: &mut Vec<u8>, lines: &[Line]) -> Result<(), Trouble> {

@@ -1,12 +1,12 @@
-//! Tests of Git's file formats, from files: packs, Git directories, refs, URLs and client paths.
-//! The tests run the crates that read these formats.
+//! Tests of the crates that read Git's formats: packs, Git directories, refs, URLs and client
+//! paths. Test files describe the inputs and the expected results.
 //!
-//! The arguments of the program name test files; FORMAT.md describes their lines. A row states the
-//! expected result for a pack, a store or a text. The input of a row is unchanged, truncated after
-//! each byte, or changed in one bit. Files of a row may also change during a run, and each
-//! allocation is refused in turn. Packs and stores are in memory. Refs are files in a folder, which
-//! each run creates again. Each wrong result is a line on standard output, and the last lines count
-//! the runs.
+//! The arguments of the program name test files. FORMAT.md describes the lines of these files. A
+//! row states the expected result for a pack, a store or a text. A row is tested with its input
+//! unchanged, truncated after each byte, and changed in one bit. A row is also tested with files
+//! that change during the run, and with each allocation refused in turn. Packs and stores are in
+//! memory. Refs are files in a folder. Each run creates this folder anew. The program prints a line
+//! for each wrong result. The last lines that it prints count the runs.
 //!
 //! # Proved
 //!
@@ -56,7 +56,7 @@ fn main(rt: HostRuntime) -> ExitCode {
     }
 }
 
-// Runs the tests of the files in the arguments. Returns whether all results were right.
+// Runs the tests of the files that the arguments name. Returns whether all results were right.
 fn run_cases<R: AllocGlobal + Env + Files + Print>(rt: &R) -> io::Result<bool> {
     let names: Vec<String> = env::args(rt)?.skip(1).collect(rt.alloc())?;
     let mut files = Vec::new(rt.alloc());
@@ -77,8 +77,8 @@ fn run_cases<R: AllocGlobal + Env + Files + Print>(rt: &R) -> io::Result<bool> {
     }
 }
 
-// Runs the tests of the files with these names. A failure returns the file, the line and the
-// reason.
+// Runs the tests of the files with these names. If a file can't be tested, returns the file, the
+// line and the reason.
 fn try_files<'a, R: Files + Print + AllocGlobal>(
     rt: &R,
     names: &'a [String],

@@ -1,4 +1,4 @@
-//! Tests of reading and updating refs, in a folder that each run creates again.
+//! Tests of reading and updating refs, in a folder that each run creates anew.
 
 use crate::answers::{MEMORY, OK, Trial};
 use crate::row::{Row, Update};
@@ -44,7 +44,7 @@ impl<T: Drop, A: Allocator + Copy> From<AllocFailed<T>> for Refused<A> {
     }
 }
 
-/// Returns the result of reading the refs: `ok` and their names, or the fault.
+/// Returns the result of reading the refs: `ok` and the names of the refs, or the fault.
 pub(crate) fn of_refs<R: Files + AllocGlobal, A: Allocator + Copy>(
     rt: &R,
     memory: A,
@@ -159,7 +159,7 @@ fn name_of<A: Allocator + Copy>(memory: A, update: &Update) -> Result<RefName<A>
     }
 }
 
-// Returns all refs, or no refs if they can't be read.
+// Returns all refs, or an empty list if the refs can't be read.
 fn all_refs<R: Files + AllocGlobal>(rt: &R) -> Result<Refs, Trouble> {
     match read_refs(rt.alloc(), rt, GIT_DIR) {
         Ok(refs) => Ok(refs),
@@ -177,7 +177,7 @@ fn is_at(refs: &Refs, update: &Update) -> bool {
         && pair.1 == update.new)
 }
 
-// Returns whether both lists of refs are equal.
+// Returns whether the two lists of refs are equal.
 fn is_same(before: &Refs, after: &Refs) -> bool {
     before.len() == after.len()
         && before.as_slice().iter().zip(after.as_slice()).all(|(one, other)| one.0.as_bytes()
@@ -199,7 +199,7 @@ fn has_lock<R: Files + AllocGlobal>(rt: &R, updates: &[Update]) -> Result<bool, 
 }
 
 /// Returns the result of a clone that receives the refs: `ok` or the fault. After a fault, no file
-/// of the clone may remain. No allocation is refused.
+/// of the clone may remain. This test does not refuse allocations.
 pub(crate) fn of_cloning<R: Files + AllocGlobal>(rt: &R, row: &Row<'_>) -> Result<String, Trouble> {
     make_folder(rt, &[])?;
     let outcome = clone_refs(rt, row.updates.as_slice());

@@ -21,7 +21,7 @@ pub(crate) struct Object<'a> {
     pub(crate) id: Oid,
 }
 
-/// All texts and objects. The first entry with a name hides later entries with this name.
+/// All texts and objects. If several entries have the same name, only the first of them is used.
 #[derive(Drop)]
 pub(crate) struct Names<'a> {
     texts: Vec<Text<'a>>,

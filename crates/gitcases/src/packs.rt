@@ -1,4 +1,4 @@
-//! Packs that lines of a test file describe, valid or not (gitformat-pack(5)).
+//! Packs, valid or not, that lines of a test file describe (gitformat-pack(5)).
 
 use crate::deltas::low_bits;
 use crate::names::Object;
@@ -8,7 +8,7 @@ use gzlib::{Deflater, crc32_of, put_stored};
 use sha1::Sha1;
 use std::alloc::Global;
 
-/// The lengths of a pack's header and trailer.
+/// The lengths in bytes of a pack's header and of its trailer.
 pub(crate) const HEADER: usize = 12;
 
 pub(crate) const TRAILER: usize = 20;
@@ -81,7 +81,7 @@ impl<'a> Pack<'a> {
         Ok(())
     }
 
-    /// Appends the zlib stream of the bytes.
+    /// Appends a zlib stream that inflates to the bytes.
     pub(crate) fn put_stream(
         &mut self,
         deflater: &mut Deflater<Global>,
@@ -100,8 +100,8 @@ impl<'a> Pack<'a> {
         self.put_stream(deflater, object.body.as_slice())
     }
 
-    /// Appends an offset delta in stored zlib blocks. The base entry begins `distance` bytes before
-    /// the delta entry.
+    /// Appends an offset delta, compressed as stored zlib blocks. The base entry begins `distance`
+    /// bytes before the delta entry.
     pub(crate) fn put_offset_delta(
         &mut self,
         distance: usize,
@@ -112,7 +112,8 @@ impl<'a> Pack<'a> {
         Ok(put_stored(&mut self.body, delta)?)
     }
 
-    /// Returns the distance in bytes from the next entry to the entry `back` places before it.
+    /// Returns the distance in bytes between the next entry and the entry that is `back` entries
+    /// before it.
     pub(crate) fn distance_of(&self, back: usize) -> Result<usize, Trouble> {
         let next = self.body.len().saturating_add(HEADER);
         let place = self.starts.len().wrapping_sub(back);
@@ -122,8 +123,8 @@ impl<'a> Pack<'a> {
         }
     }
 
-    // Appends the distance of an offset delta in groups of seven bits, the highest group first.
-    // Each group except the last is stored minus one.
+    // Appends the distance of an offset delta in groups of seven bits, the highest group first. The
+    // value of each group except the last is stored minus one.
     fn put_distance(&mut self, distance: usize) -> Result<(), Trouble> {
         let first = self.body.len();
         self.body.push(low_bits(distance))?;
@@ -140,7 +141,7 @@ impl<'a> Pack<'a> {
         Ok(())
     }
 
-    /// Appends a delta whose base is named by id, in stored zlib blocks.
+    /// Appends a delta that names its base by id, compressed as stored zlib blocks.
     pub(crate) fn put_ref_delta(&mut self, base: &Object<'_>, delta: &[u8]) -> Result<(), Trouble> {
         self.put_head(REF_DELTA, delta.len())?;
         self.put_bytes(base.id.as_bytes())?;
@@ -168,7 +169,7 @@ impl<'a> Pack<'a> {
         Ok(bytes)
     }
 
-    /// Returns the offset and the CRC-32 of the entry with this number, from 1.
+    /// Returns the offset and the CRC-32 of the entry with this number, counted from 1.
     pub(crate) fn entry(&self, number: usize) -> Result<(usize, u32), Trouble> {
         let Some(place) = number.checked_sub(1) else {
             return Err(Trouble::NoNumber);
@@ -185,7 +186,7 @@ impl<'a> Pack<'a> {
     }
 }
 
-/// Returns the type number for the name or the digit of a type.
+/// Returns the number of the type that `word` names or states as a digit.
 pub(crate) fn number_of_kind(word: &str) -> Result<u8, Trouble> {
     if let Some(kind) = ObjectType::from_name(word.as_bytes()) {
         return Ok(kind.pack_number());

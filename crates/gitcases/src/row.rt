@@ -1,4 +1,4 @@
-//! Rows: a subject with its expected result.
+//! Rows of test files: calls with their inputs and expected results.
 
 use crate::trouble::Trouble;
 use gitpack::IndexLimits;
@@ -8,25 +8,25 @@ use std::alloc::Global;
 /// The call that a row tests.
 #[derive(Clone, Copy, PartialEq, Eq, Drop)]
 pub(crate) enum Subject {
-    /// A pack is indexed.
+    /// Index a pack.
     Index,
-    /// The store receives a pack.
+    /// Receive a pack in the store.
     Arrival,
-    /// The store is opened.
+    /// Open the store.
     Opening,
-    /// An object is read, and its id is computed.
+    /// Read an object, and compute its id.
     Checked,
-    /// The raw entry of an object is read from a pack.
+    /// Read the raw entry of an object from a pack.
     Raw,
-    /// The refs of the store are read.
+    /// Read the refs of the store.
     Refs,
-    /// Refs of the store are updated.
+    /// Update refs of the store.
     Moving,
-    /// A clone receives the refs.
+    /// Write the received refs to a new clone.
     Cloning,
-    /// A text is parsed as a URL.
+    /// Parse a text as a URL.
     Url,
-    /// A text is parsed as a client's path.
+    /// Parse a text as a path that a client requests.
     Served,
 }
 
@@ -38,7 +38,7 @@ pub(crate) struct Update {
     pub(crate) new: Oid,
 }
 
-/// The subject of a test, with an object id or a text, and the expected result.
+/// The subject of a test, its object id or its text, and the expected result.
 #[derive(Drop)]
 pub(crate) struct Aim {
     pub(crate) subject: Subject,
@@ -56,7 +56,7 @@ pub(crate) struct Row<'a> {
     /// The names of the pack and of the store.
     pub(crate) pack: &'a str,
     pub(crate) store: &'a str,
-    /// The name of the store that replaces `store` during a run.
+    /// The name of the store whose files replace those of `store` during a run.
     pub(crate) then: &'a str,
     pub(crate) limits: IndexLimits,
     /// The objects that the index must hold.
@@ -68,12 +68,12 @@ pub(crate) struct Row<'a> {
     /// The text for the next subject of the row.
     pub(crate) asked: Vec<u8>,
     pub(crate) aims: Vec<Aim>,
-    /// Further results that are allowed if an allocation is refused, or if a bit or the store is
-    /// changed.
+    /// Further results that are allowed if an allocation is refused, if a bit is flipped, or if the
+    /// store is replaced.
     pub(crate) others: Vec<Vec<u8>>,
-    /// Whether the row is tested only unchanged.
+    /// Whether the row is tested only with its input unchanged.
     pub(crate) is_large: bool,
-    /// Whether the row is also tested with bits changed, and with its pack truncated.
+    /// Whether the row is also tested with each bit flipped, and with its pack truncated.
     pub(crate) is_swept: bool,
 }
 

@@ -1,4 +1,4 @@
-//! The parser of test files. FORMAT.md describes each line.
+//! The parser of test files. FORMAT.md describes each kind of line.
 
 use crate::deltas::{copy_of, insertions_of, put_size};
 use crate::indexes::Lines;
@@ -31,7 +31,7 @@ pub(crate) struct Script<'a> {
 }
 
 impl<'a> Script<'a> {
-    /// Returns a script without any file.
+    /// Returns a script before any file is parsed.
     pub(crate) fn new(alloc: Global) -> Result<Script<'a>, Trouble> {
         Ok(Script {
             alloc,
@@ -215,8 +215,8 @@ impl<'a> Script<'a> {
         Ok(())
     }
 
-    // Adds an entry to an index: an object, the number of an entry in the pack, and optionally
-    // another offset.
+    // Adds an entry to an index. The line names an object, the number of an entry in the pack, and
+    // optionally a different offset.
     fn add_to_lines(&mut self, word: &str, rest: &str) -> Result<(), Trouble> {
         let Some(last) = self.lines.last() else {
             return Err(Trouble::NotBegun);
@@ -276,7 +276,7 @@ impl<'a> Script<'a> {
         }
     }
 
-    // Adds a loose object, or a file with the object's name and another text.
+    // Adds a loose object, or a file with the path of that object but a different text.
     fn add_loose(&mut self, rest: &str) -> Result<(), Trouble> {
         let (name, line) = first_of(rest);
         let object = self.names.object(name)?;
@@ -396,8 +396,8 @@ impl<'a> Script<'a> {
         Ok(())
     }
 
-    // Sets the limits of the index: the number of objects, the size of an object, the number of
-    // held bytes, and the size of all objects.
+    // Sets the limits of indexing: the number of objects, the size of an object, the number of
+    // bytes held in memory, and the size of all objects.
     fn set_limits(&mut self, rest: &str) -> Result<(), Trouble> {
         let (objects, more) = first_of(rest);
         let (object, more) = first_of(more);
@@ -418,7 +418,8 @@ impl<'a> Script<'a> {
     }
 }
 
-// Returns the offset of an entry, a different offset, or an offset relative to the entry.
+// Returns the offset that `offset` states: the entry's own offset, a fixed offset, or an offset
+// relative to the entry.
 fn offset_of(start: usize, offset: &str) -> Result<u64, Trouble> {
     if offset.is_empty() {
         return Ok(start as u64);

@@ -1,8 +1,9 @@
 //! Escapes in the lines of a test file.
 //!
 //! `\n` is a line feed, `\0` the byte 0, `\x1f` the byte 31. A backslash before any other character
-//! stands for that character. `{NAME}` is a text, or the forty digits of an object's id. `{@NAME}`
-//! is the twenty bytes of an object's id. `{BYTES*3}` is `BYTES` three times.
+//! stands for that character. `{NAME}` is the text with this name, or the forty digits of the id of
+//! the object with this name. `{@NAME}` is the twenty bytes of that id. `{BYTES*3}` is `BYTES`
+//! three times.
 
 use crate::names::Names;
 use crate::trouble::Trouble;
@@ -21,7 +22,8 @@ pub(crate) fn spell_line(alloc: Global, names: &Names<'_>, line: &str) -> Result
     Ok(bytes)
 }
 
-// Appends the bytes up to the end of the next braces. Returns the remaining text.
+// Appends the bytes for the text up to the end of the next pair of braces. Returns the remaining
+// text.
 fn add_next<'a>(
     alloc: Global,
     names: &Names<'_>,
@@ -44,8 +46,8 @@ fn add_next<'a>(
     Ok(rest.get(length..).unwrap_or(""))
 }
 
-// Returns the bytes before and after the first unescaped brace, or `None` in place of the latter if
-// there is no such brace.
+// Returns the bytes before the first unescaped brace, and the bytes after it. The bytes after the
+// brace are `None` if there is no such brace.
 fn before_brace(text: &[u8]) -> (&[u8], Option<&[u8]>) {
     let mut is_escaped = false;
     for place in 0..text.len() {
@@ -58,7 +60,7 @@ fn before_brace(text: &[u8]) -> (&[u8], Option<&[u8]>) {
     (text, None)
 }
 
-/// Appends the bytes of a text without braces.
+/// Appends the bytes that a text without braces stands for.
 pub(crate) fn add_escaped(text: &[u8], bytes: &mut Vec<u8>) -> Result<(), Trouble> {
     let mut rest = text;
     for _ in 0..text.len() {

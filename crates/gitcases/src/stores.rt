@@ -7,7 +7,7 @@ use gname::Oid;
 use gzlib::Deflater;
 use std::alloc::{AllocError, Allocator, Global};
 
-/// The path of each Git directory. `OBJECTS` is the path of its objects.
+/// The path of every Git directory in memory. `OBJECTS` is the path of its directory `objects`.
 pub(crate) const GIT_DIR: &str = "/r";
 
 const OBJECTS: &str = "/r/objects";
@@ -24,7 +24,7 @@ pub(crate) struct File {
 pub(crate) struct Store<'a> {
     pub(crate) name: &'a str,
     pub(crate) files: Vec<File>,
-    // The folder to which objects are added.
+    // The path of the directory to which objects are added.
     folder: &'a str,
 }
 
@@ -47,7 +47,7 @@ impl<'a> Store<'a> {
         Ok(())
     }
 
-    /// Sets the folder to which further objects are added.
+    /// Sets the path of the directory to which further objects are added.
     pub(crate) fn set_folder(&mut self, folder: &'a str) {
         self.folder = folder;
     }

@@ -7,9 +7,9 @@ use std::io;
 pub(crate) enum Treatment {
     /// The input is unchanged.
     Plain,
-    /// A pack is truncated after each byte, or each bit is flipped and the old trailer kept.
+    /// A pack is truncated after each byte, or has each bit flipped but keeps its old trailer.
     Broken,
-    /// Each bit is flipped, and a pack gets a correct trailer.
+    /// Each bit is flipped. A pack then gets a correct trailer.
     Changed,
     /// The files change during the run.
     Turned,
@@ -53,7 +53,7 @@ impl Tally {
         self.rows = self.rows.saturating_add(1);
     }
 
-    /// Counts a run, and its result if it is wrong.
+    /// Counts a run, and also counts its result if that result is wrong.
     pub(crate) fn count(&mut self, way: Treatment, is_right: bool) {
         if let Some(tries) = self.tries.get_mut(way as usize) {
             *tries = tries.saturating_add(1);

@@ -1,4 +1,4 @@
-//! Tests of a row in each way.
+//! Tests of a row in each way that `Treatment` lists.
 
 use crate::answers::{MEMORY, OK, Trial, answer_of};
 use crate::packs::mend_trailer;
@@ -16,10 +16,10 @@ const BITS: [u8; 8] = [1, 2, 4, 8, 16, 32, 64, 128];
 // An upper bound on the allocations to refuse in turn.
 const MAX_REFUSED: u64 = 100_000;
 
-// The maximum number of calls before the files are replaced.
+// The maximum number of calls after which the files are replaced.
 const MAX_CALLS: u64 = 60;
 
-/// Tests a row in each way.
+/// Tests a row in each way that `Treatment` lists.
 pub(crate) fn try_row<R: Files + Print + AllocGlobal>(
     rt: &R,
     script: &Script<'_>,
@@ -44,7 +44,7 @@ pub(crate) fn try_row<R: Files + Print + AllocGlobal>(
     Ok(())
 }
 
-// Tests a subject in each way.
+// Tests a subject in each way that `Treatment` lists.
 fn try_all<R: Files + Print + AllocGlobal>(
     rt: &R,
     trial: Trial<'_, '_>,
@@ -65,7 +65,7 @@ fn try_all<R: Files + Print + AllocGlobal>(
     }
 }
 
-// Tests a subject in one run.
+// Tests a subject with one run.
 fn try_one<R: Files + Print + AllocGlobal>(
     rt: &R,
     trial: Trial<'_, '_>,
@@ -76,7 +76,7 @@ fn try_one<R: Files + Print + AllocGlobal>(
     judge(rt, trial, (way, place), answer.as_str(), tally)
 }
 
-// Counts a result, and prints it if it is wrong.
+// Counts a result, and prints the result if it is wrong.
 fn judge<R: Print>(
     rt: &R,
     trial: Trial<'_, '_>,
@@ -241,7 +241,8 @@ fn sweep_files<R: Files + Print + AllocGlobal>(
     Ok(())
 }
 
-// Tests a store with each bit of a byte flipped. The result must be the same, or a fault.
+// Tests a store with each bit of a byte flipped. Each result must be a fault, or a result that the
+// row allows.
 fn try_file_bits<R: Files + Print + AllocGlobal>(
     rt: &R,
     trial: Trial<'_, '_>,

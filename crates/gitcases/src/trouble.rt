@@ -10,13 +10,13 @@ pub(crate) enum Trouble {
     Memory,
     /// A brace is not closed.
     OpenBrace,
-    /// No item has the name in a line.
+    /// A line names an item that does not exist.
     NoName,
     /// A word is not a number.
     NoNumber,
     /// A line does not continue the current item.
     NotBegun,
-    /// A line has no known form.
+    /// A line does not have any known form.
     UnknownLine,
     /// A text is not UTF-8.
     NoText,

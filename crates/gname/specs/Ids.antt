@@ -26,7 +26,7 @@ pub record IsIdOf (format : Format) (id : Id) : Type 0 where
 abbrev pub has_format : Format → Id → Bool
 has_format format id = length id == id_length format
 
--- the format of an object id, according to its length
+-- the format of an object id, which follows from the length of the id
 abbrev pub format_of : Id → Format
 format_of id = if length id == id_length Sha1 then Sha1 else Sha256
 
@@ -38,7 +38,7 @@ IsId id = IsIdOf (format_of id) id
 abbrev pub id_cmp : Id → Id → Ordering
 id_cmp = then_cmp (on (λ id. id_length (format_of id)) nat_cmp) (slice_cmp nat_cmp)
 
--- the text has two hexadecimal digits for each byte of the id, in either case
+-- the text has two hexadecimal digits for each byte of the id, in upper or lower case
 pub record IsIdTextOf (format : Format) (text : List ℕ) (id : Id) : Type 0 where
   pub long : length text ≡ id_text_length format
   pub spells : decode_of text ≡ Ok id
@@ -59,8 +59,8 @@ pub record IsFirstBadDigit (text : List ℕ) (at : ℕ) : Type 0 where
   pub before : AllPass is_hex_digit (take at text)
   pub bad : is_hex_digit (slice_index text at) ≡ false
 
--- the result of parsing a text as an object id: the id, `Length` for a wrong length, otherwise `Digit` with the
--- position of the first byte that is not a digit
+-- the result of parsing a text as an object id: the id, or `Length` for a wrong length, or `Digit` with the position of
+-- the first byte that is not a digit
 abbrev pub ReadsId : Format → List ℕ → Result Id OidFault → Type 0
 ReadsId format text (Ok id) = IsIdTextOf format text id × IsIdOf format id
 ReadsId format text (Err Length) = length text ≢ id_text_length format

@@ -9,7 +9,7 @@ use Rattle.gname.specs.Names.{IsPrefix, IsRefName, first_place, head_name, is_ba
 use Rattle.gname.specs.declared.ids.OidFault.{OidFault}
 use Rattle.gname.specs.declared.faults.NameFault.TheVariants.{Memory}
 
--- the texts of an id, in lower case and in upper case, encode that id
+-- the text of an id, in lower case or in upper case, encodes that id
 abbrev pub IdsHaveTexts : Type 0
 IdsHaveTexts = (id : Id) → IsId id → IsIdText (id_text id) id × IsIdText (upper_id_text id) id
 
@@ -17,7 +17,7 @@ IdsHaveTexts = (id : Id) → IsId id → IsIdText (id_text id) id × IsIdText (u
 abbrev pub IsClean : List ℕ → Type 0
 IsClean text = All (λ b. 32 < b) text
 
--- the text of an id has only hexadecimal digits, and so no control characters and spaces, and the encoded id is valid
+-- the text of an id has only hexadecimal digits, so no control characters and no spaces; the encoded id is valid
 pub record IdTextFacts (text : List ℕ) (id : Id) : Type 0 where
   pub spelt : IsId id
   pub digits : AllPass is_hex_digit text
@@ -30,7 +30,7 @@ IdTextsAreDigits = (text : List ℕ) (id : Id) → IsIdText text id → IdTextFa
 abbrev pub TextsSpellOneId : Type 0
 TextsSpellOneId = (text : List ℕ) (a b : Id) → IsIdText text a → IsIdText text b → a ≡ b
 
--- in each format the result of parsing a text is unique, and is the id that the text encodes if there is one
+-- in each format the result of parsing a text is unique; if the text encodes an id, the result is that id
 abbrev pub TextsHaveOneReading : Type 0
 TextsHaveOneReading = (format : Format) (text : List ℕ) →
     ((id : Id) → IsIdTextOf format text id → ReadsId format text (Ok id))
@@ -40,8 +40,8 @@ TextsHaveOneReading = (format : Format) (text : List ℕ) →
 abbrev pub IdsHaveOneFormat : Type 0
 IdsHaveOneFormat = (format : Format) (id : Id) → IsIdOf format id → IsId id × (format_of id ≡ format)
 
--- A ref name is not empty, is within the limit, and has no forbidden bytes. A ref name is HEAD or begins with refs/. A
--- ref name is also a valid prefix.
+-- A ref name is not empty, is not longer than the limit, and has no forbidden bytes. A ref name is HEAD or begins with
+-- refs/. A ref name is also a valid prefix.
 pub record NameFacts (text : List ℕ) : Type 0 where
   pub some : 0 < length text
   pub within : length text ≤ max_name
@@ -50,7 +50,7 @@ pub record NameFacts (text : List ℕ) : Type 0 where
   pub below : text ≢ head_name → starts_with nat_eq text (codes "refs/") ≡ true
   pub prefix : IsPrefix text
 
--- a prefix is within the limit, and has no forbidden bytes
+-- a prefix is not longer than the limit, and has no forbidden bytes
 pub record PrefixFacts (text : List ℕ) : Type 0 where
   pub within : length text ≤ max_name
   pub clean : IsClean text
@@ -66,7 +66,7 @@ PrefixesAreClean = (text : List ℕ) → IsPrefix text → PrefixFacts text
 abbrev pub RulesNeverReportMemory : Type 0
 RulesNeverReportMemory = (text : List ℕ) → (name_fault text ≢ Some Memory) × (prefix_fault text ≢ Some Memory)
 
--- `first_place` returns the first position that passes the test, or `None` exactly if no position of the text passes it
+-- `first_place` returns the first position of the text that passes the test, or `None` if no position passes the test
 abbrev pub FirstPlacesAreFirst : Type 0
 FirstPlacesAreFirst = (test : ℕ → Bool) (text : List ℕ) →
     MatchOption (first_place test text) ((j : ℕ) → j ≤ length text → test j ≡ false)

@@ -1,5 +1,5 @@
 -- Ref names and their prefixes (git-check-ref-format(1)): eight rules and the order in which they are checked. Each
--- rule finds a fault at its first position.
+-- rule reports a fault at the first position at which the rule is broken.
 use Rattle.std.specs.Prelude.{◌≡◌, ◌⊎◌, ℕ, zero, suc, ◌+◌, ◌-◌, ◌==◌, ◌&&◌, ◌||◌, Bool, List, [], ◌∷◌, length, drop}
 use Rattle.std.specs.Prelude.{slice_index, codes, nat_eq, nat_lt, Option, Some, None, Result, MatchResult}
 use Rattle.std.specs.Prelude.{if◌then◌else◌, position}
@@ -14,18 +14,18 @@ use Rattle.gname.specs.declared.faults.NameFault.TheVariants.{AtBrace, End, Memo
 abbrev pub Name : Type 0
 Name = List ℕ
 
--- a rule for texts: it maps a text to the fault that it finds, or to `None`
+-- a rule for texts: a function that maps a text to the fault that the rule finds, or to `None`
 abbrev pub Rule : Type 0
 Rule = List ℕ → Option NameFault
 
--- the fault of the first rule in the list that finds one
+-- the fault of the first rule in the list that finds a fault
 abbrev pub first_fault : List Rule → Rule
 first_fault [] text = None
 first_fault (rule ∷ rules) text = option_or (rule text) (first_fault rules text)
 
 -- ---- positions in a text
 
--- the first of `more` positions from `at` on that passes the test
+-- the first position that passes the test, among the `more` positions from `at` on
 unfoldable pub first_place_from : (ℕ → Bool) → ℕ → ℕ → Option ℕ
 first_place_from test at zero = None
 first_place_from test at (suc more) = if test at then Some at else first_place_from test (at + 1) more
@@ -34,7 +34,7 @@ first_place_from test at (suc more) = if test at then Some at else first_place_f
 abbrev pub first_place : (ℕ → Bool) → List ℕ → Option ℕ
 first_place test text = first_place_from test 0 (length text + 1)
 
--- whether the text has the bytes at position `at`
+-- whether the given bytes occur in the text at position `at`
 abbrev pub stands_at : List ℕ → List ℕ → ℕ → Bool
 stands_at text bytes at = starts_with nat_eq (drop at text) bytes
 
@@ -60,7 +60,8 @@ head_name = codes "HEAD"
 unfoldable pub not_ref : Rule
 not_ref text = if pointwise nat_eq text head_name || starts_with nat_eq text (codes "refs/") then None else Some NotRef
 
--- a forbidden byte: a control character, DEL, a space, or a character with a special meaning in revisions or patterns
+-- whether a byte is forbidden: a control character, DEL, a space, or a character with a special meaning in revisions or
+-- patterns
 unfoldable pub is_bad_byte : ℕ → Bool
 is_bad_byte b = nat_lt b 32 || b == 127 || list_any (λ c. c == b) (codes " ~^:?*[\\")
 
@@ -92,11 +93,11 @@ begins_bad_component text at = begins_component text at && is_bad_component (com
 unfoldable pub component : Rule
 component text = option_map Component (first_place (begins_bad_component text) text)
 
--- rule 6: a name does not have two dots in a row
+-- rule 6: a name does not contain two dots in a row
 unfoldable pub double_dot : Rule
 double_dot text = option_map DoubleDot (first_place (stands_at text (codes "..")) text)
 
--- rule 7: a name does not have `@{`
+-- rule 7: a name does not contain `@{`
 unfoldable pub at_brace : Rule
 at_brace text = option_map AtBrace (first_place (stands_at text (codes "@{")) text)
 
@@ -130,8 +131,8 @@ prefix_fault text = first_fault prefix_rules text
 abbrev pub IsPrefix : List ℕ → Type 0
 IsPrefix text = prefix_fault text ≡ None
 
--- the result of making a checked copy of a text: the copy or `Memory` for a text without faults, otherwise the fault of
--- the text
+-- the result of checking and copying a text: the copy or `Memory` for a text without faults, otherwise the fault of the
+-- text
 abbrev pub Owns : Rule → List ℕ → Result (List ℕ) NameFault → Type 0
 Owns rule text result =
     MatchResult result (λ owned. (owned ≡ text) × (rule text ≡ None))

@@ -5,8 +5,8 @@ ghost use Rattle.hex.specs.Hex.{decode_sized, encode_lower, hex_digit_value, low
 
 use hex::{FromHex, FromHexError};
 
-// The two digits of each byte, from `00` to `ff`. Ids make up most of a ref advertisement, and
-// writing both digits at once makes their texts cheap.
+// The two digits of each byte value, from `00` to `ff`. A ref advertisement consists mostly of ids,
+// so this table makes it fast to write.
 const DIGIT_PAIRS: &[u8; 512] = b"\
     000102030405060708090a0b0c0d0e0f101112131415161718191a1b1c1d1e1f\
     202122232425262728292a2b2c2d2e2f303132333435363738393a3b3c3d3e3f\
@@ -38,8 +38,8 @@ pub(crate) fn write_digits(bytes: &[u8], out: &mut [u8])
     }
 }
 
-// The value of each byte as a hexadecimal digit, in either case, or 255 for any other byte. A table
-// is faster here than a branch, which would be mispredicted at every third digit.
+// The value of each hexadecimal digit, in upper or lower case, and 255 for every byte that is not a
+// digit. A table is faster than a branch, which would be mispredicted at about every third digit.
 static DIGIT_VALUES: [u8; 256] = [
     255, 255, 255, 255, 255, 255, 255, 255, 255, 255, 255, 255, 255, 255, 255, 255, 255, 255, 255,
     255, 255, 255, 255, 255, 255, 255, 255, 255, 255, 255, 255, 255, 255, 255, 255, 255, 255, 255,
@@ -57,15 +57,16 @@ static DIGIT_VALUES: [u8; 256] = [
     255, 255, 255,
 ];
 
-// Returns the value of a hexadecimal digit, in either case, or 255 for any other byte.
+// Returns the value of a hexadecimal digit, in upper or lower case, or 255 if the byte is not a
+// digit.
 fn digit_value(byte: u8) -> u8
     ensures { result < 16 → hex_digit_value byte ≡ Some result }
 {
     DIGIT_VALUES[byte as usize]
 }
 
-// Decodes two digits for each byte, in either case, and returns whether all bytes of the text are
-// digits.
+// Decodes two digits for each byte, in upper or lower case. Returns whether all bytes of the text
+// are digits.
 fn read_digits(text: &[u8], out: &mut [u8]) -> bool
     requires { length text.now ≡ 2 * length out.old }
     ensures { IsTrue result → decode_sized text.now (length out.old) ≡ Ok out.new }

@@ -8,18 +8,18 @@ use std::alloc::{AllocError, AllocFailed};
 use std::error::Error;
 use std::fmt;
 
-/// The number and the name that several crates share for the fault "out of memory".
+/// The number and the name of the fault "out of memory", which several crates share.
 pub const OUT_OF_MEMORY: (u32, &str) = (64, "Memory");
 
-/// The text of every out-of-memory fault, whatever its number.
+/// The text of every out-of-memory fault, whatever the number of the fault.
 pub const OUT_OF_MEMORY_TEXT: &str = "out of memory";
 
-/// The number and the name that several crates share for the fault "an object to be added has a
-/// missing parent".
+/// The number and the name of the fault "an object to be added has a missing parent", which several
+/// crates share.
 pub const MISSING_PARENT: (u32, &str) = (72, "MissingParent");
 
-/// The reason why a text is not a ref name or not a prefix. If a text has several faults, the first
-/// in this order is reported, with its first position in the text.
+/// The reason why a text is not a ref name or not a prefix. If a text has several faults, the one
+/// that comes first in this enum is reported, with its first position in the text.
 #[derive(Clone, Copy, Debug, PartialEq, Eq, Drop)]
 pub enum NameFault {
     /// The text is empty.
@@ -32,13 +32,13 @@ pub enum NameFault {
     BadByte { at: usize },
     /// The component that begins at this position is empty, begins with `.` or ends with `.lock`.
     Component { at: usize },
-    /// Two dots follow each other at this position.
+    /// Two dots in a row begin at this position.
     DoubleDot { at: usize },
-    /// The text has `@{` at this position.
+    /// The text contains `@{` at this position.
     AtBrace { at: usize },
     /// The last byte is a dot.
     End,
-    /// The text is well-formed, but it could not be stored: out of memory.
+    /// The text is well-formed, but there was not enough memory to store it.
     Memory,
 }
 
@@ -57,7 +57,7 @@ impl NameFault {
         self.fault_row().1
     }
 
-    /// Returns the row of the fault in the table: its number and its name.
+    /// Returns the fault's row in the table of faults: the number and the name of the fault.
     pub fn fault_row(&self) -> (u32, &'static str)
         ensures { (result.0, result.1.now) ≡ name_fault_row self.now }
     {

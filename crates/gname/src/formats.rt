@@ -3,8 +3,8 @@
 ghost use Rattle.std.specs.Prelude.{◌≡◌};
 ghost use Rattle.gname.specs.Formats.{format_name, id_length, id_text_length};
 
-/// The object format of a repository: the hash function that names its objects (gitprotocol-v2(5),
-/// "object-format"). `Sha1` is less than `Sha256`.
+/// The object format of a repository: the hash function that names the repository's objects
+/// (gitprotocol-v2(5), "object-format"). `Sha1` is less than `Sha256`.
 #[derive(Clone, Copy, Debug, PartialEq, Eq, PartialOrd, Ord, Hash, Drop)]
 pub enum Format {
     /// SHA-1, with ids of 20 bytes.
@@ -31,7 +31,7 @@ impl Format {
         2 * self.id_length()
     }
 
-    /// Returns the name of the format that the capability `object-format` uses.
+    /// Returns the name of the format in the capability `object-format`.
     pub fn name(self) -> &'static str
         ensures { result.now ≡ format_name self }
     {

@@ -78,8 +78,8 @@ impl Oid {
         Ok(Oid { digest })
     }
 
-    /// Makes an id of its bytes: 20 for SHA-1, or 32 for SHA-256. Returns `None` for any other
-    /// length.
+    /// Returns the id with these bytes: 20 for SHA-1, or 32 for SHA-256. Returns `None` for any
+    /// other length.
     pub fn from_bytes(bytes: &[u8]) -> Option<Oid>
         ensures { MatchOption result ((format : Format) → length bytes.now ≢ id_length format)
             (λ id. (id ≡ bytes.now) × IsId id) }
@@ -207,7 +207,7 @@ impl fmt::Display for Oid {
 /// The reason why a text is not an object id.
 #[derive(Clone, Copy, Debug, PartialEq, Eq, Drop)]
 pub enum OidFault {
-    /// The text does not have 40 bytes for SHA-1, or 64 for SHA-256.
+    /// The length of the text is wrong: not 40 bytes for SHA-1, or not 64 for SHA-256.
     Length,
     /// The byte at this position is the first that is not a hexadecimal digit.
     Digit { at: usize },
@@ -228,7 +228,7 @@ impl OidFault {
         self.fault_row().1
     }
 
-    // Returns the row of the fault in the table: its number and its name.
+    // Returns the fault's row in the table of faults: the number and the name of the fault.
     fn fault_row(&self) -> (u32, &'static str)
         ensures { (result.0, result.1.now) ≡ id_fault_row self.now }
     {

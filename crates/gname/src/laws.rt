@@ -16,8 +16,8 @@ pub fn ids_have_texts()
     ensures { IdsHaveTexts }
 {}
 
-/// The text of an id has only hexadecimal digits, and so no control characters and no spaces. Every
-/// value that such a text encodes is a valid id.
+/// The text of an id has only hexadecimal digits, so it has no control characters and no spaces.
+/// Every value that such a text encodes is a valid id.
 #[tactic(auto, using(crate::proofs::IdLemmas::id_texts_are_digits))]
 pub fn id_texts_are_digits()
     ensures { IdTextsAreDigits }
@@ -35,8 +35,8 @@ pub fn ids_have_one_format()
     ensures { IdsHaveOneFormat }
 {}
 
-/// In each format the result of parsing a text is unique. A text that encodes an id is parsed as
-/// that id.
+/// In each format the result of parsing a text is unique. A text that encodes an id parses to that
+/// id.
 pub fn texts_have_one_reading()
     ensures { TextsHaveOneReading }
 {}
@@ -59,7 +59,7 @@ pub fn prefixes_are_clean()
     ensures { PrefixesAreClean }
 {}
 
-/// The constants equal the limits of the specs.
+/// The constants for limits equal the limits of the specs.
 pub fn limits_are_the_constants()
     ensures id_text { MAX_ID_TEXT ≡ id_text_length Sha256 }
     ensures name { MAX_NAME ≡ max_name }
@@ -71,7 +71,7 @@ pub fn rules_never_report_memory()
     ensures { RulesNeverReportMemory }
 {}
 
-/// The reported position of a fault is its first position in the text.
+/// The reported position of a fault is the first position at which the fault occurs.
 #[tactic(auto, using(crate::proofs::PlaceLemmas::first_places_are_first))]
 pub fn first_places_are_first()
     ensures { FirstPlacesAreFirst }

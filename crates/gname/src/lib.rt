@@ -1,18 +1,18 @@
-//! Object ids in two formats, ref names, prefixes of ref names, and some shared limits. Every layer
-//! of a Git protocol v2 server and client uses these small types.
+//! Object ids in two formats, ref names, prefixes of ref names, and limits that several crates
+//! share. Every layer of a Git protocol v2 server and client uses these small types.
 //!
 //! # Proved
 //!
 //! - [`Oid::from_hex_in`] accepts exactly the texts of 40 hexadecimal digits, or 64 for SHA-256, in
-//!   either case. For any other text it reports the fault and its position. [`Oid::to_hex`] writes
-//!   the text in lower case, which reads back as the same id. [`Oid::push_hex`] appends that text
-//!   to a vector. [`Oid::from_bytes`] accepts exactly 20 or 32 bytes. An id has only one
+//!   either case. For any other text the call reports the fault and its position. [`Oid::to_hex`]
+//!   writes the text in lower case, which parses back to the same id. [`Oid::push_hex`] appends
+//!   that text to a vector. [`Oid::from_bytes`] accepts exactly 20 or 32 bytes. An id has only one
 //!   [`Format`].
 //! - [`RefName::new`], [`RefName::check`] and [`Prefix::new`] accept exactly the names and prefixes
 //!   that the rules of git-check-ref-format(1) allow. For any other text these functions report the
 //!   first fault in a fixed order, with its first position. Out of memory is reported only for a
 //!   well-formed text, and never by `check`, which does not allocate. [`RefName::head`] returns the
-//!   name `HEAD`. [`RefName::copy_in`] returns a copy of the name, unless it is out of memory.
+//!   name `HEAD`. [`RefName::copy_in`] returns a copy of the name, unless memory runs out.
 //! - One of the rules applies to the components of a text, which are its parts between slashes
 //!   ([`laws::components_are_parts`]).
 //! - Ids, names and prefixes are equal exactly if their bytes are equal. Names are ordered by their
@@ -29,20 +29,20 @@
 //!
 //! # Only tested
 //!
-//! - The definitions in `specs/` agree with `git check-ref-format`. The program `conformance`
-//!   compares them on sample names with recorded results of Git.
+//! - The definitions in `specs/` agree with `git check-ref-format`. For sample names, the program
+//!   `conformance` compares the results of this crate with recorded results of Git.
 //! - The debug output of a value is as expected. No call reports out of memory while enough memory
 //!   is available.
 //!
 //! # What the contracts do not rule out
 //!
 //! A call may report out of memory for any well-formed name or prefix, for `HEAD` and for any copy.
-//! Formatting a fault may fail without need. A call may take any amount of time, and more memory
+//! Formatting a fault may fail for no reason. A call may take any amount of time, and more memory
 //! than it needs.
 //!
 //! # Dependencies
 //!
-//! The crate uses `hex` for the faults of malformed digits, `memchr` for searches in a name.
+//! The crate uses `hex` for the faults of malformed digits, and `memchr` for searches in a name.
 #![tactic(auto)]
 
 mod digits;

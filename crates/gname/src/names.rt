@@ -39,7 +39,7 @@ impl<A: Allocator + Copy> Model for RefName<A> {
 
 impl RefName {
     /// Checks a text by the rules of [`new`](Self::new). Fails with the first fault of the text in
-    /// the order of [`NameFault`], but never with `Memory`. It does not allocate.
+    /// the order of [`NameFault`], but never with `Memory`. The call does not allocate.
     #[tactic(auto, using(crate::proofs::NameLemmas::rules_never_report_memory))]
     pub fn check(text: &[u8]) -> Result<(), NameFault>
         ensures judged { Finds name_fault text.now result }
@@ -50,10 +50,11 @@ impl RefName {
 }
 
 impl<A: Allocator + Copy> RefName<A> {
-    /// Makes a ref name of a text, by the rules of git-check-ref-format(1). A ref name has at most
-    /// 1,000 bytes, and is `HEAD` or begins with `refs/`. A ref name has no control character, DEL,
-    /// space or any of `~ ^ : ? * [ \`, no `..`, no `@{` and no dot at its end. No part between
-    /// slashes is empty, begins with a dot or ends with `.lock`. Bytes from 128 up are allowed.
+    /// Returns the ref name with this text, checked by the rules of git-check-ref-format(1). A ref
+    /// name has at most 1,000 bytes, and is `HEAD` or begins with `refs/`. A ref name has no
+    /// control character, DEL, space or any of `~ ^ : ? * [ \`, no `..`, no `@{` and no dot at its
+    /// end. No part between slashes is empty, begins with a dot or ends with `.lock`. Bytes from
+    /// 128 up are allowed.
     ///
     /// Fails with the first fault of the text in the order of [`NameFault`]. Fails with `Memory`
     /// only if a well-formed name could not be stored.
@@ -74,7 +75,7 @@ impl<A: Allocator + Copy> RefName<A> {
         Ok(RefName { text })
     }
 
-    /// Returns a copy of the name in memory of the given allocator. Fails only if out of memory.
+    /// Returns a copy of the name, which is allocated with `alloc`. Fails only if out of memory.
     pub fn copy_in<B: Allocator + Copy>(&self, alloc: B) -> Result<RefName<B>, AllocError>
         ensures { IfOk result (λ copy. copy ≡ self.now) }
     {

@@ -27,10 +27,10 @@ impl<A: Allocator + Copy> Model for Prefix<A> {
 }
 
 impl<A: Allocator + Copy> Prefix<A> {
-    /// Makes a prefix of a text. The text may be empty, and need not be a ref name.
+    /// Returns the prefix with this text. The text may be empty, and need not be a ref name.
     ///
     /// Fails with `TooLong` if the text has more than 1,000 bytes, and otherwise with `BadByte` if
-    /// it has a forbidden byte. Fails with `Memory` only if a well-formed prefix could not be
+    /// the text has a forbidden byte. Fails with `Memory` only if a well-formed prefix could not be
     /// stored.
     pub fn new(alloc: A, text: &[u8]) -> Result<Prefix<A>, NameFault>
         ensures { Owns prefix_fault text.now result }

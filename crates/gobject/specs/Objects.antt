@@ -46,7 +46,7 @@ max_parents = 64
 abbrev pub IsTagShaped : {A : Type 0} → Node A → Type 0
 IsTagShaped node = node.kind ≡ Tag → length node.parents ≡ 1
 
--- a well-shaped node: not too many parents, and exactly one for a tag
+-- a well-shaped node: it has at most the maximum number of parents, and exactly one parent if it is a tag
 pub record IsShaped {A : Type 0} (node : Node A) : Type 0 where
   pub few : length node.parents ≤ max_parents
   pub tag : IsTagShaped node

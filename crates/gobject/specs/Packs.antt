@@ -1,4 +1,5 @@
--- Packs: the bytes that a packer may write for a list of entries, and the lists that an indexer may read from bytes.
+-- Packs: the bytes that a packer may write for a list of entries, and the lists that an indexer may return for some
+-- bytes.
 use Rattle.std.specs.Prelude.{◌≡◌, ℕ, ◌<◌, ◌≤◌, List, length, All}
 use Rattle.gname.specs.Limits.{max_pack}
 use Rattle.gobject.specs.declared.node.Entry.{Entry}
@@ -14,14 +15,14 @@ pub record AreEntries {A : Type 0} (list : List (Entry A)) : Type 0 where
   pub differ : IdsDiffer list
   pub ids : All HasIds list
 
--- the relation between a list and the bytes that a packer may return for it
+-- the relation between a list and the bytes that a packer may return for this list
 abbrev pub Packs : Type 0 → Type 1
 Packs A = List (Entry A) → List ℕ → Type 0
 
 abbrev pub PackFails : Type 0 → Type 1
 PackFails A = List (Entry A) → PackFault → Type 0
 
--- the relation between bytes and the list that an indexer may return for them
+-- the relation between bytes and the lists that an indexer may return for these bytes
 abbrev pub Indexes : Type 0 → Type 1
 Indexes A = List ℕ → List (Entry A) → Type 0
 
@@ -33,8 +34,9 @@ pub record MayPack {A : Type 0} (packs : Packs A) (list : List (Entry A)) (pack 
   pub packed : packs list pack
   pub few : length pack ≤ max_pack
 
--- A lossless packer and indexer. Each list has one image. The packer writes the image, or reports that the image has
--- too many bytes. The indexer reads the image as the list. Both may report out of memory.
+-- A lossless packer and indexer. Each list of entries has one image, which is a sequence of bytes. The packer writes
+-- the image, or reports that the image has too many bytes. The indexer reads the image back as the list. Both the
+-- packer and the indexer may report out of memory.
 pub record LosesNothing {A : Type 0} (packs : Packs A) (pack_fails : PackFails A) (indexes : Indexes A)
     (index_fails : IndexFails) (image : List (Entry A) → List ℕ) : Type 0 where
   pub packs_image : (list : List (Entry A)) (pack : List ℕ) → AreEntries list → packs list pack → pack ≡ image list

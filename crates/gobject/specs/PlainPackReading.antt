@@ -12,7 +12,7 @@ IsPart text = (at : ℕ) → (slice_index text at ≢ 32) × (slice_index text a
 
 -- ---- the bytes that were read
 
--- the complete lines before the line of the next part
+-- the complete lines before the line that contains the next part
 abbrev pub AreLines : {A : Type 0} → Next A → List (Entry A) → List (List ℕ) → Type 0
 AreLines Header list lines = (lines ≡ []) × (list ≡ [])
 AreLines Nothing list lines = ArePackLines lines list
@@ -35,7 +35,7 @@ pub record HasRead {A : Type 0} (next : Next A) (list : List (Entry A)) (bytes :
 
 -- ---- the bytes that were fed
 
--- the bytes that were fed: the bytes that were read, and then those of an unfinished part
+-- the bytes that were fed: the bytes of all parts that were read, and then the bytes of an unfinished part
 pub record Fed {A : Type 0} (feed : PlainFeed A) (bytes : List ℕ) : Type 0 where
   pub before : List ℕ
   pub parts : bytes ≡ before ++ feed.part.items

@@ -1,6 +1,6 @@
--- The text of a plain pack. Each line ends with a line feed, and one space separates its parts. The first line is
--- `GPK1`. Each entry has a line: `c` for a commit or `t` for a tag, its id, and the ids of its parents. The last line
--- is `end` and the number of entries.
+-- The text of a plain pack. Each line ends with a line feed, and one space separates the parts of a line. The first
+-- line is `GPK1`. Each entry has a line: `c` for a commit or `t` for a tag, its id, and the ids of its parents. The
+-- last line is `end` and the number of entries.
 use Rattle.std.specs.Prelude.{◌≡◌, ◌≢◌, ◌⊎◌, ⊤, ℕ, ◌+◌, ◌<◌, ◌≤◌, List, [], ◌∷◌, ◌++◌, length, map, slice_index, codes}
 use Rattle.std.specs.Prelude.{decimal}
 use Rattle.std.specs.List.{flat_map}
@@ -14,7 +14,7 @@ use Rattle.gobject.specs.declared.fault.PackFault.TheVariants as pack_faults
 use Rattle.gobject.specs.declared.fault.IndexFault.{IndexFault}
 use Rattle.gobject.specs.declared.fault.IndexFault.TheVariants as index_faults
 
--- a line with its line feed
+-- the bytes of a line, followed by a line feed
 abbrev pub line : List ℕ → List ℕ
 line text = text ++ 10 ∷ []
 
@@ -58,7 +58,7 @@ pack_lines list = header ∷ (map node_text list ++ end_text (length list) ∷ [
 unfoldable pub pack_text : {A : Type 0} → List (Entry A) → List ℕ
 pack_text list = text_of (pack_lines list)
 
--- the reason to refuse packing: too many bytes, or otherwise out of memory
+-- the reason to refuse packing: `TooLarge` if the pack has too many bytes, and otherwise `Memory`
 abbrev pub PackRefuses : List ℕ → PackFault → Type 0
 PackRefuses text pack_faults.Memory = length text ≤ max_pack
 PackRefuses text pack_faults.TooLarge = max_pack < length text
@@ -66,13 +66,13 @@ PackRefuses text pack_faults.Other = ⊥
 
 -- ---- reading, with the digits of ids in either case
 
--- the text has the digits of each id after a space, in either case
+-- the text has the digits of each id, in upper or lower case, after a space
 abbrev pub IsIdsText : List ℕ → List Id → Type 0
 IsIdsText text [] = text ≡ []
 IsIdsText text (id ∷ ids) =
     (digits more : List ℕ) × (text ≡ 32 ∷ digits ++ more) × IsIdText digits id × IsIdsText more ids
 
--- the text is a line of the entry, with the digits of ids in either case
+-- the text is a line of the entry, with the digits of ids in upper or lower case
 abbrev pub IsNodeText : {A : Type 0} → List ℕ → Entry A → Type 0
 IsNodeText text entry = (ids : List ℕ) × (text ≡ letter entry.node.kind ∷ ids) × IsIdsText ids (ids_of entry)
 
@@ -83,7 +83,7 @@ AreNodeTexts (text ∷ lines) (entry ∷ list) = IsNodeText text entry × AreNod
 AreNodeTexts [] (entry ∷ list) = ⊥
 AreNodeTexts (text ∷ lines) [] = ⊥
 
--- the lines are those of a plain pack of the entries
+-- the lines are the lines of a plain pack of the entries
 pub record ArePackLines {A : Type 0} (lines : List (List ℕ)) (list : List (Entry A)) : Type 0 where
   pub nodes : List (List ℕ)
   pub are : lines ≡ header ∷ (nodes ++ end_text (length list) ∷ [])
@@ -115,22 +115,24 @@ IsWholePack A lines = (list : List (Entry A)) × ArePackLines lines list
 abbrev pub GoesOn : List ℕ → List (List ℕ) → List ℕ → Type 0
 GoesOn bytes lines next = (rest : List ℕ) × (bytes ≡ text_of (lines ++ next ∷ []) ++ rest) × IsInLine next
 
--- the next line may not follow these lines in any plain pack
+-- the line after these lines is wrong: no plain pack begins with all of them
 abbrev pub IsWrongLine : (A : Type 0) → List ℕ → List (List ℕ) → Type 0
 IsWrongLine A bytes lines = (next : List ℕ) × GoesOn bytes lines next × ¬ (BeginsPack A (lines ++ next ∷ []))
 
--- the bytes end too early after these lines: inside a line, or before the last line
+-- after these lines the bytes end too early: inside a line, or before the last line of a plain pack
 abbrev pub EndsEarly : (A : Type 0) → List ℕ → List (List ℕ) → Type 0
 EndsEarly A bytes lines =
     (rest : List ℕ) × (bytes ≡ text_of lines ++ rest) × IsInLine rest × (rest ≡ [] → ¬ (IsWholePack A lines))
 
--- the first line, counted from 1, that is wrong or missing; the lines before it are the beginning of a plain pack
+-- the number, counted from 1, of the first line that is wrong or missing; the lines before that line are the beginning
+-- of a plain pack
 abbrev pub IsBadLine : (A : Type 0) → List ℕ → ℕ → Type 0
 IsBadLine A bytes at =
     (lines : List (List ℕ)) × (at ≡ length lines + 1) × BeginsPack A lines
     × (IsWrongLine A bytes lines ⊎ EndsEarly A bytes lines)
 
--- the bytes have an entry to store: after valid lines there is the line of an entry, or its beginning up to a parent
+-- the bytes contain an entry to store: valid lines, and then the line of an entry or the beginning of such a line up to
+-- a parent
 pub record TakesMemory (A : Type 0) (bytes : List ℕ) : Type 0 where
   pub nodes : List (List ℕ)
   pub list : List (Entry A)

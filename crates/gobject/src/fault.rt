@@ -36,7 +36,7 @@ impl PackFault {
         self.fault_row().1
     }
 
-    // Returns the number and the name of the fault, which are the same for all causes.
+    // Returns the number and the name of the fault, which are the same for each cause.
     fn fault_row(&self) -> (u32, &'static str)
         ensures { (result.0, result.1.now) ≡ pack_fault_row self.now }
     {
@@ -63,7 +63,7 @@ impl Error for PackFault {}
 pub enum IndexFault {
     /// Out of memory.
     Memory,
-    /// The first line, counted from 1, that is malformed.
+    /// The `line`, counted from 1, is the first malformed line.
     Bad { line: usize },
     /// A cause that is specific to the indexer.
     Other,
@@ -84,7 +84,7 @@ impl IndexFault {
         self.fault_row().1
     }
 
-    /// Returns the number and the name of the fault, which are the same for all causes.
+    /// Returns the number and the name of the fault, which are the same for each cause.
     pub fn fault_row(&self) -> (u32, &'static str)
         ensures { (result.0, result.1.now) ≡ index_fault_row self.now }
     {

@@ -14,7 +14,7 @@ pub fn limits_are_the_constants()
     ensures { MAX_PARENTS ≡ max_parents }
 {}
 
-/// Bytes are the plain pack of at most one list.
+/// The same bytes are the plain pack of at most one list of entries.
 pub fn packs_have_one_reading<A: Allocator + Copy>()
     ensures { PacksHaveOneReading A }
 {
@@ -30,8 +30,8 @@ pub fn packs_have_no_bad_line<A: Allocator + Copy>()
     texts_spell_one_id();
 }
 
-/// Bytes have at most one bad line. An indexer reports the same line however the bytes are split
-/// into pieces.
+/// The same bytes have at most one bad line. An indexer reports that line however the bytes are
+/// split into pieces.
 pub fn bad_lines_have_one_place<A: Allocator + Copy>()
     ensures { BadLinesHaveOnePlace A }
 {

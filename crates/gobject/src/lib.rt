@@ -1,5 +1,5 @@
-//! The objects that a fetch transfers: commits and tags with their ids, and the packs that transfer
-//! lists of such objects.
+//! The objects that a fetch transfers, which are commits and tags with their ids, and the packs
+//! that contain lists of objects.
 //!
 //! # Proved
 //!
@@ -7,14 +7,15 @@
 //!   and the parents, in order. [`Node::is_shaped`] returns whether a node has at most
 //!   [`MAX_PARENTS`] parents, and exactly one if it is a tag.
 //! - [`Node::push_line`] appends the text line of an object to a vector.
-//! - [`PlainPack`] writes the text of a list. It fails with `TooLarge` exactly if the text has more
-//!   than `gname::MAX_PACK` bytes. It reads exactly the texts of lists, with ids in either case.
-//!   For any other bytes it reports the first wrong line. The result does not depend on how the
-//!   bytes are split into pieces. Writing reports out of memory only for a list that is not too
-//!   large. Reading reports it only after valid lines and the id of one more entry.
+//! - [`PlainPack`] writes a list of objects as text. Writing fails with `TooLarge` exactly if the
+//!   text has more than `gname::MAX_PACK` bytes. [`PlainPack`] reads exactly the texts of lists,
+//!   with ids in upper or lower case. For any other bytes it reports the first wrong line. The
+//!   result does not depend on how the bytes are split into pieces. Writing reports out of memory
+//!   only for a list that is not too large. Reading reports out of memory only after valid lines
+//!   and the id of one more entry.
 //! - The contracts of [`Indexer`] specify how an indexer reads a pack in pieces. The contract of
-//!   `index`, for a whole pack, follows from them.
-//! - Bytes have at most one bad line, and a plain pack has no bad line: [`laws`].
+//!   `index`, for a whole pack, follows from these contracts.
+//! - The same bytes have at most one bad line, and a plain pack has no bad line ([`laws`]).
 //! - [`Faithful`] specifies a packer and an indexer that lose nothing. A plain pack of a list with
 //!   distinct ids reads back as that list.
 //! - Each fault has the number, the name and the text of its row in the table
@@ -24,10 +25,10 @@
 //! # What the contracts do not rule out
 //!
 //! A call may report out of memory for any list whose text is not too long, for any bytes with an
-//! entry to store, and for any copy. It may thus report out of memory instead of a bad line if
+//! entry to store, and for any copy. Reading may thus report out of memory instead of a bad line if
 //! there is an entry before that line. A copy may be allocated from a different allocator of the
 //! same type. A call may take any amount of time, and more memory than it needs. Formatting a fault
-//! may return an error (`fmt::Error`) without need. Formatting with options, such as a width, may
+//! may return an error (`fmt::Error`) for no reason. Formatting with options, such as a width, may
 //! write a different text.
 //!
 //! This crate has no tests of its own. The program `conformance` reads and writes packs, whole and
@@ -36,7 +37,7 @@
 //! # Dependencies
 //!
 //! The crate uses `gname` for ids, `memchr` for the ends of parts, `arrayvec` for a part that is
-//! split between pieces, `itoa` for the count in a pack. The proofs use `hex`.
+//! split between pieces, and `itoa` for the number of entries in a pack. The proofs use `hex`.
 #![tactic(auto)]
 
 mod fault;

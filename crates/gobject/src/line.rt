@@ -8,9 +8,9 @@ use gname::Oid;
 use std::alloc::{AllocError, Allocator};
 
 impl<A: Allocator + Copy> Node<A> {
-    /// Appends the line of this object with the given id to a text. The line has `c` for a commit
-    /// or `t` for a tag, the id, and the ids of the parents, each id after a space. A line feed
-    /// ends the line. Fails only if out of memory.
+    /// Appends the line of this object, with the given id, to a text. The line has `c` for a commit
+    /// or `t` for a tag, then the id, and then the ids of the parents. A space precedes each id. A
+    /// line feed ends the line. Fails only if out of memory.
     pub fn push_line<B: Allocator + Copy>(
         &self,
         id: &Oid,

@@ -32,7 +32,7 @@ impl<A: Allocator + Copy> Model for Parents<A> {
 }
 
 impl<A: Allocator + Copy> Parents<A> {
-    /// Returns an empty list of parents. It does not allocate.
+    /// Returns an empty list of parents. The call does not allocate.
     pub fn new(alloc: A) -> Parents<A>
         ensures { result ≡ [] }
     {
@@ -41,8 +41,8 @@ impl<A: Allocator + Copy> Parents<A> {
         }
     }
 
-    /// Returns a list of the given parents, in order, in memory of `alloc`. Fails only if out of
-    /// memory.
+    /// Returns a list of the given parents, in order, which is allocated with `alloc`. Fails only
+    /// if out of memory.
     pub fn from_slice(alloc: A, ids: &[Oid]) -> Result<Parents<A>, AllocError>
         ensures { IfOk result (λ parents. parents ≡ ids.now) }
     {
@@ -50,7 +50,7 @@ impl<A: Allocator + Copy> Parents<A> {
         Ok(Parents { ids })
     }
 
-    /// Appends a parent. If out of memory, the call fails and leaves the list unchanged.
+    /// Appends a parent. If memory runs out, the call fails and leaves the list unchanged.
     pub fn push(&mut self, id: Oid) -> Result<(), AllocError>
         ensures ok { OnOk result (self.new ≡ self.old ++ id ∷ []) }
         ensures err { OnErr result (self.new ≡ self.old) }

@@ -12,15 +12,15 @@ use std::alloc::Allocator;
 
 /// A packer writes entries as a pack.
 ///
-/// `packs` relates a list to the bytes that the packer may return for it, and `pack_fails` relates
-/// a list to the possible faults.
+/// `packs` relates a list of entries to the bytes that the packer may return, and `pack_fails`
+/// relates a list to the possible faults.
 pub trait Packer<A: Allocator + Copy> {
     ghost packs: { Self → List (Entry A) → List ℕ → Type 0 };
 
     ghost pack_fails: { Self → List (Entry A) → PackFault → Type 0 };
 
-    /// Returns a pack of the entries in memory of `alloc`. The pack has at most `gname::MAX_PACK`
-    /// bytes.
+    /// Returns a pack of the entries, which is allocated with `alloc`. The pack has at most
+    /// `gname::MAX_PACK` bytes.
     fn pack(&self, alloc: A, entries: &[Entry<A>]) -> Result<Vec<u8, A>, PackFault>
         ensures { MatchResult result
             (λ pack. MayPack (packs self.now) entries.now pack.items)
@@ -29,11 +29,11 @@ pub trait Packer<A: Allocator + Copy> {
 
 /// An indexer reads entries from the pieces of a pack.
 ///
-/// `indexes` relates the bytes of a whole pack to the entries that the indexer may return for them.
-/// `index_fails` relates the bytes to the possible faults. `fed` relates a feed to the bytes that
-/// were fed to it.
+/// `indexes` relates the bytes of a whole pack to the entries that the indexer may return.
+/// `index_fails` relates the bytes of a pack to the possible faults. `fed` relates the state of an
+/// indexer to the bytes that were fed.
 pub trait Indexer<A: Allocator + Copy> {
-    /// The state of the indexer after a part of a pack.
+    /// The state of the indexer after it has received a part of a pack.
     type Feed: Drop;
 
     ghost indexes: { Self → List ℕ → List (Entry A) → Type 0 };
@@ -42,14 +42,16 @@ pub trait Indexer<A: Allocator + Copy> {
 
     ghost fed: { Self → Self.Feed → List ℕ → Type 0 };
 
-    /// Returns a feed before the first piece. A fault of this call is possible for any pack.
+    /// Returns the state before the first piece. The contract allows a fault of this call only if
+    /// every pack may be refused with that fault.
     fn start(&self, alloc: A) -> Result<Self::Feed, IndexFault>
         ensures { MatchResult result
             (λ feed. fed self.now feed [])
             (λ fault. ((bytes : List ℕ) → index_fails self.now bytes fault)) };
 
-    /// Feeds the next piece of a pack. A fault of this call is possible for any pack that begins
-    /// with the pieces fed so far. After a fault the feed can't be used further.
+    /// Feeds the next piece of a pack. The contract allows a fault of this call only if every pack
+    /// that begins with the pieces fed so far may be refused with that fault. After a fault the
+    /// feed can't be used further.
     fn feed(&self, feed: &mut Self::Feed, piece: &[u8]) -> Result<(), IndexFault>
         ensures { MatchResult result
             (λ _. ((given : List ℕ) → fed self.now feed.old given
@@ -57,8 +59,8 @@ pub trait Indexer<A: Allocator + Copy> {
             (λ fault. ((given more : List ℕ) → fed self.now feed.old given
             → index_fails self.now ((given ++ piece.now) ++ more) fault)) };
 
-    /// Returns the entries of the pack whose pieces were fed, in order. A fault of this call
-    /// applies to a pack of exactly the pieces that were fed.
+    /// Returns the entries of the pack whose pieces were fed, in order. A fault of this call is a
+    /// possible fault for the pack that consists of exactly these pieces.
     fn finish(&self, feed: Self::Feed) -> Result<Vec<Entry<A>, A>, IndexFault>
         ensures { MatchResult result
             (λ entries. ((given : List ℕ) → fed self.now feed given
@@ -77,16 +79,16 @@ pub trait Indexer<A: Allocator + Copy> {
     }
 }
 
-/// A packer that is also an indexer, and reads back what it writes.
+/// A packer that is also an indexer, and that reads back the entries that it writes.
 ///
 /// Each list has one `image`. For a list with distinct ids, `pack` returns the image, or fails with
 /// `TooLarge` if the image has more than `gname::MAX_PACK` bytes. `index` reads the image back as
-/// the list. Both calls may fail with `Memory`.
+/// that list. Both `pack` and `index` may fail with `Memory`.
 pub trait Faithful<A: Allocator + Copy>: Packer<A> + Indexer<A> {
     ghost image: { Self → List (Entry A) → List ℕ };
 
-    /// A law for generic callers: `index` reads back what `pack` writes. The function does nothing
-    /// at run time.
+    /// A law for generic callers: `index` reads back the entries that `pack` writes. The function
+    /// does nothing at run time.
     fn loses_nothing(&self)
         ensures { LosesNothing (Self.packs self.now) (Self.pack_fails self.now)
             (Self.indexes self.now) (Self.index_fails self.now) (image self.now) };

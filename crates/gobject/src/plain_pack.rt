@@ -21,18 +21,18 @@ use std::alloc::Allocator;
 /// the ids of its parents. The last line is `end` and the number of entries, in decimal without
 /// leading zeros. One space separates parts, and a line feed ends each line.
 ///
-/// `pack` writes the entries in the given order, with ids in lower case. It fails with `TooLarge`
-/// if the text has more than `gname::MAX_PACK` bytes.
+/// `pack` writes the entries in the given order, with ids in lower case. `pack` fails with
+/// `TooLarge` if the text has more than `gname::MAX_PACK` bytes.
 ///
-/// `index` accepts exactly the texts of this form, with ids in either case, and returns the entries
-/// in order. It does not check the number of parents, or that ids are distinct. It fails with `Bad`
-/// at the first line that is neither an entry nor the right end, or at any line after the end. If
-/// the input ends early, `Bad` states the line at which the input ends: the number of line feeds
-/// plus one.
+/// `index` accepts exactly the texts of this form, with ids in upper or lower case, and returns the
+/// entries in order. `index` does not check the number of parents, or that ids are distinct.
+/// `index` fails with `Bad` at the first line that is neither an entry nor the correct last line,
+/// or at a line after the last line. If the input ends too early, `Bad` states the line at which
+/// the input ends: the number of line feeds plus one.
 ///
-/// Both calls fail with `Memory` if out of memory. `pack` never fails with `Memory` for a list
-/// whose pack is too large. `index` fails with `Memory` only after valid lines and the id of one
-/// more entry.
+/// `pack` and `index` fail with `Memory` if memory runs out. `pack` never fails with `Memory` for a
+/// list whose pack is too large. `index` fails with `Memory` only after valid lines and the id of
+/// one more entry.
 #[derive(Clone, Copy, Debug, PartialEq, Eq, Drop)]
 pub struct PlainPack;
 

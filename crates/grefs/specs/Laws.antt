@@ -4,7 +4,8 @@ use Rattle.gname.specs.Ids.{Id}
 use Rattle.gname.specs.Names.{Name}
 use Rattle.grefs.specs.RefLists.{RefList, AreBelow, IsBelowRefs, IsRefs, max_refs, ref_at}
 
--- a ref with this name could be appended: the name is below refs/ and after all existing names, and there is room
+-- a ref with this name could be appended to the list: the name is below refs/ and sorts after all names of the list,
+-- and the list is not full
 pub record MayComeNext (refs : RefList) (name : Name) : Type 0 where
   pub below : IsBelowRefs name
   pub above : AreBelow refs name

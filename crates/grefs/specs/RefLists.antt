@@ -21,7 +21,7 @@ RefList = List (Name × Id)
 abbrev pub has_name : Name → Name × Id → Bool
 has_name name ref = bytes_eq ref.0 name
 
--- the id of the ref with this name
+-- the id of the ref with this name, or `None` if no ref has this name
 abbrev pub ref_at : RefList → Name → Option Id
 ref_at refs name = option_map (λ ref. ref.1) (find (has_name name) refs)
 
@@ -38,13 +38,14 @@ AreBelow refs name = AllByRecursion (λ other. slice_cmp nat_cmp other name ≡ 
 abbrev pub max_refs : ℕ
 max_refs = 65536
 
--- a valid list of refs: names below refs/ in strictly ascending byte order, and not too many
+-- a valid list of refs: at most the maximum number of refs, with names below refs/ in strictly ascending byte order
 pub record IsRefs (refs : RefList) : Type 0 where
   pub names : All (λ ref. IsBelowRefs ref.0) refs
   pub ascending : IsStrictlySortedBy (slice_cmp nat_cmp) (keys_of refs)
   pub few : length refs ≤ max_refs
 
--- the name is set to the id: every other ref is unchanged, and the list is one longer if the name is new
+-- the ref with this name is set to this id: every other ref is unchanged, and the list has one more ref if the name is
+-- new
 pub record SetsRef (old new : RefList) (name : Name) (id : Id) : Type 0 where
   pub this_name : ref_at new name ≡ Some id
   pub others : (other : Name) → other ≢ name → ref_at new other ≡ ref_at old other

@@ -10,8 +10,8 @@ use Rattle.grefs.specs.RefLists.{IsBelowRefs}
 use Rattle.grefs.specs.declared.refspec.fault.SpecFault.{SpecFault}
 use Rattle.grefs.specs.declared.refspec.fault.SpecFault.TheVariants.{BadSpec, Memory}
 
--- a refspec: whether it forces updates, whether it is a pattern, its source and its destination; each side of a pattern
--- is stored without its `*`
+-- a refspec: whether it forces updates, whether it is a pattern, its source and its destination; those of a pattern are
+-- stored without their `*`
 pub record Refspec : Type 0 where
   pub forced : Bool
   pub pattern : Bool
@@ -20,7 +20,7 @@ pub record Refspec : Type 0 where
 
 -- ---- texts
 
--- the text of the source or of the destination
+-- the text of a source or of a destination, with `*` if it belongs to a pattern
 abbrev pub side_text : Bool → List ℕ → List ℕ
 side_text true side = side ++ codes "*"
 side_text false side = side
@@ -45,12 +45,13 @@ pub record IsStem (stem : List ℕ) : Type 0 where
   pub slash : ends_with nat_eq stem (codes "/") ≡ true
   pub name : IsBelowRefs (stem ++ codes "x")
 
--- valid sides of a refspec: a ref name and a ref name below refs/, or two stems for a pattern
+-- a valid source and a valid destination: a ref name and a ref name below refs/, or for a pattern two texts that may
+-- precede a `*`
 abbrev pub AreSides : Bool → List ℕ → List ℕ → Type 0
 AreSides false source destination = IsRefName source × IsBelowRefs destination
 AreSides true source destination = IsStem source × IsStem destination
 
--- a valid refspec: its sides are valid
+-- a valid refspec: its source and its destination are valid
 abbrev pub IsRefspec : Refspec → Type 0
 IsRefspec spec = AreSides spec.pattern spec.source spec.destination
 
@@ -59,7 +60,7 @@ pub record IsSpec (text : List ℕ) (spec : Refspec) : Type 0 where
   pub written : text ≡ spec_text spec
   pub sides : IsRefspec spec
 
--- the result of parsing a refspec that satisfies P: the refspec, `BadSpec` if there is none, or `Memory`
+-- the result of parsing a refspec that satisfies P: the refspec, `BadSpec` if no refspec satisfies P, or `Memory`
 abbrev pub Reads : (Refspec → Type 0) → Result Refspec SpecFault → Type 0
 Reads P (Ok spec) = P spec
 Reads P (Err BadSpec) = (spec : Refspec) → ¬ (P spec)
@@ -71,18 +72,20 @@ OneReading = (text : List ℕ) (a b : Refspec) → IsSpec text a → IsSpec text
 
 -- ---- the mapping of ref names
 
--- whether the source matches a name: the source is that name, or the source of a pattern is a proper prefix of it
+-- whether the source matches a name: the source is that name, or the source of a pattern is a proper prefix of that
+-- name
 abbrev pub matches : Refspec → Name → Bool
 matches spec name =
     if spec.pattern then starts_with nat_eq name spec.source && nat_lt (length spec.source) (length name)
     else bytes_eq name spec.source
 
--- the destination of a name that matches: for a pattern, the rest of the name follows the destination's stem
+-- the destination of a name that the source matches: in a pattern, the rest of the name takes the place of the
+-- destination's `*`
 abbrev pub destination_of : Refspec → Name → List ℕ
 destination_of spec name = spec.destination ++ drop (length spec.source) name
 
--- the result of mapping a name to its destination: `None` if the name does not match, otherwise the destination or the
--- fault of its name
+-- the result of mapping a name to its destination: `None` if the source does not match the name, otherwise the
+-- destination or the reason why it is not a ref name
 abbrev pub FindsDestination : Refspec → Name → Result (Option Name) NameFault → Type 0
 FindsDestination spec name (Ok None) = matches spec name ≡ false
 FindsDestination spec name (Ok (Some destination)) =

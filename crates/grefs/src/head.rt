@@ -28,7 +28,7 @@ impl<A: Allocator + Copy> Model for Target<A> {
 }
 
 impl<A: Allocator + Copy> Target<A> {
-    /// Returns the name as a target, or `None` if the name is `HEAD` itself.
+    /// Returns a target with this name, or `None` if the name is `HEAD`.
     pub fn new(name: RefName<A>) -> Option<Target<A>>
         ensures { MatchOption result (name ≡ head_name)
             (λ target. (target ≡ name) × (name ≢ head_name)) }
@@ -63,9 +63,10 @@ impl<A: Allocator + Copy> Target<A> {
 pub enum Head<A: Allocator + Copy = Global> {
     /// The repository has no `HEAD`.
     None,
-    /// A detached `HEAD` with its id.
+    /// `HEAD` is detached at this id.
     Id(Oid),
-    /// A symbolic `HEAD` with its target. `HEAD` is unborn if the target does not exist.
+    /// `HEAD` is symbolic, and refers to this target. `HEAD` is unborn if no ref has the target's
+    /// name.
     Symref(Target<A>),
 }
 

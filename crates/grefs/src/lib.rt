@@ -3,19 +3,19 @@
 //! # Proved
 //!
 //! - [`Refs`] is a list of at most [`MAX_REFS`] refs in strictly ascending byte order of their
-//!   names. No ref has the name `HEAD`. A look-up returns the id of a name, or `None` if no ref has
-//!   that name.
+//!   names. No ref has the name `HEAD`. A look-up returns the id of the ref with a name, or `None`
+//!   if no ref has that name.
 //! - [`Refs::set`] sets one name to an id and leaves all other refs unchanged, or fails and changes
-//!   nothing. It fails with `Refs` exactly for `HEAD`, and for a new name after [`MAX_REFS`] refs.
-//!   It never fails for a name that already has a ref.
+//!   nothing. The call fails with `Refs` exactly for `HEAD`, and for a new name if there are
+//!   already [`MAX_REFS`] refs. The call never fails for a name that already has a ref.
 //! - A copy of refs, of a target or of a `HEAD` value is equal to the original.
 //! - A [`Target`] is any ref name below `refs/`.
 //! - Each fault has the number, the name and the text of its row in the table
 //!   (`specs/Faults.antt`).
 //! - No call panics, overflows or reads out of bounds, and every call returns.
 //!
-//! [`laws`] proves that each ref could have been appended to the refs before it. It also proves
-//! that two lists of refs are equal if every name has the same id in both.
+//! [`laws`] proves that each ref could have been appended to the refs before it. The module also
+//! proves that two lists of refs are equal if every name has the same id in both.
 //!
 //! # Only tested
 //!
@@ -27,7 +27,7 @@
 //! `Refs::copy_in` may allocate from the allocator of the original, because no clause names the
 //! allocator. Each call may take any amount of time, and more memory than it needs.
 //!
-//! Formatting a fault may return an error (`fmt::Error`) without need.
+//! Formatting a fault may return an error (`fmt::Error`) for no reason.
 //!
 //! # Dependencies
 //!

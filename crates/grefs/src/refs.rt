@@ -14,7 +14,7 @@ use std::marker::Model;
 /// The maximum number of refs, not counting `HEAD`.
 pub const MAX_REFS: usize = 65_536;
 
-/// Names below `refs/` with their ids, in the byte order of the names.
+/// A list of refs: names below `refs/` with their ids, in the byte order of the names.
 #[derive(Debug, Drop)]
 pub struct Refs<A: Allocator + Copy = Global> {
     refs: Vec<(RefName<A>, Oid), A>,
@@ -31,7 +31,7 @@ impl<A: Allocator + Copy> Model for Refs<A> {
 }
 
 impl<A: Allocator + Copy> Refs<A> {
-    /// Returns an empty list of refs. It does not allocate.
+    /// Returns an empty list of refs. The call does not allocate.
     pub fn new(alloc: A) -> Refs<A>
         ensures { result ≡ [] }
     {
@@ -48,8 +48,8 @@ impl<A: Allocator + Copy> Refs<A> {
         self.refs.len()
     }
 
-    /// A law: the refs have names below `refs/` in strictly ascending byte order, and are at most
-    /// [`MAX_REFS`].
+    /// A law: the list has at most [`MAX_REFS`] refs, whose names are below `refs/` and in strictly
+    /// ascending byte order.
     pub fn laws(&self)
         ensures { IsRefs self.now }
     {
@@ -110,7 +110,7 @@ impl<A: Allocator + Copy> Refs<A> {
     }
 
     /// Consumes the refs, and returns the name at a position in the order of the names, counted
-    /// from 0. It does not allocate.
+    /// from 0. The call does not allocate.
     pub fn into_name(self, place: usize) -> RefName<A>
         requires { place < length self }
         ensures { IfSome (slice_get self place) (λ ref. result ≡ ref.0) }
@@ -126,7 +126,7 @@ impl<A: Allocator + Copy> Refs<A> {
         are_below(self.refs.as_slice(), name)
     }
 
-    /// Appends a ref. If out of memory, the call fails and leaves the refs unchanged.
+    /// Appends a ref. If memory runs out, the call fails and leaves the refs unchanged.
     pub fn push(&mut self, name: RefName<A>, id: Oid) -> Result<(), AllocError>
         requires name { IsBelowRefs name }
         requires above { AreBelow self.old name }
@@ -139,7 +139,7 @@ impl<A: Allocator + Copy> Refs<A> {
         Ok(())
     }
 
-    /// Sets a name to an id.
+    /// Sets the ref with this name to this id, or adds such a ref.
     ///
     /// Fails with `Refs` if the name is `HEAD`, or if the name is new and there are already
     /// `MAX_REFS` refs. Fails with `Memory` if out of memory. A failed call leaves the refs
@@ -175,7 +175,7 @@ impl<A: Allocator + Copy> Refs<A> {
     }
 }
 
-/// Returns whether a name is below `refs/`, which every ref name except `HEAD` is.
+/// Returns whether a name is below `refs/`. Every ref name except `HEAD` is below `refs/`.
 pub fn is_below_refs<A: Allocator + Copy>(name: &RefName<A>) -> bool
     ensures { IsTrue result ↔ IsBelowRefs name.now }
 {
@@ -197,7 +197,7 @@ fn copy_refs<A: Allocator + Copy>(
     Ok(copies)
 }
 
-// Returns whether a name of these bytes is greater than every name of the refs.
+// Returns whether the bytes of `name` sort after the name of every ref.
 fn are_below<A: Allocator + Copy>(refs: &[(RefName<A>, Oid)], name: &[u8]) -> bool
     requires { IsRefs refs.now }
     ensures { IsTrue result ↔ AreBelow refs.now name.now }
@@ -208,7 +208,8 @@ fn are_below<A: Allocator + Copy>(refs: &[(RefName<A>, Oid)], name: &[u8]) -> bo
     }
 }
 
-// Returns the position of the name, or in `Err` the position at which the name would be inserted.
+// Returns the position of the ref with this name, or in `Err` the position at which such a ref
+// would be inserted.
 fn place_of<A: Allocator + Copy>(
     refs: &[(RefName<A>, Oid)],
     name: &RefName<A>,
@@ -216,7 +217,7 @@ fn place_of<A: Allocator + Copy>(
     requires { IsRefs refs.now }
     ensures { MatchResult result (IsFound refs.now name.now) (IsGap refs.now name.now) }
 {
-    // Names usually arrive in order.
+    // Refs are usually set in the order of their names.
     if are_below(refs, name.as_bytes()) {
         return Err(refs.len());
     }

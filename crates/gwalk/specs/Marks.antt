@@ -1,4 +1,4 @@
--- Marks of ids by their positions in insertion order. A position past the end is unmarked.
+-- Marks of ids, stored by the positions of the ids in insertion order. A position past the end is unmarked.
 use Rattle.std.specs.Prelude.{◌≡◌, ◌≤◌, ◌⊎◌, ◌↔◌, ℕ, Bool, true, false, cond, List, [], ◌∷◌, length, slice_get, All}
 use Rattle.std.specs.Prelude.{slice_index_or, sum_by, Contains, Some}
 use Rattle.gname.specs.Ids.{Id}
@@ -15,7 +15,7 @@ AreConnected {A} g marks =
     (position : ℕ) → slice_index_or marks position false ≡ true →
     (entry : Entry A) × (slice_get g position ≡ Some entry) × IsConnected g entry.id
 
--- the same graph, but without the parents of marked objects
+-- the graph after removal of the parents of marked objects
 abbrev pub stop_at : {A : Type 0} → List Bool → List (Entry A) → List (Entry A)
 stop_at [] g = g
 stop_at (mark ∷ marks) [] = []
@@ -33,12 +33,12 @@ pub data ReachesPast {A : Type 0} (g : List (Entry A)) (marks : List Bool) : Id 
   further : {a b c : Id} → IsUnmarked g marks a → HasParent g a b →
       ReachesPast g marks b c → ReachesPast g marks a c
 
--- one of the ids reaches `b` without continuing past marked ids
+-- one of the ids reaches `b` by a path that does not continue past marked ids
 abbrev pub SomeReachesPast : {A : Type 0} → List (Entry A) → List Bool → List Id → Id → Type 0
 SomeReachesPast g marks ids b = (a : Id) × Contains ids a × ReachesPast g marks a b
 
--- the number of ids that some ids reach without continuing past marked ids, and the number of parents of the unmarked
--- ones
+-- the number of ids that the given ids reach without continuing past marked ids, and the number of parents of those ids
+-- that are unmarked
 pub record CountsPast {A : Type 0} (g : List (Entry A)) (marks : List Bool) (ids : List Id)
     (held parents : ℕ) : Type 0 where
   pub list : List (Entry A)
@@ -48,7 +48,8 @@ pub record CountsPast {A : Type 0} (g : List (Entry A)) (marks : List Bool) (ids
   pub unmarked : Selects (λ entry. IsUnmarked g marks entry.id) list left
   pub parents_are : parents ≡ sum_by (λ entry. length entry.node.parents) left
 
--- removing the parents of marked objects is the same as not continuing past them, for reachability and for counts
+-- a walk that does not continue past marked objects has the same reachable ids and counts as a walk after removal of
+-- the parents of marked objects
 abbrev pub StopsAtMarks : Type 0 → Type 0
 StopsAtMarks A =
     (g : List (Entry A)) (marks : List Bool)
@@ -56,7 +57,7 @@ StopsAtMarks A =
     × ((ids : List Id) (held parents : ℕ) → IdsDiffer g
     → CountsReached (stop_at marks g) ids held parents → CountsPast g marks ids held parents)
 
--- all ids that some ids reach are now marked, and the other marks are unchanged
+-- every id that one of the given ids reaches is now marked, and the other marks are unchanged
 pub record MarksReached {A : Type 0} (g : List (Entry A)) (ids : List Id) (old new : List Bool) : Type 0 where
   pub each : (position : ℕ) (entry : Entry A) → slice_get g position ≡ Some entry →
       (slice_index_or new position false ≡ true) ↔ ((slice_index_or old position false ≡ true) ⊎ SomeReaches g ids entry.id)

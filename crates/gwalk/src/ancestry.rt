@@ -12,7 +12,7 @@ use gdag::{Graph, GraphFault};
 use gname::Oid;
 use std::alloc::Allocator;
 
-/// The number of ids and of parents that a walk visited.
+/// The numbers of ids and of parents that a walk visited.
 #[derive(Clone, Copy, Debug, PartialEq, Eq)]
 pub struct Count {
     /// The number of visited ids of the graph. No id is visited twice.
@@ -21,11 +21,11 @@ pub struct Count {
     pub parents: u64,
 }
 
-/// Returns an id that the graph does not contain and that one of the given ids reaches. Returns
+/// Returns an id that one of the given ids reaches and that the graph does not contain. Returns
 /// `None` if each of the given ids is connected.
 ///
-/// In an ordered graph the call only looks the ids up, and does not allocate. Fails only with
-/// `Memory`.
+/// In an ordered graph (`Graph::is_ordered`) the call only looks up the given ids, and does not
+/// allocate. Fails only with `Memory`.
 pub fn missing<A: Allocator + Copy>(
     graph: &Graph<A>,
     ids: &[Oid],
@@ -44,8 +44,8 @@ pub fn missing<A: Allocator + Copy>(
     Ok(missing)
 }
 
-/// Returns the result of `missing`, and the number of ids and of parents in the graph that the
-/// given ids reach.
+/// Returns the result of `missing`, with the number of ids in the graph that the given ids reach
+/// and the number of their parents.
 ///
 /// Fails only with `Memory`.
 pub fn missing_counted<A: Allocator + Copy>(
@@ -61,7 +61,8 @@ pub fn missing_counted<A: Allocator + Copy>(
 }
 
 /// Returns the result of `missing`, by a walk that does not continue past marked ids. The count
-/// covers the ids of the graph that the walk visits, and the parents of the unmarked ones.
+/// covers the ids of the graph that the walk visits, and the parents of those visited ids that are
+/// unmarked.
 ///
 /// Fails only with `Memory`.
 pub fn missing_known<A: Allocator + Copy>(

@@ -1,4 +1,4 @@
-//! The ids that both sides have, and the ids that reach such a common id.
+//! The common ids of a server and a client, and the ids that reach a common id.
 
 ghost use Rattle.std.specs.Prelude.{◌≡◌, ◌↔◌, ◌<◌, [], List, Ok, Some, length, not, is_some, filter, IfOk, IfErr, IsTrue, false, All, Contains};
 ghost use Rattle.std.specs.List.{Any};
@@ -35,7 +35,7 @@ pub fn common_ids<A: Allocator + Copy>(
 /// reaches all that its parents reach.
 ///
 /// In an ordered graph the call makes one pass over the objects from `b` to `a`. In any other graph
-/// it walks from `a`, and stops at `b`. Fails only with `Memory`.
+/// the call walks from `a`, and stops at `b`. Fails only with `Memory`.
 pub fn reaches<A: Allocator + Copy>(graph: &Graph<A>, a: &Oid, b: &Oid) -> Result<bool, GraphFault>
     ensures answer { IfOk result (λ answer. IsTrue answer
         ↔ Reaches graph.now.entries a.now b.now) }
@@ -49,12 +49,12 @@ pub fn reaches<A: Allocator + Copy>(graph: &Graph<A>, a: &Oid, b: &Oid) -> Resul
 }
 
 /// Returns whether the server is ready to send a pack (gitprotocol-v2(5), "fetch": `ready`): there
-/// are common ids, and each want reaches one of them. It does not allocate if there are no common
-/// ids.
+/// are common ids, and each want reaches one of them. The call does not allocate if there are no
+/// common ids.
 ///
 /// In an ordered graph the call makes one pass over the objects from the first common id to the
-/// last want. In any other graph it walks from each want, and stops at the first common id. Fails
-/// only with `Memory`.
+/// last want. In any other graph the call walks from each want, and stops at the first common id.
+/// Fails only with `Memory`.
 pub fn ready<A: Allocator + Copy>(
     graph: &Graph<A>,
     wants: &[Oid],
@@ -92,7 +92,7 @@ fn all_reach<A: Allocator + Copy>(
     Ok(true)
 }
 
-/// Returns the state of a walk that has met only the given ids. Fails only if out of memory.
+/// Returns the state of a walk that has met exactly the given ids. Fails only if out of memory.
 pub fn met_of<A: Allocator + Copy>(graph: &Graph<A>, ids: &[Oid]) -> Result<Walk<A>, AllocError>
     ensures { IfOk result (λ walk. HasMet graph.now.entries (new_ids [] ids.now)
         walk.marks.items walk.met.items walk.lost walk.parents) }
@@ -147,8 +147,8 @@ fn has_one(list: &[Oid], ids: &[Oid]) -> bool
     false
 }
 
-// The ids that a walk searches for: marks at the positions of those in the graph, and a list of the
-// others.
+// The ids that a walk searches for: marks at the positions of those ids that the graph contains,
+// and a list of the other ids.
 #[derive(Drop)]
 struct Goals<A: Allocator + Copy> {
     marks: Vec<bool, A>,

@@ -14,7 +14,7 @@ pub fn marks_stay_connected<A: Allocator + Copy>()
 }
 
 /// Marks that cover connected ids still cover them when objects are added to the graph. Marks cover
-/// an id if every id that it reaches is marked.
+/// an id if all ids that this id reaches are marked.
 pub fn covering_stays<A: Allocator + Copy>()
     ensures { CoveringStays A }
 {
@@ -22,8 +22,9 @@ pub fn covering_stays<A: Allocator + Copy>()
     growing_keeps::<A>();
 }
 
-/// Removing the parents of marked objects from a graph is the same as not continuing a walk past
-/// marked objects. Both give the same reachable ids and the same counts as `missing_known`.
+/// A walk that does not continue past marked objects is equivalent to a walk in the graph without
+/// the parents of marked objects. Both walks have the same reachable ids and the same counts, which
+/// are those of `missing_known`.
 pub fn stops_at_marks<A: Allocator + Copy>()
     ensures { StopsAtMarks A }
 {}

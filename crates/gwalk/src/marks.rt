@@ -27,7 +27,7 @@ impl<A: Allocator + Copy> Model for ConnectedMarks<A> {
 }
 
 impl<A: Allocator + Copy> ConnectedMarks<A> {
-    /// Returns an empty set of marks. It does not allocate.
+    /// Returns an empty set of marks. The call does not allocate.
     pub fn new(alloc: A) -> ConnectedMarks<A>
         ensures none { result ≡ [] }
         ensures connected { (g : List (Entry A)) → AreConnected g result }
@@ -37,15 +37,15 @@ impl<A: Allocator + Copy> ConnectedMarks<A> {
         }
     }
 
-    /// Returns whether the id at the position is marked. A position after the end is unmarked. It
-    /// does not allocate.
+    /// Returns whether the id at the position is marked. A position after the end is unmarked. The
+    /// call does not allocate.
     pub fn is_marked(&self, position: usize) -> bool
         ensures { result ≡ slice_index_or self.now position false }
     {
         is_marked(self.marks.as_slice(), position)
     }
 
-    // Returns the marks by position.
+    // Returns the marks as a slice, indexed by position.
     pub(crate) fn as_slice(&self) -> &[bool]
         ensures { result.now ≡ self.now }
     {
@@ -55,8 +55,8 @@ impl<A: Allocator + Copy> ConnectedMarks<A> {
 
 /// Marks every id that the given connected ids reach. The other marks are unchanged.
 ///
-/// The new marks are allocated by the graph's allocator. Fails only with `Memory`, and then leaves
-/// the marks unchanged.
+/// The new marks are allocated with the graph's allocator. Fails only with `Memory`, and then
+/// leaves the marks unchanged.
 pub fn mark_connected<A: Allocator + Copy>(
     graph: &Graph<A>,
     ids: &[Oid],

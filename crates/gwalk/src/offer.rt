@@ -21,9 +21,9 @@ use std::alloc::{AllocError, Allocator, Global};
 /// `have`). The offer is the first `n` ids of the graph, level by level, that no id of `commons`
 /// reaches and that are not in `sent`.
 ///
-/// Level 0 is the tips in order, each once. Each further level is the parents of the previous level
-/// in order, each once, without ids of earlier levels. An id that the graph does not contain has no
-/// parents. The walk stops as soon as it has `n` ids. Fails only with `Memory`.
+/// Level 0 has the tips in order, each once. Each further level has the parents of the previous
+/// level in order, each once, without ids of earlier levels. An id that the graph does not contain
+/// has no parents. The walk stops as soon as it has `n` ids. Fails only with `Memory`.
 pub fn haves<A: Allocator + Copy>(
     graph: &Graph<A>,
     tips: &[Oid],
@@ -47,16 +47,16 @@ pub(crate) struct Tour<A: Allocator + Copy> {
     pub(crate) at: usize,
 }
 
-/// The state of offering haves in batches, level by level from some tips. All batches together cost
-/// one walk, because each batch resumes the same walk.
+/// The state of offering haves in batches, level by level from some tips. Each batch resumes the
+/// same walk, so all batches together cost only one walk.
 #[derive(Drop)]
 pub struct Offers<A: Allocator + Copy = Global> {
     tour: Tour<A>,
-    // Marks at the positions of the ids that a common id reaches.
+    // Marks at the positions of all ids that a common id reaches.
     known: Vec<bool, A>,
     // The number of common ids that are already marked.
     heard: usize,
-    // The ids that were already offered, as a set of marks.
+    // The ids that were already offered, as the state of a walk.
     sent: Walk<A>,
 }
 
@@ -80,9 +80,9 @@ impl<A: Allocator + Copy> Offers<A> {
         })
     }
 
-    /// Returns the next batch: the result of [`haves`] for `commons`, with the ids of all earlier
-    /// batches as sent. The list `commons` must begin with that of the previous call, and the graph
-    /// must be the same.
+    /// Returns the next batch: the result of [`haves`] for `commons`, where the ids of all earlier
+    /// batches count as sent. The list `commons` must begin with the `commons` of the previous
+    /// call, and the graph must be unchanged.
     ///
     /// Fails only with `Memory`, and then the `Offers` can't be used further.
     pub fn next(

@@ -64,8 +64,9 @@ pub fn send_list_tags<A: Allocator + Copy>(
     Ok(list_to_send(graph, wants, commons, tips.as_slice())?)
 }
 
-// Returns the list to send, with the tags of the tips. The function makes a pass if each object
-// comes after its parents, and otherwise a walk.
+// Returns the list to send, including the tags in the chains of tags that begin at the tips. If
+// each object of the graph comes after its parents, the function makes one pass over the graph.
+// Otherwise it walks from the wants.
 fn list_to_send<A: Allocator + Copy>(
     graph: &Graph<A>,
     wants: &[Oid],
@@ -83,7 +84,7 @@ fn list_to_send<A: Allocator + Copy>(
     Ok(walked_list(graph, wants, commons, tips)?)
 }
 
-// Returns the list to send by walks, in a graph in any order.
+// Returns the list to send. The function finds it by walks, in a graph in any order.
 fn walked_list<A: Allocator + Copy>(
     graph: &Graph<A>,
     wants: &[Oid],
@@ -138,7 +139,7 @@ struct Tag {
     named: Oid,
 }
 
-// Returns the tag under the id, or `None` if the graph has no such tag.
+// Returns the tag with this id, or `None` if the graph has no such tag.
 fn tag_at<A: Allocator + Copy>(graph: &Graph<A>, id: &Oid) -> Option<Tag>
     ensures found { IfSome result (λ tag.
         (position_of graph.now.entries id.now ≡ Some tag.position)

@@ -16,13 +16,14 @@ use std::alloc::{AllocError, Allocator};
 /// The state of a walk. A walk visits each id of the graph at most once.
 #[derive(Drop)]
 pub struct Walk<A: Allocator + Copy> {
-    /// Marks at the positions of the ids of the graph that the walk has met.
+    /// Marks at the positions of all ids of the graph that the walk has met.
     pub marks: Vec<bool, A>,
     /// The positions of the ids that the walk has met, level by level.
     pub met: Vec<usize, A>,
-    /// An id that the walk has met and that is not in the graph, if there is one.
+    /// An id that the walk has met and that is not in the graph, if there is such an id.
     pub lost: Option<Oid>,
-    /// The total number of parents of the met nodes, without the parents of known nodes.
+    /// The total number of parents of all nodes that the walk has met, except nodes that are marked
+    /// as known.
     pub parents: u64,
 }
 
@@ -109,8 +110,8 @@ impl<A: Allocator + Copy> Walk<A> {
     }
 }
 
-/// Walks from the ids to all ids that they reach, without continuing past known ids. Fails only if
-/// out of memory.
+/// Walks from the ids to all ids that they reach, without continuing past ids marked as known.
+/// Fails only if out of memory.
 pub fn walk_past<A: Allocator + Copy>(
     graph: &Graph<A>,
     known: &[bool],

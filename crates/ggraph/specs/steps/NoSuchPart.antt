@@ -1,4 +1,4 @@
--- Definitions for the proofs of refusing a line: the forms that a part of the line does not have.
+-- Definitions for the proofs of refusing a line: each states that a part of the line does not have a form.
 use Rattle.std.specs.Prelude.{◌≡◌, ℕ, ◌≤◌, List, ◌∷◌, ◌++◌, length, All, codes}
 use Rattle.gname.specs.Ids.{Id, IsIdOf, id_text}
 use Rattle.gname.specs.Names.{Name}
@@ -20,7 +20,7 @@ abbrev pub BeginsWithNoSpacedId : Format → List ℕ → Type 0
 BeginsWithNoSpacedId format text =
     (id : Id) (rest : List ℕ) → IsIdOf format id → text ≡ codes " " ++ (id_text id ++ rest) → ⊥
 
--- the text is not a list of parent ids
+-- the text is not a list of at most the maximum number of parent ids
 abbrev pub IsNoParents : Format → List ℕ → Type 0
 IsNoParents format text =
     (ids : List Id) → All (IsIdOf format) ids → length ids ≤ max_parents → text ≡ ids_text ids → ⊥
@@ -42,7 +42,7 @@ BeginsWithNoRefId format text =
 abbrev pub IsNoIdText : Format → List ℕ → Type 0
 IsNoIdText format text = (id : Id) → IsIdOf format id → text ≡ id_text id → ⊥
 
--- HEAD is detached at the id that this text encodes
+-- HEAD is detached at the id with this text
 abbrev pub IsHeadAt : {A : Type 0} → Format → List ℕ → Head A → Type 0
 IsHeadAt format text (head_is.Id id) = (text ≡ id_text id) × IsIdOf format id
 IsHeadAt format text _ = ⊥
@@ -52,10 +52,10 @@ abbrev pub IsHeadOn : {A : Type 0} → List ℕ → Head A → Type 0
 IsHeadOn text (head_is.Symref target) = (target ≡ text) × IsBelowRefs text
 IsHeadOn text _ = ⊥
 
--- the line is not that of HEAD
+-- the line is not the line of any valid HEAD
 abbrev pub IsNoHead : (A : Type 0) → Format → List ℕ → Type 0
 IsNoHead A format line = (head : Head A) → IsHead format head → line ≡ head_line head → ⊥
 
--- the line is that of a symbolic HEAD
+-- the line is the line of some symbolic HEAD
 abbrev pub IsSymrefLine : (A : Type 0) → List ℕ → Type 0
 IsSymrefLine A line = (target : Name) × IsBelowRefs target × (line ≡ head_line {A = A} (head_is.Symref target))

@@ -20,7 +20,7 @@ use Rattle.ggraph.specs.declared.text.reading.Reading.{Reading}
 use Rattle.ggraph.specs.declared.text.reading.TextStage.{TextStage}
 use Rattle.ggraph.specs.declared.text.reading.TextStage.TheVariants.{First, Nodes, Refs, Last, Done}
 
--- the contents of a line
+-- the contents of a line of a repository text
 pub data Item (A : Type 0) : Type 0 where
   begins : Format → Item A
   node : Entry A → Item A
@@ -36,7 +36,7 @@ line_of (ref it) = ref_line it
 line_of (heads head) = head_line head
 line_of ends = last_line
 
--- an item that needs memory
+-- an item that must be stored
 abbrev pub IsKept : {A : Type 0} → Item A → Type 0
 IsKept (node entry) = ⊤
 IsKept (ref it) = ⊤
@@ -47,16 +47,16 @@ IsKept _ = ⊥
 abbrev pub with_entry : {A : Type 0} → History A → Entry A → History A
 with_entry g entry = record { format = g.format; entries = g.entries ++ entry ∷ [] }
 
--- the state before the first line
+-- the state of reading before the first line
 abbrev pub nothing_read : {A : Type 0} → Reading A
 nothing_read =
     record { stage = First; graph = record { format = Sha1; entries = [] }; refs = []; head = head_is.None }
 
--- the stages at which a ref or HEAD is allowed next
+-- the stages of reading at which a ref or HEAD is allowed next
 abbrev pub RefMayCome : TextStage → Type 0
 RefMayCome stage = (stage ≡ Nodes) ⊎ (stage ≡ Refs)
 
--- the items that are allowed next
+-- the item is allowed next
 abbrev pub MayCome : {A : Type 0} → Order → Reading A → Item A → Type 0
 MayCome order old (begins format) = old.stage ≡ First
 MayCome order old (node entry) = (old.stage ≡ Nodes) × MayFollow order old.graph.format old.graph.entries entry
@@ -64,7 +64,7 @@ MayCome order old (ref it) = RefMayCome old.stage × RefMayFollow old.graph.form
 MayCome order old (heads head) = RefMayCome old.stage × IsHead old.graph.format head
 MayCome order old ends = old.stage ≡ Last
 
--- the state after the item
+-- the state of reading after the item
 abbrev pub after : {A : Type 0} → Reading A → Item A → Reading A
 after old (begins format) = record old { stage = Nodes; graph = record { format = format; entries = [] } }
 after old (node entry) = record old { graph = with_entry old.graph entry }
@@ -81,8 +81,8 @@ ComesNext {A} order old line new =
 abbrev pub NeverComes : {A : Type 0} → Order → Reading A → List ℕ → Type 0
 NeverComes {A} order old line = (item : Item A) → line ≡ line_of item → MayCome order old item → ⊥
 
--- the reason to refuse a line: an allowed line that needs memory, a line that is not allowed, or a line with a later
--- parent
+-- the reason to refuse a line: out of memory for an allowed line, a line that is not allowed, or a parent on a later
+-- line
 abbrev pub RefusesLine : {A : Type 0} → Order → Reading A → List ℕ → ℕ → LoadFault → Type 0
 RefusesLine {A} order old line number Memory =
     (item : Item A) × (line ≡ line_of item) × MayCome order old item × IsKept item

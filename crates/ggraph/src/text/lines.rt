@@ -38,14 +38,15 @@ pub(crate) struct NodeLine<'a> {
     pub ids: &'a [u8],
 }
 
-/// The line of a ref: its id, and its unchecked name.
+/// The line of a ref: its id, and its name, which is not checked yet.
 #[derive(Clone, Copy)]
 pub(crate) struct RawRef<'a> {
     pub id: Oid,
     pub name: &'a [u8],
 }
 
-/// Splits the line of a node into its kind and its ids, or returns `None`.
+/// Splits the line of a node into its kind and the text of its ids. Returns `None` if the line
+/// begins with neither `c` nor `t`.
 pub(crate) fn node_parts(line: &[u8]) -> Option<NodeLine<'_>>
     ensures { MatchOption result (IsNoNode line.now)
         (λ node. line.now ≡ letter node.kind ∷ node.ids.now) }
@@ -61,7 +62,8 @@ pub(crate) fn node_parts(line: &[u8]) -> Option<NodeLine<'_>>
     None
 }
 
-/// Splits the text after `r ` in the line of a ref into its id and its name, or returns `None`.
+/// Splits the text after `r ` in the line of a ref into an id and a name. Returns `None` if the
+/// text does not begin with an id and a space.
 pub(crate) fn ref_parts(format: Format, text: &[u8]) -> Option<RawRef<'_>>
     ensures { MatchOption result (BeginsWithNoRefId format text.now) (λ it.
         (text.now ≡ id_text it.id ++ (codes " " ++ it.name.now)) × IsIdOf format it.id) }
@@ -78,8 +80,8 @@ pub(crate) fn ref_parts(format: Format, text: &[u8]) -> Option<RawRef<'_>>
     Some(RawRef { id, name })
 }
 
-/// Parses a line of HEAD, or returns `None` for any other line. Fails only if out of memory for the
-/// target of a symbolic HEAD.
+/// Parses the line of HEAD, or returns `None` for any other line. Fails only if memory runs out for
+/// the target of a symbolic HEAD.
 pub(crate) fn head_of<A: Allocator + Copy>(
     alloc: A,
     format: Format,

@@ -16,7 +16,7 @@ use grefs::{Head, Refs};
 use memchr::{memchr, memchr_iter};
 use std::alloc::Allocator;
 
-// The length in bytes of the prefix of a text that serves to estimate the number of nodes.
+// The length in bytes of the prefix of a text from which the number of nodes is estimated.
 const SAMPLE: usize = 65_536;
 
 // The minimum length in bytes of a node's line: a letter, a space, the 40 digits of an id, and an
@@ -27,9 +27,9 @@ const SHORTEST_NODE: usize = 43;
 ///
 /// Fails with `Text` at the first line that is malformed or exceeds a limit, or if the text ends
 /// early. Under `Order::ParentsFirst`, fails with `ParentLater` at the first line with a parent
-/// that is not on an earlier line. If both apply, the fault at the earlier line is reported, and
-/// `Text` takes precedence at the same line. Fails with `Memory` only at a valid line of a node, a
-/// ref, or a symbolic HEAD.
+/// that is not on an earlier line. If both faults apply, the call reports the fault at the earlier
+/// line, or `Text` if both are at the same line. Fails with `Memory` only at a valid line of a
+/// node, a ref, or a symbolic HEAD.
 pub fn load<A: Allocator + Copy>(
     alloc: A,
     text: &[u8],
@@ -62,8 +62,8 @@ pub fn load<A: Allocator + Copy>(
     })
 }
 
-// Estimates the number of nodes from a prefix of the text. The estimate never exceeds the number of
-// nodes that the length of the text and a graph allow.
+// Estimates the number of nodes from a prefix of the text. The estimate exceeds neither the maximum
+// number of nodes of a graph, nor the number of nodes for which the text is long enough.
 fn expected_nodes(text: &[u8]) -> usize
     ensures { result ≤ max_nodes }
 {

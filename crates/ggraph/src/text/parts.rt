@@ -22,7 +22,8 @@ pub(crate) struct FrontId<'a> {
     pub rest: &'a [u8],
 }
 
-/// Returns the id of the format with whose digits the text begins, and the text after the digits.
+/// If the text begins with the digits of an id of this format, returns the id and the text after
+/// the digits.
 pub(crate) fn take_id(format: Format, text: &[u8]) -> Option<(Oid, &[u8])>
     ensures { MatchOption result (BeginsWithNoId format text.now) (λ pair.
         (text.now ≡ id_text pair.0 ++ pair.1.now) × IsIdOf format pair.0) }
@@ -33,7 +34,8 @@ pub(crate) fn take_id(format: Format, text: &[u8]) -> Option<(Oid, &[u8])>
     }
 }
 
-// Returns the id of the format with whose digits the text begins, or `None`.
+// Returns the id of this format at the beginning of the text, or `None` if the text does not begin
+// with such an id.
 fn front_id(format: Format, text: &[u8]) -> Option<FrontId<'_>>
     ensures { MatchOption result (BeginsWithNoId format text.now) (λ found.
         (text.now ≡ id_text found.id ++ found.rest.now) × (found.digits.now ≡ id_text found.id)
@@ -65,7 +67,7 @@ fn is_lower(digits: &[u8]) -> bool
     digits.iter().all(|digit| !digit.is_ascii_uppercase())
 }
 
-/// Returns the id after the space with which the text begins, or `None`.
+/// If the text begins with a space and an id, returns that id, otherwise `None`.
 pub(crate) fn take_spaced(format: Format, text: &[u8]) -> Option<FrontId<'_>>
     ensures { MatchOption result (BeginsWithNoSpacedId format text.now) (λ found.
         (text.now ≡ codes " " ++ (id_text found.id ++ found.rest.now))
@@ -75,8 +77,8 @@ pub(crate) fn take_spaced(format: Format, text: &[u8]) -> Option<FrontId<'_>>
     front_id(format, text.strip_prefix(b" ")?)
 }
 
-// Returns the parent's id after the space with which the text begins, and the text after that id.
-// The function tries the recent ids first, because most parents are on one of the previous lines.
+// If the text begins with a space and a parent's id, returns that id and the text after it. The
+// function tries the recent ids first, because most parents are on one of the previous two lines.
 fn take_parent<'t>(format: Format, recent: &Recent<'_>, text: &'t [u8]) -> Option<(Oid, &'t [u8])>
     ensures { MatchOption result (BeginsWithNoSpacedId format text.now) (λ pair.
         (text.now ≡ codes " " ++ (id_text pair.0 ++ pair.1.now)) × IsIdOf format pair.0) }
@@ -90,8 +92,8 @@ fn take_parent<'t>(format: Format, recent: &Recent<'_>, text: &'t [u8]) -> Optio
     take_id(format, text)
 }
 
-/// The buffers that all lines of a text share: an array for a node's parents, the expected number
-/// of nodes, and the recent ids.
+/// The data that all lines of a text share: an array for a node's parents, the expected number of
+/// nodes, and the recent ids.
 #[derive(Drop)]
 pub(crate) struct Room<'a> {
     ids: [Oid; MAX_PARENTS],
@@ -100,7 +102,7 @@ pub(crate) struct Room<'a> {
 }
 
 impl<'a> Room<'a> {
-    /// Returns the buffers for a text with `nodes` expected nodes. The ids in the array are
+    /// Returns the shared data for a text with `nodes` expected nodes. The ids in the array are
     /// placeholders.
     pub(crate) fn new(nodes: usize) -> Room<'a> {
         let blank = Oid::from_hex(&[b'0'; 40]).unwrap();
@@ -152,8 +154,8 @@ fn read_parents(
     Some(count)
 }
 
-/// Returns the name if it is a valid ref name below `refs/`, otherwise `None`. Fails only if out of
-/// memory for a valid name.
+/// Returns the name if it is a valid ref name below `refs/`, otherwise `None`. Fails only if memory
+/// runs out for a valid name.
 pub(crate) fn name_of<A: Allocator + Copy>(
     alloc: A,
     text: &[u8],

@@ -30,7 +30,7 @@ pub(crate) enum TextStage {
     Refs,
     /// The last line, `end`.
     Last,
-    /// No further line.
+    /// No further line, because the text is complete.
     Done,
 }
 
@@ -48,7 +48,7 @@ impl<A: Allocator + Copy> Reading<A> {
     ghost use Rattle.ggraph.specs.steps.NoSuchPart.{IsNoNode, IsNoRef};
     ghost use Rattle.ggraph.specs.declared.text.Order.{Order};
 
-    /// Returns the state before the first line. It does not allocate.
+    /// Returns the state before the first line. The call does not allocate.
     pub(crate) fn new(alloc: A) -> Reading<A>
         ensures { result ≡ nothing_read }
     {
@@ -60,8 +60,8 @@ impl<A: Allocator + Copy> Reading<A> {
         }
     }
 
-    /// Reads the next line, whose number in the text is `number`. The buffers in `room` hold a
-    /// node's parents.
+    /// Reads the next line, whose number in the text is `number`. `room` has an array for a node's
+    /// parents.
     pub(crate) fn take_line<'a>(
         &mut self,
         room: &mut Room<'a>,

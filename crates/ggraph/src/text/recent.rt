@@ -7,7 +7,7 @@ use gname::Oid;
 use std::marker::Model;
 
 /// The ids of the last two nodes, with their digits in the text. A node's parents are often among
-/// these ids, and then need no decoding. Before the first node the digits are empty.
+/// these ids. Such parents need no decoding. Before the first node the digits are empty.
 #[derive(Drop)]
 pub(crate) struct Recent<'a> {
     last: Oid,
@@ -29,7 +29,7 @@ impl<'a> Model for Recent<'a> {
 }
 
 impl<'a> Recent<'a> {
-    /// Returns the state before the first node. The id `blank` is only a placeholder.
+    /// Returns the recent ids before the first node. The id `blank` is only a placeholder.
     pub(crate) fn new(blank: Oid) -> Recent<'a> {
         Recent {
             last: blank,
@@ -39,7 +39,7 @@ impl<'a> Recent<'a> {
         }
     }
 
-    /// Stores the id of the node that was read last, with its digits.
+    /// Stores the id of the most recently read node, with the digits of that id.
     pub(crate) fn keep(&mut self, digits: &'a [u8], id: Oid)
         requires { digits.now ≡ id_text id }
     {
@@ -49,7 +49,8 @@ impl<'a> Recent<'a> {
         self.last_digits = digits;
     }
 
-    /// Returns the recent id with whose digits the text begins, and the text after the digits.
+    /// If the text begins with the digits of a recent id, returns that id and the text after the
+    /// digits.
     pub(crate) fn take_recent<'t>(&self, text: &'t [u8]) -> Option<(Oid, &'t [u8])>
         ensures { IfSome result (λ pair. text.now ≡ id_text pair.0 ++ pair.1.now) }
     {
@@ -63,7 +64,7 @@ impl<'a> Recent<'a> {
     }
 }
 
-// Returns the text after the digits, if the text begins with nonempty digits.
+// Returns the text after `digits`, if the text begins with them and they are not empty.
 fn after<'t>(digits: &[u8], text: &'t [u8]) -> Option<&'t [u8]>
     ensures { IfSome result (λ rest. (digits.now ≢ []) × (text.now ≡ digits.now ++ rest.now)) }
 {

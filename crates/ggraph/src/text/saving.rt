@@ -19,7 +19,7 @@ use std::alloc::{AllocError, Allocator};
 
 /// Returns the unique text of this repository, which `load` reads back under `Order::Any`.
 ///
-/// Fails with `OtherFormat` and the first id whose format is not that of the graph. The refs are
+/// Fails with `OtherFormat` for the first id that does not have the graph's format. The refs are
 /// checked in name order, and HEAD last. Otherwise fails only with `Memory`.
 pub fn save<A: Allocator + Copy>(
     alloc: A,
@@ -42,7 +42,7 @@ pub fn save<A: Allocator + Copy>(
     Ok(text)
 }
 
-// Returns the first id that does not have the format, among the refs and then HEAD.
+// Returns the first id of a ref that does not have the format, or otherwise such an id of HEAD.
 fn other_id<A: Allocator + Copy>(
     format: Format,
     refs: &[(RefName<A>, Oid)],

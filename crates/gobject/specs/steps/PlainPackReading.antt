@@ -40,18 +40,18 @@ NoId text = (id : Id) → IsIdText text id → ⊥
 abbrev pub with_parent : {A : Type 0} → Entry A → Id → Entry A
 with_parent entry id = entry_of entry.id (node_of entry.node.kind (entry.node.parents ++ id ∷ []))
 
--- the first word of a line, and the part that it announces
+-- the text is the first word of a line, and announces the next part
 abbrev pub IsWord : {A : Type 0} → List ℕ → Next A → Type 0
 IsWord part (next_is.Id kind) = part ≡ letter kind ∷ []
 IsWord part next_is.Count = part ≡ codes "end"
 IsWord part _ = ⊥
 
--- the state after an id of the entry: a space announces one more parent, and a line feed ends the line
+-- the state after an id in the line of the entry: a space announces one more parent, and a line feed ends the line
 abbrev pub EndsId : {A : Type 0} → List (Entry A) → Entry A → Separator → Next A → List (Entry A) → Type 0
 EndsId old entry Space next new = (next ≡ next_is.Parent entry) × (new ≡ old)
 EndsId old entry LineFeed next new = (next ≡ next_is.Word) × (new ≡ old ++ entry ∷ [])
 
--- the part is allowed next, and the last two arguments are the part that it announces and the entries read by then
+-- the part is allowed next; the last two arguments are the part expected after it, and the entries read so far
 abbrev pub Leads : {A : Type 0} → Next A → List (Entry A) → List ℕ → Separator → Next A → List (Entry A) → Type 0
 Leads next_is.Header old part LineFeed next new = (part ≡ header) × (next ≡ next_is.Word) × (new ≡ old)
 Leads next_is.Word old part Space next new = IsWord part next × (new ≡ old)
@@ -66,7 +66,7 @@ Leads _ old part end next new = ⊥
 abbrev pub NeverLeads : {A : Type 0} → Next A → List (Entry A) → List ℕ → Separator → Type 0
 NeverLeads {A} next list part end = (after : Next A) (new : List (Entry A)) → Leads next list part end after new → ⊥
 
--- the part has contents to store: a parent, or an entry at the end of its line
+-- the part has contents to store: it is a parent, or it completes the line of an entry
 abbrev pub IsKept : {A : Type 0} → Next A → List ℕ → Separator → Type 0
 IsKept (next_is.Id kind) part LineFeed = (id : Id) × IsIdText part id
 IsKept (next_is.Parent entry) part end = (id : Id) × IsIdText part id
@@ -74,13 +74,13 @@ IsKept _ part end = ⊥
 
 -- ---- the bytes that were read
 
--- the number of the line, counted from 1, that has the next part after `n` entries
+-- the number, counted from 1, of the line that contains the next part, if `n` entries were read
 abbrev pub line_number : {A : Type 0} → Next A → ℕ → ℕ
 line_number next_is.Header n = 1
 line_number next_is.Nothing n = n + 3
 line_number _ n = n + 2
 
--- the outcome of reading a part with its separator: the part is read, or the bytes are refused whatever bytes follow
+-- the outcome of reading a part and its separator: the part is read, or the bytes are refused whatever bytes follow
 abbrev pub Reads : {A : Type 0} → Lines A → Lines A → Result (Unit {0}) IndexFault → List ℕ → Separator → Type 0
 Reads {A} old new result part end =
     MatchResult result
@@ -100,8 +100,8 @@ Finishes {A} lines result part =
 
 -- ---- the bytes that were fed
 
--- the outcome of feeding a piece: the piece is added to the bytes fed before, or the bytes are refused whatever bytes
--- follow
+-- the outcome of feeding a piece: the piece is appended to the bytes that were fed, or the bytes are refused whatever
+-- bytes follow
 abbrev pub Feeds : {A : Type 0} → PlainFeed A → PlainFeed A → Result (Unit {0}) IndexFault → List ℕ → Type 0
 Feeds {A} old new result piece =
     MatchResult result (λ _. (given : List ℕ) → Fed old given → Fed new (given ++ piece))

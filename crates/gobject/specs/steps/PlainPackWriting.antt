@@ -4,7 +4,7 @@ use Rattle.std.specs.List.{flat_map}
 use Rattle.gobject.specs.declared.node.Entry.{Entry}
 use Rattle.gobject.specs.PlainPackText.{line, node_text}
 
--- the room that is left after a text of length `taken`, or `None` if the text is too long
+-- the number of bytes that are left after a text of length `taken`, or `None` if the text is too long
 abbrev pub Leaves : ℕ → Option ℕ → ℕ → Type 0
 Leaves room result taken = MatchOption result (room < taken) (λ left. left + taken ≡ room)
 

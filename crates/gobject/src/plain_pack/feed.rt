@@ -23,7 +23,7 @@ pub struct PlainFeed<A: Allocator + Copy> {
 }
 
 impl<A: Allocator + Copy> PlainFeed<A> {
-    /// Returns a feed before the first piece. It does not allocate.
+    /// Returns the state before the first piece. The call does not allocate.
     #[tactic(auto, using(crate::proofs::PlainPackFeed::fed_new))]
     pub fn new(alloc: A) -> PlainFeed<A>
         ensures { Fed result [] }
@@ -34,7 +34,7 @@ impl<A: Allocator + Copy> PlainFeed<A> {
         }
     }
 
-    /// Stores bytes of a part whose end is not in the piece.
+    /// Stores the bytes of a part that does not end in the current piece.
     #[tactic(auto, using(crate::proofs::PlainPackFeed::fed_keep, crate::proofs::PlainPackFeed::bad_line_kept))]
     fn keep(&mut self, text: &[u8]) -> Result<(), IndexFault>
         requires { IsPart text.now }
@@ -48,7 +48,7 @@ impl<A: Allocator + Copy> PlainFeed<A> {
         }
     }
 
-    /// Reads the part that consists of the stored bytes and `text`, and ends with the separator.
+    /// Reads the part that consists of the stored bytes and `text`. The separator ends this part.
     fn end_part(&mut self, text: &[u8], separator: Separator) -> Result<(), IndexFault>
         requires { IsPart text.now }
         ensures { Feeds self.old self.new result (text.now ++ separator_byte separator ∷ []) }

@@ -22,7 +22,7 @@ pub enum Separator {
     LineFeed,
 }
 
-/// The part that is expected next.
+/// The part of a plain pack that is expected next.
 #[derive(Drop)]
 pub enum Next<A: Allocator + Copy> {
     /// The first line, `GPK1`.
@@ -35,12 +35,12 @@ pub enum Next<A: Allocator + Copy> {
     Parent(Entry<A>),
     /// The number of entries, in the last line.
     Count,
-    /// No further part, because the pack is complete.
+    /// Nothing, because the pack is complete.
     Nothing,
 }
 
-/// Returns the first part of a text, its separator, and the rest, or `None` if the text has no
-/// separator.
+/// Returns the first part of a text, the separator after it, and the rest of the text. Returns
+/// `None` if the text has no separator.
 pub fn split_part(text: &[u8]) -> Option<(&[u8], Separator, &[u8])>
     ensures { MatchOption result (IsPart text.now)
         (λ parts. SplitsPart text.now parts.0.now parts.1 parts.2.now) }
@@ -54,7 +54,7 @@ pub fn split_part(text: &[u8]) -> Option<(&[u8], Separator, &[u8])>
     Some((&text[..end], separator, &text[end + 1..]))
 }
 
-/// Returns the format of an id with as many digits as the part.
+/// Returns the format of ids that have as many digits as the part has bytes.
 fn format_of(part: &[u8]) -> Format
     ensures { result ≡ format_of_digits (length part.now) }
 {
@@ -79,7 +79,8 @@ fn id_of(part: &[u8]) -> Option<Oid>
     }
 }
 
-/// Returns the part that is expected after the header, or `None` if the header is wrong.
+/// Returns what is expected after the header, or `None` if `part` and `separator` are not the
+/// header.
 fn after_header<A: Allocator + Copy>(part: &[u8], separator: Separator) -> Option<Next<A>>
     ensures { ((list : List (Entry A)) → MatchOption result
         (NeverLeads {A = A} Next.Header list part.now separator)
@@ -91,8 +92,8 @@ fn after_header<A: Allocator + Copy>(part: &[u8], separator: Separator) -> Optio
     }
 }
 
-/// Returns the part that is expected after the first word of a line, or `None` if the word is
-/// wrong.
+/// Returns what is expected after the first word of a line, or `None` if `part` is not allowed as
+/// that word.
 fn after_word<A: Allocator + Copy>(part: &[u8], separator: Separator) -> Option<Next<A>>
     ensures { ((list : List (Entry A)) → MatchOption result
         (NeverLeads {A = A} Next.Word list part.now separator)
@@ -114,7 +115,7 @@ fn after_word<A: Allocator + Copy>(part: &[u8], separator: Separator) -> Option<
     }
 }
 
-/// Returns whether a part is the number of entries in decimal.
+/// Returns whether `part` is `count` in decimal.
 fn is_count(part: &[u8], count: usize) -> bool
     ensures { IsTrue result ↔ (part.now ≡ decimal count) }
 {
@@ -122,7 +123,7 @@ fn is_count(part: &[u8], count: usize) -> bool
     part == digits.format(count).as_bytes()
 }
 
-/// Returns an entry without parents. It does not allocate.
+/// Returns an entry without parents. The call does not allocate.
 fn new_entry<A: Allocator + Copy>(alloc: A, kind: Kind, id: Oid) -> Entry<A>
     ensures { result ≡ entry_of id (node_of kind []) }
 {
@@ -141,8 +142,8 @@ fn push_parent<A: Allocator + Copy>(mut entry: Entry<A>, id: Oid) -> Result<Entr
     Ok(entry)
 }
 
-/// Returns the part that is expected after an id of an entry: another parent after a space, or the
-/// first word of the next line after a line feed.
+/// Returns what is expected after an id of an entry: another parent if a space ends the id, or the
+/// first word of the next line if a line feed ends it.
 fn after_id<A: Allocator + Copy>(
     entries: &mut Vec<Entry<A>, A>,
     entry: Entry<A>,
@@ -161,7 +162,7 @@ fn after_id<A: Allocator + Copy>(
     }
 }
 
-/// Returns the part that is expected after a part, or `None` if the part is not allowed.
+/// Returns what is expected after `part`, or `None` if `part` is not allowed here.
 fn after_part<A: Allocator + Copy>(
     alloc: A,
     entries: &mut Vec<Entry<A>, A>,
@@ -210,7 +211,7 @@ pub struct Lines<A: Allocator + Copy> {
 }
 
 impl<A: Allocator + Copy> Lines<A> {
-    /// Returns the state before the first part. It does not allocate.
+    /// Returns the state before the first part. The call does not allocate.
     pub fn new(alloc: A) -> Lines<A>
         ensures next { result.next ≡ Next.Header }
         ensures entries { result.entries.items ≡ [] }
@@ -222,7 +223,7 @@ impl<A: Allocator + Copy> Lines<A> {
         }
     }
 
-    /// Returns the number of the line of the next part, counted from 1.
+    /// Returns the number, counted from 1, of the line that contains the next part.
     fn line(&self) -> usize
         ensures { result ≡ line_number self.now.next (length self.now.entries.items) }
     {
@@ -233,7 +234,7 @@ impl<A: Allocator + Copy> Lines<A> {
         }
     }
 
-    /// Returns the fault of a part that is not allowed next.
+    /// Returns the fault to report if the next part is not allowed.
     pub fn bad_line(&self) -> IndexFault
         ensures { result ≡ IndexFault.Bad (line_number self.now.next
             (length self.now.entries.items)) }

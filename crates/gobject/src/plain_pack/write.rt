@@ -12,7 +12,8 @@ use gname::{MAX_PACK, Oid};
 use itoa::Buffer;
 use std::alloc::{AllocError, Allocator};
 
-/// Returns the room that is left after a space and an id, or `None` if there is not enough.
+/// Returns the number of bytes of `room` that are left after a space and an id, or `None` if `room`
+/// is too small.
 fn room_after_id(room: usize, id: &Oid) -> Option<usize>
     ensures { Leaves room result (length (ids_text (id.now ∷ []))) }
 {
@@ -22,8 +23,8 @@ fn room_after_id(room: usize, id: &Oid) -> Option<usize>
     room.checked_sub(id.format().id_text_length() + 1)
 }
 
-/// Returns the room that is left after ids with a space before each, or `None` if there is not
-/// enough.
+/// Returns the number of bytes of `room` that are left after the ids, each preceded by a space, or
+/// `None` if `room` is too small.
 fn room_after_ids(room: usize, ids: &[Oid]) -> Option<usize>
     ensures { Leaves room result (length (ids_text ids.now)) }
 {
@@ -34,7 +35,8 @@ fn room_after_ids(room: usize, ids: &[Oid]) -> Option<usize>
     Some(left)
 }
 
-/// Returns the room that is left after the line of an entry, or `None` if there is not enough.
+/// Returns the number of bytes of `room` that are left after the line of an entry, or `None` if
+/// `room` is too small.
 fn room_after_node<A: Allocator + Copy>(room: usize, entry: &Entry<A>) -> Option<usize>
     ensures { Leaves room result (length (line (node_text entry.now))) }
 {
@@ -43,7 +45,8 @@ fn room_after_node<A: Allocator + Copy>(room: usize, entry: &Entry<A>) -> Option
     room_after_ids(left, entry.node.parents.as_slice())
 }
 
-/// Returns the room that is left after the lines of some entries, or `None` if there is not enough.
+/// Returns the number of bytes of `room` that are left after the lines of the entries, or `None` if
+/// `room` is too small.
 fn room_after_nodes<A: Allocator + Copy>(room: usize, entries: &[Entry<A>]) -> Option<usize>
     ensures { Leaves room result (length (nodes_text entries.now)) }
 {
@@ -92,7 +95,7 @@ fn put_end<A: Allocator + Copy>(text: &mut Vec<u8, A>, count: usize) -> Result<(
     Ok(())
 }
 
-/// Returns the plain pack of some entries, whatever its length.
+/// Returns the plain pack of the entries, whatever the length of the pack.
 #[tactic(auto, using(crate::proofs::PlainPackWriting::pack_text_is))]
 fn put_pack<A: Allocator + Copy>(alloc: A, entries: &[Entry<A>]) -> Result<Vec<u8, A>, AllocError>
     ensures { IfOk result (λ pack. pack.items ≡ pack_text entries.now) }

@@ -14,7 +14,7 @@ use std::fmt;
 pub enum SpecFault {
     /// The text is not a refspec.
     BadSpec,
-    /// The text is a refspec, but it could not be stored: out of memory.
+    /// The text is a refspec, but there was not enough memory to store it.
     Memory,
 }
 
@@ -33,7 +33,7 @@ impl SpecFault {
         self.fault_row().1
     }
 
-    // Returns the row of the fault in the table: its number and its name.
+    // Returns the fault's row in the table of faults: the number and the name of the fault.
     fn fault_row(&self) -> (u32, &'static str)
         ensures { (result.0, result.1.now) ≡ spec_fault_row self.now }
     {

@@ -42,7 +42,8 @@ fn first_colon(text: &[u8]) -> Option<usize>
     text.iter().position(|byte| *byte == b':')
 }
 
-// Parses the source and the destination, which form a pattern if both end in `*`.
+// Parses the source and the destination. The source and the destination form a pattern if both end
+// in `*`.
 fn read_sides<A: Allocator + Copy>(
     alloc: A,
     forced: bool,

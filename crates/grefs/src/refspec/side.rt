@@ -64,9 +64,9 @@ pub(crate) fn are_name(front: &[u8], back: &[u8]) -> bool
     }
 }
 
-/// Returns the ref name that is `front` followed by `back`.
+/// Returns the ref name that consists of `front` followed by `back`.
 ///
-/// Fails with the first fault of that text as a ref name.
+/// Fails with the first fault of the combined text if that text is not a ref name.
 pub(crate) fn name_of<A: Allocator + Copy>(
     alloc: A,
     front: &[u8],

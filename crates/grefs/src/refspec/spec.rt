@@ -14,13 +14,13 @@ use gname::{HEAD, NameFault, Prefix, RefName};
 use std::alloc::{AllocError, Allocator, Global};
 use std::marker::Model;
 
-/// A refspec: a source and a destination. Both are ref names, or both are patterns whose `*`
-/// matches the rest of a name.
+/// A refspec: a source and a destination. Source and destination are both ref names, or both are
+/// patterns whose `*` matches the rest of a name.
 #[derive(Debug, Drop)]
 pub struct Spec<A: Allocator + Copy = Global> {
     forced: bool,
     pattern: bool,
-    // The source, for a pattern only its part before the `*`.
+    // The source. For a pattern, this is only the part of the source before the `*`.
     source: Prefix<A>,
     destination: Prefix<A>,
 }
@@ -37,8 +37,8 @@ impl<A: Allocator + Copy> Model for Spec<A> {
 
 impl<A: Allocator + Copy> Spec<A> {
     /// Reads a refspec: an optional `+`, a source, a `:` and a destination. Without `*`, the source
-    /// is a ref name, and the destination is a ref name below `refs/`. In a pattern both end in
-    /// `/*`, and are ref names below `refs/` with `x` in place of the `*`.
+    /// is a ref name, and the destination is a ref name below `refs/`. In a pattern the source and
+    /// the destination end in `/*`, and are ref names below `refs/` if `x` replaces the `*`.
     ///
     /// Fails with `BadSpec` if the text is not a refspec. Fails with `Memory` only if the text is a
     /// refspec.
@@ -79,7 +79,7 @@ impl<A: Allocator + Copy> Spec<A> {
         })
     }
 
-    /// Returns a copy of the refspec in memory of the given allocator. Fails only if out of memory.
+    /// Returns a copy of the refspec, which is allocated with `alloc`. Fails only if out of memory.
     pub fn copy_in<B: Allocator + Copy>(&self, alloc: B) -> Result<Spec<B>, SpecFault>
         ensures { MatchResult result (λ copy. copy ≡ self.now) (λ fault. fault ≡ Memory) }
     {
@@ -92,7 +92,7 @@ impl<A: Allocator + Copy> Spec<A> {
         )
     }
 
-    /// Returns whether the refspec has a `+`, so that its updates need not be fast-forwards.
+    /// Returns whether the refspec has a `+`, which allows updates that are not fast-forwards.
     pub fn is_forced(&self) -> bool
         ensures forced { result ≡ self.now.forced }
         ensures spec { IsRefspec self.now }
@@ -130,8 +130,8 @@ impl<A: Allocator + Copy> Spec<A> {
         }
     }
 
-    /// Returns whether the destination of a name is a valid ref name. Also returns true if the
-    /// source does not match the name. It does not allocate.
+    /// Returns whether the destination of a name is a valid ref name. Also returns `true` if the
+    /// source does not match the name. The call does not allocate.
     pub fn can_take<B: Allocator + Copy>(&self, name: &RefName<B>) -> bool
         ensures { IsTrue result ↔ (matches self.now name.now ≡ true
             → IsRefName (destination_of self.now name.now)) }
@@ -148,8 +148,8 @@ impl<A: Allocator + Copy> Spec<A> {
     /// Returns the destination of a name, which is below `refs/`. In a pattern the rest of the name
     /// replaces the `*`. Returns `None` if the source does not match the name.
     ///
-    /// Fails with the first fault of the destination if it is not a valid ref name. Fails with
-    /// `Memory` only if the destination is a valid ref name.
+    /// Fails with the first fault of the destination if the destination is not a valid ref name.
+    /// Fails with `Memory` only if the destination is a valid ref name.
     pub fn destination<B: Allocator + Copy, C: Allocator + Copy>(
         &self,
         alloc: C,

@@ -11,7 +11,8 @@ use Rattle.gobject.specs.Objects.{node_at, position_of}
 abbrev pub ids_at : {A : Type 0} → List (Entry A) → List ℕ → List Id
 ids_at g numbers = filter_map (λ position. option_map (λ entry. entry.id) (slice_get g position)) numbers
 
--- the ids that a walk searches for: marks at the positions of those in the graph, and a list of the others
+-- the ids that a walk searches for: marks at the positions of those ids that the graph contains, and a list of the
+-- other ids
 pub record AreGoals {A : Type 0} (g : List (Entry A)) (ids : List Id) (marks : List Bool)
     (absent : List Id) : Type 0 where
   pub long : length marks ≡ length g

@@ -12,7 +12,8 @@ abbrev pub HasMarks : {A : Type 0} → List (Entry A) → List Id → List Bool 
 HasMarks g ids marks =
     (a : Id) (position : ℕ) → position_of g a ≡ Some position → (slice_index_or marks position false ≡ true) ↔ Contains ids a
 
--- the list is the offer, and the tour can be resumed: after the list is sent, no visited id may be offered any more
+-- `list` is the offer, and the tour can be resumed: after the ids of `list` are sent, no visited id may be offered any
+-- more
 pub record GoesOn {A : Type 0} (g : List (Entry A)) (tips commons sent : List Id) (n : ℕ) (list : List Id)
     (tour : Tour A) : Type 0 where
   pub offer : IsOffer g tips commons sent n list

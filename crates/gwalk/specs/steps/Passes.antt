@@ -48,7 +48,7 @@ pub record IsReachingAt {A : Type 0} (g : List (Entry A)) (ids : IdList) (p : �
   pub at : position_of g id ≡ Some p
   pub reaching : Any (Reaches g id) ids
 
--- the object at this position is new: a want reaches it, and no common id does
+-- the object at this position is new: some want reaches the object, and no common id reaches it
 pub record IsNewAt {A : Type 0} (g : List (Entry A)) (wants commons : IdList) (p : ℕ) : Type 0 where
   pub id : Id
   pub at : position_of g id ≡ Some p
@@ -63,7 +63,7 @@ is_marked marks p = slice_index_or marks p false
 abbrev pub IsMarked : List Bool → ℕ → Type 0
 IsMarked marks p = is_marked marks p ≡ true
 
--- the positions of the ids, up to the end of the marks, are now also marked
+-- the positions of the ids that are below the end of the marks are now also marked
 pub record MarksAll {A : Type 0} (g : List (Entry A)) (ids : IdList) (old new : List Bool) : Type 0 where
   pub long : length new ≡ length old
   pub kept : (p : ℕ) → IsMarked old p → IsMarked new p
@@ -93,8 +93,9 @@ pub record IsCounted (wanted known : List Bool) (next pending : ℕ) : Type 0 wh
 
 -- ---- the pass down
 
--- The state of a pass down that has visited the positions from `next` up. The wants and the common ids are marked, and
--- every marked object is reachable from them. The parents of a visited object are marked like that object, or as known.
+-- The state of a pass down that has visited the positions from `next` up. The wants are marked as wanted and the common
+-- ids as known, and every marked object is reachable from such an id. The parents of a visited object are marked as
+-- that object is, or as known.
 pub record IsPassed {A : Type 0} (g : List (Entry A)) (wants commons : IdList)
     (wanted known : List Bool) (next : ℕ) : Type 0 where
   pub wants_in : (p : ℕ) → IsPositionOf g wants p → IsMarked wanted p
@@ -113,7 +114,7 @@ pub record IsDone {A : Type 0} (g : List (Entry A)) (wants commons : IdList)
 
 -- ---- the pass up
 
--- the position of one of the ids is marked
+-- at least one of the ids has a marked position
 pub record HasMarked {A : Type 0} (g : List (Entry A)) (ids : IdList) (marks : List Bool) : Type 0 where
   pub position : ℕ
   pub among : IsPositionOf g ids position
@@ -168,7 +169,7 @@ pub record MarksChain {A : Type 0} (g : List (Entry A)) (start : ℕ) (old new :
   pub marked : (p : ℕ) → IsOnChain g start p → IsMarked new p
   pub only : (p : ℕ) → IsMarked new p → IsMarked old p ⊎ IsOnChain g start p
 
--- the object at this position is a tag in the chain from a tip to an open commit
+-- the object at this position is a tag in the chain of tags from some tip to an open commit
 pub record IsOpenTag {A : Type 0} (g : List (Entry A)) (tips : IdList) (wanted known : List Bool) (p : ℕ) : Type 0 where
   pub start : ℕ
   pub tip : IsPositionOf g tips start

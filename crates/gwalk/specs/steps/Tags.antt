@@ -27,7 +27,7 @@ pub record IsTagAmong {A : Type 0} (g : List (Entry A)) (marks : List Bool) (tip
   pub lead : LeadsToMarked g marks tip
   pub from : IsTagFrom g tip a
 
--- the new marks, with additional marks for the tags in the chains from tips to marked commits
+-- the marks `new`, with additional marks for the tags in the chains from tips to marked commits
 pub record AreTagged {A : Type 0} (g : List (Entry A)) (new : List Bool) (tips : List Id)
     (marks : List Bool) : Type 0 where
   pub long : length marks ≡ length g

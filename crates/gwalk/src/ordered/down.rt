@@ -1,5 +1,5 @@
 //! The pass down the insertion order. The pass starts at the last want or common id, and ends when
-//! no position below is new.
+//! no unvisited position is open.
 
 ghost use Rattle.std.specs.Prelude.{◌≡◌, ◌≤◌, ◌<◌, ◌+◌, ℕ, List, IfErr, IfOk, ◌||◌, length, slice_set, true};
 ghost use Rattle.gname.specs.Ids.{Id};
@@ -12,7 +12,7 @@ use gdag::{Graph, GraphFault};
 use gname::Oid;
 use std::alloc::Allocator;
 
-// Passes down until no position below is open (wanted and not known).
+// Passes down until no unvisited position is open: marked as wanted and not as known.
 #[tactic(auto, using(crate::proofs::Positions::in_order))]
 pub(crate) fn pass_down<A: Allocator + Copy>(
     graph: &Graph<A>,
@@ -47,18 +47,18 @@ pub(crate) fn pass_down<A: Allocator + Copy>(
 // The state of a pass down the positions.
 #[derive(Drop)]
 pub(crate) struct Pass<A: Allocator + Copy> {
-    // For each position, whether a want is known to reach its object.
+    // For each position, whether some want is known to reach the object at the position.
     wanted: Vec<bool, A>,
-    // For each position, whether a common id is known to reach its object.
+    // For each position, whether some common id is known to reach the object at the position.
     known: Vec<bool, A>,
     // The end of the unvisited positions: all positions below `next` are still unvisited.
     pub(crate) next: usize,
-    // The number of unvisited positions that are wanted and not known.
+    // The number of unvisited positions that are marked as wanted and not as known.
     pending: usize,
 }
 
 impl<A: Allocator + Copy> Pass<A> {
-    // Returns whether the position is open: wanted and not known.
+    // Returns whether the position is open: marked as wanted and not as known.
     pub(crate) fn is_open(&self, position: usize) -> bool
         ensures { result ≡ is_open self.now.wanted.items self.now.known.items position }
     {
@@ -72,8 +72,8 @@ impl<A: Allocator + Copy> Pass<A> {
         self.wanted.len()
     }
 
-    // Returns whether the object at the position is sent: the position is open or marked in
-    // `tagged`.
+    // Returns whether the object at the position is to be sent: the position is open, or is marked
+    // in `tagged`.
     pub(crate) fn is_sent(&self, tagged: &[bool], position: usize) -> bool
         ensures { result ≡ (is_open self.now.wanted.items self.now.known.items position || is_marked
             tagged.now position) }
@@ -88,7 +88,7 @@ impl<A: Allocator + Copy> Pass<A> {
         if self.is_open(position) { 1 } else { 0 }
     }
 
-    // Visits the next position down. At least one unvisited position must be open.
+    // Visits the next lower position. At least one unvisited position must be open.
     fn step(&mut self, graph: &Graph<A>)
         requires order { IsInOrder graph.now.entries }
         requires counted { IsCounted self.old.wanted.items self.old.known.items self.old.next

@@ -15,7 +15,7 @@ pub(crate) fn is_marked(marks: &[bool], position: usize) -> bool
     marks.get(position).copied().unwrap_or(false)
 }
 
-// Returns marks for the positions below `end`, all unset.
+// Returns marks for the positions below `end`, none of which is marked.
 pub(crate) fn no_marks<A: Allocator + Copy>(
     alloc: A,
     end: usize,
@@ -27,7 +27,7 @@ pub(crate) fn no_marks<A: Allocator + Copy>(
     Ok(marks)
 }
 
-// Marks the positions of the ids that are below the end of the marks.
+// Marks those positions of the ids that are below the end of the marks.
 pub(crate) fn mark_all<A: Allocator + Copy>(graph: &Graph<A>, ids: &[Oid], marks: &mut Vec<bool, A>)
     ensures { MarksAll graph.now.entries ids.now marks.old.items marks.new.items }
 {
@@ -47,8 +47,7 @@ fn mark<A: Allocator + Copy>(marks: &mut Vec<bool, A>, position: usize)
     }
 }
 
-// Returns one more than the highest position of the ids, or 0 if the graph contains none of the
-// ids.
+// Returns the highest position of the ids plus one, or 0 if the graph contains none of the ids.
 pub(crate) fn end_of<A: Allocator + Copy>(graph: &Graph<A>, ids: &[Oid]) -> usize
     requires { IsInOrder graph.now.entries }
     ensures below { (p : ℕ) → IsPositionOf graph.now.entries ids.now p → p < result }

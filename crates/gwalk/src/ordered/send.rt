@@ -14,16 +14,17 @@ use std::alloc::Allocator;
 
 /// Returns the objects to send for the wants to a receiver that has the common ids connected, in
 /// insertion order (gitprotocol-v2(5), "fetch": `want`, `have`, `include-tag`). The list has each
-/// object that some want reaches and no common id reaches. It also has each tag in the chains of
-/// tags from the tips to such commits. Without `include-tag`, pass no tips. An id that is not in
+/// object that some want reaches and no common id reaches. The list also has each tag in the chains
+/// of tags from the tips to such commits. Without `include-tag`, pass no tips. An id that is not in
 /// the graph adds nothing to the list.
 ///
 /// Each object of the graph must have been inserted after its parents (`Graph::is_ordered`). The
-/// call passes down the insertion order from the last of the wants and common ids. The pass stops
-/// when every wanted object below is known to be reachable from a common id.
+/// call passes down the insertion order, and starts at the last want or common id. The pass stops
+/// when every remaining object that a want is known to reach is also known to be reachable from a
+/// common id.
 ///
-/// Fails only with `Memory`. The graph's allocator provides memory for the list, and at most three
-/// bytes for each object up to the last of the ids.
+/// Fails only with `Memory`. The graph's allocator allocates the list, and at most three bytes for
+/// each object up to the last of the given ids.
 #[tactic(auto, using(crate::proofs::Positions::in_order))]
 pub fn send_list<A: Allocator + Copy>(
     graph: &Graph<A>,

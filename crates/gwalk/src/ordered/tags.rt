@@ -11,7 +11,7 @@ use gname::Oid;
 use gobject::Kind;
 use std::alloc::Allocator;
 
-// Returns marks at the tags in the chains from tips to open commits.
+// Returns marks at the positions of the tags in the chains from tips to open commits.
 pub(crate) fn tags_of<A: Allocator + Copy>(
     graph: &Graph<A>,
     pass: &Pass<A>,
@@ -64,8 +64,8 @@ fn peel_position<A: Allocator + Copy>(graph: &Graph<A>, start: usize) -> usize
     at
 }
 
-// Returns the position of the object of the tag at `position`, or `None` if `position` has a
-// commit.
+// Returns the position of the object that the tag at `position` names, or `None` if the object at
+// `position` is a commit.
 fn named_position<A: Allocator + Copy>(graph: &Graph<A>, position: usize) -> Option<usize>
     requires order { IsInOrder graph.now.entries }
     requires held { position < length graph.now.entries }

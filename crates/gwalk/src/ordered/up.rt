@@ -1,4 +1,4 @@
-//! Reachability by one pass up the insertion order, which marks the objects that reach some ids.
+//! Reachability by one pass up the insertion order. The pass marks the objects that reach some ids.
 
 ghost use Rattle.std.specs.Prelude.{◌≡◌, ◌↔◌, ◌≤◌, ◌<◌, ◌∷◌, [], ℕ, IfErr, IfOk, IsTrue, Ok, false, length, true};
 ghost use Rattle.std.specs.List.{Any};
@@ -102,7 +102,7 @@ fn marks_reaching<A: Allocator + Copy>(
     Ok(good)
 }
 
-// Returns whether the position of at least one of the ids is marked.
+// Returns whether at least one of the ids has a marked position.
 fn has_marked<A: Allocator + Copy>(graph: &Graph<A>, ids: &[Oid], marks: &[bool]) -> bool
     ensures { IsTrue result ↔ HasMarked graph.now.entries ids.now marks.now }
 {
