@@ -1,7 +1,7 @@
 //! Facts about the limits: a graph with the maximum number of objects, and a pack of the maximum
 //! size.
 
-use crate::told::{fault_words, told_at};
+use crate::told::{fault_words, positioned_fault_words};
 use case_text::{Fact, Trouble, number_of};
 use ggraph::{Entry, Graph, Indexer, Kind, Node, PackFault, Packer, Parents, PlainPack};
 use gname::{Format, Oid};
@@ -32,7 +32,7 @@ fn grow_graph(alloc: Global, format: Format, count: usize) -> Result<String, Tro
     for number in 0..count {
         let commit = commit(alloc, format, number, 0)?;
         if let Err(fault) = graph.insert(commit) {
-            return told_at(alloc, fault.code(), fault.name(), "after", graph.len());
+            return positioned_fault_words(alloc, fault.code(), fault.name(), "after", graph.len());
         }
     }
     let count = graph.len();

@@ -6,7 +6,7 @@
 //! the result is only the printed text of the fault.
 
 use crate::text::{load_text, save_text};
-use crate::told::{fault_words, told_at};
+use crate::told::{fault_words, positioned_fault_words};
 use case_text::{Fact, Trouble};
 use ggrammar::MessageFault;
 use ggraph::{IndexFault, Indexer, LoadFault, Order, PlainPack, Repository};
@@ -149,7 +149,7 @@ fn write_again<A: Allocator + Copy>(
 fn load_fault(alloc: Global, fault: &LoadFault) -> Result<String, Trouble> {
     match fault {
         LoadFault::Text { line } | LoadFault::ParentLater { line } => {
-            told_at(alloc, fault.code(), fault.name(), "line", *line)
+            positioned_fault_words(alloc, fault.code(), fault.name(), "line", *line)
         }
         LoadFault::Memory => fault_words(alloc, fault.code(), fault.name()),
     }
@@ -163,7 +163,7 @@ fn pack<A: Allocator + Copy>(
 ) -> Result<String, Trouble> {
     match count_entries(memory, text, most) {
         Ok(count) => Ok(format!(in alloc; "ok {count}")?),
-        Err(IndexFault::Bad { line }) => told_at(alloc, 66, "Bad", "line", line),
+        Err(IndexFault::Bad { line }) => positioned_fault_words(alloc, 66, "Bad", "line", line),
         Err(IndexFault::Memory) => fault_words(alloc, 66, "Memory"),
         Err(fault) => fault_words(alloc, fault.code(), fault.name()),
     }
@@ -195,7 +195,9 @@ fn scenario<A: Allocator + Copy>(alloc: Global, memory: A, text: &[u8]) -> Resul
             let count = events.len();
             Ok(format!(in alloc; "ok {count}")?)
         }
-        Err(ScenarioFault::Scenario { line }) => told_at(alloc, 92, "Scenario", "line", line),
+        Err(ScenarioFault::Scenario { line }) => positioned_fault_words(
+            alloc, 92, "Scenario", "line", line,
+        ),
         Err(fault) => fault_words(alloc, fault.code(), fault.name()),
     }
 }
@@ -248,14 +250,26 @@ fn name_fault(alloc: Global, fault: &NameFault) -> Result<String, Trouble> {
         NameFault::BadByte { at }
         | NameFault::Component { at }
         | NameFault::DoubleDot { at }
-        | NameFault::AtBrace { at } => told_at(alloc, fault.code(), fault.name(), "at", *at),
+        | NameFault::AtBrace { at } => positioned_fault_words(
+            alloc,
+            fault.code(),
+            fault.name(),
+            "at",
+            *at,
+        ),
         _ => fault_words(alloc, fault.code(), fault.name()),
     }
 }
 
 fn id_fault(alloc: Global, fault: &OidFault) -> Result<String, Trouble> {
     match fault {
-        OidFault::Digit { at } => told_at(alloc, fault.code(), fault.name(), "at", *at),
+        OidFault::Digit { at } => positioned_fault_words(
+            alloc,
+            fault.code(),
+            fault.name(),
+            "at",
+            *at,
+        ),
         _ => fault_words(alloc, fault.code(), fault.name()),
     }
 }

@@ -21,7 +21,7 @@ const NAME: &[u8] = b"refs/heads/a\x80";
 
 // The expected line of a fault, without `gitv2: fault`, and its `Display` text.
 #[derive(Clone, Copy)]
-struct Look<'a> {
+struct Printed<'a> {
     line: &'a [u8],
     text: &'a [u8],
 }
@@ -29,12 +29,12 @@ struct Look<'a> {
 /// Returns the expected line if some fault prints this line and has this `Display` text, otherwise
 /// `of no fault`.
 pub(crate) fn answer(alloc: Global, fact: &Fact<'_>) -> Result<String, Trouble> {
-    let look = Look {
+    let printed = Printed {
         line: fact.due.as_slice(),
         text: fact.text.as_slice(),
     };
-    let is_known = is_known(alloc, look)?;
-    match std::str::from_utf8(look.line) {
+    let is_known = is_known(alloc, printed)?;
+    match std::str::from_utf8(printed.line) {
         Ok(line) if is_known => Ok(String::from_str(alloc, line)?),
         _ => Ok(String::from_str(alloc, "of no fault")?),
     }
@@ -42,32 +42,36 @@ pub(crate) fn answer(alloc: Global, fact: &Fact<'_>) -> Result<String, Trouble> 
 
 // Returns whether some fault has this line and this text. The tested faults in messages are at
 // packet 7.
-fn is_known(alloc: Global, look: Look<'_>) -> Result<bool, Trouble> {
+fn is_known(alloc: Global, printed: Printed<'_>) -> Result<bool, Trouble> {
     Ok(
-        is_of_line(alloc, look)?
-            || is_of_message(alloc, look)?
-            || is_of_peer(alloc, look)?
-            || is_of_request(alloc, look)?
-            || is_of_build(alloc, look)?
-            || is_of_graph(alloc, look)?
-            || is_of_program(alloc, look)?
-            || is_of_session(alloc, look)?
-            || is_of_pack(alloc, look)?
-            || is_of_repo(alloc, look)?,
+        is_line_fault(alloc, printed)?
+            || is_message_fault(alloc, printed)?
+            || is_peer_fault(alloc, printed)?
+            || is_request_fault(alloc, printed)?
+            || is_build_fault(alloc, printed)?
+            || is_graph_fault(alloc, printed)?
+            || is_program_fault(alloc, printed)?
+            || is_session_fault(alloc, printed)?
+            || is_pack_fault(alloc, printed)?
+            || is_repo_fault(alloc, printed)?,
     )
 }
 
-fn is_shown(alloc: Global, fault: ProgramFault<Global>, look: Look<'_>) -> Result<bool, Trouble> {
+fn is_shown(
+    alloc: Global,
+    fault: ProgramFault<Global>,
+    printed: Printed<'_>,
+) -> Result<bool, Trouble> {
     let text = format!(in alloc; "{fault}")?;
-    if text.as_bytes() != look.text {
+    if text.as_bytes() != printed.text {
         return Ok(false);
     }
     let mut errors = VecSink::new(alloc);
     let status = cmd_failed(fault, &mut errors);
-    Ok(status == 1 && fault_text(errors.written_bytes()) == Some(look.line))
+    Ok(status == 1 && fault_text(errors.written_bytes()) == Some(printed.line))
 }
 
-fn is_of_line(alloc: Global, look: Look<'_>) -> Result<bool, Trouble> {
+fn is_line_fault(alloc: Global, printed: Printed<'_>) -> Result<bool, Trouble> {
     for fault in [
         PacketFault::BadDigits,
         PacketFault::Reserved,
@@ -77,14 +81,14 @@ fn is_of_line(alloc: Global, look: Look<'_>) -> Result<bool, Trouble> {
         PacketFault::Failed,
         PacketFault::Memory,
     ] {
-        if is_shown(alloc, ProgramFault::Line(fault), look)? {
+        if is_shown(alloc, ProgramFault::Line(fault), printed)? {
             return Ok(true);
         }
     }
     Ok(false)
 }
 
-fn is_of_message(alloc: Global, look: Look<'_>) -> Result<bool, Trouble> {
+fn is_message_fault(alloc: Global, printed: Printed<'_>) -> Result<bool, Trouble> {
     for why in [
         Why::Line(PacketFault::Truncated),
         Why::Line(PacketFault::Io),
@@ -103,30 +107,30 @@ fn is_of_message(alloc: Global, look: Look<'_>) -> Result<bool, Trouble> {
         Why::Memory,
         Why::Ended,
     ] {
-        if is_of_why(alloc, why, look)? {
+        if is_fault_with_reason(alloc, why, printed)? {
             return Ok(true);
         }
     }
     Ok(false)
 }
 
-fn is_of_peer(alloc: Global, look: Look<'_>) -> Result<bool, Trouble> {
+fn is_peer_fault(alloc: Global, printed: Printed<'_>) -> Result<bool, Trouble> {
     for why in [
         Why::RemoteErr(PeerText::new(b"no\tmore\n")),
         Why::RemoteErr(PeerText::new(b"")),
         Why::RemoteFatal(PeerText::new(b"disk")),
     ] {
-        if is_of_why(alloc, why, look)? {
+        if is_fault_with_reason(alloc, why, printed)? {
             return Ok(true);
         }
     }
     Ok(false)
 }
 
-fn is_of_why(alloc: Global, why: Why, look: Look<'_>) -> Result<bool, Trouble> {
+fn is_fault_with_reason(alloc: Global, why: Why, printed: Printed<'_>) -> Result<bool, Trouble> {
     let cause = MessageFault { frame: 7, why };
     let fault = ProgramFault::Request(ServeFault::Request(cause));
-    is_shown(alloc, fault, look)
+    is_shown(alloc, fault, printed)
 }
 
 fn id_of(format: Format, text: &[u8]) -> Result<Oid, Trouble> {
@@ -136,7 +140,7 @@ fn id_of(format: Format, text: &[u8]) -> Result<Oid, Trouble> {
     }
 }
 
-fn is_of_request(alloc: Global, look: Look<'_>) -> Result<bool, Trouble> {
+fn is_request_fault(alloc: Global, printed: Printed<'_>) -> Result<bool, Trouble> {
     let id = id_of(Format::Sha1, ID)?;
     for fault in [
         ServeFault::NoWants,
@@ -144,14 +148,14 @@ fn is_of_request(alloc: Global, look: Look<'_>) -> Result<bool, Trouble> {
         ServeFault::Pack(PackFault::TooLarge),
         ServeFault::Memory,
     ] {
-        if is_shown(alloc, ProgramFault::Request(fault), look)? {
+        if is_shown(alloc, ProgramFault::Request(fault), printed)? {
             return Ok(true);
         }
     }
     Ok(false)
 }
 
-fn is_of_build(alloc: Global, look: Look<'_>) -> Result<bool, Trouble> {
+fn is_build_fault(alloc: Global, printed: Printed<'_>) -> Result<bool, Trouble> {
     let id = id_of(Format::Sha1, ID)?;
     let Ok(name) = RefName::new(alloc, NAME) else {
         return Ok(false);
@@ -164,14 +168,14 @@ fn is_of_build(alloc: Global, look: Look<'_>) -> Result<bool, Trouble> {
         BuildFault::Memory,
         BuildFault::Refs(RefsFault::Refs),
     ] {
-        if is_shown(alloc, ProgramFault::Build(fault), look)? {
+        if is_shown(alloc, ProgramFault::Build(fault), printed)? {
             return Ok(true);
         }
     }
     Ok(false)
 }
 
-fn is_of_graph(alloc: Global, look: Look<'_>) -> Result<bool, Trouble> {
+fn is_graph_fault(alloc: Global, printed: Printed<'_>) -> Result<bool, Trouble> {
     let id = id_of(Format::Sha1, ID)?;
     let long = id_of(Format::Sha256, LONG_ID)?;
     for fault in [
@@ -182,14 +186,18 @@ fn is_of_graph(alloc: Global, look: Look<'_>) -> Result<bool, Trouble> {
         GraphFault::Memory,
         GraphFault::OtherFormat { id: long },
     ] {
-        if is_shown(alloc, ProgramFault::Build(BuildFault::Graph(fault)), look)? {
+        if is_shown(
+            alloc,
+            ProgramFault::Build(BuildFault::Graph(fault)),
+            printed,
+        )? {
             return Ok(true);
         }
     }
     Ok(false)
 }
 
-fn is_of_program(alloc: Global, look: Look<'_>) -> Result<bool, Trouble> {
+fn is_program_fault(alloc: Global, printed: Printed<'_>) -> Result<bool, Trouble> {
     for fault in [
         ProgramFault::Text(LoadFault::Text { line: 6 }),
         ProgramFault::Text(LoadFault::ParentLater { line: 7 }),
@@ -202,14 +210,14 @@ fn is_of_program(alloc: Global, look: Look<'_>) -> Result<bool, Trouble> {
         ProgramFault::Fetch(FetchFault::NoBuffer),
         ProgramFault::Fetch(FetchFault::WriteFailed),
     ] {
-        if is_shown(alloc, fault, look)? {
+        if is_shown(alloc, fault, printed)? {
             return Ok(true);
         }
     }
     Ok(false)
 }
 
-fn is_of_session(alloc: Global, look: Look<'_>) -> Result<bool, Trouble> {
+fn is_session_fault(alloc: Global, printed: Printed<'_>) -> Result<bool, Trouble> {
     let id = id_of(Format::Sha1, ID)?;
     for fault in [
         ClientFault::TooManySpecs,
@@ -217,28 +225,32 @@ fn is_of_session(alloc: Global, look: Look<'_>) -> Result<bool, Trouble> {
         ClientFault::StrangeAck { id },
         ClientFault::TooManyWants,
     ] {
-        if is_shown(alloc, ProgramFault::Fetch(FetchFault::Client(fault)), look)? {
+        if is_shown(
+            alloc,
+            ProgramFault::Fetch(FetchFault::Client(fault)),
+            printed,
+        )? {
             return Ok(true);
         }
     }
     Ok(false)
 }
 
-fn is_of_pack(alloc: Global, look: Look<'_>) -> Result<bool, Trouble> {
+fn is_pack_fault(alloc: Global, printed: Printed<'_>) -> Result<bool, Trouble> {
     for fault in [
         IndexFault::Bad { line: 6 },
         IndexFault::Memory,
         IndexFault::Other,
     ] {
         let fault = FetchFault::Client(ClientFault::Index(fault));
-        if is_shown(alloc, ProgramFault::Fetch(fault), look)? {
+        if is_shown(alloc, ProgramFault::Fetch(fault), printed)? {
             return Ok(true);
         }
     }
     Ok(false)
 }
 
-fn is_of_repo(alloc: Global, look: Look<'_>) -> Result<bool, Trouble> {
+fn is_repo_fault(alloc: Global, printed: Printed<'_>) -> Result<bool, Trouble> {
     let id = id_of(Format::Sha1, ID)?;
     let Ok(name) = RefName::new(alloc, NAME) else {
         return Ok(false);
@@ -251,7 +263,7 @@ fn is_of_repo(alloc: Global, look: Look<'_>) -> Result<bool, Trouble> {
         RepoFault::Refs(RefsFault::Refs),
     ] {
         let fault = FetchFault::Client(ClientFault::Repo(fault));
-        if is_shown(alloc, ProgramFault::Fetch(fault), look)? {
+        if is_shown(alloc, ProgramFault::Fetch(fault), printed)? {
             return Ok(true);
         }
     }

@@ -9,7 +9,7 @@ pub(crate) fn fault_words(alloc: Global, code: u32, name: &str) -> Result<String
 }
 
 /// Formats the number, the name and the position of a fault.
-pub(crate) fn told_at(
+pub(crate) fn positioned_fault_words(
     alloc: Global,
     code: u32,
     name: &str,

@@ -128,7 +128,7 @@ pub fn end_fetch<A: Allocator + Copy, R: Sink, E: Sink>(
     errors: &mut E,
 ) -> Result<Ran, Trouble> {
     match fetched {
-        Ok(fetched) => conclude(job, repo, &fetched, report, errors),
+        Ok(fetched) => end_settled_fetch(job, repo, &fetched, report, errors),
         Err(fault) => give_up(job, repo, fault, errors),
     }
 }
@@ -184,7 +184,7 @@ fn give_up<A: Allocator + Copy, E: Sink>(
 // Ends a fetch that has updated the refs: returns the new text of the file, and writes the report.
 // If memory runs out before the text is complete, the refs in memory are updated but the file is
 // unchanged.
-fn conclude<A: Allocator + Copy, R: Sink, E: Sink>(
+fn end_settled_fetch<A: Allocator + Copy, R: Sink, E: Sink>(
     job: &Job<'_, '_, '_, A>,
     repo: &Repo<A>,
     fetched: &Fetched<A>,
@@ -193,7 +193,7 @@ fn conclude<A: Allocator + Copy, R: Sink, E: Sink>(
 ) -> Result<Ran, Trouble> {
     match text_of(job.memory, repo) {
         Ok(text) => {
-            let status = tell(job, fetched, report, errors)?;
+            let status = write_report(job, fetched, report, errors)?;
             let mut ran = ran_without_file(job, status);
             ran.file = Some(Vec::from_slice(job.alloc, text.as_slice())?);
             ran.state = Some(state_of(job, repo)?);
@@ -204,7 +204,7 @@ fn conclude<A: Allocator + Copy, R: Sink, E: Sink>(
 }
 
 // Writes the report on a fetch, and returns the exit status.
-fn tell<A: Allocator + Copy, R: Sink, E: Sink>(
+fn write_report<A: Allocator + Copy, R: Sink, E: Sink>(
     job: &Job<'_, '_, '_, A>,
     fetched: &Fetched<A>,
     report: &mut R,

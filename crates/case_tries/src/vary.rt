@@ -126,7 +126,7 @@ impl<'a, 'b> Bench<'a, 'b> {
     }
 
     // Returns whether a run of the whole input has the results of the row.
-    fn goes_as_due(&mut self, trial: Trial) -> Result<bool, Trouble> {
+    fn has_expected_results(&mut self, trial: Trial) -> Result<bool, Trouble> {
         let played = self.play_whole(trial)?;
         let is_right = is_as_due(self.row, &played);
         self.is_well(is_right, &played)
@@ -134,7 +134,7 @@ impl<'a, 'b> Bench<'a, 'b> {
 
     // Tests the row with its whole input, unchanged.
     fn whole(&mut self) -> Result<Option<usize>, Trouble> {
-        let is_right = self.goes_as_due(Trial::FREE)?;
+        let is_right = self.has_expected_results(Trial::FREE)?;
         Ok(wrong_at(is_right, 0))
     }
 
@@ -142,7 +142,7 @@ impl<'a, 'b> Bench<'a, 'b> {
     // written in each call. The events of a simulation also run one by one.
     fn in_pieces(&mut self) -> Result<Option<usize>, Trouble> {
         for most in [1usize, 3] {
-            if !self.goes_as_due(Trial::in_pieces(most))? {
+            if !self.has_expected_results(Trial::in_pieces(most))? {
                 return Ok(Some(most));
             }
         }

@@ -153,7 +153,7 @@ struct ByChance<'s, A: Allocator + Copy> {
 }
 
 impl<A: Allocator + Copy> Play<A> for ByChance<'_, A> {
-    type Came = Option<String>;
+    type Output = Option<String>;
 
     fn play(&self, world: &mut World<Tools, A>) -> Result<Option<String>, Trouble> {
         match Chance::new(self.alloc, self.setting.seed, self.setting.files) {
@@ -244,7 +244,7 @@ impl<A: Allocator + Copy> ByChance<'_, A> {
         let text = text_of(self.alloc, outcomes, world)?;
         match self.other_text(text.as_str(), log)? {
             Some(other) => Ok(Some(other)),
-            None => self.never_came(outcomes),
+            None => self.unseen_kind_text(outcomes),
         }
     }
 
@@ -265,7 +265,7 @@ impl<A: Allocator + Copy> ByChance<'_, A> {
     }
 
     // Returns a text that names the first required kind of outcome that never occurred.
-    fn never_came(&self, outcomes: &[Outcome]) -> Result<Option<String>, Trouble> {
+    fn unseen_kind_text(&self, outcomes: &[Outcome]) -> Result<Option<String>, Trouble> {
         match self.missing_kind(outcomes) {
             Some(kind) => Ok(Some(format!(in self.alloc; "never {kind}")?)),
             None => Ok(None),

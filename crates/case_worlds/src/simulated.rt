@@ -31,7 +31,7 @@ pub fn simulate_with<A: Allocator + Copy, O: Sink, E: Sink>(
         scenario: files.scenario,
     };
     match play_or_fault(memory, files, &simulation) {
-        Ok(text) => tell(text, output, errors),
+        Ok(text) => write_result(text, output, errors),
         Err(fault) => Ok(cmd_failed(fault, errors)),
     }
 }
@@ -45,7 +45,7 @@ struct ScenarioPlay<'b, A: Allocator + Copy> {
 }
 
 impl<A: Allocator + Copy> Play<A> for ScenarioPlay<'_, A> {
-    type Came = Option<String>;
+    type Output = Option<String>;
 
     fn play(&self, world: &mut World<Tools, A>) -> Result<Option<String>, Trouble> {
         match events_of(self.memory, self.scenario) {
@@ -70,7 +70,7 @@ fn text_after<A: Allocator + Copy>(
 }
 
 // Writes the result of a simulation, or the memory fault, and returns the exit status.
-fn tell<O: Sink, E: Sink>(
+fn write_result<O: Sink, E: Sink>(
     text: Result<Option<String>, Trouble>,
     output: &mut O,
     errors: &mut E,
@@ -183,7 +183,7 @@ struct Happening<'e, A: Allocator + Copy> {
 }
 
 impl<A: Allocator + Copy> Play<A> for Happening<'_, A> {
-    type Came = Happened;
+    type Output = Happened;
 
     fn play(&self, world: &mut World<Tools, A>) -> Result<Happened, Trouble> {
         let mut happened = Happened {

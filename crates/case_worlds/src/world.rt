@@ -55,10 +55,10 @@ impl RefusedAllocation<'_> {
 /// An action on a world.
 pub(crate) trait Play<A: Allocator + Copy> {
     /// The type of the action's result.
-    type Came;
+    type Output;
 
     /// Runs the action on the world.
-    fn play(&self, world: &mut World<Tools, A>) -> Result<Self::Came, Trouble>;
+    fn play(&self, world: &mut World<Tools, A>) -> Result<Self::Output, Trouble>;
 }
 
 /// Runs the action on a world of the two repositories.
@@ -66,7 +66,7 @@ pub(crate) fn play_in_world<A: Allocator + Copy, P: Play<A>>(
     memory: A,
     files: Files<'_>,
     play: &P,
-) -> Result<P::Came, Trouble> {
+) -> Result<P::Output, Trouble> {
     match play_or_fault(memory, files, play) {
         Ok(came) => came,
         Err(_) => Err(Trouble::NoWorld),
@@ -79,19 +79,19 @@ pub(crate) fn play_or_fault<A: Allocator + Copy, P: Play<A>>(
     memory: A,
     files: Files<'_>,
     play: &P,
-) -> Result<Result<P::Came, Trouble>, ProgramFault<A>> {
+) -> Result<Result<P::Output, Trouble>, ProgramFault<A>> {
     match world_of(memory, files) {
-        Ok(world) => Ok(lend(world, play)),
+        Ok(world) => Ok(play_and_drop(world, play)),
         Err(fault) => Err(fault),
     }
 }
 
 // Runs the action and drops the world. Only this function drops a world, because the proof for the
 // drop is long.
-fn lend<A: Allocator + Copy, P: Play<A>>(
+fn play_and_drop<A: Allocator + Copy, P: Play<A>>(
     world: World<Tools, A>,
     play: &P,
-) -> Result<P::Came, Trouble> {
+) -> Result<P::Output, Trouble> {
     let mut world = world;
     play.play(&mut world)
 }

@@ -89,14 +89,16 @@ fn wrong_where_slow(
     runs: &mut u64,
 ) -> Result<Option<usize>, Trouble> {
     for from in 0..row.talk.input.len() {
-        if row.talk.message_at(from).is_some() && !is_slow_as_due(alloc, row, from, runs)? {
+        if row.talk.message_at(from).is_some()
+            && !ends_as_expected_when_slow(alloc, row, from, runs)?
+        {
             return Ok(Some(from));
         }
     }
     Ok(None)
 }
 
-fn is_slow_as_due(
+fn ends_as_expected_when_slow(
     alloc: Global,
     row: &Row<'_>,
     from: usize,
@@ -160,7 +162,7 @@ fn is_late_as_due(
 ) -> Result<bool, Trouble> {
     *runs = runs.saturating_add(1);
     let due = due_of(row, manner);
-    let met = meet(alloc, row, &[manner, Manner::PROMPT], Pulse::Even)?;
+    let met = run_on_connections(alloc, row, &[manner, Manner::PROMPT], Pulse::Even)?;
     let is_right = match due.late_at {
         Some(at) => is_stopped(alloc, row, &met.first, at, Stop::Failed)?,
         None => is_as_due(row, &met.first),
@@ -211,14 +213,14 @@ fn time_at(row: &Row<'_>, at: usize, left: Duration) -> Duration {
 fn is_left_as_due(alloc: Global, row: &Row<'_>, takes: usize) -> Result<bool, Trouble> {
     let mut manner = Manner::PROMPT;
     manner.takes = takes;
-    let met = meet(alloc, row, &[manner, Manner::PROMPT], Pulse::Even)?;
+    let met = run_on_connections(alloc, row, &[manner, Manner::PROMPT], Pulse::Even)?;
     let is_in_time = met.time == Duration::from_secs(SILENCE);
     Ok(is_write_failed(row, &met.first) && met.is_last_served && is_in_time)
 }
 
 // Returns whether a server reads nothing from its client if its clock fails or goes back.
 fn is_refused_by_clock(alloc: Global, row: &Row<'_>, pulse: Pulse) -> Result<bool, Trouble> {
-    let met = meet(alloc, row, &[Manner::PROMPT], pulse)?;
+    let met = run_on_connections(alloc, row, &[Manner::PROMPT], pulse)?;
     is_stopped(alloc, row, &met.first, 0, Stop::Failed)
 }
 
@@ -226,13 +228,13 @@ fn is_refused_by_clock(alloc: Global, row: &Row<'_>, pulse: Pulse) -> Result<boo
 fn is_answered_after_two(alloc: Global, row: &Row<'_>) -> Result<bool, Trouble> {
     let mut silent = Manner::PROMPT;
     silent.silent = 0;
-    let met = meet(alloc, row, &[silent, silent, Manner::PROMPT], Pulse::Even)?;
+    let met = run_on_connections(alloc, row, &[silent, silent, Manner::PROMPT], Pulse::Even)?;
     Ok(met.is_last_served && met.time <= Duration::from_secs(PATIENCE))
 }
 
 // The results of running a row on some connections.
 #[derive(Drop)]
-struct Met {
+struct ConnectionResults {
     // The output of the first connection, and the printed lines of all connections.
     first: Played,
     // Whether the last connection had the row's expected output.
@@ -242,7 +244,12 @@ struct Met {
 
 // Runs the row on one connection for each of the manners, to a peer that behaves in that manner. A
 // client uses only the first connection.
-fn meet(alloc: Global, row: &Row<'_>, manners: &[Manner], pulse: Pulse) -> Result<Met, Trouble> {
+fn run_on_connections(
+    alloc: Global,
+    row: &Row<'_>,
+    manners: &[Manner],
+    pulse: Pulse,
+) -> Result<ConnectionResults, Trouble> {
     let Ok(connections) = u32::try_from(manners.len()) else {
         return Err(Trouble::NoSocket);
     };
@@ -266,13 +273,13 @@ fn met_by(
     held: Held,
     lines: &[Line<'_>],
     time: Duration,
-) -> Result<Met, Trouble> {
+) -> Result<ConnectionResults, Trouble> {
     let Held {
         ran,
         report,
         errors,
     } = held;
-    Ok(Met {
+    Ok(ConnectionResults {
         first: Played::on_connection(ran, taken_by(alloc, lines.first())?, report, errors),
         is_last_served: taken_by(alloc, lines.last())?.written_bytes()
             == row.talk.output.as_slice(),

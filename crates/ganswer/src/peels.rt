@@ -10,7 +10,7 @@ use gname::Oid;
 use std::alloc::Allocator;
 
 // Returns an empty list with capacity for `count` ids, or with no capacity if memory runs out.
-pub(crate) fn no_peels<A: Allocator + Copy>(alloc: A, count: usize) -> Vec<Option<Oid>, A>
+pub(crate) fn empty_peeled_ids<A: Allocator + Copy>(alloc: A, count: usize) -> Vec<Option<Oid>, A>
     ensures { result.items ≡ [] }
 {
     match Vec::with_capacity(alloc, count) {

@@ -13,7 +13,7 @@ ghost use Rattle.ganswer.specs.steps.Answers.{DanglesAt};
 ghost use Rattle.gname.specs.Names.{Name, head_name};
 
 use crate::fault::BuildFault;
-use crate::peels::{keep_peeled, look_up, no_peels};
+use crate::peels::{empty_peeled_ids, keep_peeled, look_up};
 use ggraph::graph_laws::{closed_stays, ordered_is_closed, positions_are_nodes};
 use ggraph::{Entry, Graph, Head, Refs};
 use gname::{Oid, RefName};
@@ -247,7 +247,7 @@ fn check_refs<A: Allocator + Copy>(
         (DanglesAt graph.now.entries refs.now) }
     ensures peels { IfOk result (λ peels. KnowsPeels graph.now.entries refs.now peels.items) }
 {
-    let mut peels = no_peels(graph.allocator(), refs.len());
+    let mut peels = empty_peeled_ids(graph.allocator(), refs.len());
     for (place, reference) in refs.iter().enumerate() {
         match look_up(graph, &reference.1) {
             Some(peeled) => keep_peeled(&mut peels, place, peeled),

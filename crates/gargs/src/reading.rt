@@ -67,7 +67,7 @@ fn fetch_command(alloc: Global, matches: &ArgMatches<'_>) -> Option<Gitv2Command
 
 // Returns the location of the server to fetch from, or `Some(None)` for standard input and output.
 fn source_in(alloc: Global, matches: &ArgMatches<'_>) -> Option<Option<Location>> {
-    match way_of(matches, "stdio")? {
+    match transport_of(matches, "stdio")? {
         Transport::Stdio => Some(None),
         Transport::Tcp => Some(Some(place_in(alloc, matches, "tcp")?)),
     }
@@ -81,7 +81,7 @@ enum Transport {
 }
 
 // Returns the transport. The arguments must have either the flag, or an address and a path.
-fn way_of(matches: &ArgMatches<'_>, flag: &str) -> Option<Transport> {
+fn transport_of(matches: &ArgMatches<'_>, flag: &str) -> Option<Transport> {
     let is_named = matches.get_str("tcp").is_some() || matches.get_str("path").is_some();
     match (matches.get_flag(flag), is_named) {
         (true, false) => Some(Transport::Stdio),
@@ -129,7 +129,7 @@ fn ends_in(matches: &ArgMatches<'_>) -> Ends {
 
 fn ls_command(alloc: Global, matches: &ArgMatches<'_>) -> Option<Gitv2Command> {
     let mut words = words_in(alloc, matches, "word").ok()?;
-    match way_of(matches, "stdio-server")? {
+    match transport_of(matches, "stdio-server")? {
         Transport::Stdio if words.len() == 1 => {
             let file = words.pop()?;
             Some(Gitv2Command::LsStdioServer { file })

@@ -5,7 +5,7 @@ ghost use Rattle.gtalk.specs.Connections.{pending_of};
 ghost use Rattle.gtalk.specs.Talks.{no_talk};
 
 use crate::event::{End, Event, Refusal};
-use crate::event_loop::{Caller, Calls, EventLoop};
+use crate::event_loop::{EventLoop, NewPeer, PendingCalls};
 use crate::patience::Patience;
 use crate::peer::Peer;
 use crate::slot::Slot;
@@ -29,7 +29,7 @@ impl<C: Conversation + Drop, A: Allocator + Copy> EventLoop<'_, C, A> {
     pub fn begin(&mut self, conversation: C)
         requires { C.holds conversation no_talk }
     {
-        if let Some(Caller::Welcome(stream, address)) = self.caller.take() {
+        if let Some(NewPeer::Welcome(stream, address)) = self.caller.take() {
             let peer = Peer {
                 stream,
                 address,
@@ -45,7 +45,7 @@ impl<C: Conversation + Drop, A: Allocator + Copy> EventLoop<'_, C, A> {
     /// Sends bytes to the peer of the last event, if the event was [`Event::Refused`], and closes
     /// the connection. One write sends only the bytes that the socket accepts at once.
     pub fn refuse(&mut self, bytes: &[u8]) {
-        if let Some(Caller::Refused(mut stream)) = self.caller.take() {
+        if let Some(NewPeer::Refused(mut stream)) = self.caller.take() {
             let _ = stream.write(bytes);
             self.let_leave(stream, true);
         }
@@ -64,16 +64,16 @@ impl<C: Conversation + Drop, A: Allocator + Copy> EventLoop<'_, C, A> {
 
     // Accepts or refuses a new peer, and returns the event that reports it.
     fn receive(&mut self, stream: TcpStream, address: SocketAddr) -> Event<C, A> {
-        self.calls = Calls::Some;
+        self.calls = PendingCalls::Some;
         match self.refusal(address.ip()) {
             None => {
                 self.accepted = self.accepted.saturating_add(1);
                 let _ = stream.set_nodelay(true);
-                self.caller = Some(Caller::Welcome(stream, address));
+                self.caller = Some(NewPeer::Welcome(stream, address));
                 Event::Connected(address)
             }
             Some(why) => {
-                self.caller = Some(Caller::Refused(stream));
+                self.caller = Some(NewPeer::Refused(stream));
                 Event::Refused(address, why)
             }
         }
@@ -116,16 +116,16 @@ impl<C: Conversation + Drop, A: Allocator + Copy> EventLoop<'_, C, A> {
 
 // Returns whether more connections may be pending after an accept failed (accept(2)). Fails if no
 // further connection can be accepted.
-fn calls_after(error: io::Error) -> io::Result<Calls> {
+fn calls_after(error: io::Error) -> io::Result<PendingCalls> {
     match error.kind() {
-        ErrorKind::WouldBlock => Ok(Calls::None),
+        ErrorKind::WouldBlock => Ok(PendingCalls::None),
         ErrorKind::ConnectionAborted
         | ErrorKind::Interrupted
         | ErrorKind::NetworkDown
         | ErrorKind::NetworkUnreachable
-        | ErrorKind::HostUnreachable => Ok(Calls::Some),
-        ErrorKind::PermissionDenied => Ok(Calls::Later),
-        _ if is_passing(&error) => Ok(Calls::Later),
+        | ErrorKind::HostUnreachable => Ok(PendingCalls::Some),
+        ErrorKind::PermissionDenied => Ok(PendingCalls::Later),
+        _ if is_passing(&error) => Ok(PendingCalls::Later),
         _ => Err(error),
     }
 }

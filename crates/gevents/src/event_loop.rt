@@ -29,7 +29,7 @@ const ACCEPTS: u32 = 64;
 
 /// Whether connections are pending at the listener.
 #[derive(Clone, Copy, PartialEq, Eq)]
-pub(crate) enum Calls {
+pub(crate) enum PendingCalls {
     /// No connection is pending.
     None,
     /// Connections may be pending.
@@ -40,7 +40,7 @@ pub(crate) enum Calls {
 
 /// An accepted peer, until the next call of `EventLoop::next`.
 #[derive(Drop)]
-pub(crate) enum Caller {
+pub(crate) enum NewPeer {
     /// A peer with which a conversation may start.
     Welcome(TcpStream, SocketAddr),
     /// A peer that exceeds a limit.
@@ -49,7 +49,7 @@ pub(crate) enum Caller {
 
 // The next step of a round of the loop.
 #[derive(Clone, Copy)]
-enum Part {
+enum LoopStep {
     // Wait until sockets are ready.
     Polls,
     // Give the reported sockets their turn.
@@ -73,9 +73,9 @@ pub struct EventLoop<'l, C: Conversation, A: Allocator + Copy> {
     // The keys of the reported sockets that still wait for their turn. There is room for all
     // sockets that one poll reports.
     ready: Vec<usize, A>,
-    part: Part,
-    pub(crate) calls: Calls,
-    pub(crate) caller: Option<Caller>,
+    part: LoopStep,
+    pub(crate) calls: PendingCalls,
+    pub(crate) caller: Option<NewPeer>,
     // A connection that ended as soon as it started. The loop has not reported this end yet.
     pub(crate) failed: Option<Ended<C, A>>,
     pub(crate) slots: Slab<Slot<C, A>, A>,
@@ -111,8 +111,8 @@ impl<'l, C: Conversation + Drop, A: Allocator + Copy> EventLoop<'l, C, A> {
             listener,
             events,
             ready: Vec::with_capacity(alloc, EVENTS)?,
-            part: Part::Accepts(ACCEPTS),
-            calls: Calls::Some,
+            part: LoopStep::Accepts(ACCEPTS),
+            calls: PendingCalls::Some,
             caller: None,
             failed: None,
             slots: Slab::new(alloc),
@@ -166,20 +166,20 @@ impl<'l, C: Conversation + Drop, A: Allocator + Copy> EventLoop<'l, C, A> {
     // Does one step of a round, and returns the event that it causes, if any.
     fn step<R: Clock>(&mut self, rt: &R) -> io::Result<Option<Event<C, A>>> {
         match self.part {
-            Part::Polls => {
+            LoopStep::Polls => {
                 self.wait(rt)?;
-                self.part = Part::Moves;
+                self.part = LoopStep::Moves;
                 Ok(None)
             }
-            Part::Moves => {
+            LoopStep::Moves => {
                 self.look(rt);
                 Ok(self.move_one())
             }
-            Part::Accepts(left) => {
+            LoopStep::Accepts(left) => {
                 self.look(rt);
                 self.accept_one(left)
             }
-            Part::GivesUp(key) => Ok(self.give_up_next(key)),
+            LoopStep::GivesUp(key) => Ok(self.give_up_next(key)),
         }
     }
 
@@ -192,7 +192,7 @@ impl<'l, C: Conversation + Drop, A: Allocator + Copy> EventLoop<'l, C, A> {
         }
         for event in self.events.iter() {
             match event.token() {
-                LISTENER => self.calls = Calls::Some,
+                LISTENER => self.calls = PendingCalls::Some,
                 Token(key) => self.ready.push(key)?,
             }
         }
@@ -203,9 +203,9 @@ impl<'l, C: Conversation + Drop, A: Allocator + Copy> EventLoop<'l, C, A> {
     // no pending connection.
     fn timeout(&self) -> Option<Duration> {
         match self.calls {
-            Calls::Some => Some(Duration::ZERO),
-            Calls::None if self.slots.is_empty() => None,
-            Calls::None | Calls::Later => Some(Duration::from_millis(TICK)),
+            PendingCalls::Some => Some(Duration::ZERO),
+            PendingCalls::None if self.slots.is_empty() => None,
+            PendingCalls::None | PendingCalls::Later => Some(Duration::from_millis(TICK)),
         }
     }
 
@@ -221,7 +221,7 @@ impl<'l, C: Conversation + Drop, A: Allocator + Copy> EventLoop<'l, C, A> {
         match self.ready.pop() {
             Some(key) => self.advance(key),
             None => {
-                self.part = Part::Accepts(ACCEPTS);
+                self.part = LoopStep::Accepts(ACCEPTS);
                 None
             }
         }
@@ -229,38 +229,38 @@ impl<'l, C: Conversation + Drop, A: Allocator + Copy> EventLoop<'l, C, A> {
 
     // Accepts a connection, if one is pending and the limits allow it.
     fn accept_one(&mut self, left: u32) -> io::Result<Option<Event<C, A>>> {
-        if left == 0 || self.is_full() || self.calls == Calls::None {
+        if left == 0 || self.is_full() || self.calls == PendingCalls::None {
             if self.is_full() {
-                self.calls = Calls::None;
+                self.calls = PendingCalls::None;
             }
             self.part = self.after_accepts();
             return Ok(None);
         }
-        self.part = Part::Accepts(left - 1);
+        self.part = LoopStep::Accepts(left - 1);
         let accepted = self.accept()?;
-        if self.calls == Calls::Later {
+        if self.calls == PendingCalls::Later {
             self.part = self.after_accepts();
         }
         Ok(accepted)
     }
 
     // Returns the step that follows the accepts. The loop checks deadlines only at intervals.
-    fn after_accepts(&mut self) -> Part {
+    fn after_accepts(&mut self) -> LoopStep {
         if self.now < self.next {
-            return Part::Polls;
+            return LoopStep::Polls;
         }
         let tick = Duration::from_millis(TICK);
         self.next = self.now.checked_add(tick).unwrap_or(self.now);
-        Part::GivesUp(0)
+        LoopStep::GivesUp(0)
     }
 
     // Times out the peer at this key, if it is late.
     fn give_up_next(&mut self, key: usize) -> Option<Event<C, A>> {
         if key >= self.slots.capacity() {
-            self.part = Part::Polls;
+            self.part = LoopStep::Polls;
             return None;
         }
-        self.part = Part::GivesUp(key + 1);
+        self.part = LoopStep::GivesUp(key + 1);
         self.give_up_one(key)
     }
 }

@@ -19,15 +19,15 @@ const READS: u32 = 64;
 /// socket with unread bytes would reset the connection, and the peer might lose the last bytes sent
 /// to it.
 #[derive(Drop)]
-pub(crate) struct Leaver {
+pub(crate) struct ClosingPeer {
     pub(crate) stream: TcpStream,
     until: Instant,
 }
 
-impl Leaver {
+impl ClosingPeer {
     /// Returns the state of a peer whose connection ends now.
-    pub(crate) fn new(stream: TcpStream, now: Instant) -> Leaver {
-        Leaver {
+    pub(crate) fn new(stream: TcpStream, now: Instant) -> ClosingPeer {
+        ClosingPeer {
             stream,
             until: now.checked_add(Duration::from_secs(SECONDS)).unwrap_or(now),
         }

@@ -5,7 +5,7 @@ ghost use Rattle.gevents.specs.Turns.{EndsAt, EndsSlot, HandsOut, HandsOutAfter,
 
 use crate::event::{End, Ended, Event};
 use crate::event_loop::EventLoop;
-use crate::leaver::Leaver;
+use crate::leaver::ClosingPeer;
 use crate::limits::Limits;
 use crate::moving::After;
 use crate::peer::Peer;
@@ -26,7 +26,7 @@ pub(crate) enum Slot<C: Conversation, A: Allocator + Copy> {
     /// A peer with a conversation.
     Talks(Peer<C, A>),
     /// A peer whose connection has ended.
-    Leaves(Leaver),
+    Leaves(ClosingPeer),
 }
 
 impl<C: Conversation, A: Allocator + Copy> Slot<C, A> {
@@ -138,7 +138,7 @@ impl<C: Conversation + Drop, A: Allocator + Copy> EventLoop<'_, C, A> {
     /// side. If the loop already waits for too many such peers, it closes the socket immediately.
     pub(crate) fn let_leave(&mut self, stream: TcpStream, is_new: bool) {
         let _ = stream.shutdown(Shutdown::Write);
-        let mut leaver = Leaver::new(stream, self.now);
+        let mut leaver = ClosingPeer::new(stream, self.now);
         if self.leavers >= LEAVERS || matches!(leaver.advance(), After::Ends(_)) {
             return;
         }

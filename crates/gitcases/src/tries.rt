@@ -99,14 +99,14 @@ fn is_right(trial: Trial<'_, '_>, way: Treatment, answer: &str) -> bool {
     match way {
         Treatment::Plain => answer.as_bytes() == trial.aim.due.as_slice(),
         Treatment::Broken => !answer.starts_with(OK),
-        Treatment::Changed => !answer.starts_with(OK) || may_come(trial, answer),
-        Treatment::Turned => may_come(trial, answer),
-        Treatment::Scarce => answer == MEMORY || may_come(trial, answer),
+        Treatment::Changed => !answer.starts_with(OK) || is_allowed_result(trial, answer),
+        Treatment::Turned => is_allowed_result(trial, answer),
+        Treatment::Scarce => answer == MEMORY || is_allowed_result(trial, answer),
     }
 }
 
 // Returns whether a result is the expected one, or one of the row's further results.
-fn may_come(trial: Trial<'_, '_>, answer: &str) -> bool {
+fn is_allowed_result(trial: Trial<'_, '_>, answer: &str) -> bool {
     for due in &trial.row.others {
         if due.as_slice() == answer.as_bytes() {
             return true;

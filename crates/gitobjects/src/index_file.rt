@@ -30,7 +30,7 @@ const NEAR: usize = 48;
 
 const FAR: usize = 128;
 
-// The maximum number of ids read at once. Look-ups in the order of ids read consecutive parts of
+// The maximum number of ids read at once. SearchResult-ups in the order of ids read consecutive parts of
 // the ids, so each part may be longer than the previous part.
 const MAX_IDS_READ: usize = 2_048;
 
@@ -67,7 +67,7 @@ struct Places {
 
 // The result of a look-up in a part of the ids.
 #[derive(Clone, Copy, Debug)]
-enum Look {
+enum SearchResult {
     // The id has this position in the part.
     At(usize),
     // The id precedes the part.
@@ -164,10 +164,10 @@ impl<P: OpenPack + Drop, A: Allocator + Copy> IndexFile<P, A> {
             }
             let part = self.part_for(places, middle);
             match self.look(part, wanted)? {
-                Look::At(number) => return Ok(part.low.checked_add(number)),
-                Look::Absent => return Ok(None),
-                Look::Before => places.high = part.low,
-                Look::After => places.low = part.high,
+                SearchResult::At(number) => return Ok(part.low.checked_add(number)),
+                SearchResult::Absent => return Ok(None),
+                SearchResult::Before => places.high = part.low,
+                SearchResult::After => places.low = part.high,
             }
             middle = halfway(places);
         }
@@ -214,7 +214,7 @@ impl<P: OpenPack + Drop, A: Allocator + Copy> IndexFile<P, A> {
     }
 
     // Looks up an id among the ids at these positions.
-    fn look(&mut self, part: Places, wanted: &[u8]) -> Result<Look, Cause> {
+    fn look(&mut self, part: Places, wanted: &[u8]) -> Result<SearchResult, Cause> {
         let count = part
             .high
             .saturating_sub(part.low)
@@ -231,7 +231,7 @@ impl<P: OpenPack + Drop, A: Allocator + Copy> IndexFile<P, A> {
             }
             self.held = part;
         }
-        Ok(look_in(self.buffer.get(..count).unwrap_or(b""), wanted))
+        Ok(search_ids(self.buffer.get(..count).unwrap_or(b""), wanted))
     }
 
     /// Returns the pack offset of the object at this position, or `None` if the offset does not fit
@@ -295,12 +295,12 @@ fn part_around(places: Places, middle: usize) -> Places {
 }
 
 // Looks up an id among ascending ids.
-fn look_in(ids: &[u8], wanted: &[u8]) -> Look {
+fn search_ids(ids: &[u8], wanted: &[u8]) -> SearchResult {
     let (ids, _rest) = ids.as_chunks::<ID_BYTES>();
     match ids.binary_search_by(|id| id.as_slice().cmp(wanted)) {
-        Ok(number) => Look::At(number),
-        Err(0) => Look::Before,
-        Err(number) if number >= ids.len() => Look::After,
-        Err(_) => Look::Absent,
+        Ok(number) => SearchResult::At(number),
+        Err(0) => SearchResult::Before,
+        Err(number) if number >= ids.len() => SearchResult::After,
+        Err(_) => SearchResult::Absent,
     }
 }

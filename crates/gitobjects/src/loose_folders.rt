@@ -10,26 +10,26 @@ use gname::Oid;
 pub struct LooseFolders {
     // Whether the folder for each first byte of an id exists, or `None` if the folder was not
     // looked up.
-    are_there: [Option<bool>; 256],
+    exists_by_first_byte: [Option<bool>; 256],
 }
 
 impl LooseFolders {
     /// Returns a `LooseFolders` in which no folder was looked up.
     pub fn new() -> LooseFolders {
         LooseFolders {
-            are_there: [None; 256],
+            exists_by_first_byte: [None; 256],
         }
     }
 
     /// Returns whether the folder of an object with this id exists, or `None` if the folder was not
     /// looked up.
     pub(crate) fn get(&self, id: &Oid) -> Option<bool> {
-        self.are_there[first_byte(id)]
+        self.exists_by_first_byte[first_byte(id)]
     }
 
     /// Records whether the folder of an object with this id exists.
     pub(crate) fn note(&mut self, id: &Oid, is_there: bool) {
-        self.are_there[first_byte(id)] = Some(is_there);
+        self.exists_by_first_byte[first_byte(id)] = Some(is_there);
     }
 }
 

@@ -72,13 +72,13 @@ impl<A: Allocator + Copy> Blocks<A> {
         }
     }
 
-    // Adds a block. If `takes_place` is set, the new block replaces the first block in its slot.
-    fn add(&mut self, number: usize, hash: u32, takes_place: bool) {
+    // Adds a block. If `replaces_first` is set, the new block replaces the first block in its slot.
+    fn add(&mut self, number: usize, hash: u32, replaces_first: bool) {
         let slot = slot_of(hash, self.heads.len());
         let Some(head) = self.heads.get_mut(slot) else {
             return;
         };
-        let next = if takes_place {
+        let next = if replaces_first {
             next_of(self.blocks.as_slice(), *head)
         } else {
             *head

@@ -165,7 +165,7 @@ impl<'a, A: Allocator + Copy> Resolver<'a, A> {
 
     // Releases the last base if no more deltas depend on it. So a chain without branches needs only
     // two objects in memory.
-    fn let_go_of_done(&mut self) {
+    fn release_finished_base(&mut self) {
         let Some(last) = self.bases.last() else {
             return;
         };
@@ -204,7 +204,7 @@ impl<'a, A: Allocator + Copy> Resolver<'a, A> {
             return Err(PackFileFault::Entry(place));
         };
         self.count(body.len())?;
-        self.let_go_of_done();
+        self.release_finished_base();
         let id = id_of(kind, body.as_slice());
         visitor.visit(&id, kind, body.as_slice())?;
         if let Some(entry) = self.entries.get_mut(place) {

@@ -64,7 +64,7 @@ impl<'s, S: Source> Ahead<'s, S> {
             self.end = 0;
         }
         for _byte in 0..count {
-            if self.is_down || self.end >= count || !self.look_on(count) {
+            if self.is_down || self.end >= count || !self.peek_more(count) {
                 break;
             }
         }
@@ -72,7 +72,7 @@ impl<'s, S: Source> Ahead<'s, S> {
 
     // Peeks at more bytes with one read, up to `count` bytes in total. Returns whether any bytes
     // arrived.
-    fn look_on(&mut self, count: usize) -> bool {
+    fn peek_more(&mut self, count: usize) -> bool {
         let Some(room) = self.front.get_mut(self.end..count) else {
             return false;
         };

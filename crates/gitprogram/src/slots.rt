@@ -21,24 +21,24 @@ pub(crate) const MAX_OPEN: u64 = 16;
 
 // The content of a slot: no object store, or an open one with its tickets.
 #[derive(Drop)]
-enum PacketPosition<'f, F: ObjectFiles> {
+enum SlotContent<'f, F: ObjectFiles> {
     Vacant,
     Open(Weak<u64, Global>, ObjectPacker<'f, F>),
 }
 
-impl<'f, F: ObjectFiles> PacketPosition<'f, F> {
+impl<'f, F: ObjectFiles> SlotContent<'f, F> {
     // Returns whether a ticket for the object store exists.
     fn is_used(&self) -> bool {
         match self {
-            PacketPosition::Vacant => false,
-            PacketPosition::Open(tickets, _) => tickets.strong_count() > 0,
+            SlotContent::Vacant => false,
+            SlotContent::Open(tickets, _) => tickets.strong_count() > 0,
         }
     }
 
     fn packer(&self) -> Option<&ObjectPacker<'f, F>> {
         match self {
-            PacketPosition::Vacant => None,
-            PacketPosition::Open(_, packer) => Some(packer),
+            SlotContent::Vacant => None,
+            SlotContent::Open(_, packer) => Some(packer),
         }
     }
 }
@@ -46,13 +46,13 @@ impl<'f, F: ObjectFiles> PacketPosition<'f, F> {
 /// A slot for an object store, which stays open while a ticket for it exists.
 #[derive(Drop)]
 pub(crate) struct Slot<'f, F: ObjectFiles> {
-    place: RefCell<PacketPosition<'f, F>>,
+    place: RefCell<SlotContent<'f, F>>,
 }
 
 impl<'f, F: ObjectFiles> Slot<'f, F> {
     fn vacant() -> Slot<'f, F> {
         Slot {
-            place: RefCell::new(PacketPosition::Vacant),
+            place: RefCell::new(SlotContent::Vacant),
         }
     }
 
@@ -68,7 +68,7 @@ impl<'f, F: ObjectFiles> Slot<'f, F> {
     pub(crate) fn close_unused(&self) {
         if let Ok(mut place) = self.place.try_borrow_mut() {
             if !place.is_used() {
-                *place = PacketPosition::Vacant;
+                *place = SlotContent::Vacant;
             }
         }
     }
@@ -78,7 +78,7 @@ impl<'f, F: ObjectFiles> Slot<'f, F> {
     pub(crate) fn fill(&self, tickets: Weak<u64, Global>, packer: ObjectPacker<'f, F>) -> bool {
         match self.place.try_borrow_mut() {
             Ok(mut place) => {
-                *place = PacketPosition::Open(tickets, packer);
+                *place = SlotContent::Open(tickets, packer);
                 true
             }
             Err(_) => false,

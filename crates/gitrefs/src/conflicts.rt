@@ -17,7 +17,7 @@ pub(crate) fn first_conflict<'n, A: Allocator + Copy>(
     for name in names {
         let text = name.as_bytes();
         keep_fronts(&mut fronts, text);
-        if lies_in_one(fronts.as_slice(), text) {
+        if has_directory_among(fronts.as_slice(), text) {
             return Ok(Some(*name));
         }
         fronts.push(text)?;
@@ -39,7 +39,7 @@ fn keep_fronts<A: Allocator + Copy>(fronts: &mut Vec<&[u8], A>, text: &[u8]) {
 }
 
 // Returns whether one of these prefixes is followed by a slash in `text`.
-fn lies_in_one(fronts: &[&[u8]], text: &[u8]) -> bool {
+fn has_directory_among(fronts: &[&[u8]], text: &[u8]) -> bool {
     for front in fronts {
         if text.get(front.len()) == Some(&b'/') {
             return true;

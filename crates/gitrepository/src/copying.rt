@@ -73,7 +73,7 @@ struct Packed {
 // An object to deflate again: its id, the hash of its path, and the number of such objects found
 // before it.
 #[derive(Clone, Copy, Drop)]
-struct Anew {
+struct ToDeflate {
     id: Oid,
     path: PathHash,
     number: usize,
@@ -101,7 +101,7 @@ pub(crate) struct Copying<A: Allocator + Copy> {
     starts: Vec<usize, A>,
     // The objects to deflate again, how many of them are already deflated, and a window of the most
     // recently deflated objects. The list is sorted once all packs have been examined.
-    anew: Vec<Anew, A>,
+    anew: Vec<ToDeflate, A>,
     renewed: usize,
     is_sorted: bool,
     window: Window<A>,
@@ -217,7 +217,7 @@ impl<A: Allocator + Copy> Copying<A> {
     }
 
     fn add_anew(&mut self, id: &Oid, path: PathHash) -> Result<(), RepositoryFault<A>> {
-        self.anew.push(Anew {
+        self.anew.push(ToDeflate {
             id: *id,
             path,
             number: self.anew.len(),

@@ -69,7 +69,7 @@ impl<A: Allocator + Copy> Outgoing<A> {
     }
 
     /// Returns whether the whole pack was returned.
-    pub(crate) fn is_given_whole(&self) -> bool
+    pub(crate) fn is_fully_returned(&self) -> bool
         ensures { IsTrue result → IsGivenWhole self.now }
     {
         self.is_over && self.is_given()

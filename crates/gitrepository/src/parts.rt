@@ -58,12 +58,12 @@ impl<A: Allocator + Copy> StoreParts<A> {
     {
         let mut filled = 0;
         for _ in 0..u64::MAX {
-            if filled >= out.len() || self.outgoing.is_given_whole() {
+            if filled >= out.len() || self.outgoing.is_fully_returned() {
                 break;
             }
             filled += self.give_some(reader, &mut out[filled..])?;
         }
-        if filled == 0 && !self.outgoing.is_given_whole() {
+        if filled == 0 && !self.outgoing.is_fully_returned() {
             return Err(RepositoryFault::Count);
         }
         Ok(filled)

@@ -17,7 +17,7 @@ use std::{fs, io};
 const MAX_TRIES: usize = 1_000;
 
 // The permissions of a pack and its index, as in Git: everyone may read, and no one may write.
-const READ_ALONE: u32 = 0o444;
+const READ_ONLY: u32 = 0o444;
 
 /// The folder of packs of a Git directory, and the names of a pack's files in this folder.
 #[derive(Drop)]
@@ -164,7 +164,7 @@ fn create<R: Files>(files: &R, path: &str) -> io::Result<R::File> {
     OpenOptions::new()
         .write(true)
         .create_new(true)
-        .mode(READ_ALONE)
+        .mode(READ_ONLY)
         .open(files, path)
 }
 

@@ -19,13 +19,13 @@ pub struct MemoryFile<A: Allocator + Copy = Global> {
     written: Vec<u8, A>,
     lockfile: Lockfile,
     is_locked: bool,
-    trouble: Trouble,
+    trouble: FailurePlan,
     calls: usize,
 }
 
 // The calls that fail. Calls are numbered from 1.
 #[derive(Clone, Copy)]
-enum Trouble {
+enum FailurePlan {
     None,
     // The call with this number fails.
     At(usize),
@@ -72,7 +72,7 @@ impl<A: Allocator + Copy> MemoryFile<A> {
             written: Vec::new(alloc),
             lockfile: Lockfile::Absent,
             is_locked: false,
-            trouble: Trouble::None,
+            trouble: FailurePlan::None,
             calls: 0,
         })
     }
@@ -89,7 +89,7 @@ impl<A: Allocator + Copy> MemoryFile<A> {
     pub fn fail_call(mut self, call: usize) -> MemoryFile<A>
         ensures { result ≡ self }
     {
-        self.trouble = Trouble::At(call);
+        self.trouble = FailurePlan::At(call);
         self
     }
 
@@ -98,7 +98,7 @@ impl<A: Allocator + Copy> MemoryFile<A> {
     pub fn stop_from(mut self, call: usize) -> MemoryFile<A>
         ensures { result ≡ self }
     {
-        self.trouble = Trouble::From(call);
+        self.trouble = FailurePlan::From(call);
         self
     }
 
@@ -107,7 +107,7 @@ impl<A: Allocator + Copy> MemoryFile<A> {
     pub fn stopping_after(mut self, call: usize) -> MemoryFile<A>
         ensures { result ≡ self }
     {
-        self.trouble = Trouble::After(call);
+        self.trouble = FailurePlan::After(call);
         self
     }
 
@@ -134,10 +134,10 @@ impl<A: Allocator + Copy> MemoryFile<A> {
     {
         self.calls = self.calls.saturating_add(1);
         match self.trouble {
-            Trouble::At(call) if self.calls == call => Effect::Refused,
-            Trouble::From(call) if self.calls >= call => Effect::Refused,
-            Trouble::After(call) if self.calls == call => Effect::Unanswered,
-            Trouble::After(call) if self.calls > call => Effect::Refused,
+            FailurePlan::At(call) if self.calls == call => Effect::Refused,
+            FailurePlan::From(call) if self.calls >= call => Effect::Refused,
+            FailurePlan::After(call) if self.calls == call => Effect::Unanswered,
+            FailurePlan::After(call) if self.calls > call => Effect::Refused,
             _ => Effect::Done,
         }
     }

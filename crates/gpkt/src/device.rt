@@ -120,11 +120,11 @@ impl<W: Sink> Sink for &mut W {
 
 /// Whether a device has failed. A device that has failed stays down.
 #[derive(Drop)]
-pub(crate) struct Latch {
+pub(crate) struct FailureFlag {
     down: bool,
 }
 
-impl Model for Latch {
+impl Model for FailureFlag {
     ghost use Rattle.std.specs.Coded.{coded_bool};
     ghost use Rattle.std.specs.Prelude.{Bool};
 
@@ -133,11 +133,11 @@ impl Model for Latch {
     ghost view = { λ l. l.down };
 }
 
-impl Latch {
-    pub(crate) fn new() -> Latch
+impl FailureFlag {
+    pub(crate) fn new() -> FailureFlag
         ensures { result ≡ false }
     {
-        Latch { down: false }
+        FailureFlag { down: false }
     }
 
     pub(crate) fn is_down(&self) -> bool

@@ -3,7 +3,7 @@
 
 ghost use Rattle.std.specs.Prelude.{◌≡◌, ◌<◌, ◌≤◌, ◌⊎◌, ◌++◌, [], false, Some, length, take, drop};
 
-use crate::device::{Down, Latch, Sink, Source};
+use crate::device::{Down, FailureFlag, Sink, Source};
 use std::alloc::{Allocator, Global};
 use std::marker::Model;
 
@@ -72,7 +72,7 @@ pub struct VecSink<A: Allocator + Copy = Global> {
     // The number of written bytes that were flushed.
     passed_on: usize,
     flushes: usize,
-    down: Latch,
+    down: FailureFlag,
 }
 
 impl<A: Allocator + Copy> Model for VecSink<A> {
@@ -103,7 +103,7 @@ impl<A: Allocator + Copy> VecSink<A> {
             written: Vec::new(alloc),
             passed_on: 0,
             flushes: 0,
-            down: Latch::new(),
+            down: FailureFlag::new(),
         }
     }
 
@@ -180,7 +180,7 @@ pub struct Limited<D> {
     device: D,
     most: usize,
     calls_left: Option<usize>,
-    down: Latch,
+    down: FailureFlag,
 }
 
 impl<D> Model for Limited<D> {
@@ -204,7 +204,7 @@ impl<D> Limited<D> {
             device,
             most: usize::MAX,
             calls_left: None,
-            down: Latch::new(),
+            down: FailureFlag::new(),
         }
     }
 

@@ -2,7 +2,7 @@
 
 ghost use Rattle.std.specs.Prelude.{◌≡◌, ◌∷◌, [], false, None};
 
-use crate::device::{Down, Latch, Sink, Source};
+use crate::device::{Down, FailureFlag, Sink, Source};
 use std::io::{Read, Write};
 
 /// A source that borrows one of std's readers and reads from it.
@@ -11,7 +11,7 @@ use std::io::{Read, Write};
 #[derive(Drop)]
 pub struct FromRead<'a, R> {
     reader: &'a mut R,
-    down: Latch,
+    down: FailureFlag,
 }
 
 impl<'a, R> FromRead<'a, R> {
@@ -23,7 +23,7 @@ impl<'a, R> FromRead<'a, R> {
     {
         FromRead {
             reader,
-            down: Latch::new(),
+            down: FailureFlag::new(),
         }
     }
 
@@ -61,7 +61,7 @@ impl<R: Read> Source for FromRead<'_, R> {
 #[derive(Drop)]
 pub struct ToWrite<'a, W> {
     writer: &'a mut W,
-    down: Latch,
+    down: FailureFlag,
 }
 
 impl<'a, W> ToWrite<'a, W> {
@@ -73,7 +73,7 @@ impl<'a, W> ToWrite<'a, W> {
     {
         ToWrite {
             writer,
-            down: Latch::new(),
+            down: FailureFlag::new(),
         }
     }
 

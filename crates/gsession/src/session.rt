@@ -213,7 +213,7 @@ impl<A: Allocator + Copy> Session<A> {
     }
 
     // Returns the fault, and ends the session unless the fault is `NoOpenRequest`.
-    fn end_by(&mut self, fault: ClientFault<A>) -> ClientFault<A>
+    fn end_with_fault(&mut self, fault: ClientFault<A>) -> ClientFault<A>
         ensures fault { result ≡ fault }
         ensures session { self.new ≡ after_fault self.old fault }
     {

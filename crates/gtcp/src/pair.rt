@@ -26,7 +26,7 @@ use std::net::{Net, OpenListener, OpenStream, SocketAddr, TcpListener, TcpStream
 
 // The input of the client. When the client has read all that the server flushed, the server runs.
 #[derive(Drop)]
-struct Answers<'a, N, F, W, A: Allocator + Copy> {
+struct ClientInput<'a, N, F, W, A: Allocator + Copy> {
     server: &'a Server<A>,
     // The client's end of the connection.
     near: N,
@@ -39,11 +39,11 @@ struct Answers<'a, N, F, W, A: Allocator + Copy> {
     is_down: bool,
 }
 
-impl<'a, N: Source, F: Source, W: Sink, A: Allocator + Copy> Answers<'a, N, F, W, A> {
+impl<'a, N: Source, F: Source, W: Sink, A: Allocator + Copy> ClientInput<'a, N, F, W, A> {
     // Returns the input of a client whose server has not run yet.
     fn new(server: &'a Server<A>, near: N, far_end: (F, W)) -> Self {
         let (far, far_sink) = far_end;
-        Answers {
+        ClientInput {
             server,
             near,
             far,
@@ -92,7 +92,7 @@ impl<'a, N: Source, F: Source, W: Sink, A: Allocator + Copy> Answers<'a, N, F, W
     }
 }
 
-impl<N: Source, F: Source, W: Sink, A: Allocator + Copy> Source for Answers<'_, N, F, W, A> {
+impl<N: Source, F: Source, W: Sink, A: Allocator + Copy> Source for ClientInput<'_, N, F, W, A> {
     ghost use Rattle.std.specs.Coded.{coded_bool};
 
     ghost remaining = { λ _. None };
@@ -295,7 +295,7 @@ where
 {
     let alloc = repo.graph().allocator();
     let (near, near_sink) = near_end;
-    let mut answers = Answers::new(server, near, far_end);
+    let mut answers = ClientInput::new(server, near, far_end);
     let mut requests = MessageSink::new(alloc, near_sink);
     exchange(repo, specs, &mut answers, &mut requests)
 }
@@ -305,7 +305,7 @@ where
 fn exchange<A, N, V, F, W>(
     repo: &mut Repo<A>,
     specs: &[Spec<A>],
-    answers: &mut Answers<'_, N, F, W, A>,
+    answers: &mut ClientInput<'_, N, F, W, A>,
     requests: &mut MessageSink<V, A>,
 ) -> Result<Fetched<A>, ProgramFault<A>>
 where

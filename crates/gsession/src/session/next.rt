@@ -78,7 +78,7 @@ impl<A: Allocator + Copy> Session<A> {
     {
         match self.make_request(repo, offers) {
             Ok(request) => Ok(request),
-            Err(fault) => Err(self.end_by(fault)),
+            Err(fault) => Err(self.end_with_fault(fault)),
         }
     }
 

@@ -55,7 +55,7 @@ impl<A: Allocator + Copy> Session<A> {
     {
         match self.read_objects(repo, reader, indexer) {
             Ok(taken) => Ok(taken),
-            Err(fault) => Err(self.end_by(fault)),
+            Err(fault) => Err(self.end_with_fault(fault)),
         }
     }
 

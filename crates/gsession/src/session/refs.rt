@@ -49,7 +49,7 @@ impl<A: Allocator + Copy> Session<A> {
     {
         match self.read_refs(repo, reader) {
             Ok(taken) => Ok(taken),
-            Err(fault) => Err(self.end_by(fault)),
+            Err(fault) => Err(self.end_with_fault(fault)),
         }
     }
 

@@ -66,7 +66,7 @@ impl<A: Allocator + Copy> Parts<A> {
                     code: NO_OPEN_REQUEST,
                 }),
                 Some(session) => {
-                    let coming = Coming { kept, count };
+                    let coming = Delivery { kept, count };
                     bring(coming, session, &mut self.repo, &mut self.answered, indexer)
                 }
             },
@@ -110,14 +110,14 @@ impl<A: Allocator + Copy> Parts<A> {
 
 // A kept reply to deliver, and the number of bytes to deliver.
 #[derive(Drop)]
-struct Coming<'a, A: Allocator + Copy> {
+struct Delivery<'a, A: Allocator + Copy> {
     kept: &'a KeptReply<A>,
     count: usize,
 }
 
 // Delivers a kept reply to the session, and updates the mark `answered`.
 fn bring<A: Allocator + Copy, K: Indexer<A>>(
-    coming: Coming<'_, A>,
+    coming: Delivery<'_, A>,
     session: &mut Session<A>,
     repo: &mut Repo<A>,
     mark: &mut bool,

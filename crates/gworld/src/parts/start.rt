@@ -24,7 +24,7 @@ impl<A: Allocator + Copy> Parts<A> {
             (λ parts. (parts ≡ new_world server repo) × CanStart server repo)
             (λ fault. CannotStart server repo fault) }
     {
-        match why_not(&server, &repo) {
+        match start_fault(&server, &repo) {
             Some(fault) => Err(fault),
             None => Ok(Parts::between(server, repo)),
         }
@@ -62,7 +62,7 @@ impl<A: Allocator + Copy> Parts<A> {
 }
 
 // Returns the reason why the server and the repository can't form a world, or `None` if they can.
-fn why_not<A: Allocator + Copy>(server: &Server<A>, repo: &Repo<A>) -> Option<WorldFault>
+fn start_fault<A: Allocator + Copy>(server: &Server<A>, repo: &Repo<A>) -> Option<WorldFault>
     ensures { MatchOption result (CanStart server.now repo.now) (CannotStart server.now repo.now) }
 {
     if !have_one_format(server, repo) {
