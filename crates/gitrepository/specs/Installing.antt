@@ -15,29 +15,29 @@ pub record Folder : Type 0 where
   pub pack : Bytes
   pub index : Bytes
 
--- If the folder is known before the call, it is known afterwards, and the predicate relates the two states. An unknown
--- folder stays unknown.
+-- if the first folder is known, the second is known and the relation holds of the two; if the first is unknown, so is
+-- the second
 abbrev pub WhereKnown : Option Folder → Option Folder → (Folder → Folder → Type 0) → Type 0
 WhereKnown (Some before) (Some after) P = P before after
 WhereKnown None None P = ⊤
 WhereKnown _ _ P = ⊥
 
--- between the two states exactly these files arrived, in order
+-- the second state differs from the first by the arrival of exactly these files, in order
 abbrev pub Comes : Folder → Folder → List Arrival → Type 0
 Comes before after files = after.arrivals ≡ before.arrivals ++ files
 
--- no file arrived, or only this file
+-- the second state equals the first, or differs by the arrival of this file
 abbrev pub MayCome : Folder → Folder → Arrival → Type 0
 MayCome before after file = (after.arrivals ≡ before.arrivals) ⊎ Comes before after (file ∷ [])
 
--- No file arrived. If the call succeeded, the temporary pack and the temporary index have the given bytes.
+-- No file gets its final name. If the call succeeds, the temporary pack and the temporary index have the given bytes.
 abbrev pub Writes : {E : Type 0} → Bytes → Bytes → Folder → Folder → Result (Unit {0}) E → Type 0
 Writes p i before after (Ok done) =
     (after.arrivals ≡ before.arrivals) × (after.pack ≡ p) × (after.index ≡ i)
 Writes p i before after (Err fault) = after.arrivals ≡ before.arrivals
 
--- If the call succeeded, the pack arrived, and then its index. If the call failed, neither file arrived, or only the
--- pack, or both.
+-- If the call succeeds, the pack arrives in the folder, and then its index. If the call fails, neither file arrives, or
+-- only the pack, or both.
 abbrev pub Installs : {E : Type 0} → Bytes → Bytes → Folder → Folder → Result (Unit {0}) E → Type 0
 Installs p i before after (Ok done) = Comes before after (PackComes p ∷ IndexComes i ∷ [])
 Installs p i before after (Err fault) =

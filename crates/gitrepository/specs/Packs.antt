@@ -13,7 +13,7 @@ pub record IsEntryText (text : List ℕ) : Type 0 where
   pub stream : List ℕ
   pub is : IsEntry form size stream text
 
--- the bytes are a pack header for `count` entries, followed by `put` entries
+-- the bytes are a pack header for `count` entries, followed by exactly `put` entries
 pub record HasPut (count put : ℕ) (bytes : List ℕ) : Type 0 where
   pub texts : List (List ℕ)
   pub each : All IsEntryText texts

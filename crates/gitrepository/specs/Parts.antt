@@ -10,8 +10,8 @@ use Rattle.gitrepository.specs.declared.outgoing.Outgoing.{Outgoing}
 abbrev pub rest_of : {A : Type 0} → Outgoing A → List ℕ
 rest_of pack = drop pack.given pack.bytes.items
 
--- The bytes returned so far. Followed by the bytes not yet returned, they are the header and all entries built so far.
--- Once the trailer is built, they are the whole pack.
+-- The bytes returned so far, followed by the bytes not yet returned, are the header and all entries built so far. Once
+-- the trailer is built, all these bytes are the whole pack.
 pub record IsGoing {A : Type 0} (pack : Outgoing A) (given : List ℕ) : Type 0 where
   pub whole : IsTrue pack.is_whole
   pub text : List ℕ
@@ -19,7 +19,7 @@ pub record IsGoing {A : Type 0} (pack : Outgoing A) (given : List ℕ) : Type 0 
   pub going : pack.is_over ≡ false → Holds pack.sum text × (given ++ rest_of pack ≡ text)
   pub over : pack.is_over ≡ true → (pack.put ≡ pack.count) × (given ++ rest_of pack ≡ with_trailer text)
 
--- the bytes returned so far remain a prefix of the pack
+-- the bytes returned before the call are a prefix of the bytes returned after the call
 abbrev pub GoesOn : {A : Type 0} → Outgoing A → Outgoing A → Type 0
 GoesOn old new = (given : List ℕ) → IsGoing old given → IsGoing new given
 

@@ -21,7 +21,7 @@ use std::hash::BuildHasherDefault;
 use std::marker::Model;
 
 // The maximum memory for the commits and tags of a pack, and for all ids that its objects name: 112
-// MiB. Without this limit, a small pack of deltas could fill the memory.
+// MiB. Without this limit, a small pack of deltas could use up all memory.
 const MAX_KEPT: usize = 117_440_512;
 
 // The bytes of memory counted for each named id, for each commit or tag, and for each parent. Spare
@@ -41,8 +41,8 @@ const PARENT_LINE: usize = 48;
 // entries.
 const MAX_LINKING: usize = 67_108_864;
 
-/// The facts known so far about the objects of an incoming pack. Contracts treat an `Arrival` as
-/// the list of its graph entries.
+/// The objects of an incoming pack read so far, and the objects that they name. Contracts treat an
+/// `Arrival` as the list of its graph entries.
 #[derive(Drop)]
 pub(crate) struct Arrival<A: Allocator + Copy> {
     alloc: A,
@@ -59,7 +59,7 @@ pub(crate) struct Arrival<A: Allocator + Copy> {
 /// the peer's refs.
 #[derive(Drop)]
 pub(crate) struct Inspector<'a, 'r, 't, 'f, F: ObjectFiles, A: Allocator + Copy> {
-    // The facts known so far about the pack's objects.
+    // The pack's objects read so far, and the objects that they name.
     arrival: &'a mut Arrival<A>,
     // A reader of the store.
     reader: &'r mut ObjectReader<'f, F, A>,
@@ -166,8 +166,8 @@ impl<A: Allocator + Copy> Arrival<A> {
         }
     }
 
-    // Records the objects that an object names. Fails with `TooLarge` if a commit, a tree or a tag
-    // has too many bytes, and with `Parents` if a commit has too many parents.
+    // Records which objects the given object names. Fails with `TooLarge` if a commit, a tree or a
+    // tag has too many bytes, and with `Parents` if a commit has too many parents.
     fn need_links(
         &mut self,
         id: &Oid,
@@ -187,7 +187,8 @@ impl<A: Allocator + Copy> Arrival<A> {
         }
     }
 
-    // Records the objects that a commit or tag names, and counts the memory for the commit or tag.
+    // Records which objects a commit or tag names, and subtracts the memory for the commit or tag
+    // from `room`.
     fn need_all(
         &mut self,
         id: &Oid,
@@ -205,7 +206,7 @@ impl<A: Allocator + Copy> Arrival<A> {
         Ok(())
     }
 
-    // Records the objects that a tree names, one by one. A list of these objects would need more
+    // Records which objects a tree names, one by one. A list of the named objects would need more
     // memory than the tree.
     fn need_entries(&mut self, id: &Oid, body: &[u8]) -> Result<(), RepositoryFault<A>> {
         let mut rest = body;
@@ -224,7 +225,8 @@ impl<A: Allocator + Copy> Arrival<A> {
         Ok(())
     }
 
-    // Records a named object. Fails with `TooLarge` if the pack names too many objects.
+    // Records the id and the expected type of a named object. Fails with `TooLarge` if the pack
+    // names too many objects.
     fn need(&mut self, link: Link) -> Result<(), RepositoryFault<A>> {
         match self.needs.get(&link.id).copied() {
             Some(kind) if kind == link.kind => Ok(()),
@@ -237,8 +239,8 @@ impl<A: Allocator + Copy> Arrival<A> {
         }
     }
 
-    // Subtracts `bytes` from `room`, the memory that remains. Fails with `TooLarge` if less memory
-    // remains.
+    // Subtracts `bytes` from `room`, the memory that remains. Fails with `TooLarge` if `room` is
+    // less than `bytes`.
     fn take_room(&mut self, bytes: usize) -> Result<(), RepositoryFault<A>> {
         match self.room.checked_sub(bytes) {
             Some(room) => {
@@ -277,9 +279,9 @@ impl<A: Allocator + Copy> Arrival<A> {
     }
 }
 
-// Returns the bytes of memory to count for a commit or tag with `links` links. A tag may need a
-// second entry, for a tree or blob that it names. The first link of a commit is its tree, which is
-// not a parent.
+// Returns the number of bytes of memory to count for a commit or tag that names `links` objects. A
+// tag may need a second entry, for a tree or blob that it names. The first object that a commit
+// names is its tree, which is not a parent.
 fn bytes_of(kind: ObjectType, links: usize) -> usize {
     let (entries, parents) = match kind {
         ObjectType::Tag => (2 * ENTRY_BYTES, links),

@@ -1,4 +1,4 @@
-//! Checking the connectivity of a repository: every object that its refs reach exists.
+//! Checking the connectivity of a repository: whether every object that its refs reach exists.
 
 ghost use Rattle.std.specs.Prelude.{◌≡◌, [], IfOk, length};
 ghost use Rattle.gdag.specs.Graphs as graphs;
@@ -21,21 +21,21 @@ pub struct Checked {
     /// The number of refs below `refs/`.
     pub refs: usize,
     /// The number of commits and tags that the refs and HEAD reach, plus the trees and blobs that
-    /// refs and tags point to.
+    /// refs, HEAD and tags point to.
     pub nodes: usize,
     /// The number of all objects that the refs and HEAD reach.
     pub objects: u32,
 }
 
-/// Checks connectivity: every commit, tag, tree and blob exists that is reachable from the refs and
-/// HEAD of a Git directory. The id of each object is recomputed. A malformed ref file is also a
-/// fault. The commit-graph is not used.
+/// Checks that every object that is reachable from the refs and HEAD of a Git directory exists. The
+/// id of each object is recomputed. A malformed ref file makes the check fail. The commit-graph is
+/// not used.
 ///
 /// The reader must read the objects of the same directory. The reader can be used again after any
 /// fault.
 ///
-/// Fails with `Ref` at the first malformed ref file, or at the first missing or refused object. The
-/// fault names the object and the ref. Refs are checked in the order of their names. Fails with
+/// Fails with `Ref` at the first malformed ref file, or at the first missing or malformed object.
+/// The fault names the object and the ref. Refs are checked in the order of their names. Fails with
 /// `Repository` if the refs cannot be read, or if out of memory.
 pub fn check_repository<R: Files, F: ObjectFiles, A: Allocator + Copy>(
     directory: &GitDirectory<'_, R, A>,
@@ -55,7 +55,7 @@ pub fn check_repository<R: Files, F: ObjectFiles, A: Allocator + Copy>(
     }
 }
 
-/// Checks that every object exists that is reachable from these refs and HEAD, as
+/// Checks that every object that is reachable from these refs and HEAD exists, as
 /// [`check_repository`] does.
 pub fn check_refs<F: ObjectFiles, A: Allocator + Copy>(
     reader: &mut ObjectReader<'_, F, A>,

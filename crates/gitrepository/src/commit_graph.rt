@@ -119,9 +119,9 @@ fn read_file<F: ObjectFiles, A: Allocator + Copy>(
     }
 }
 
-/// Returns the entry of this commit as the commit-graph lists it. Returns `None` if the
-/// commit-graph or the store lacks the commit, or if the commit has too many parents for a graph
-/// node.
+/// Returns the graph entry of this commit, with the parents that the commit-graph lists. Returns
+/// `None` if the commit-graph or the store lacks the commit, or if the commit has too many parents
+/// for a graph node.
 ///
 /// Fails only if out of memory.
 pub(crate) fn known_entry<F: ObjectFiles, A: Allocator + Copy>(
@@ -140,8 +140,8 @@ pub(crate) fn known_entry<F: ObjectFiles, A: Allocator + Copy>(
     }
 }
 
-// Returns the entry of the commit with this id at this position, or `None` if the commit has too
-// many parents for a graph node.
+// Returns the graph entry of the commit with this id at this position of the commit-graph, or
+// `None` if the commit has too many parents for a graph node.
 fn entry_at<A: Allocator + Copy>(
     alloc: A,
     commits: &CommitGraph<A>,
@@ -161,7 +161,7 @@ fn entry_at<A: Allocator + Copy>(
     Ok(Some(Entry { id: *id, node }))
 }
 
-// Returns the ids of the commits at these positions.
+// Returns the ids of the commits at these positions of the commit-graph.
 fn parents_at<A: Allocator + Copy>(
     alloc: A,
     commits: &CommitGraph<A>,

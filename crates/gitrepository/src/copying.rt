@@ -13,14 +13,14 @@ use std::alloc::{AllocError, Allocator};
 /// The numbers of objects in a pack, by how each object was sent.
 #[derive(Clone, Copy, Debug, PartialEq, Eq, Drop)]
 pub struct PackCounts {
-    /// The number of whole objects copied from stored packs.
+    /// The number of undeltified objects copied from stored packs.
     pub whole: u32,
     /// The number of deltas copied from stored packs.
     pub deltas: u32,
     /// The number of loose objects, which were deflated again or sent as new deltas.
     pub loose: u32,
-    /// The number of stored entries that could not be copied: deltas whose base is not sent, and
-    /// broken entries. Their objects were deflated again or sent as new deltas.
+    /// The number of stored pack entries that could not be copied: deltas whose base is not sent,
+    /// and broken entries. The objects of these entries were deflated again or sent as new deltas.
     pub renewed: u32,
     /// The number of objects counted in `loose` or `renewed` that were sent as new deltas.
     pub made: u32,
@@ -46,7 +46,7 @@ impl PackCounts {
 }
 
 /// The next entry to send: its form, the size of its inflated stream, and a buffer. The zlib stream
-/// begins at offset `from` of the buffer, and ends with it.
+/// extends from offset `from` to the end of the buffer.
 #[derive(Drop)]
 pub(crate) struct NextEntry<A: Allocator + Copy> {
     pub(crate) form: EntryForm,
@@ -70,8 +70,8 @@ struct Packed {
     path: PathHash,
 }
 
-// An object to deflate again: its id, the hash of its path, and the number of such objects found
-// before it.
+// An object to deflate again: its id, the hash of its path, and the number of objects to deflate
+// again that were found before this object.
 #[derive(Clone, Copy, Drop)]
 struct ToDeflate {
     id: Oid,
@@ -100,7 +100,7 @@ pub(crate) struct Copying<A: Allocator + Copy> {
     // The offset is 0 if the entry was not copied.
     starts: Vec<usize, A>,
     // The objects to deflate again, how many of them are already deflated, and a window of the most
-    // recently deflated objects. The list is sorted once all packs have been examined.
+    // recently deflated objects. The list `anew` is sorted once all packs have been examined.
     anew: Vec<ToDeflate, A>,
     renewed: usize,
     is_sorted: bool,
@@ -124,7 +124,7 @@ impl<A: Allocator + Copy> Copying<A> {
         })
     }
 
-    /// Returns the counts of the objects sent so far.
+    /// Returns the numbers of objects sent so far, by how each object was sent.
     pub(crate) fn counts(&self) -> PackCounts {
         self.counts
     }
@@ -239,8 +239,9 @@ impl<A: Allocator + Copy> Copying<A> {
         }
     }
 
-    // Returns the form of a copied entry at this offset, or `None` if the base of a delta is not
-    // sent. A delta names its base by offset if the base was already copied, and by id otherwise.
+    // Returns the header form of a copied entry at this offset, or `None` if the base of a delta is
+    // not sent. A delta names its base by offset if the base was already copied, and by id
+    // otherwise.
     fn form_of<F: ObjectFiles>(
         &self,
         reader: &ObjectReader<'_, F, A>,
@@ -304,14 +305,15 @@ impl<A: Allocator + Copy> Copying<A> {
     }
 
     // Sorts the objects to deflate again. Objects whose paths have the same ending become adjacent,
-    // because deltas between such objects are probably small.
+    // because deltas between two similar paths are probably small.
     fn sort_anew(&mut self) {
         self.anew
             .sort_unstable_by_key(|object| (object.path, object.number));
         self.is_sorted = true;
     }
 
-    // Returns the entry of an object, as a delta or whole. The id of the object is checked.
+    // Returns a new entry for an object: a delta or the whole object. The id of the object is
+    // checked.
     fn deflated_anew<F: ObjectFiles>(
         &mut self,
         reader: &mut ObjectReader<'_, F, A>,
@@ -349,8 +351,8 @@ impl<A: Allocator + Copy> Copying<A> {
     }
 }
 
-// Returns a stored entry unchanged, or `None` if the entry is broken. Another copy of its object
-// may be intact.
+// Returns a stored entry unchanged, or `None` if the entry is broken. The store may have an intact
+// copy of the object elsewhere.
 fn whole_entry<F: ObjectFiles, A: Allocator + Copy>(
     reader: &mut ObjectReader<'_, F, A>,
     pack: usize,

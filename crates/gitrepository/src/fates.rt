@@ -1,4 +1,4 @@
-//! The fates of objects: whether each object is sent in a pack.
+//! The fates of objects. The fate of an object says whether it is sent in a pack.
 
 use crate::fault::RepositoryFault;
 use crate::path_hash::PathHash;
@@ -29,7 +29,7 @@ impl Fate {
         }
     }
 
-    /// Returns the fate that a tree with this fate gives to its entry with this name.
+    /// Returns the fate of the object that an entry with this name names, in a tree with this fate.
     pub(crate) fn of_entry(self, name: &[u8]) -> Fate {
         match self {
             Fate::Sent(path) => Fate::Sent(path.join(name)),
@@ -50,7 +50,7 @@ pub(crate) struct Fates<A: Allocator + Copy> {
 }
 
 impl<A: Allocator + Copy> Fates<A> {
-    /// Returns fates in which every object is undecided.
+    /// Returns a `Fates` in which every object is undecided.
     pub(crate) fn new(alloc: A) -> Fates<A> {
         Fates {
             alloc,
@@ -76,8 +76,8 @@ impl<A: Allocator + Copy> Fates<A> {
         }
     }
 
-    /// Returns the fate of an object that was found loose. The object keeps its fate if Git packs
-    /// it meanwhile.
+    /// Returns the fate of an object that was found loose. If Git packs the object meanwhile, the
+    /// fate does not change.
     pub(crate) fn of_loose(&self, id: &Oid) -> Fate {
         // This early return avoids hashing the id if there are no loose objects.
         if self.loose.is_empty() {
@@ -100,7 +100,7 @@ impl<A: Allocator + Copy> Fates<A> {
         self.loose.len()
     }
 
-    /// Sets the fate of an undecided object at this location.
+    /// Sets the fate of the object at this location, if the fate is undecided.
     pub(crate) fn settle<F: ObjectFiles>(
         &mut self,
         store: &ObjectStore<'_, F, A>,
@@ -131,7 +131,7 @@ impl<A: Allocator + Copy> Fates<A> {
         }
     }
 
-    // Adds undecided fates for the objects of all packs up to and including this pack.
+    // Adds undecided fates for the objects of each pack with at most this number.
     fn make_room<F: ObjectFiles>(
         &mut self,
         store: &ObjectStore<'_, F, A>,

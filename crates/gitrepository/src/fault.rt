@@ -13,13 +13,13 @@ use std::{fmt, io};
 /// The reason why an object is refused.
 #[derive(Clone, Copy, Debug, PartialEq, Eq)]
 pub enum ObjectCause {
-    /// The bytes of the object do not have the form of its type.
+    /// The bytes of the object are not a valid object of its type.
     Malformed,
     /// The type of the object differs from the type that another object expects.
     Type,
     /// The store has a different object with the same id.
     Differs,
-    /// The object has more than [`MAX_PARENTS`] parents.
+    /// The object has more than [`MAX_PARENTS`] parents, the limit of a graph.
     Parents,
 }
 
@@ -50,13 +50,13 @@ pub enum RepositoryFault<A: Allocator + Copy> {
     Memory,
     /// An object is missing, or a file that holds objects is refused.
     Store(StoreFault<A>),
-    /// The refs cannot be read.
+    /// The refs cannot be read or written.
     Refs(RefFault<A>),
     /// An object is refused.
     Object {
-        /// Its id.
+        /// The id of the refused object.
         id: Oid,
-        /// The fault.
+        /// The reason for the refusal.
         cause: ObjectCause,
     },
     /// The refs reach too many commits and tags for a graph.
@@ -67,7 +67,7 @@ pub enum RepositoryFault<A: Allocator + Copy> {
     Count,
     /// The system refused a call on a file.
     File {
-        /// Its path.
+        /// The path of the file.
         path: String<A>,
         /// The system's error.
         error: io::Error,
@@ -76,7 +76,7 @@ pub enum RepositoryFault<A: Allocator + Copy> {
     Form {
         /// The path of the file that shows the unsupported format.
         path: String<A>,
-        /// The format.
+        /// The reason why the format is unsupported.
         fault: FormFault,
     },
     /// The packer or the indexer is already in use.
@@ -124,12 +124,12 @@ impl<A: Allocator + Copy> RepositoryFault<A> {
         }
     }
 
-    /// Returns the fault of the object with this id, refused for this cause.
+    /// Returns the fault for the object with this id, which is refused for this reason.
     pub(crate) fn object_fault(id: &Oid, cause: ObjectCause) -> RepositoryFault<A> {
         RepositoryFault::Object { id: *id, cause }
     }
 
-    /// Returns the fault of an object that the graph refuses.
+    /// Returns the fault for an object that cannot be added to the graph.
     pub(crate) fn of_node(id: &Oid, fault: GraphFault) -> RepositoryFault<A> {
         match fault {
             GraphFault::Memory => RepositoryFault::Memory,
@@ -140,7 +140,7 @@ impl<A: Allocator + Copy> RepositoryFault<A> {
         }
     }
 
-    /// Returns the fault of the file with this path.
+    /// Returns the fault for a refused call on the file with this path.
     pub(crate) fn of_file(alloc: A, path: &str, error: io::Error) -> RepositoryFault<A> {
         if error.kind() == io::ErrorKind::OutOfMemory {
             return RepositoryFault::Memory;
@@ -151,7 +151,7 @@ impl<A: Allocator + Copy> RepositoryFault<A> {
         }
     }
 
-    /// Returns the fault of an object file with this path.
+    /// Returns the fault for the object file with this path.
     pub(crate) fn of_cause(alloc: A, path: &str, cause: Cause) -> RepositoryFault<A> {
         if cause == Cause::Memory {
             return RepositoryFault::Memory;

@@ -19,12 +19,12 @@ use std::marker::Model;
 pub struct Received<A: Allocator + Copy> {
     /// The pack as received.
     pub bytes: Vec<u8, A>,
-    /// Its index.
+    /// The index of the pack.
     pub index: IndexedPack<A>,
 }
 
-/// A partly received pack, and the facts known so far about its objects. Contracts treat a
-/// `StoreFeed` as the bytes received so far.
+/// A partly received pack, and a record of its objects. Contracts treat a `StoreFeed` as the bytes
+/// received so far.
 #[derive(Drop)]
 pub struct StoreFeed<A: Allocator + Copy> {
     pack: LimitedPack<A>,
@@ -40,7 +40,7 @@ impl<A: Allocator + Copy> Model for StoreFeed<A> {
 }
 
 impl<A: Allocator + Copy> StoreFeed<A> {
-    /// Returns a pack without received bytes.
+    /// Returns a `StoreFeed` without received bytes.
     pub(crate) fn new(alloc: A) -> StoreFeed<A>
         ensures { result ≡ [] }
     {
@@ -107,7 +107,8 @@ fn finish_pack<F: ObjectFiles, A: Allocator + Copy>(
     }
 }
 
-// Returns the fault of the refused object, or a general fault if none was kept.
+// Returns the fault of the refused object, or the fault `Malformed` of the pack if no object was
+// refused.
 fn refusal<A: Allocator + Copy>(fault: Option<RepositoryFault<A>>) -> RepositoryFault<A> {
     match fault {
         Some(fault) => fault,

@@ -12,27 +12,27 @@ pub enum PackFileStage {
     Start,
     /// The pack is in a temporary file.
     PackWritten,
-    /// The temporary file is synced.
+    /// The temporary file of the pack is synced.
     PackSynced,
-    /// The index is in a temporary file, too.
+    /// The index is also in a temporary file.
     IndexWritten,
-    /// Both files are synced.
+    /// Both temporary files are synced.
     Ready,
     /// The pack has its final name.
     PackNamed,
     /// Both files have their final names.
     Done,
-    /// A call failed.
+    /// A call of the folder failed.
     Failed,
 }
 
-/// A folder of packs (gitrepository-layout(5), "objects/pack"). Git finds a pack by its index, and
-/// does not read temporary files.
+/// A folder of packs (gitrepository-layout(5), "objects/pack"). Git finds a pack by its index, so
+/// Git does not see a pack whose index is missing.
 pub trait PackFolder {
-    /// The fault type of the calls.
+    /// The fault of a failed call.
     type Fault: Drop;
 
-    // The files that the folder received, or `None` if the files are unknown.
+    // The files that the folder received, or `None` if a contract cannot know the files.
     ghost known: { Self → Option Folder };
 
     // The progress of writing the current pack.
@@ -91,7 +91,8 @@ pub trait PackFolder {
             (λ before after. MatchResult result (λ _. Comes before after (IndexComes before.index ∷ []))
             (λ _. MayCome before after (IndexComes before.index))) };
 
-    /// Removes the temporary files of this run. A file that the system cannot remove remains.
+    /// Removes the remaining temporary files of the pack. A temporary file that the system cannot
+    /// remove remains.
     fn clean(&mut self)
         requires { stage self.old ≡ Failed }
         ensures stage { stage self.new ≡ Start }

@@ -1,4 +1,4 @@
-//! The format of a repository. An unsupported format is refused.
+//! The format of a repository. A repository in an unsupported format is refused.
 
 use crate::fault::{FormFault, RepositoryFault};
 use gitconfig::{ConfigFault, Setting, parse_config};
@@ -8,7 +8,7 @@ use std::alloc::{AllocError, Allocator};
 // The maximum size of a configuration: 1 MiB.
 const MAX_CONFIG: usize = 1_048_576;
 
-// The extensions that do not affect this crate.
+// The names of the extensions that do not affect this crate.
 const KNOWN: [&[u8]; 5] = [
     b"noop",
     b"noop-v1",
@@ -21,9 +21,9 @@ const KNOWN: [&[u8]; 5] = [
 const NO: [&[u8]; 5] = [b"", b"false", b"no", b"off", b"0"];
 
 /// Opens the objects of the Git directory with this path, including its alternates. Refuses a
-/// repository that is shallow or a partial clone, or that has SHA-256 ids or a reftable. Also
-/// refuses a repository whose configuration names an unknown version or extension (git-config(1),
-/// "core.repositoryFormatVersion", "extensions").
+/// repository that is shallow or a partial clone, or whose ids are SHA-256 or whose refs are in a
+/// reftable. Also refuses a repository whose configuration names an unknown version or extension
+/// (git-config(1), "core.repositoryFormatVersion", "extensions").
 ///
 /// Fails with `Form` if the format is unsupported. Also fails as [`ObjectStore::open`] does.
 pub fn open_store<'f, F: ObjectFiles, A: Allocator + Copy>(
@@ -59,7 +59,8 @@ pub(crate) fn path_of<A: Allocator + Copy>(
     Ok(path)
 }
 
-// Checks the configuration. Git treats a repository without a configuration as version 0.
+// Checks that the configuration describes a supported format. Git treats a repository without a
+// configuration as version 0.
 fn check_config<F: ObjectFiles, A: Allocator + Copy>(
     files: &F,
     alloc: A,

@@ -1,4 +1,4 @@
-//! The objects to send with a list of commits and tags.
+//! The objects to send for a list of commits and tags.
 
 use crate::fates::{Fate, Fates};
 use crate::fault::{ObjectCause, RepositoryFault};
@@ -10,8 +10,8 @@ use gname::Oid;
 use std::alloc::Allocator;
 
 /// Decides which objects are sent for a list of commits and tags. The listed commits and tags are
-/// sent. The trees and blobs that these commits reach are also sent, unless a parent outside the
-/// list reaches them.
+/// sent. The trees and blobs that the listed commits reach are also sent, unless a parent outside
+/// the list reaches them.
 pub(crate) fn gather<F: ObjectFiles, A: Allocator + Copy>(
     reader: &mut ObjectReader<'_, F, A>,
     entries: &[Entry<A>],
@@ -23,7 +23,7 @@ pub(crate) fn gather<F: ObjectFiles, A: Allocator + Copy>(
     Ok(gathering.fates)
 }
 
-// A tree whose fate is decided, and whose entries are still to be decided.
+// A tree whose fate is decided. The fates of its entries are still to be decided.
 #[derive(Clone, Copy, Drop)]
 struct Tree {
     id: Oid,
@@ -81,8 +81,8 @@ impl<'r, 'f, F: ObjectFiles, A: Allocator + Copy> Gathering<'r, 'f, F, A> {
         Ok(())
     }
 
-    // Marks the parents outside the list as not sent, with the trees and blobs they reach, because
-    // the peer has them.
+    // Marks the unlisted parents of listed commits, and the trees and blobs that they reach, as not
+    // sent. The peer has all of them.
     fn leave_out_parents(&mut self, entries: &[Entry<A>]) -> Result<(), RepositoryFault<A>> {
         for entry in entries {
             self.leave_out(entry.node.parents.as_slice())?;
@@ -99,7 +99,7 @@ impl<'r, 'f, F: ObjectFiles, A: Allocator + Copy> Gathering<'r, 'f, F, A> {
         Ok(())
     }
 
-    // Marks the undecided trees and blobs that the commits and tags reach as sent.
+    // Marks all undecided trees and blobs as sent that the commits and tags reach.
     fn send_trees(&mut self, entries: &[Entry<A>]) -> Result<(), RepositoryFault<A>> {
         for entry in entries {
             self.walk_from(&entry.id, Fate::Sent(PathHash::NONE))?;
@@ -112,7 +112,7 @@ impl<'r, 'f, F: ObjectFiles, A: Allocator + Copy> Gathering<'r, 'f, F, A> {
         if let Some(found) = self.reader.store().find(id)? {
             return Ok(found);
         }
-        // Reading a missing object lists the packs again.
+        // This call lists the packs again, in case Git has packed the object meanwhile.
         let _object = self.reader.read(id)?;
         match self.reader.store().find(id)? {
             Some(found) => Ok(found),
@@ -172,7 +172,7 @@ impl<'r, 'f, F: ObjectFiles, A: Allocator + Copy> Gathering<'r, 'f, F, A> {
         }
     }
 
-    // Returns the link of a commit to its tree.
+    // Returns the id and the type of the tree that a commit names.
     fn tree_of(&self, id: &Oid, body: &[u8]) -> Result<Link, RepositoryFault<A>> {
         match commit_links(self.alloc, body) {
             Ok(links) => Ok(Link {

@@ -28,12 +28,13 @@ struct Parent {
 #[derive(Drop)]
 pub(crate) struct History<'g, A: Allocator + Copy> {
     alloc: A,
-    // The commit-graph, which lists the parents of commits. Listed commits need not be read.
+    // The commit-graph, which lists the parents of commits. Commits that the commit-graph lists
+    // need not be read.
     commits: &'g CommitGraph<A>,
     // The objects whose whole ancestry was read.
     graph: Graph<A>,
     // A path of objects, in which each object is a parent of the previous object. For each object
-    // of the path, `looked` holds the number of parents visited so far.
+    // of the path, `looked` has the number of parents visited so far.
     path: Vec<Entry<A>, A>,
     looked: Vec<usize, A>,
 }
@@ -107,8 +108,8 @@ impl<'g, A: Allocator + Copy> History<'g, A> {
         Ok(())
     }
 
-    // Moves to the next parent of the last object on the path. If no parent remains, moves the last
-    // object to the graph. Returns whether the path had an object.
+    // Visits the next parent of the last object on the path. If no parent remains, moves the last
+    // object to the graph. Returns false if the path was empty.
     fn step<F: ObjectFiles>(
         &mut self,
         reader: &mut ObjectReader<'_, F, A>,
@@ -124,7 +125,7 @@ impl<'g, A: Allocator + Copy> History<'g, A> {
         }
     }
 
-    // Moves the last object on the path to the graph. Returns whether the path had an object.
+    // Moves the last object on the path to the graph. Returns false if the path was empty.
     fn insert_last(&mut self) -> Result<bool, RepositoryFault<A>>
         ensures { self.new.commits ≡ self.old.commits }
     {
@@ -171,7 +172,7 @@ impl<'g, A: Allocator + Copy> History<'g, A> {
     }
 
     // Adds a parent to the path, unless the graph holds it. Fails with `Objects` if the path is too
-    // long. So a cycle of parents cannot continue forever.
+    // long. This limit also ends a cycle of parents.
     #[tactic(auto, using(crate::proofs::HistoryLemmas::known_pushed))]
     fn reach<F: ObjectFiles>(
         &mut self,
@@ -192,7 +193,8 @@ impl<'g, A: Allocator + Copy> History<'g, A> {
         Ok(())
     }
 
-    // Returns the entry of an object from the commit-graph, or reads the object.
+    // Returns the graph entry of an object. If the commit-graph lacks the object, the object is
+    // read.
     fn find<F: ObjectFiles>(
         &self,
         reader: &mut ObjectReader<'_, F, A>,
@@ -220,7 +222,8 @@ impl<'g, A: Allocator + Copy> History<'g, A> {
     }
 }
 
-// Reads an object, checks its id, and returns its entry. The parents of a commit must be commits.
+// Reads an object, checks its id, and returns its graph entry. The parents of a commit must be
+// commits.
 fn read_entry<F: ObjectFiles, A: Allocator + Copy>(
     alloc: A,
     reader: &mut ObjectReader<'_, F, A>,

@@ -20,10 +20,10 @@ use std::cell::RefCell;
 /// the same id, both must have the same bytes.
 ///
 /// A pack is too large if it has more than 1,048,576 objects. The maximum size of an object is 256
-/// MiB, less 224 bytes for each object of the pack. The same limit applies to the total size of a
-/// delta, its bases in memory and its result. The limit is 64 MiB for a commit, tree or tag, and 4
-/// GiB for all objects and deltas. A delta chain may have 8,191 deltas. Named ids and commits may
-/// use 112 MiB: about two million ids, or 485,000 commits with a tree each.
+/// MiB, less 224 bytes for each object of the pack. The same maximum applies to the total size of a
+/// delta, its bases in memory and its result. A commit, tree or tag may have at most 64 MiB, and
+/// all objects and deltas together at most 4 GiB. A delta chain may have 8,191 deltas. The commits
+/// and all named ids may use 112 MiB: about two million ids, or 485,000 commits with a tree each.
 #[derive(Drop)]
 pub struct StoreIndexer<'t, 'f, F: ObjectFiles, A: Allocator + Copy> {
     reader: RefCell<ObjectReader<'f, F, A>>,
@@ -33,8 +33,8 @@ pub struct StoreIndexer<'t, 'f, F: ObjectFiles, A: Allocator + Copy> {
 }
 
 impl<'t, 'f, F: ObjectFiles, A: Allocator + Copy> StoreIndexer<'t, 'f, F, A> {
-    /// Returns an indexer of packs that the reader's store receives. Trees and blobs that the
-    /// peer's refs point to become leaves of the graph.
+    /// Returns an indexer of packs that the reader's store receives. A tree or blob in a pack
+    /// becomes a leaf of the graph if a ref of the peer points to it.
     pub fn new(reader: ObjectReader<'f, F, A>, tips: &'t Tips<A>) -> StoreIndexer<'t, 'f, F, A> {
         StoreIndexer {
             reader: RefCell::new(reader),
@@ -44,7 +44,7 @@ impl<'t, 'f, F: ObjectFiles, A: Allocator + Copy> StoreIndexer<'t, 'f, F, A> {
         }
     }
 
-    /// Removes and returns the last accepted pack, or `None` if there is none.
+    /// Removes and returns the last accepted pack, or `None` if no pack is kept.
     pub fn take_received(&self) -> Option<Received<A>> {
         match self.received.try_replace(None) {
             Ok(received) => received,
@@ -52,8 +52,8 @@ impl<'t, 'f, F: ObjectFiles, A: Allocator + Copy> StoreIndexer<'t, 'f, F, A> {
         }
     }
 
-    /// Removes and returns the fault of the last call that returned `Other`, or `None` if there is
-    /// none.
+    /// Removes and returns the fault of the last call that returned `Other`, or `None` if no fault
+    /// is stored.
     pub fn take_fault(&self) -> Option<RepositoryFault<A>> {
         match self.fault.try_replace(None) {
             Ok(fault) => fault,
@@ -63,8 +63,8 @@ impl<'t, 'f, F: ObjectFiles, A: Allocator + Copy> StoreIndexer<'t, 'f, F, A> {
 
     /// Returns the type of an object in the last accepted pack or in the store.
     ///
-    /// Fails with `Store` if the object is missing or cannot be read. Also fails with `Busy` and
-    /// `Memory`.
+    /// Fails with `Store` if the object is missing or cannot be read. Fails with `Busy` if the
+    /// indexer is in use, or with `Memory` if out of memory.
     pub fn kind_of(&self, id: &Oid) -> Result<ObjectType, RepositoryFault<A>> {
         if let Some(kind) = self.received_kind(id) {
             return Ok(kind);
@@ -96,7 +96,7 @@ impl<'t, 'f, F: ObjectFiles, A: Allocator + Copy> StoreIndexer<'t, 'f, F, A> {
         }
     }
 
-    // Indexes a complete pack, and keeps it.
+    // Indexes a complete pack, and keeps the pack for `take_received`.
     fn receive(&self, feed: StoreFeed<A>) -> Result<Vec<Entry<A>, A>, RepositoryFault<A>>
         ensures { IfOk result (λ entries. IsIndexed feed entries.items) }
     {

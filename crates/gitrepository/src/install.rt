@@ -15,7 +15,8 @@ use std::fs::Files;
 /// Installs a pack and its index in a folder of packs. Both files are written under temporary names
 /// and synced before either is renamed. The pack is renamed before the index.
 ///
-/// Fails if a call of the folder fails. The folder then has neither file, only the pack, or both.
+/// Fails if a call of the folder fails. After a failure the folder has neither file, only the pack,
+/// or both.
 pub fn install_files<P: PackFolder>(
     folder: &mut P,
     pack: &[u8],
@@ -75,12 +76,12 @@ fn name_both<P: PackFolder>(folder: &mut P) -> Result<(), P::Fault>
 }
 
 /// Installs a received pack in a Git directory, as `objects/pack/pack-SUM.pack` and its index.
-/// `SUM` is the trailer of the pack. A pack without objects is not installed. Git keeps the objects
-/// of the pack until the returned value is dropped.
+/// `SUM` is the trailer of the pack. A pack without objects is not installed. Until the returned
+/// value is dropped, `git gc` does not remove the pack.
 ///
-/// Fails with `File` if the system refuses a call, and with `Memory`. After a fault, Git finds
-/// either no new pack or the complete pack. A killed process can leave temporary files, and the
-/// file `pack-SUM.keep`.
+/// Fails with `File` if the system refuses a call, or with `Memory` if out of memory. After a
+/// fault, Git finds either no new pack or the complete pack. A killed process can leave temporary
+/// files, and the file `pack-SUM.keep`.
 pub fn install_pack<'r, R: Files, A: Allocator + Copy>(
     alloc: A,
     files: &'r R,

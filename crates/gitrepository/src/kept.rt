@@ -1,4 +1,4 @@
-//! Keeping a received pack until refs reach its objects.
+//! Protecting a received pack from `git gc` until refs reach its objects.
 
 use crate::fault::RepositoryFault;
 use std::alloc::Allocator;
@@ -8,7 +8,7 @@ use std::io::ErrorKind;
 
 /// The file `pack-SUM.keep` of a received pack (git-index-pack(1), "--keep"). While this file
 /// exists, `git gc` does not remove the pack, even if no ref reaches its objects yet. The file is
-/// removed on drop.
+/// removed when the `KeptPack` is dropped.
 pub struct KeptPack<'r, R: Files, A: Allocator + Copy> {
     files: &'r R,
     // The path of the file, or `None` if the file already existed or there is no pack.
@@ -30,7 +30,8 @@ impl<'r, R: Files, A: Allocator + Copy> KeptPack<'r, R, A> {
         KeptPack { files, path: None }
     }
 
-    /// Creates the file with this path, unless it exists. Fails with `File` and `Memory`.
+    /// Creates the file with this path, unless it exists. Fails with `File` if the system refuses a
+    /// call, or with `Memory` if out of memory.
     pub(crate) fn make(
         alloc: A,
         files: &'r R,

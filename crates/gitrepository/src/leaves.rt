@@ -17,8 +17,8 @@ use std::alloc::Allocator;
 /// that the object reaches. In the graph, trees and blobs count as commits without parents, so a
 /// client does not request them.
 ///
-/// Fails with `Store` if an object cannot be read, with `Objects` if the graph is full, and with
-/// `Memory`. After a fault, some objects may have been added.
+/// Fails with `Store` if an object cannot be read, with `Objects` if the graph is full, or with
+/// `Memory` if out of memory. After a fault, some objects may have been added.
 pub fn add_leaves<F: ObjectFiles, A: Allocator + Copy>(
     reader: &mut ObjectReader<'_, F, A>,
     graph: &mut Graph<A>,
@@ -43,8 +43,8 @@ fn is_leaf<F: ObjectFiles, A: Allocator + Copy>(
     Ok(is_leaf_type(reader.kind_of(id)?))
 }
 
-// Returns whether the store has everything that an object reaches. A fetch that was killed may have
-// stored a tree without some of the blobs that it names.
+// Returns whether the store has everything that an object reaches. A killed fetch may have stored a
+// tree without some of the blobs that it names.
 fn is_whole<F: ObjectFiles, A: Allocator + Copy>(
     reader: &mut ObjectReader<'_, F, A>,
     id: &Oid,

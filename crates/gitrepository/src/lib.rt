@@ -4,8 +4,8 @@
 //! - [`open_repository`] returns the graph of everything the refs reach. The function
 //!   [`read_commit_graph`] reads the commit-graph, which lists the parents of commits. The commits
 //!   themselves need not be read.
-//! - [`open_tips`] returns the objects that refs point to, without their history. These objects
-//!   suffice for ls-refs. [`lead_with_newest`] puts refs to the newest objects first.
+//! - [`open_tips`] returns the objects that refs point to, without their history. The command
+//!   `ls-refs` needs no other objects. [`lead_with_newest`] puts refs to the newest objects first.
 //! - A [`StorePacker`] packs commits and tags with their trees and blobs. The packer copies stored
 //!   pack entries unchanged, and sends other objects as deltas if the deltas are smaller. A pack is
 //!   returned whole, or in parts with one entry in memory at a time.
@@ -17,23 +17,23 @@
 //!
 //! # Proved
 //!
-//! - Each entry of the graph describes an object, or a commit as the commit-graph lists it. The id
-//!   of an object is the SHA-1 of its type and bytes. The parents of an entry are the commits or
-//!   the tagged object that the bytes name, in order. Parents precede their children. Each ref
-//!   points to an entry of the graph.
+//! - Each entry of the graph describes an object that was read, or a commit as the commit-graph
+//!   lists it. The id of an object is the SHA-1 of its type and bytes. The parents of an entry are
+//!   the commits or the tagged object that the bytes name, in order. Parents precede their
+//!   children. Each ref points to an entry of the graph.
 //! - [`open_tips`] and [`lead_with_newest`] return only refs that point to entries of the graph.
 //! - The nodes that [`check_refs`] counts are the entries of a graph. Each entry describes an
 //!   object.
 //! - A pack that is sent has a header, as many entries as the header says, and the SHA-1 of all
 //!   preceding bytes. Each entry of a sent pack has a well-formed header. The pack has at most
-//!   `MAX_PACK` bytes. If a pack is returned in parts, the concatenated parts are such a pack. If
-//!   returning the parts ends in a fault, no contract describes the parts returned before.
+//!   `MAX_PACK` bytes. If a pack is returned in parts, the concatenation of the parts is the pack.
+//!   If a later part fails, no contract describes the parts returned before.
 //! - A pack is accepted only if its trailer is the SHA-1 of all preceding bytes. Each entry that
 //!   the indexer returns describes an object, or is a tree or blob that a tag names. The entry of
-//!   this tag is returned too.
+//!   the tag is also returned.
 //! - [`install_files`] installs a pack in a [`PackFolder`] before its index. After `Ok` both files
-//!   exist, with the given bytes. A file gets its name only once both files are written and synced.
-//!   After a fault the folder has neither file, only the pack, or both.
+//!   exist, with the given bytes. A file gets its final name only once both files are written and
+//!   synced. After a fault the folder has neither file, only the pack, or both.
 //! - [`MemoryFolder`] is a [`PackFolder`] that records all files it receives.
 //! - No call panics, overflows or reads out of bounds, and every call returns, whatever the files
 //!   contain.
@@ -41,8 +41,8 @@
 //! # Differences from Git
 //!
 //! - A tree or blob that a ref or tag points to counts as a commit without parents.
-//! - A ref whose object is missing is left out. Git also leaves the ref out, and prints a warning.
-//!   If HEAD points to a missing object, the repository is refused.
+//! - A ref whose object is missing is not part of the repository. Git also leaves the ref out, and
+//!   prints a warning. If HEAD points to a missing object, the repository is refused.
 //! - The packer assumes that the client has every unlisted parent of a listed commit, and
 //!   everything that the trees of these parents reach.
 //! - New deltas are made only for loose objects, and for stored deltas whose base is not sent. The
@@ -51,7 +51,7 @@
 //! - Before deltas are made, objects are sorted by the ends of their paths, but not by size. An
 //!   object of more than 8 MiB is sent whole; Git's limit is 512 MiB.
 //! - A graph holds at most 1,048,576 commits and tags, with at most 64 parents each.
-//! - A copied delta names its base by an offset, whether or not the client asks for `ofs-delta`. A
+//! - A copied delta names its base by an offset, even if the client does not request `ofs-delta`. A
 //!   new delta names its base by id.
 //! - Git looks for signs of a SHA-1 attack when it computes an id. This crate does not.
 //! - A received pack has a file `.keep` until refs reach its objects, as in Git.
@@ -59,23 +59,23 @@
 //!   `config` of the repository.
 //! - A multi-pack index, bitmaps, grafts and replace refs are not read. A shallow repository, a
 //!   partial clone, SHA-256 ids, a reftable and an unknown extension are refused.
-//! - An object in the store counts as complete: the objects that it names are not looked up.
+//! - When a pack is received, the objects that a stored object names are not looked up.
 //!
 //! # What the contracts do not rule out
 //!
-//! - The packer might send objects other than the wanted ones, or send the entry of one object for
-//!   another. No contract says which trees and blobs are sent. The stream of an entry may be any
-//!   bytes, and a delta may name a base that is not sent. The reader compares the CRC-32 of each
-//!   copied entry with the index, but no contract states this.
+//! - The packer might send objects other than the wanted ones, or send the entry of one object in
+//!   place of another. No contract says which trees and blobs are sent. The stream of an entry may
+//!   be any bytes, and a delta may name a base that is not sent. The reader compares the CRC-32 of
+//!   each copied entry with the index, but no contract states this.
 //! - If a commit-graph is wrong, the graph may be wrong too. The commit-graph is used only for
 //!   commits in the store. No contract states this, or from which file the commit-graph is read.
-//! - The graph might hold more than the refs reach, and a ref might be left out. No contract covers
-//!   HEAD.
+//! - The graph might contain objects that no ref reaches, and a ref might be left out. No contract
+//!   covers HEAD.
 //! - [`open_tips`] might find objects other than those of the refs, or peel a tag to the wrong
 //!   object. This function trusts the peeled ids in `packed-refs`, as Git does. The function
 //!   [`lead_with_newest`] might leave refs out or put other refs first.
-//! - [`check_refs`] might look at objects other than those that the refs reach. This function might
-//!   count the nodes of another graph, and no contract covers its object count.
+//! - [`check_refs`] might look at objects other than those that the refs reach. The function might
+//!   count the nodes of another graph, and no contract covers the number of objects.
 //! - [`Tips`] might forget an id, [`add_leaves`] might add other nodes, and a repository in any
 //!   format might be opened or refused. The function [`is_bare`] might return any result. The names
 //!   of peeled refs in a new repository might be wrong.
@@ -85,13 +85,14 @@
 //!   loose object that is added meanwhile.
 //! - A parent of a commit in the graph may be a tag, tree or blob. The types of parents are
 //!   checked, but no contract states this.
-//! - [`PackCounts`] and [`StorePacker::counts`] have no clause: they are for measurements.
+//! - [`PackCounts`] and [`StorePacker::counts`] have no contract, because they serve only
+//!   measurements.
 //! - [`StoreIndexer::kind_of`] may return the wrong type. The method
 //!   [`StoreIndexer::take_received`] may return a pack that was not received, or `None`.
 //! - A [`NewRepository`] might lack its pack, its refs or HEAD, or be removed once it is finished.
 //! - No contract can describe the contents of a system file: only the order of the calls in
-//!   [`install_pack`] is proved. This function might not create the file `.keep`, or might
-//!   install nothing.
+//!   [`install_pack`] is proved. The function might not create the file `.keep`, or might install
+//!   nothing.
 //! - Any call may fail if out of memory. The contracts do not cover which fault is returned, the
 //!   text of a fault, running time, or memory use.
 //!
@@ -99,10 +100,11 @@
 //!
 //! # Dependencies
 //!
-//! `gparts` for packers that return parts, `gitobjects` for objects, `gitcommitgraph` for
-//! commit-graphs, `gitrefs` for refs, `gitpack` for packs, `gitobject` for links, `gzlib` to
-//! deflate, `gitconfig` for settings. `ggraph` with `gdag`, `gobject` and `grefs` for graphs and
-//! packers, `gname` for ids, `indexmap` for maps by id, `sha1` for the trailer of a pack.
+//! `gparts` defines packers that return parts, `ggraph` and `gdag` graphs, `gobject` objects of a
+//! graph, and `grefs` refs. `gitobjects` reads objects, `gitcommitgraph` commit-graphs, `gitrefs`
+//! refs, and `gitconfig` settings. `gitpack` reads and writes packs, and `gitobject` parses links.
+//! `gzlib` deflates, `gname` defines ids, `indexmap` defines maps by id, and `sha1` computes the
+//! trailer of a pack.
 #![tactic(auto)]
 
 mod arrival;

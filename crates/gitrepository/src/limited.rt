@@ -14,8 +14,8 @@ const MAX_OBJECTS: usize = 1_048_576;
 const MAX_TOTAL: usize = 4_294_967_296;
 
 // The maximum size of an object: 256 MiB, less 224 bytes of tables for each object of the pack. The
-// same limit applies to the total size of a delta, its bases in memory and its result. In a pack
-// with the maximum number of objects the limit is 32 MiB.
+// same maximum applies to the total size of a delta, its bases in memory and its result. In a pack
+// with the maximum number of objects, an object may have at most 32 MiB.
 const MAX_HELD: usize = 268_435_456;
 
 const TABLE_BYTES: usize = 224;
@@ -46,7 +46,7 @@ impl<A: Allocator + Copy> Model for LimitedPack<A> {
 }
 
 impl<A: Allocator + Copy> LimitedPack<A> {
-    /// Returns a pack without received bytes.
+    /// Returns a `LimitedPack` without received bytes.
     pub(crate) fn new(alloc: A) -> LimitedPack<A>
         ensures { result ≡ [] }
     {
@@ -57,7 +57,8 @@ impl<A: Allocator + Copy> LimitedPack<A> {
         }
     }
 
-    /// Receives the next bytes, as [`IncomingPack::feed`] does. Fails only if out of memory.
+    /// Receives the next bytes of the pack, as [`IncomingPack::feed`] does. Fails only if out of
+    /// memory.
     pub(crate) fn feed<V: ObjectVisitor>(
         &mut self,
         piece: &[u8],

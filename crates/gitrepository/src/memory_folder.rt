@@ -14,7 +14,7 @@ use std::mem;
 pub enum PackFile<A: Allocator + Copy> {
     /// The pack.
     Pack(Vec<u8, A>),
-    /// Its index.
+    /// The index of the pack.
     Index(Vec<u8, A>),
 }
 

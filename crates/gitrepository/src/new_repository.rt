@@ -12,13 +12,13 @@ use std::alloc::Allocator;
 use std::fs::Files;
 
 /// A new bare repository (git-clone(1), `--bare`). If the value is dropped before `finish`, the new
-/// files are removed as far as the system permits. A directory that existed before remains, and is
-/// empty again.
+/// files are removed as far as the system permits. A directory that existed before `make` remains,
+/// and is empty again.
 pub struct NewRepository<'r, R: Files, A: Allocator + Copy> {
     alloc: A,
     files: &'r R,
     path: &'r str,
-    // `None` once the repository is finished.
+    // The directory of the repository until it is finished, and `None` afterwards.
     origin: Option<Origin>,
 }
 
@@ -41,8 +41,8 @@ impl<'r, R: Files, A: Allocator + Copy> NewRepository<'r, R, A> {
     /// refs, its remote `origin` has this URL, and HEAD points at this branch.
     ///
     /// Fails with `Refs` if the directory is not empty, another process creates a repository there
-    /// at the same time, or the system refuses a call. Also fails with `Memory`. After a fault
-    /// nothing new remains, if the system permits the removal.
+    /// at the same time, or the system refuses a call. Fails with `Memory` if out of memory. After
+    /// a fault the new files are removed, as far as the system permits.
     pub fn make(
         alloc: A,
         files: &'r R,
@@ -61,11 +61,11 @@ impl<'r, R: Files, A: Allocator + Copy> NewRepository<'r, R, A> {
     }
 
     /// Finishes the clone: writes the pack, if there is one, then the refs as `packed-refs`, and
-    /// then HEAD. The graph gives the peeled object of each tag.
+    /// then HEAD. The peeled object of each tag is looked up in the graph.
     ///
     /// Fails with `File` or `Refs` if the system refuses a call. Fails with `Refs` if the name of
-    /// one ref is the directory of another, and with `Memory`. After a fault the repository is
-    /// removed. The ref names are checked before the pack is written.
+    /// one ref is a directory of another ref's name, or with `Memory` if out of memory. After a
+    /// fault the repository is removed. The ref names are checked before the pack is written.
     pub fn finish(
         self,
         received: Option<&Received<A>>,
@@ -81,7 +81,7 @@ impl<'r, R: Files, A: Allocator + Copy> NewRepository<'r, R, A> {
         Ok(())
     }
 
-    // Checks the names of the refs, before anything is written.
+    // Checks that no ref name conflicts with another, before any file is written.
     fn check_refs(&self, refs: &Refs<A>) -> Result<(), RepositoryFault<A>> {
         GitDirectory::new(self.alloc, self.files, self.path).check_refs(refs)?;
         Ok(())

@@ -12,7 +12,8 @@ use std::alloc::Allocator;
 
 /// Returns the entry of the object with this id, this type and these bytes.
 ///
-/// Fails with `Malformed` if the bytes do not have the form of the type, and with `Memory`.
+/// Fails with `Malformed` if the bytes are not a valid object of the type, or with `Memory` if out
+/// of memory.
 pub(crate) fn entry_of<A: Allocator + Copy>(
     alloc: A,
     id: &Oid,

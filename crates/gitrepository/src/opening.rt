@@ -19,12 +19,12 @@ use std::fs::Files;
 /// parents first. A tree or blob that a ref or tag points to counts as a commit without parents. A
 /// ref whose object is missing is left out, as in Git.
 ///
-/// The reader must read the same directory. The reader can be used again after any fault. A commit
-/// is not read if the commit-graph lists it and its object exists.
+/// The reader must read the objects of the same Git directory. The reader can be used again after
+/// any fault. A commit is not read if the commit-graph lists it and its object exists.
 ///
 /// Fails with `Refs` if the refs cannot be read. Fails with `Store` if a reached object is missing
-/// or cannot be read, and with `Object` if a reached object is refused. Fails with `Objects` if
-/// there are too many commits and tags for a graph, and with `Memory`.
+/// or cannot be read, and with `Object` if a reached object is refused. Fails with `Objects` if the
+/// graph would have too many commits and tags, or with `Memory` if out of memory.
 pub fn open_repository<R: Files, F: ObjectFiles, A: Allocator + Copy>(
     directory: &GitDirectory<'_, R, A>,
     reader: &mut ObjectReader<'_, F, A>,

@@ -20,7 +20,8 @@ pub(crate) struct Outgoing<A: Allocator + Copy> {
     // The most recently built bytes, and how many of them were already returned.
     bytes: Vec<u8, A>,
     given: usize,
-    // The total number of built bytes, and the number of bytes that may still be returned.
+    // The total number of built bytes, and the number of bytes by which `MAX_PACK` exceeds the
+    // bytes returned so far.
     made: usize,
     left: usize,
     // The SHA-1 of all built bytes, except the trailer.
@@ -78,8 +79,8 @@ impl<A: Allocator + Copy> Outgoing<A> {
     /// Appends an entry of this form with this zlib stream, which inflates to `size` bytes.
     ///
     /// Fails with `Count` if the pack already has all its entries, the last entry is incomplete, or
-    /// built bytes were not yet returned. Fails with `Pack` if the pack is too large, and with
-    /// `Memory`. After a fault the pack is unusable.
+    /// built bytes were not yet returned. Fails with `Pack` if the pack is too large, or with
+    /// `Memory` if out of memory. After a fault the pack is unusable.
     pub(crate) fn put(
         &mut self,
         form: EntryForm,
@@ -107,7 +108,7 @@ impl<A: Allocator + Copy> Outgoing<A> {
     /// Appends the trailer.
     ///
     /// Fails with `Count` if the number of entries differs from the header, or built bytes were not
-    /// yet returned. Also fails with `Memory`. After a fault the pack is unusable.
+    /// yet returned. Fails with `Memory` if out of memory. After a fault the pack is unusable.
     pub(crate) fn finish(&mut self) -> Result<(), RepositoryFault<A>>
         ensures going { OnOk result (GoesOn self.old self.new) }
         ensures left { self.new.left ≡ self.old.left }

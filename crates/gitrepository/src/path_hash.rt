@@ -1,8 +1,8 @@
 //! Path hashes, which sort objects before deltas are made.
 
 /// The hash of the path at which an object was found. The last bytes of a path have the most
-/// weight. Sorted by this hash, the versions of a file are adjacent, followed by files whose names
-/// have the same ending.
+/// weight. Sorting by this hash makes the versions of a file adjacent, and puts files whose names
+/// have the same ending nearby.
 #[derive(Clone, Copy, Debug, PartialEq, Eq, PartialOrd, Ord)]
 pub(crate) struct PathHash(u32);
 

@@ -24,12 +24,12 @@ struct Tag {
 }
 
 /// Returns a repository of the objects that refs and HEAD point to, with the peeled objects of
-/// tags. An object that is not a tag counts as a commit without parents. This repository suffices
-/// for ls-refs. If `packed-refs` lists a peeled object for a tag, the tag counts as pointing
+/// tags. An object that is not a tag counts as a commit without parents. The command `ls-refs`
+/// needs nothing more. If `packed-refs` lists a peeled object for a tag, the tag counts as pointing
 /// directly to that object.
 ///
 /// Returns `None` if an object is missing or unreadable, or if there are too many objects. The
-/// caller must then open the repository. Fails with `Memory`.
+/// caller must then open the repository. Fails only if out of memory.
 pub fn open_tips<F: ObjectFiles, A: Allocator + Copy>(
     reader: &mut QuickReader<'_, F, A>,
     peels: &PackedPeels<A>,
@@ -117,7 +117,8 @@ fn add_tip<F: ObjectFiles, A: Allocator + Copy>(
     }
 }
 
-// Returns the peeled object of a tag, or `None` if the object is not a tag.
+// Returns the peeled object of a tag, or `None` if the peeled ref points to an object that is not a
+// tag.
 fn peel_target(peel: &Peel) -> Option<Oid> {
     match peel {
         Peel::Itself => None,
@@ -180,8 +181,7 @@ fn add_tags<A: Allocator + Copy>(
     Ok(true)
 }
 
-// Adds a tag. Returns whether the graph then holds this tag, and not a different object with the
-// same id.
+// Adds a tag. Returns whether the graph afterwards holds the tag as this same object.
 fn add_tag<A: Allocator + Copy>(
     graph: &mut Graph<A>,
     tag: Tag,
@@ -191,8 +191,7 @@ fn add_tag<A: Allocator + Copy>(
     add(graph, &tag.id, Node { kind, parents })
 }
 
-// Adds an object that is not a tag. Returns whether the graph then holds this object, and not a
-// different object with the same id.
+// Adds an object that is not a tag. Returns whether the graph afterwards holds this same object.
 fn add_leaf<A: Allocator + Copy>(
     graph: &mut Graph<A>,
     id: &Oid,

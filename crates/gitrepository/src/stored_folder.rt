@@ -87,7 +87,7 @@ impl<'r, R: Files, A: Allocator + Copy> StoredFolder<'r, R, A> {
         Ok(kept)
     }
 
-    // Creates a new temporary file with these bytes. Git removes old files with such names
+    // Creates a new temporary file with these bytes. Git removes old temporary files
     // (git-prune(1)).
     fn write(&self, name: &str, bytes: &[u8]) -> Result<Temporary<R, A>, RepositoryFault<A>> {
         for number in 0..MAX_TRIES {

@@ -39,7 +39,7 @@ struct Base<A: Allocator + Copy> {
 pub(crate) struct Delta<A: Allocator + Copy> {
     /// The id of the base.
     pub(crate) base: Oid,
-    /// Its bytes.
+    /// The bytes of the delta.
     pub(crate) text: Vec<u8, A>,
     // The depth of the delta chain.
     depth: usize,
@@ -99,7 +99,8 @@ impl<A: Allocator + Copy> Window<A> {
     }
 
     /// Adds an object that was sent as this delta, or that was sent whole if `delta` is `None`. An
-    /// object of unsuitable size is not added. The oldest objects are removed until there is room.
+    /// object of unsuitable size is not added. The oldest objects are removed until the new object
+    /// fits into the window.
     pub(crate) fn push(
         &mut self,
         id: &Oid,
@@ -123,7 +124,7 @@ impl<A: Allocator + Copy> Window<A> {
         Ok(())
     }
 
-    // Removes the oldest objects until there is room for an object of this size.
+    // Removes the oldest objects until an object of this size fits into the window.
     fn make_room(&mut self, size: usize) {
         for _base in 0..MAX_BASES {
             let has_room = self.bytes.saturating_add(size) <= MAX_BYTES;
@@ -158,7 +159,7 @@ impl<A: Allocator + Copy> Base<A> {
             Some((_, delta)) => (delta.text.len().saturating_sub(1), delta.depth),
             None => ((size / 2).saturating_sub(BASE_ID), 1),
         };
-        // A delta with a longer chain must save more bytes.
+        // The longer the delta chain, the more bytes a delta must save.
         let left = MAX_CHAIN.saturating_sub(self.depth);
         let limit = most.saturating_mul(left) / MAX_CHAIN.saturating_sub(depth).saturating_add(1);
         if size.saturating_sub(length) >= limit {
