@@ -7,6 +7,6 @@ use Rattle.gitobject.specs.declared.types.ObjectType.{ObjectType}
 abbrev pub BeginsWith : List ℕ → List ℕ → Type 0
 BeginsWith word text = (rest : List ℕ) × (text ≡ word ++ rest)
 
--- the text begins with the name of the type and a space, as a loose object does
+-- the text begins with the name of the type and a space, like the text of a loose object
 abbrev pub BeginsAsObject : List ℕ → ObjectType → Type 0
 BeginsAsObject text kind = BeginsWith (type_name kind ++ 32 ∷ []) text

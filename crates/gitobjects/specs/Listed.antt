@@ -4,7 +4,7 @@ use Rattle.gitobjects.specs.declared.files.FolderTime.{FolderTime}
 use Rattle.gitobjects.specs.declared.listed.Listed.{Listed}
 use Rattle.gitobjects.specs.declared.listed.Listed.TheVariants as listed
 
--- the names of the folder last changed at this time, and the folder was listed twice since then
+-- the state of a folder whose names last changed at this time, and which was listed twice since then
 abbrev pub Twice : Option FolderTime → Listed
 Twice time = listed.Twice time
 
@@ -14,7 +14,8 @@ IsListedAt time listed.Never = ⊥
 IsListedAt time (listed.Once earlier) = earlier ≡ time
 IsListedAt time (listed.Twice earlier) = earlier ≡ time
 
--- the state after another listing: `Twice` if the names have not changed since an earlier listing, and `Once` otherwise
+-- the relation between the states before and after a listing: the later state is `Twice` if the names have not changed
+-- since an earlier listing, and `Once` otherwise
 abbrev pub ListsAgain : Option FolderTime → Listed → Listed → Type 0
 ListsAgain time old new =
     (IsListedAt time old × (new ≡ listed.Twice time)) ⊎ (¬ (IsListedAt time old) × (new ≡ listed.Once time))

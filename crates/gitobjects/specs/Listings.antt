@@ -15,7 +15,7 @@ pub record IsIndexName (stem name : List ℕ) : Type 0 where
 abbrev pub IsOtherName : List ℕ → Type 0
 IsOtherName name = (stem : List ℕ) → ¬ (IsIndexName stem name)
 
--- exactly the packs whose indexes are among these names, in the order of the names
+-- the stems are exactly the packs whose indexes are among these names, in the order of the names
 abbrev pub AreStems : List (List ℕ) → List (List ℕ) → Type 0
 AreStems [] stems = stems ≡ []
 AreStems (name ∷ names) stems =

@@ -1,4 +1,4 @@
-//! The object folders of a repository: its own, and its alternates (gitrepository-layout(5),
+//! The object folders of a repository: its own folder, and its alternates (gitrepository-layout(5),
 //! "objects/info/alternates").
 
 ghost use Rattle.std.specs.Prelude.{◌≡◌, ◌++◌, ◌∷◌, [], IfOk, OnOk, filter, map, string_bytes};
@@ -21,12 +21,12 @@ pub(crate) struct Folder<A: Allocator + Copy> {
     pub(crate) listed: Listed,
     // The faults of the packs that were left out.
     pub(crate) left_out: Vec<FileFault<A>, A>,
-    // The number of alternates on the way to this folder: 0 for the repository's own folder.
+    // The depth of this folder in the alternates: 0 for the repository's own folder.
     depth: usize,
 }
 
 impl<A: Allocator + Copy> Folder<A> {
-    // Returns an object folder whose packs were never listed.
+    // Returns an object folder whose pack folder was never listed.
     fn new(alloc: A, path: String<A>, depth: usize) -> Result<Folder<A>, AllocError> {
         let packs = join(alloc, path.as_str(), "pack")?;
         Ok(Folder {
@@ -39,9 +39,9 @@ impl<A: Allocator + Copy> Folder<A> {
     }
 }
 
-/// Returns the object folder of a repository, and its alternates recursively, up to the same depth
-/// as Git. A folder that was already added is skipped, so the recursion ends even if alternates are
-/// cyclic. A missing folder is also skipped.
+/// Returns the object folder of a repository, and its alternates recursively, at most five levels
+/// deep, as in Git. A folder that was already added is skipped, so the recursion ends even if
+/// alternates are cyclic. A missing folder is also skipped.
 pub(crate) fn object_folders<F: ObjectFiles, A: Allocator + Copy>(
     files: &F,
     alloc: A,

@@ -21,8 +21,8 @@ struct Kept<A: Allocator + Copy> {
     object: Object<A>,
 }
 
-/// The cached objects. Each location has one slot, and a new object replaces the previous object in
-/// its slot.
+/// The cached objects. Each location has one slot, which other locations may share, and a new
+/// object replaces the previous object in its slot.
 #[derive(Drop)]
 pub(crate) struct BaseCache<A: Allocator + Copy> {
     alloc: A,

@@ -1,4 +1,4 @@
-//! Reading an object of a pack: a delta chain is applied without recursion.
+//! Reading an object of a pack, without recursion over its delta chain.
 
 use crate::cache::Spot;
 use crate::fault::{Cause, StoreFault};
@@ -27,7 +27,7 @@ struct Broken {
     cause: Cause,
 }
 
-// Adds the offset of the entry to the fault of a call.
+// Adds the offset of an entry to the fault of a failed call.
 fn at<T: Drop>(start: usize, outcome: Result<T, Cause>) -> Result<T, Broken> {
     match outcome {
         Ok(value) => Ok(value),
@@ -85,8 +85,8 @@ impl<F: ObjectFiles, A: Allocator + Copy> ObjectReader<'_, F, A> {
         }
     }
 
-    // Returns an intact copy of the object with this id from outside the pack `but`, or `None` if
-    // no copy is intact. Fails only with `Memory`.
+    // Returns an intact copy of the object with this id, not from the pack `but`. Returns `None` if
+    // no other copy is intact. Fails only with `Memory`.
     fn read_elsewhere(&mut self, id: &Oid, but: usize) -> Result<Option<Object<A>>, Cause> {
         for pack in 0..self.store.pack_count() {
             if pack == but {
@@ -138,7 +138,8 @@ impl<F: ObjectFiles, A: Allocator + Copy> ObjectReader<'_, F, A> {
     }
 
     // Returns the delta chain of the entry at this offset. The chain ends in a whole object, a
-    // cached object or a broken entry. The cause is found when the broken entry is read later.
+    // cached object or a broken entry. The cause of a broken entry is found when the entry is read
+    // later.
     fn trace(&mut self, pack: usize, start: usize) -> Result<Chain<A>, Cause> {
         let mut deltas = Vec::new(self.store.allocator());
         let mut end = start;
@@ -160,7 +161,7 @@ impl<F: ObjectFiles, A: Allocator + Copy> ObjectReader<'_, F, A> {
         Err(Cause::Circle)
     }
 
-    // Returns the whole or cached object at this location.
+    // Returns the object at this location, which is stored whole or is cached.
     fn read_base(&mut self, spot: Spot) -> Result<Object<A>, Cause> {
         if let Some(object) = self.cache.get(spot) {
             return Ok(object.copy_in(self.store.allocator())?);
@@ -175,7 +176,8 @@ impl<F: ObjectFiles, A: Allocator + Copy> ObjectReader<'_, F, A> {
         }
     }
 
-    // Applies deltas to their base, beginning with the last delta of the list. Each base is cached.
+    // Applies deltas to their base, beginning with the last delta of the list. Each object that is
+    // a base is cached.
     fn apply_all(
         &mut self,
         pack: usize,

@@ -21,7 +21,7 @@ pub(crate) struct Inflated<A: Allocator + Copy> {
 /// An unchanged pack entry, to be copied.
 #[derive(Drop)]
 pub struct RawEntry<A: Allocator + Copy> {
-    /// Its head.
+    /// The header of the entry.
     pub head: EntryHead,
     /// The position of the base in the index of the same pack, if the entry is a delta.
     pub base: Option<usize>,

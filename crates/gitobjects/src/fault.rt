@@ -6,7 +6,7 @@ use std::error::Error;
 use std::io::ErrorKind;
 use std::{fmt, io};
 
-/// The reason why a file cannot be used. A [`FileFault`] also has the path of the file.
+/// The reason why a file cannot be used. A [`FileFault`] contains a cause and the path of the file.
 #[derive(Clone, Copy, Debug, PartialEq, Eq)]
 pub enum Cause {
     /// Out of memory.
@@ -17,13 +17,13 @@ pub enum Cause {
     Read(ErrorKind),
     /// The system cannot list the folder.
     List(ErrorKind),
-    /// A path is not UTF-8.
+    /// A path in the alternates file is not UTF-8.
     NotText,
     /// The file exceeds its size limit.
     FileSize,
     /// An object has more bytes than [`crate::MAX_OBJECT`].
     ObjectSize,
-    /// The file of alternates has a path in quotes, which this crate does not read.
+    /// The alternates file has a path in quotes, which this crate does not support.
     Quoted,
     /// There are more than [`crate::MAX_FOLDERS`] object folders.
     Folders,
@@ -43,7 +43,7 @@ pub enum Cause {
     Base,
     /// A delta chain is cyclic.
     Circle,
-    /// A delta does not fit its base.
+    /// A delta is malformed, or does not match its base.
     Delta,
     /// The text of a loose object is malformed.
     Loose,
@@ -52,7 +52,7 @@ pub enum Cause {
 }
 
 impl Cause {
-    /// Returns the fault of opening a file.
+    /// Returns the cause for a file that cannot be opened.
     pub(crate) fn open(error: &io::Error) -> Cause {
         match error.kind() {
             ErrorKind::OutOfMemory => Cause::Memory,
@@ -60,7 +60,7 @@ impl Cause {
         }
     }
 
-    /// Returns the fault of reading a file.
+    /// Returns the cause for a file that cannot be read.
     pub(crate) fn read(error: &io::Error) -> Cause {
         match error.kind() {
             ErrorKind::OutOfMemory => Cause::Memory,
@@ -68,7 +68,7 @@ impl Cause {
         }
     }
 
-    /// Returns the fault of listing a folder.
+    /// Returns the cause for a folder that cannot be listed.
     pub(crate) fn list(error: &io::Error) -> Cause {
         match error.kind() {
             ErrorKind::OutOfMemory => Cause::Memory,
@@ -136,9 +136,9 @@ impl<T: Drop> From<AllocFailed<T>> for Cause {
 pub enum StoreFault<A: Allocator + Copy> {
     /// Out of memory.
     Memory,
-    /// No object has this id.
+    /// The store has no object with this id.
     Missing(Oid),
-    /// A file was refused.
+    /// A file cannot be used.
     File(FileFault<A>),
 }
 
@@ -147,7 +147,7 @@ pub enum StoreFault<A: Allocator + Copy> {
 pub struct FileFault<A: Allocator + Copy> {
     /// The path of the file.
     pub path: String<A>,
-    /// The fault.
+    /// The reason why the file cannot be used.
     pub cause: Cause,
 }
 
@@ -204,7 +204,7 @@ impl<T: Drop, A: Allocator + Copy> From<AllocFailed<T>> for StoreFault<A> {
     }
 }
 
-/// Returns the fault of the file with this path.
+/// Returns the fault for the file with this path.
 pub(crate) fn fault_at<A: Allocator + Copy>(alloc: A, path: &str, cause: Cause) -> StoreFault<A> {
     if cause == Cause::Memory {
         return StoreFault::Memory;
@@ -227,8 +227,8 @@ impl<A: Allocator + Copy> FirstFault<A> {
         FirstFault { fault: None }
     }
 
-    /// Records the fault of a copy. A `Memory` fault is returned at once, because no other copy is
-    /// tried if out of memory.
+    /// Records the fault of a copy. Fails at once with `Memory`, because no other copy is tried if
+    /// out of memory.
     pub(crate) fn note(&mut self, fault: StoreFault<A>) -> Result<(), StoreFault<A>> {
         if let StoreFault::Memory = fault {
             return Err(fault);

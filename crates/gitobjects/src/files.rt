@@ -8,11 +8,12 @@ use std::alloc::Allocator;
 
 /// An open file whose bytes can be read in any order.
 pub trait OpenPack {
-    // All bytes of the file, or `None` if the bytes are unknown. The bytes do not change.
+    // All bytes of the file, or `None` if a contract cannot know the bytes. The bytes do not
+    // change.
     ghost bytes: { Self → Option (List ℕ) };
 
     /// Reads `count` bytes starting at `start`. Fails with `Read` if the file is too short or the
-    /// system refuses the call, and with `Memory`.
+    /// system refuses the call. Fails with `Memory` if out of memory.
     fn read_at<A: Allocator + Copy>(
         &mut self,
         alloc: A,
@@ -35,7 +36,7 @@ pub trait OpenPack {
 pub struct FolderTime {
     /// The seconds since 1970.
     pub seconds: i64,
-    /// The remaining nanoseconds.
+    /// The nanoseconds since the last full second.
     pub nanoseconds: i64,
     /// The inode number of the folder.
     pub folder: u64,
@@ -46,8 +47,8 @@ pub trait ObjectFiles {
     /// An open pack.
     type Pack: OpenPack + Drop;
 
-    /// Returns the bytes of a file, or `None` if there is no such file. Fails with `Open` or
-    /// `Read`, or with `FileSize` if the file has more than `most` bytes.
+    /// Returns the bytes of a file, or `None` if there is no such file. Fails with `Open` or `Read`
+    /// if the system refuses a call, or with `FileSize` if the file has more than `most` bytes.
     fn read<A: Allocator + Copy>(
         &self,
         alloc: A,
@@ -56,7 +57,7 @@ pub trait ObjectFiles {
     ) -> Result<Option<Vec<u8, A>>, Cause>;
 
     /// Returns at most the first `most` bytes of a file, or `None` if there is no such file. Fails
-    /// with `Open` and `Read`.
+    /// with `Open` or `Read` if the system refuses a call.
     fn read_front<A: Allocator + Copy>(
         &self,
         alloc: A,
@@ -64,11 +65,12 @@ pub trait ObjectFiles {
         most: usize,
     ) -> Result<Option<Vec<u8, A>>, Cause>;
 
-    /// Returns whether there is a file with this path. Fails with `Open`.
+    /// Returns whether there is a file with this path. Fails with `Open` if the system refuses the
+    /// call.
     fn exists(&self, path: &str) -> Result<bool, Cause>;
 
     /// Returns the canonical path of a folder: absolute, without symbolic links and dots. Returns
-    /// `None` if there is no such folder. Fails with `Open`.
+    /// `None` if there is no such folder. Fails with `Open` if the system refuses the call.
     fn canonical<A: Allocator + Copy>(
         &self,
         alloc: A,
@@ -76,14 +78,15 @@ pub trait ObjectFiles {
     ) -> Result<Option<String<A>>, Cause>;
 
     /// Opens a pack, and returns it with its length, or `None` if there is no such file. Fails with
-    /// `Open`.
+    /// `Open` if the system refuses the call.
     fn open_pack(&self, path: &str) -> Result<Option<(Self::Pack, usize)>, Cause>;
 
     /// Returns the time of the last change of the names in a folder, or `None` if there is no such
-    /// folder. Fails with `List`.
+    /// folder. Fails with `List` if the system refuses the call.
     fn change_time(&self, path: &str) -> Result<Option<FolderTime>, Cause>;
 
     /// Returns the NUL-terminated names in a folder, or no names if there is no such folder. Fails
-    /// with `List`, or with `FileSize` if the names have more than [`crate::MAX_NAMES`] bytes.
+    /// with `List` if the system refuses a call, or with `FileSize` if the names have more than
+    /// [`crate::MAX_NAMES`] bytes.
     fn list<A: Allocator + Copy>(&self, alloc: A, path: &str) -> Result<Vec<u8, A>, Cause>;
 }

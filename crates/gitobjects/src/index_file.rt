@@ -22,16 +22,16 @@ const WORD: usize = 4;
 const CHECKSUMS: usize = 40;
 
 // The number of ids read on either side of the likely position of an id: `NEAR` for at most `FEW`
-// candidates, and `FAR` otherwise. Ids are random, so most ids are that close to their likely
-// position.
+// candidates, and `FAR` otherwise. Ids are random, so most ids are within this distance of their
+// likely position.
 const FEW: usize = 1_024;
 
 const NEAR: usize = 48;
 
 const FAR: usize = 128;
 
-// The maximum number of ids read at once. SearchResult-ups in the order of ids read consecutive parts of
-// the ids, so each part may be longer than the previous part.
+// The maximum number of ids read at once. If ids are looked up in ascending order, consecutive
+// parts of the index are read, and each part may be longer than the previous part.
 const MAX_IDS_READ: usize = 2_048;
 
 // The maximum number of reads for one look-up. Each read except the first halves the number of
@@ -65,7 +65,7 @@ struct Places {
     high: usize,
 }
 
-// The result of a look-up in a part of the ids.
+// The result of a look-up in a part of the sorted ids.
 #[derive(Clone, Copy, Debug)]
 enum SearchResult {
     // The id has this position in the part.
@@ -74,14 +74,14 @@ enum SearchResult {
     Before,
     // The id follows the part.
     After,
-    // The id is missing: its position would be inside the part.
+    // The id is missing, although its position would be inside the part.
     Absent,
 }
 
 /// Opens the pack index with this path. Returns `None` if there is no such file, or if the file is
 /// not an index of version 2.
 ///
-/// Fails as [`ObjectFiles::open_pack`] and [`OpenPack::read_at`] do.
+/// Fails for the same reasons as [`ObjectFiles::open_pack`] and [`OpenPack::read_at`] do.
 pub(crate) fn open_index<F: ObjectFiles, A: Allocator + Copy>(
     files: &F,
     alloc: A,
@@ -150,7 +150,7 @@ impl<P: OpenPack + Drop, A: Allocator + Copy> IndexFile<P, A> {
     }
 
     /// Returns the position of the object with this id, or `None` if the index lacks the object.
-    /// Fails with `Read` and `Memory`.
+    /// Fails with `Read` if the index cannot be read, or with `Memory` if out of memory.
     pub(crate) fn find(&mut self, id: &Oid) -> Result<Option<usize>, Cause> {
         let wanted = id.as_bytes();
         if wanted.len() != ID_BYTES {
@@ -185,8 +185,8 @@ impl<P: OpenPack + Drop, A: Allocator + Copy> IndexFile<P, A> {
         Places { low, high }
     }
 
-    // Returns the positions to search for an id that is probably at `middle`. If the ids in memory
-    // include this position, no other ids are read.
+    // Returns the positions to search for an id whose likely position is `middle`. If the ids in
+    // memory include `middle`, no other ids are read.
     fn part_for(&self, places: Places, middle: usize) -> Places {
         let held = self.held;
         if held.low <= middle
@@ -235,7 +235,8 @@ impl<P: OpenPack + Drop, A: Allocator + Copy> IndexFile<P, A> {
     }
 
     /// Returns the pack offset of the object at this position, or `None` if the offset does not fit
-    /// in a `usize`. Fails with `Read` and `Memory`.
+    /// in a `usize`. Fails with `Read` if the index cannot be read, or with `Memory` if out of
+    /// memory.
     pub(crate) fn offset(&mut self, place: usize) -> Result<Option<usize>, Cause> {
         let table = self
             .len

@@ -1,9 +1,10 @@
-//! The objects of a Git directory, read-only (gitrepository-layout(5)): packs through windows,
-//! loose objects, and alternates. This crate does not handle refs, graphs or the protocol.
+//! The objects of a Git directory, read-only (gitrepository-layout(5)): in packs, which are read
+//! block by block, in loose files, and in alternates. This crate does not handle refs, graphs or
+//! the protocol.
 //!
 //! - An [`ObjectStore`] opens the packs of a directory and finds objects.
 //! - An [`ObjectReader`] reads objects, and returns their types. The reader applies deltas without
-//!   recursion, and keeps some bases in a bounded cache.
+//!   recursion, and keeps some delta bases in a cache of limited size.
 //! - [`ObjectReader::raw_entry`] returns a pack entry unchanged, so that a packer can copy it.
 //! - A [`QuickReader`] looks up and reads a few objects. A quick reader reads indexes in parts,
 //!   while an [`ObjectStore`] reads whole indexes.
@@ -16,12 +17,12 @@
 //! - A private function reads the form and the size of a pack entry from its header. The stream of
 //!   the entry fills the remaining bytes, and inflates to the size in the header. Another function
 //!   splits the text of a loose object into the type and the body.
-//! - The window on the packs returns the bytes of a pack, whichever blocks are in memory. The
-//!   window holds at most 64 blocks for all packs together, each of at most 1 MiB.
-//! - A private function decides that a folder must be listed again, unless the folder was listed
-//!   twice since its names changed.
-//! - The path of a loose object consists of a folder and the digits of the id. The lines of
-//!   `info/alternates` are read in order.
+//! - The window on the packs returns the correct bytes of a pack, no matter which blocks are in
+//!   memory. The window holds at most 64 blocks for all packs together, each of at most 1 MiB.
+//! - A folder must be listed again unless it was listed twice since its names changed. A private
+//!   function decides this.
+//! - The path of a loose object consists of a folder and the digits of the id. The paths in
+//!   `info/alternates` are read in the order of its lines.
 //! - A private function finds in a listing exactly the packs whose index is listed. The name of an
 //!   index ends in `.idx`, is UTF-8 and has no slash.
 //! - No call panics, overflows or reads out of bounds, and every call returns, whatever the files
@@ -59,12 +60,12 @@
 //!   contents of a system file.
 //! - No contract says which object a whole delta chain produces, or which type
 //!   [`ObjectReader::kind_of`] returns. Each step relies on a contract of `gitpack`.
-//! - No contract says that other copies of a broken object are tried, or that a listed pack is
-//!   opened.
+//! - No contract says that other copies of a broken object are tried. No contract says that a
+//!   listed pack is opened.
 //! - The entry that [`ObjectReader::raw_entry`] returns may be any bytes. The CRC-32 of the entry
 //!   is compared with the index, but no contract states this.
-//! - A pack may be added in the same tick of the file system's clock as a listing. A pack added in
-//!   this tick is not seen until the folder changes again, or until [`ObjectReader::refresh`].
+//! - A pack may be added in the same tick of the file system's clock as a listing. Such a pack is
+//!   not seen until the folder changes again, or until [`ObjectReader::refresh`].
 //! - Only the safety of the base cache is proved.
 //! - [`ObjectStore::find`], [`ObjectStore::find_in`] and [`ObjectReader::find`] may return a wrong
 //!   location of an object, or `None`. The methods [`ObjectStore::index`] and
@@ -77,7 +78,7 @@
 //! - No contract says which alternates are read, where a relative path begins, or how the open
 //!   packs are ordered.
 //! - [`ObjectReader::refresh`] may find nothing new. A folder may be listed more or less often than
-//!   the function that decides about listings says.
+//!   the proved function decides.
 //! - [`MemoryFiles`] may return bytes other than those that were added.
 //! - A [`QuickReader`] may find no object, report one that does not exist, or return a wrong type.
 //!   A quick reader does not check a whole index.
@@ -86,8 +87,9 @@
 //!
 //! # Dependencies
 //!
-//! `gitpack` for entries, deltas and the index, `gzlib` for streams and CRC-32, `gitobject` for
-//! types, ids and the text of loose objects, `gname` for ids, `memchr` for searches.
+//! `gitpack` reads entries, deltas and indexes. `gzlib` inflates streams and computes CRC-32.
+//! `gitobject` parses types, ids and the text of loose objects. `gname` defines ids, and `memchr`
+//! searches for bytes.
 #![tactic(auto)]
 
 mod alternates;

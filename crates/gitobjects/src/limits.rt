@@ -1,6 +1,6 @@
-//! The limits of each file and each cache, whatever the files contain. This crate does not limit
-//! the number of packs. Each open pack uses a file descriptor, so the system limits the number of
-//! packs. A repository with about a thousand packs needs `git gc` first.
+//! The limits on the sizes of files and caches. This crate does not limit the number of packs. Each
+//! open pack uses a file descriptor, so the system limits the number of packs. A repository with
+//! about a thousand packs needs `git gc` first.
 
 /// The maximum size of an object: 1 GiB.
 pub const MAX_OBJECT: usize = 1_073_741_824;
@@ -30,8 +30,8 @@ pub const MAX_KEPT: usize = 67_108_864;
 /// The maximum size of one delta base that a reader caches: 4 MiB.
 pub const MAX_BASE: usize = 4_194_304;
 
-/// The maximum size of a returned object that is also cached, because a delta may need it next: 64
-/// KiB.
+/// The maximum size of a returned object that is also cached, because the next delta may need the
+/// object: 64 KiB.
 pub(crate) const MAX_ANSWER: usize = 65_536;
 
 /// The maximum number of bytes read from a loose object to find its type.

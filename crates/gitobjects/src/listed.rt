@@ -1,4 +1,5 @@
-//! Whether a pack folder was listed since its last change, and must be listed again.
+//! How often a pack folder was listed since its last change. This decides whether the folder must
+//! be listed again.
 
 ghost use Rattle.std.specs.Prelude.{◌≡◌, ◌≢◌, ◌↔◌, IsTrue, Option};
 ghost use Rattle.gitobjects.specs.Listed.{ListsAgain, Twice};

@@ -4,8 +4,8 @@ ghost use Rattle.std.specs.Prelude.{◌<◌};
 
 use gname::Oid;
 
-/// The folders of loose objects that are known to exist or to be missing. Each folder is looked up
-/// once, at the first look-up of an object in it.
+/// A record of which folders of loose objects exist. Each folder is looked up once, at the first
+/// look-up of an object in it.
 #[derive(Clone, Copy, Drop)]
 pub struct LooseFolders {
     // Whether the folder for each first byte of an id exists, or `None` if the folder was not

@@ -154,7 +154,7 @@ impl<A: Allocator + Copy> ObjectFiles for MemoryFiles<A> {
         }
     }
 
-    // The seconds are the number of all files, which changes when a file is added.
+    // The field `seconds` has the number of all files, which changes when a file is added.
     fn change_time(&self, path: &str) -> Result<Option<FolderTime>, Cause> {
         if self.exists(path)? {
             Ok(Some(FolderTime {

@@ -46,7 +46,8 @@ const MAX_LOOSE_HEAD: usize = 32;
 
 /// Returns the loose object whose file has these bytes. The bytes must be exactly one zlib stream.
 ///
-/// Fails with `Stream`, `Loose` or `Memory`.
+/// Fails with `Stream` if the stream is malformed, with `Loose` if its text is malformed, or with
+/// `Memory` if out of memory.
 pub(crate) fn read_loose<A: Allocator + Copy>(
     alloc: A,
     inflater: &mut Inflater,
@@ -62,7 +63,7 @@ pub(crate) fn read_loose<A: Allocator + Copy>(
 }
 
 /// Returns the type of a loose object whose file begins with these bytes, or `None` if the bytes do
-/// not show the type.
+/// not determine the type.
 ///
 /// Fails only with `Memory`.
 pub(crate) fn loose_kind<A: Allocator + Copy>(

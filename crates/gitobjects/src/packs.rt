@@ -99,7 +99,7 @@ impl<P: OpenPack + Drop, A: Allocator + Copy> Packs<P, A> {
     }
 
     /// Returns the unchanged entry at this index position of a pack, or `None` if there is no such
-    /// pack or position. Fails as [`PackFile::raw_entry`] does.
+    /// pack or position. Fails for the same reasons as [`PackFile::raw_entry`] does.
     pub(crate) fn raw_entry(
         &mut self,
         pack: usize,
@@ -111,8 +111,8 @@ impl<P: OpenPack + Drop, A: Allocator + Copy> Packs<P, A> {
         }
     }
 
-    /// Returns all bytes of the entry at this location. Fails with `Base` if no entry begins at
-    /// that offset.
+    /// Returns all bytes of the entry at this location. Fails with `Base` if no entry begins at the
+    /// offset of the location.
     pub(crate) fn bytes_at(&mut self, spot: Spot) -> Result<Vec<u8, A>, Cause> {
         match self.open.get(spot.pack) {
             Some(file) => file.bytes_at(&mut self.window, spot.start),
@@ -120,8 +120,8 @@ impl<P: OpenPack + Drop, A: Allocator + Copy> Packs<P, A> {
         }
     }
 
-    /// Returns the form of the entry at this location. Fails with `Base` if no entry begins at that
-    /// offset.
+    /// Returns the form of the entry at this location. Fails with `Base` if no entry begins at the
+    /// offset of the location.
     pub(crate) fn form_at(&mut self, spot: Spot) -> Result<LocalForm, Cause> {
         match self.open.get(spot.pack) {
             Some(file) => file.form_at(&mut self.window, spot.start),
@@ -153,7 +153,7 @@ fn stems_in<F: ObjectFiles, A: Allocator + Copy>(
     index_stems(alloc, names.as_slice())
 }
 
-// Records the fault of a file in `faults`. Fails with any other fault.
+// Records the fault of a file in `faults`. Fails if the fault is `Memory`.
 fn keep_fault<A: Allocator + Copy>(
     faults: &mut Vec<FileFault<A>, A>,
     outcome: Result<(), StoreFault<A>>,

@@ -21,8 +21,8 @@ const MAX_TEXT: usize = 131_072;
 // git-fast-import(1) may put into a chain.
 const MAX_CHAIN: usize = 8_192;
 
-// The number of bytes read first for an entry, and the number read if the first bytes do not hold
-// the whole stream.
+// The number of bytes read first for an entry, and the number read if the stream is longer than the
+// first bytes.
 const FRONTS: [usize; 2] = [4_096, MAX_TEXT];
 
 /// An open pack and its index. Only the needed parts of both are read.
@@ -92,7 +92,8 @@ fn open_both<F: ObjectFiles, A: Allocator + Copy>(
 }
 
 impl<P: OpenPack + Drop, A: Allocator + Copy> QuickPack<P, A> {
-    /// Returns whether the index has the object with this id. Fails with `Read` and `Memory`.
+    /// Returns whether the index has the object with this id. Fails with `Read` if the index cannot
+    /// be read, or with `Memory` if out of memory.
     pub(crate) fn holds(&mut self, id: &Oid) -> Result<bool, Cause> {
         Ok(self.index.find(id)?.is_some())
     }
@@ -106,8 +107,8 @@ impl<P: OpenPack + Drop, A: Allocator + Copy> QuickPack<P, A> {
     }
 
     /// Returns the type of the object with this id, from the entry headers of its delta chain.
-    /// Returns `None` if the object is missing, or the headers do not show the type. Fails with
-    /// `Read` and `Memory`.
+    /// Returns `None` if the object is missing, or the headers do not determine the type. Fails
+    /// with `Read` if a file cannot be read, or with `Memory` if out of memory.
     pub(crate) fn kind_of(&mut self, id: &Oid) -> Result<Option<ObjectType>, Cause> {
         let mut next = self.start_of(id)?;
         for _entry in 0..MAX_CHAIN {
@@ -128,7 +129,7 @@ impl<P: OpenPack + Drop, A: Allocator + Copy> QuickPack<P, A> {
     }
 
     /// Returns the object with this id, or `None` if the object is missing, too large or broken.
-    /// Fails with `Read` and `Memory`.
+    /// Fails with `Read` if a file cannot be read, or with `Memory` if out of memory.
     pub(crate) fn read(
         &mut self,
         id: &Oid,

@@ -52,8 +52,8 @@ impl<'f, F: ObjectFiles, A: Allocator + Copy> ObjectReader<'f, F, A> {
 
     /// Returns the location of the object with this id, or `None` if the object is missing.
     ///
-    /// Fails with `File` if the object is not found and a folder is unreadable. Also fails with
-    /// `Memory`. A pack that was left out does not make this call fail.
+    /// Fails with `File` if the object is not found and a folder is unreadable. Fails with `Memory`
+    /// if out of memory. A pack that was left out does not make this call fail.
     pub fn find(&mut self, id: &Oid) -> Result<Option<Found>, StoreFault<A>> {
         if let Some(found) = self.store.find(id)? {
             return Ok(Some(found));
@@ -70,8 +70,8 @@ impl<'f, F: ObjectFiles, A: Allocator + Copy> ObjectReader<'f, F, A> {
     ///
     /// Fails with `Missing` if the object is missing and no pack was left out. If every copy is
     /// broken, the fault names the first copy and the cause. If the object is missing, the fault
-    /// names the first pack that was left out and the cause. Also fails with `Memory`. The reader
-    /// can be used again after any fault.
+    /// names the first pack that was left out and the cause. Fails with `Memory` if out of memory.
+    /// The reader can be used again after any fault.
     pub fn read(&mut self, id: &Oid) -> Result<Object<A>, StoreFault<A>> {
         let first = match self.read_listed(id) {
             Ok(Some(object)) => return Ok(object),
@@ -104,8 +104,8 @@ impl<'f, F: ObjectFiles, A: Allocator + Copy> ObjectReader<'f, F, A> {
     }
 
     /// Returns the type of the object with this id. The type is read from the entry headers of the
-    /// delta chain, or from the start of a loose object. If these bytes do not show the type, the
-    /// whole object is read.
+    /// delta chain, or from the start of a loose object. If these bytes do not determine the type,
+    /// the whole object is read.
     ///
     /// Fails as [`ObjectReader::read`] does. The type of an object with a broken body may be
     /// returned.
@@ -182,8 +182,8 @@ impl<'f, F: ObjectFiles, A: Allocator + Copy> ObjectReader<'f, F, A> {
         }
     }
 
-    // Returns the type of the object with this id from headers alone, or `None` if no header shows
-    // the type. A header that cannot be read does not show the type.
+    // Returns the type of the object with this id from headers alone, or `None` if no header
+    // determines the type. An unreadable header is ignored.
     fn kind_listed(&mut self, id: &Oid) -> Result<Option<ObjectType>, Cause> {
         for pack in 0..self.store.pack_count() {
             if let Some(start) = self.store.start_in(pack, id) {

@@ -136,8 +136,8 @@ impl<'f, F: ObjectFiles, A: Allocator + Copy> ObjectStore<'f, F, A> {
     /// Returns the location of the object with this id, or `None` if the object is missing. Packs
     /// are searched before loose objects. Folders are not listed again.
     ///
-    /// Fails with `File` if the object is not found and a folder is unreadable. Also fails with
-    /// `Memory`.
+    /// Fails with `File` if the object is not found and a folder is unreadable. Fails with `Memory`
+    /// if out of memory.
     pub fn find(&self, id: &Oid) -> Result<Option<Found>, StoreFault<A>> {
         match self.find_packed(id) {
             Some(found) => Ok(Some(found)),
@@ -160,8 +160,8 @@ impl<'f, F: ObjectFiles, A: Allocator + Copy> ObjectStore<'f, F, A> {
     }
 
     /// Returns the location of the object with this id, as [`ObjectStore::find`] does. `folders`
-    /// records whether each folder of loose objects existed at its first look-up. If a folder did
-    /// not exist at its first look-up, no loose object is looked up in it.
+    /// records whether each folder of loose objects existed at its first look-up. No loose object
+    /// is looked up in a folder that did not exist at its first look-up.
     pub fn find_in(
         &self,
         id: &Oid,
@@ -341,7 +341,7 @@ impl<'f, F: ObjectFiles, A: Allocator + Copy> ObjectStore<'f, F, A> {
     }
 
     /// Returns the type of the loose object with this id, from the start of its file. Returns
-    /// `None` if no file shows the type.
+    /// `None` if no file determines the type.
     ///
     /// Fails only with `Memory`.
     pub(crate) fn kind_of_loose(
@@ -375,7 +375,7 @@ pub(crate) fn read_loose_file<F: ObjectFiles, A: Allocator + Copy>(
 }
 
 /// Returns the type of the loose object in a file. Returns `None` if there is no such file, or if
-/// the start of the file does not show the type.
+/// the start of the file does not determine the type.
 pub(crate) fn read_kind<F: ObjectFiles, A: Allocator + Copy>(
     files: &F,
     alloc: A,

@@ -17,7 +17,7 @@ pub struct StoredFiles<'r, R: Files> {
 }
 
 impl<'r, R: Files> StoredFiles<'r, R> {
-    /// Returns the files that this runtime can access.
+    /// Returns access to the files of this runtime.
     pub fn new(files: &'r R) -> StoredFiles<'r, R> {
         StoredFiles { files }
     }
@@ -76,7 +76,7 @@ fn is_missing(kind: ErrorKind) -> bool {
     kind == ErrorKind::NotFound || kind == ErrorKind::NotADirectory
 }
 
-// Returns whether a path names something other than a file or a folder.
+// Returns whether a path names something that is neither a regular file nor a folder.
 fn is_special<R: Files>(files: &R, path: &str) -> bool {
     match files.metadata(path) {
         Ok(metadata) => !metadata.is_file() && !metadata.is_dir(),

@@ -73,7 +73,8 @@ impl<P: OpenPack + Drop, A: Allocator + Copy> Window<P, A> {
     }
 
     /// Returns `count` bytes of a pack starting at `start`. Fails with `Offset` if the pack is too
-    /// short or there is no pack with this number. Also fails with `Read` and `Memory`.
+    /// short or there is no pack with this number. Fails with `Read` if the pack cannot be read, or
+    /// with `Memory` if out of memory.
     pub(crate) fn read(
         &mut self,
         pack: usize,
@@ -104,7 +105,7 @@ impl<P: OpenPack + Drop, A: Allocator + Copy> Window<P, A> {
         self.block_at(pack, first).is_some()
     }
 
-    // Returns the block at this offset of a pack, or `None` if the block is not in memory.
+    // Returns the block at this offset of a pack, or `None` if memory does not hold the block.
     fn block_at(&self, pack: usize, first: usize) -> Option<&[u8]>
         ensures { IfSome result (λ bytes. IsPartOf self.now pack first bytes.now) }
     {
