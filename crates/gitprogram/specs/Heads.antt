@@ -6,7 +6,7 @@ use Rattle.glsreply.specs.RefTexts.{RefLine}
 use Rattle.gitprogram.specs.declared.cloning.ServerHead.{ServerHead}
 use Rattle.gitprogram.specs.declared.cloning.ServerHead.TheVariants.{Branch, Detached}
 
--- the branch for the HEAD of a clone if the server does not report HEAD
+-- the branch for the HEAD of a clone if the server's reply does not show its HEAD
 abbrev pub default_branch : Name
 default_branch = codes "refs/heads/main"
 
@@ -29,15 +29,15 @@ IsSymrefOf (Some target) head =
     ⊎ ((is_branch target ≡ false) × (head ≡ Detached))
 IsSymrefOf None head = head ≡ Detached
 
--- the HEAD of a clone, given the lines of a reply: if the first line is not the line of HEAD, it points at the default
--- branch
+-- the HEAD of a clone, given the lines of a reply: if HEAD is not in the first line, the HEAD of the clone points at
+-- the default branch
 abbrev pub IsListedHead : List RefLine → ServerHead → Type 0
 IsListedHead [] head = head ≡ Branch default_branch
 IsListedHead (line ∷ lines) head =
     ((line.name ≡ head_name) × IsSymrefOf line.symref head)
     ⊎ ((line.name ≢ head_name) × (head ≡ Branch default_branch))
 
--- the HEAD of a clone, given a reply that may report an unborn HEAD, or list HEAD in the first line
+-- the HEAD of a clone, given the unborn HEAD in a reply, if any, and the lines of the reply
 abbrev pub IsHead : Option Name → List RefLine → ServerHead → Type 0
 IsHead (Some target) lines head = IsUnbornHead target head
 IsHead None lines head = IsListedHead lines head

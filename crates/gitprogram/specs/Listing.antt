@@ -9,7 +9,7 @@ use Rattle.glsreply.specs.RefTexts.{RefLine}
 abbrev pub id_line : Id → Bytes → Bytes
 id_line id name = id_text id ++ 9 ∷ (name ++ 10 ∷ [])
 
--- the line of the peeled object of a tag, or no line if the ref has no peeled object
+-- the line of the peeled object of a tag, or the empty text if the ref has no peeled object
 abbrev pub peeled_line : Bytes → Option Id → Bytes
 peeled_line name None = []
 peeled_line name (Some id) = id_line id (name ++ codes "^{}")

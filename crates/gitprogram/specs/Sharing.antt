@@ -10,7 +10,7 @@ use Rattle.gitrepository.specs.declared.parts.StoreParts.{StoreParts}
 use Rattle.gitprogram.specs.declared.opening.Extent.{Extent}
 use Rattle.gitprogram.specs.declared.opening.Extent.TheVariants as extent
 
--- the server of a repository, whether its history has been read or only its refs
+-- the server of a repository, in either case: the whole history was read, or only the objects that refs point to
 abbrev pub server_in : Extent → Server Global
 server_in (extent.Whole server) = server
 server_in (extent.Tips server) = server
@@ -29,6 +29,6 @@ abbrev pub gives_rest : StoreParts Global → List ℕ → Option PackFault → 
 gives_rest parts bytes end = end ≡ None → (length bytes ≤ parts.outgoing.left)
     × ((before : List ℕ) → IsGoing parts.outgoing before → IsWholePack (before ++ bytes))
 
--- the maximum number of bytes that may follow in a pack
+-- the maximum number of bytes that the rest of a pack may have
 abbrev pub most_left : StoreParts Global → ℕ
 most_left parts = parts.outgoing.left

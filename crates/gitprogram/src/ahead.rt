@@ -15,7 +15,7 @@ const LENGTH: usize = 4;
 #[derive(Drop)]
 pub(crate) struct Ahead<'s, S> {
     source: &'s mut S,
-    // The peeked bytes. The bytes from `start` to `end` have not been read by a caller.
+    // The peeked bytes. No caller has read the bytes from `start` to `end` yet.
     front: [u8; LOOK],
     start: usize,
     end: usize,
@@ -57,7 +57,7 @@ impl<'s, S: Source> Ahead<'s, S> {
         self.front.get(self.start..self.end).unwrap_or(b"")
     }
 
-    // Reads ahead until `count` bytes are peeked, or until the input ends.
+    // Reads from the source until `count` bytes are peeked, or until the input ends.
     fn look(&mut self, count: usize) {
         if self.start == self.end {
             self.start = 0;
@@ -89,7 +89,7 @@ impl<'s, S: Source> Ahead<'s, S> {
     }
 }
 
-// Copies as many bytes as fit into `room`, and returns their number.
+// Copies bytes into `room` until it is full or no bytes remain. Returns the number of copied bytes.
 fn copy_front(bytes: &[u8], room: &mut [u8]) -> usize
     ensures { result ≤ length room.new }
 {

@@ -27,7 +27,7 @@ use std::rt::Files;
 // The refspecs of a clone.
 const SPECS: [&[u8]; 2] = [b"+refs/heads/*:refs/heads/*", b"+refs/tags/*:refs/tags/*"];
 
-// The ref prefixes that a clone requests.
+// The ref prefixes that a clone sends in its ls-refs request.
 const PREFIXES: [&[u8]; 3] = [b"HEAD", b"refs/heads/", b"refs/tags/"];
 
 // The temporary ref for a detached HEAD during the fetch, and its refspec.
@@ -44,7 +44,7 @@ const DEFAULT_BRANCH: &[u8] = b"refs/heads/main";
 // The HEAD of a server.
 #[derive(Drop)]
 enum ServerHead {
-    // A HEAD that points at this branch, possibly unborn.
+    // A HEAD that points at this branch, which may be unborn.
     Branch(Target<Global>),
     // A detached HEAD.
     Detached,
@@ -73,8 +73,8 @@ where
     outcome
 }
 
-// Returns the server's HEAD and the ids of its refs. The names of the refs, which may use much
-// memory, are dropped and listed again later.
+// Returns the server's HEAD and the ids of its refs. The names of the refs may use much memory, so
+// this function drops them. They are listed again later.
 fn source_of<R: AllocGlobal + Net>(rt: &R, remote: &Remote) -> Result<Source, Fault> {
     let alloc = rt.alloc();
     let listed = list(rt, remote)?;
@@ -138,7 +138,7 @@ fn push_spec(alloc: Global, specs: &mut Vec<Spec>, text: &[u8]) -> Result<(), Fa
     }
 }
 
-// Returns the server's HEAD, as its reply to ls-refs shows it.
+// Returns the server's HEAD, according to the server's reply to ls-refs.
 fn head_of(alloc: Global, reply: &LsReply<Global>) -> Result<ServerHead, Fault>
     ensures { IfOk result (IsHead reply.now.unborn reply.now.lines) }
 {
@@ -159,8 +159,8 @@ fn unborn_head(alloc: Global, name: &RefName<Global>) -> Result<ServerHead, Faul
     }
 }
 
-// Returns the HEAD that the first line of the reply shows, or the default branch if the first line
-// is not the line of HEAD.
+// Returns the server's HEAD according to the first line of the reply. If HEAD is not in the first
+// line, the result points at the default branch.
 fn listed_head(alloc: Global, reply: &LsReply<Global>) -> Result<ServerHead, Fault>
     ensures { IfOk result (IsListedHead reply.now.lines) }
 {
@@ -173,8 +173,8 @@ fn listed_head(alloc: Global, reply: &LsReply<Global>) -> Result<ServerHead, Fau
     }
 }
 
-// Returns the HEAD of a server whose HEAD points at this name. Git detaches the HEAD of a clone if
-// the name is not a branch.
+// Returns the HEAD for the clone of a server whose HEAD is a symbolic ref to this name. Git
+// detaches the HEAD of a clone if the name is not a branch.
 fn symref_of(alloc: Global, name: &RefName<Global>) -> Result<ServerHead, Fault>
     ensures { IfOk result (IsSymrefOf (Some name.now)) }
 {
@@ -311,8 +311,8 @@ fn keep<R: Files>(
     }
 }
 
-// Returns the branches and tags, and HEAD if it is detached. A HEAD at a tag is peeled to its
-// commit.
+// Returns the branches and tags of the clone, and its HEAD if HEAD is detached. A HEAD at a tag is
+// peeled to its commit.
 fn kept_refs(alloc: Global, repo: &Repo<Global>) -> Result<(Refs<Global>, Head<Global>), Fault> {
     let mut kept = Refs::new(alloc);
     let mut head = Head::None;

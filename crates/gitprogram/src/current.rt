@@ -9,8 +9,8 @@ use glsreply::{LsReply, RefLine};
 use std::alloc::Global;
 use std::rt::Files;
 
-/// Returns the report of a fetch if each requested ref is already up to date and its object exists.
-/// Returns `None` for any other fetch. This check does not read the history.
+/// Returns the report of a fetch if each ref is already up to date and its object exists. Returns
+/// `None` for any other fetch. This function does not read the history.
 ///
 /// Fails if the repository cannot be opened.
 pub(crate) fn fetched_already<R>(
@@ -45,8 +45,8 @@ where
     Ok(Some(report_of(alloc, asks)?))
 }
 
-// Returns the ref updates that the refspecs request, in the order of a fetch. Returns `None` if a
-// refspec does not yield a ref name.
+// Returns the ref updates that the refspecs request, in the order in which a fetch applies them.
+// Returns `None` if a destination is not a ref name.
 fn asks_of(
     alloc: Global,
     specs: &[Spec<Global>],
@@ -61,8 +61,8 @@ fn asks_of(
     Ok(Some(asks))
 }
 
-// Adds a ref update for each line that a refspec matches. Returns `false` if a destination is not a
-// ref name.
+// Adds a ref update for each line whose ref the refspec matches. Returns `false` if a destination
+// is not a ref name.
 fn add_asks(
     alloc: Global,
     asks: &mut Asks<Global>,
@@ -101,7 +101,7 @@ fn add_ask(
     }
 }
 
-// Returns whether each requested ref already has the requested id.
+// Returns whether each destination ref already has its requested id.
 fn are_set(asks: &Asks<Global>, refs: &Refs<Global>) -> bool {
     (0..asks.len()).all(|place| match asks.at(place) {
         Some((name, id)) => refs.get(name) == Some(id),

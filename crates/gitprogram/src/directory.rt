@@ -14,7 +14,7 @@ use std::{fs, io};
 // The file without which git-daemon(1) does not serve a repository.
 const EXPORT_OK: &str = "git-daemon-export-ok";
 
-// The maximum size of a file that names another directory.
+// The maximum size of a file that contains the path of another directory.
 const MAX_LINK: u64 = 65_536;
 
 /// The directories of a repository (gitrepository-layout(5)).
@@ -25,7 +25,7 @@ pub(crate) struct Directories {
     /// The directory of objects and refs. A linked worktree shares this directory with its main
     /// worktree (git-worktree(1)).
     pub(crate) common: String,
-    /// Whether a `.git` file leads to `own`, as in a linked worktree or a submodule.
+    /// Whether `own` was found through a `.git` file, as for a linked worktree or a submodule.
     pub(crate) is_linked: bool,
 }
 
@@ -91,7 +91,7 @@ where
     Err(Fault::of(rt.alloc(), Sentence::NoRepository { path }))
 }
 
-/// The served repositories.
+/// The repositories that a server may serve.
 #[derive(Clone, Copy)]
 pub(crate) struct Exports<'a> {
     /// The directory that contains the served repositories.
@@ -130,7 +130,7 @@ fn served_path(path: &[u8]) -> Option<ServedPath<'_>> {
     }
 }
 
-// Returns the repository if the server may serve it.
+// Returns `found` if the server may serve the repository, and `None` otherwise.
 fn exported_repository<R: Files + AllocGlobal>(
     rt: &R,
     exports: Exports<'_>,
@@ -143,8 +143,8 @@ fn exported_repository<R: Files + AllocGlobal>(
     }
 }
 
-// Returns the repository at a path. The path is that of the Git directory, or of a file that names
-// the Git directory.
+// Returns the repository at a path. The path names the Git directory itself, or a file that
+// contains the path of the Git directory.
 fn look_at<R>(rt: &R, path: String) -> Result<Option<Directories>, Fault>
 where
     R: Files + AllocGlobal,
@@ -159,7 +159,7 @@ where
     }
 }
 
-// Returns the repository whose Git directory is `target`, relative to `directory`.
+// Returns the repository whose Git directory has the path `target`, relative to `directory`.
 fn follow<R>(rt: &R, directory: &str, target: &[u8]) -> Result<Option<Directories>, Fault>
 where
     R: Files + AllocGlobal,
@@ -211,8 +211,8 @@ fn common_of<R: Files + AllocGlobal>(rt: &R, own: &str) -> Result<Option<String>
     }
 }
 
-// The result of looking up a path. The path may lead to a directory, or to a file that names a
-// directory.
+// The result of looking up a path. The path may name a directory, or a file that contains the path
+// of a directory.
 #[derive(Drop)]
 enum Link {
     // Neither a directory nor a short file.
@@ -265,8 +265,8 @@ fn parent_of(path: &str) -> &str {
     }
 }
 
-// Returns whether a directory contains a file with this name. A dangling symbolic link counts,
-// since Git once made HEAD a symbolic link.
+// Returns whether a directory contains a file with this name. A dangling symbolic link also counts,
+// since old versions of Git made HEAD a symbolic link.
 fn exists<R: Files + AllocGlobal>(rt: &R, directory: &str, name: &str) -> Result<bool, Fault> {
     let path = below(rt.alloc(), directory, name)?;
     match rt.symlink_metadata(path.as_str()) {

@@ -27,10 +27,10 @@ pub(crate) trait Disk {
     /// Returns the current refs and HEAD of a repository.
     fn list(&self, found: &Directories) -> Result<Listed, NotOpened>;
 
-    /// Reads as much of a repository as is needed to answer ls-refs with these refs.
+    /// Reads only the objects of a repository that ls-refs needs for these refs.
     fn show(&self, found: &Directories, listed: Listed) -> Result<Extent, NotOpened>;
 
-    /// Returns the modification time of the pack directory, or `None` if unknown.
+    /// Returns the modification time of the pack directory, or `None` if the time is unknown.
     fn change_time(&self, found: &Directories) -> Option<SystemTime>;
 
     /// Opens the objects of a repository.
@@ -56,8 +56,8 @@ pub(crate) trait Disk {
         ensures { IfOk result
             (λ parts. Begins packs_any fails_any entries.now (gives_rest parts) (most_left parts)) };
 
-    /// Copies the next bytes of a pack to the front of `out`, and returns their number, which is 0
-    /// at the end of the pack.
+    /// Copies the next bytes of a pack to the front of `out`. Returns the number of copied bytes,
+    /// which is 0 at the end of the pack.
     fn part(
         &self,
         ticket: &Ticket,

@@ -60,9 +60,9 @@ pub(crate) struct Client {
 /// A completed transfer, before the pack is installed and the refs are updated.
 #[derive(Drop)]
 pub(crate) struct Fetch {
-    /// The repository.
+    /// The client's repository after the transfer, and its earlier refs.
     pub(crate) client: Client,
-    /// The report.
+    /// The report of the fetch.
     pub(crate) fetched: Fetched<Global>,
     /// The received pack.
     pub(crate) received: Option<Received<Global>>,
@@ -128,7 +128,8 @@ where
     Ok(listed)
 }
 
-// Returns prefixes of the ref names that the refspecs match.
+// Returns ref prefixes for ls-refs, such that each ref that a refspec matches has one of these
+// prefixes.
 fn prefixes_of(
     alloc: Global,
     remote: &Remote,
@@ -243,7 +244,8 @@ fn keep<R: Files + AllocGlobal>(rt: &R, found: &Directories, fetch: &Fetch) -> R
     }
 }
 
-// Fails if the checked-out branch of a work tree would move (git-fetch(1), "--update-head-ok").
+// Fails if an update would change the checked-out branch of a work tree (git-fetch(1),
+// "--update-head-ok").
 fn check_head<R>(rt: &R, found: &Directories, updates: &[RefMove]) -> Result<(), Fault>
 where
     R: Files + AllocGlobal,
@@ -280,7 +282,7 @@ fn check_branch(alloc: Global, branch: &RefName<Global>, updates: &[RefMove]) ->
     Ok(())
 }
 
-// Fails at the first ref name that is not UTF-8, since such a ref has no file name.
+// Fails at the first ref name that is not UTF-8, since a ref with this name has no file name.
 fn check_names(alloc: Global, updates: &[RefMove]) -> Result<(), Fault> {
     for update in updates {
         let name = update.name.as_bytes();
@@ -309,7 +311,7 @@ fn install_and_move<R: Files + AllocGlobal>(
     Ok(())
 }
 
-// Returns the refs that differ after the fetch.
+// Returns the refs that the fetch changes.
 fn updates_of(
     alloc: Global,
     before: &Refs<Global>,
@@ -329,7 +331,7 @@ fn updates_of(
     Ok(updates)
 }
 
-// Fails if a ref was left unchanged because its update is not a fast-forward.
+// Fails if the fetch rejected an update because it is not a fast-forward.
 fn check_moved(alloc: Global, fetched: &Fetched<Global>) -> Result<(), Fault> {
     let settled = &fetched.settled;
     for (place, update) in settled.updates.iter().enumerate() {
@@ -461,8 +463,8 @@ where
     }
 }
 
-// Fails if a branch would point to a tag, tree or blob (git-update-ref(1)). Also fails if the HEAD
-// of a clone would point to a tree or blob.
+// Fails if a branch would point to a tag, tree or blob (git-update-ref(1)). Fails if the HEAD of a
+// clone would point to a tree or blob.
 fn check_commits<R: Files>(
     alloc: Global,
     wanted: Wanted<'_>,
@@ -576,7 +578,7 @@ where
     let mut source = FromRead::new(&mut reader);
     let mut sink = ToWrite::new(&mut writer);
     let fetched = fetch_git(repo, &mut source, &mut sink, indexer, &fetch);
-    // Buffered bytes that could not be written are dropped.
+    // Bytes in the buffer that could not be written are dropped.
     let (_peer, _unwritten) = writer.into_parts();
     fetched
 }

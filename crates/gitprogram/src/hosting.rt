@@ -40,8 +40,8 @@ impl Conversation {
     }
 }
 
-// The number of answered requests, and how the connection ended. The end is `None` if the next
-// request may be a fetch.
+// The number of answered requests, and how the connection ended. The field `end` is `None` if the
+// next request may be a fetch.
 #[derive(Drop)]
 struct Answered {
     requests: u32,
@@ -85,8 +85,7 @@ fn open_extent<R: Files + AllocGlobal, F: ObjectFiles>(
     open_shown(rt.alloc(), files, found, listed)
 }
 
-// A repository with open objects. The refs and HEAD are those that were read when the repository
-// was opened.
+// A repository with open objects. The refs and HEAD do not change after the repository is opened.
 #[derive(Drop)]
 struct Opened<'f, F: ObjectFiles> {
     // The graph, the refs and HEAD.
@@ -95,7 +94,8 @@ struct Opened<'f, F: ObjectFiles> {
     packer: ObjectPacker<'f, F>,
 }
 
-// Opens the objects of a repository, and reads the history unless `shown` already has the history.
+// Opens the objects of a repository, and reads the history unless `shown` already contains the
+// history.
 fn open_whole<'f, F: ObjectFiles>(
     alloc: Global,
     files: &'f F,
@@ -118,7 +118,7 @@ fn refuse<W: Sink>(alloc: Global, cause: NotOpened, requests: u32, sink: &mut W)
     }
 }
 
-// Advertises capabilities, and answers all requests before the first one that may be a fetch.
+// Advertises capabilities, and answers all requests before the first request that may be a fetch.
 fn show_refs<S: Source, W: Sink>(
     server: &Server<Global>,
     source: &mut Ahead<'_, S>,
@@ -200,7 +200,7 @@ fn answer_all<F: ObjectFiles, S: Source, W: Sink>(
     conversation_of(alloc, MAX_REQUESTS, End::Ended)
 }
 
-// Returns how an exchange ended the connection, or `None` if the connection goes on.
+// Returns how an exchange ended the connection, or `None` if the connection continues.
 fn end_after(exchange: ExchangeEnd) -> Option<End> {
     match exchange {
         ExchangeEnd::Answered => None,
@@ -211,7 +211,7 @@ fn end_after(exchange: ExchangeEnd) -> Option<End> {
     }
 }
 
-// Returns a conversation with this number of answered requests and this end.
+// Returns a conversation with this number of answered requests, which ended in this way.
 fn conversation_of(alloc: Global, requests: u32, end: End) -> Conversation {
     let outcome = match end {
         End::Closed | End::Ended => Ok(()),
@@ -234,8 +234,8 @@ impl Packer<Global> for NoPacker {
     }
 }
 
-// Sends an error packet, which says that the repository cannot be opened. If the format of the
-// repository is unsupported, the packet says so.
+// Sends an error packet for a repository that cannot be opened. If the format of
+// the repository is unsupported, the packet names the format as the cause.
 fn send_not_opened<W: Sink>(
     alloc: Global,
     form: Option<FormFault>,

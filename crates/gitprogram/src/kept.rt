@@ -1,4 +1,4 @@
-//! The cache of repositories, which outlives connections.
+//! The cache of repositories, which all connections share.
 
 use crate::shared::{Shared, Shown};
 use ggraph::MAX_NODES;
@@ -9,14 +9,14 @@ use std::time::SystemTime;
 // The maximum number of cached repositories.
 const MAX_REPOSITORIES: usize = 64;
 
-// A repository.
+// A cached repository.
 #[derive(Drop)]
 struct Kept {
     shown: Rc<Shown, Global>,
     // A weak handle to the open objects, which close when no connection uses them.
     objects: Weak<u64, Global>,
     // The modification time of the pack directory, read before the objects were opened, or `None`
-    // if unknown.
+    // if the time is unknown.
     changed: Option<SystemTime>,
 }
 
@@ -62,8 +62,8 @@ impl KeptRepositories {
     }
 
     /// Adds a repository, and removes an older entry with the same Git directory. A full cache
-    /// drops the oldest repositories. Fails only if out of memory, and then the cache has no entry
-    /// for this Git directory.
+    /// drops the oldest repositories. Fails only if out of memory. After a failure the cache has no
+    /// entry for this Git directory.
     pub(crate) fn put<D>(&mut self, shared: &Shared<'_, D>) -> Result<(), AllocError> {
         let path = shared.shown.found.own.as_str();
         if let Some(place) = self.kept.iter().position(|kept| kept.path() == path) {
@@ -84,7 +84,7 @@ impl KeptRepositories {
         }
     }
 
-    // Drops the oldest repositories until there is room for `nodes` more commits and tags.
+    // Drops the oldest repositories until `nodes` more commits and tags would not exceed the limit.
     fn make_room(&mut self, nodes: usize) {
         for _ in 0..MAX_REPOSITORIES {
             if self.has_room(nodes) {

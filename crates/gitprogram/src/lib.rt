@@ -2,8 +2,8 @@
 //! fetches, lists or checks Git repositories on disk.
 //!
 //! - `serve` serves every repository below a directory, with many connections at once on one thread
-//!   (git-daemon(1)). `serve` reads the refs anew for each connection, so clients see changes that
-//!   Git makes meanwhile. The server caches the graphs of at most 64 repositories, with at most
+//!   (git-daemon(1)). `serve` reads the refs again for each connection, so clients see the changes
+//!   that Git makes. The server caches the graphs of at most 64 repositories, with at most
 //!   1,048,576 commits and tags in total. A cached graph is used while the refs and HEAD are
 //!   unchanged. Connections also share open packs while the pack directory is unchanged. `serve`
 //!   sends a pack entry by entry, and holds one entry and at most 10 possible delta bases in
@@ -39,8 +39,8 @@
 //! - `clone` fetches only HEAD, branches and tags. If the server's HEAD is detached at a tag, the
 //!   clone's HEAD is detached at the tag's commit. Git refuses to clone from a server whose HEAD is
 //!   detached at a tag.
-//! - `fetch` fast-forwards a tag without force, like any ref. `fetch` fails instead of updating a
-//!   symbolic ref. `fetch` may update a branch that another worktree has checked out. A repository
+//! - `fetch` fast-forwards a tag without force, like any ref. If a destination is a symbolic ref,
+//!   `fetch` fails. `fetch` may update a branch that another worktree has checked out. A repository
 //!   has a work tree if `core.bare` is false in the file `config`. If `core.bare` is not set, a
 //!   repository has a work tree if its directory is named `.git`.
 //! - By default, `serve` accepts at most 1,024 connections at once, and at most 64 from one
@@ -54,8 +54,8 @@
 //!   this value. `upload-pack` waits for its client without a time limit.
 //! - `core.sharedRepository` and `core.logAllRefUpdates` are ignored: new files have the default
 //!   permissions, and no reflog is written.
-//! - `serve` and `upload-pack` serve only protocol version 2. `upload-pack` does not check the
-//!   owner of a repository.
+//! - `serve` and `upload-pack` serve only protocol version 2. `upload-pack` does not check
+//!   who owns a repository.
 //! - A request has at most 1,024 wants, 4,096 haves and 64 ref prefixes. A pack has at most 64 MiB.
 //!   So a clone of a repository with more than 1,024 distinct tips fails.
 //! - The progress line shows the object count from the pack header, and the number of received
@@ -65,11 +65,11 @@
 //!
 //! # What the contracts do not rule out
 //!
-//! Anything else. Most behaviour depends on files, streams and sockets, which contracts cannot
-//! describe. No contract says how many repositories are cached, or that an object store is ever
-//! closed. A cached repository lists its refs even if their objects have since been removed.
-//! `Repositories` may find any repository and report any text: its clauses restrict neither. A
-//! packer may fail with any fault.
+//! No contract covers the rest of the behaviour. Most of it depends on files, streams and sockets,
+//! which contracts cannot describe. No contract says how many repositories are cached, or that an
+//! object store is ever closed. A cached repository lists its refs even if their objects have since
+//! been removed. `Repositories` may find any repository and report any text. A packer may fail with
+//! any fault.
 //!
 //! # Dependencies
 //!
@@ -77,7 +77,7 @@
 //! write repositories. `gevents`, `gserver`, `gdialogue`, `gparts`, `gtalk` and `mio` run the
 //! connections of `serve`. The other commands use `gtcp`, `gserve`, `ganswer` and `gclient`. `gcmd`
 //! prints the report of a fetch. `ghello`, `glsreply`, `grequest`, `ggrammar` and `gpkt` read and
-//! write messages. `ggraph` has the graphs, and `gname` the names and ids.
+//! write messages. `ggraph` defines graphs, and `gname` defines names and ids.
 #![tactic(auto)]
 
 mod ahead;

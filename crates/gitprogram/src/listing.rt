@@ -103,7 +103,7 @@ fn begins_with_any(prefixes: &[Prefix<Global>], name: &[u8]) -> bool
         .any(|prefix| name.starts_with(prefix.as_bytes()))
 }
 
-// Appends the line of a ref, and a second line with the peeled id if the ref is a tag.
+// Appends the line of a ref, and a second line with the peeled id if the reply lists one.
 fn put_ref(text: &mut Vec<u8>, line: &RefLine<Global>) -> Result<(), AllocError>
     ensures { OnOk result (text.new.items ≡ text.old.items ++ ref_lines line.now) }
 {

@@ -4,8 +4,8 @@ use crate::fault::Fault;
 use std::alloc::{AllocError, Global};
 use std::cell::{Cell, RefCell};
 
-/// Details that `Repositories` records, while it answers a message, for the log line of a
-/// connection.
+/// Details for the log line of a connection. `Repositories` records the details while it answers a
+/// message.
 #[derive(Drop)]
 pub(crate) struct Notes {
     alloc: Global,
@@ -13,8 +13,7 @@ pub(crate) struct Notes {
     // failed call.
     path: RefCell<Vec<u8>>,
     fault: RefCell<Option<Fault>>,
-    // Whether the message that may be refused next is the first line of a connection, and not a
-    // request.
+    // Whether the message to refuse is the first line of a connection, and not a request.
     is_first: Cell<bool>,
 }
 
@@ -42,12 +41,12 @@ impl Notes {
         let _ = self.fault.try_replace(Some(fault));
     }
 
-    /// Records whether the message that may be refused next is the first line of a connection.
+    /// Records whether the message to refuse is the first line of a connection.
     pub(crate) fn note_first(&self, is_first: bool) {
         self.is_first.set(is_first);
     }
 
-    /// Returns whether the message that may be refused next is the first line of a connection.
+    /// Returns whether the message to refuse is the first line of a connection.
     pub(crate) fn is_first(&self) -> bool {
         self.is_first.get()
     }

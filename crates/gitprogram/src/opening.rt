@@ -26,9 +26,10 @@ pub(crate) type ObjectPacker<'f, F> = StorePacker<'f, F, Global>;
 /// The reason why a repository is not served.
 #[derive(Drop)]
 pub(crate) struct NotOpened {
-    /// The fault.
+    /// The fault that the server reports.
     pub(crate) fault: Fault,
-    /// The reason if the format of the repository is unsupported.
+    /// The reason why the format of the repository is unsupported, or `None` if the cause is
+    /// another.
     pub(crate) form: Option<FormFault>,
     /// Whether too many other repositories are open.
     pub(crate) is_busy: bool,
@@ -85,13 +86,13 @@ pub(crate) struct Listed {
 }
 
 impl Listed {
-    /// Returns whether a server has exactly these refs and this HEAD.
+    /// Returns whether the refs and HEAD of a server equal these refs and this HEAD.
     pub(crate) fn is_of(&self, server: &Server<Global>) -> bool {
         has_refs(server, &self.refs, &self.head)
     }
 }
 
-/// Returns whether a server has these refs and this HEAD.
+/// Returns whether the refs and HEAD of a server equal `refs` and `head`.
 pub(crate) fn has_refs(server: &Server<Global>, refs: &Refs<Global>, head: &Head<Global>) -> bool {
     server.refs().as_slice() == refs.as_slice() && is_same_head(server.head(), head)
 }
@@ -119,7 +120,7 @@ fn find_listed<R: Files, F: ObjectFiles>(
     Ok(found.refs(alloc, rt).read_peeled_refs()?)
 }
 
-/// Reads the objects that refs point to, which is enough for ls-refs. If an object is not found
+/// Reads the objects that refs point to, which is all that ls-refs needs. If an object is not found
 /// quickly, the whole history is read.
 pub(crate) fn open_shown<F: ObjectFiles>(
     alloc: Global,

@@ -3,7 +3,7 @@
 // The packet before a pack (gitprotocol-v2(5), "fetch"). A server may omit the line feed.
 const PACKFILE: &[u8] = b"packfile\n";
 
-/// A part of the reply that is relevant for the progress.
+/// The meaning of a part of a server's reply.
 #[derive(Clone, Copy)]
 pub(crate) enum Seen<'b> {
     /// Bytes of the pack.
@@ -12,7 +12,7 @@ pub(crate) enum Seen<'b> {
     Text(&'b [u8]),
     /// The end of the pack.
     End,
-    /// Nothing.
+    /// Bytes that are neither pack nor message.
     Nothing,
 }
 
@@ -35,13 +35,13 @@ enum Band {
     Other,
 }
 
-/// A parser that follows the packets of a reply without storing them.
+/// A parser of the packets of a reply, which does not store the packets.
 #[derive(Drop)]
 pub(crate) struct Packets {
     place: PacketPosition,
     // Whether the payload read so far is a prefix of `packfile`.
     begins_packs: bool,
-    // Whether the packets have side bands, which is the case once `packfile` was read.
+    // Whether the packets have side bands. All packets after `packfile` have side bands.
     has_bands: bool,
     band: Band,
 }
@@ -62,7 +62,7 @@ impl Packets {
         }
     }
 
-    /// Reads a prefix of `bytes`. Returns the length and the meaning of this prefix. The length is
+    /// Parses a prefix of `bytes`. Returns the length and the meaning of this prefix. The length is
     /// 0 only if `bytes` is empty.
     pub(crate) fn look<'b>(&mut self, bytes: &'b [u8]) -> (usize, Seen<'b>) {
         let Some((first, _)) = bytes.split_first() else {

@@ -45,7 +45,7 @@ enum Line {
 #[derive(Clone, Copy)]
 struct PackSeen {
     bytes: u64,
-    // The number of objects in the pack header, as far as the header has arrived.
+    // The object count in the pack header, from the bytes of the header that have arrived.
     objects: u32,
 }
 
@@ -73,8 +73,8 @@ impl<'e, E: Write> Progress<'e, E> {
         self.is_shown
     }
 
-    // Shows the progress after more bytes from the server. If out of memory, some output is left
-    // out.
+    // Updates the displayed progress after more bytes from the server. If out of memory, some
+    // output is left out.
     fn watch(&mut self, bytes: &[u8]) {
         if !self.is_shown {
             return;
@@ -127,7 +127,8 @@ impl<'e, E: Write> Progress<'e, E> {
         Ok(())
     }
 
-    // Ends an unfinished line of another kind, and then begins or continues a line of this kind.
+    // Ends the unfinished line if it is of another kind. Then begins or continues a line of this
+    // kind.
     fn begin_line(&mut self, line: Line) -> Result<(), AllocError> {
         if self.line != Line::New && self.line != line {
             self.text.push(b'\n')?;

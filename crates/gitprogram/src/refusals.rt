@@ -47,7 +47,7 @@ pub(crate) const FULL_OF_ADDRESS: &[u8] =
 pub(crate) const PACK_FAILED: &[u8] =
     b"upload-pack: pack failed: it would have more than 64 MiB, or an object is missing or refused here";
 
-// An error packet from the libraries that is replaced by a more precise packet.
+// A general error packet that is replaced by a more precise packet.
 #[derive(Clone, Copy)]
 enum Wording {
     // The packet for a request that exceeds a limit.
@@ -77,7 +77,7 @@ impl Wording {
     }
 }
 
-/// A writer that replaces general error packets by packets that name the limits. The writer does
+/// A writer that replaces general error packets with packets that name the limits. The writer does
 /// not change other packets.
 #[derive(Drop)]
 pub(crate) struct Worded<W> {
@@ -88,7 +88,7 @@ pub(crate) struct Worded<W> {
 }
 
 impl<W> Worded<W> {
-    /// Returns a writer without held bytes.
+    /// Returns a `Worded` that holds no bytes back.
     pub(crate) fn new(writer: W) -> Worded<W> {
         Worded {
             writer,
@@ -102,7 +102,8 @@ impl<W> Worded<W> {
         self.wording.packet().get(..self.held).unwrap_or(&[])
     }
 
-    // Holds bytes back if they may belong to an error packet. Returns whether bytes were held back.
+    // Holds the bytes back if they may belong to an error packet. Returns whether the bytes were
+    // held back.
     fn hold(&mut self, buf: &[u8]) -> bool {
         let held = self.held_bytes();
         for wording in WORDINGS {

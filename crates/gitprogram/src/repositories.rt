@@ -52,7 +52,7 @@ impl<'d, D> Repositories<'d, D> {
         }
     }
 
-    // Returns the cached repository if it has the same refs as `repo`, and otherwise `repo`.
+    // Returns the cached repository if its refs equal those of `repo`, and `repo` otherwise.
     fn find_same(&self, repo: &Shared<'d, D>) -> Result<Shared<'d, D>, AllocError> {
         let server = repo.server();
         if let Some(kept) = self.find_kept(&repo.shown.found)? {
@@ -96,8 +96,8 @@ impl<'d, D> Repositories<'d, D> {
 }
 
 impl<'d, D: Disk> Repositories<'d, D> {
-    // Returns the repository at a path, or the error text for the client if there is no such
-    // repository.
+    // Returns the repository that a client's path names, or the error text for the client if there
+    // is none.
     fn find_path(&self, path: &[u8]) -> Result<Directories, ErrText> {
         let fault = match self.disk.find(path) {
             Ok(Some(found)) => return Ok(found),
@@ -111,7 +111,7 @@ impl<'d, D: Disk> Repositories<'d, D> {
         Err(words)
     }
 
-    // Returns the repository in these directories, with its current refs.
+    // Returns the repository in these directories. Its refs and HEAD are read again.
     fn find_shown(&self, found: Directories) -> Result<Shared<'d, D>, NotOpened> {
         let listed = self.disk.list(&found)?;
         if let Some(shared) = self.find_kept(&found)? {
@@ -126,8 +126,8 @@ impl<'d, D: Disk> Repositories<'d, D> {
         Ok(shared)
     }
 
-    // Returns a repository with its history and open objects. Connections that see the same refs
-    // share the history and the objects while the pack directory is unchanged.
+    // Returns a repository with its history and open objects. Connections with equal refs share the
+    // history and the open objects while the pack directory is unchanged.
     fn open_shared(&self, repo: &Shared<'d, D>) -> Result<Shared<'d, D>, NotOpened> {
         let changed = self.disk.change_time(&repo.shown.found);
         if repo.is_open_since(changed) {

@@ -76,7 +76,7 @@ pub(crate) enum Sentence<'a> {
         path: &'a str,
         fault: &'a RepoFault<Global>,
     },
-    /// The first line of a connection cannot contain the path of the URL.
+    /// The path of the URL is not allowed in the first line of a connection.
     Address {
         url: &'a str,
     },
@@ -210,8 +210,8 @@ fn write_refused<W: fmt::Write>(
     write_reason(error, f)
 }
 
-// Writes why a system call failed: the kind of the error, or the error itself if the kind is
-// unknown.
+// Writes the reason for a failed system call: the kind of the error, or the error itself if the
+// kind is unknown.
 fn write_reason<W: fmt::Write>(error: &io::Error, f: &mut fmt::Formatter<W>) -> fmt::Result {
     match error.kind() {
         ErrorKind::Other | ErrorKind::Uncategorized => fmt::Display::fmt(error, f),
@@ -507,7 +507,8 @@ impl fmt::Display for Clean<'_> {
     }
 }
 
-// Replaces line feeds and tabs too, so that the text stays on one line.
+// Returns the character to display for a byte. Line feeds and tabs are also replaced, so that the
+// text stays on one line.
 fn clean_char(byte: u8) -> char {
     match clean_byte(byte, Shown::Lines) {
         b'\n' | b'\t' => '?',

@@ -174,7 +174,7 @@ fn packet_of(why: Refusal) -> &'static [u8] {
     }
 }
 
-// Returns the text for the log about a refused client.
+// Returns the log text for a refused client.
 fn words_of(why: Refusal) -> &'static str {
     match why {
         Refusal::Full => "there are too many connections",

@@ -26,7 +26,7 @@ pub(crate) struct Shown {
     pub(crate) extent: Extent,
 }
 
-/// A handle that records why its last call failed.
+/// A handle that records the fault of its last failed call.
 pub(crate) trait Blames {
     /// Removes and returns the recorded fault.
     fn take_fault(&self) -> Option<Fault>;
@@ -41,9 +41,9 @@ pub(crate) struct Shared<'d, D> {
     /// The ticket for the open objects, or `None` until a connection needs objects.
     pub(crate) objects: Option<Ticket>,
     /// The modification time of the pack directory, read before the objects were opened, or `None`
-    /// if unknown.
+    /// if the time is unknown.
     pub(crate) changed: Option<SystemTime>,
-    // The fault of the packer. All handles of one connection share this field.
+    // The fault that `take_fault` returns. All handles of one connection share this field.
     fault: Rc<RefCell<Option<Fault>>, Global>,
 }
 
@@ -81,7 +81,7 @@ impl<'d, D> Shared<'d, D> {
 }
 
 impl<D: Disk> Shared<'_, D> {
-    // Records why the packer failed, with details from its object store.
+    // Records the fault of a failed call, with details from the object store. Returns the fault.
     fn note(&self, ticket: &Ticket, fault: PackFault) -> PackFault {
         let cause = match fault {
             PackFault::Other => self.disk.take_fault(ticket, &self.shown.found),
@@ -105,7 +105,7 @@ impl<D> Blames for Shared<'_, D> {
     }
 }
 
-/// Moves a value into an `Rc`. Fails only if out of memory, and then drops the value.
+/// Moves a value into an `Rc`. Fails only if out of memory. A failed call drops the value.
 pub(crate) fn share<T: Drop>(alloc: Global, value: T) -> Result<Rc<T, Global>, AllocError> {
     match Rc::new(alloc, value) {
         Ok(shared) => Ok(shared),

@@ -56,7 +56,7 @@ impl<'f, F: ObjectFiles> Slot<'f, F> {
         }
     }
 
-    /// Returns whether another object store may use the slot.
+    /// Returns whether the slot is free for a new object store.
     pub(crate) fn is_free(&self) -> bool {
         match self.place.try_borrow() {
             Ok(place) => !place.is_used(),
@@ -103,8 +103,8 @@ impl<'f, F: ObjectFiles> Slot<'f, F> {
         }
     }
 
-    /// Copies the next bytes of a pack to the front of `out`, and returns their number, which is 0
-    /// at the end of the pack.
+    /// Copies the next bytes of a pack to the front of `out`. Returns the number of copied bytes,
+    /// which is 0 at the end of the pack.
     pub(crate) fn part(
         &self,
         parts: &mut StoreParts<Global>,

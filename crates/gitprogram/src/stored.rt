@@ -28,7 +28,7 @@ pub(crate) struct Stored<'f, 'r, R: Files, F: ObjectFiles> {
 }
 
 impl<'f, 'r, R: Files + AllocGlobal, F: ObjectFiles> Stored<'f, 'r, R, F> {
-    /// Returns the repositories that `exports` names, without open object stores.
+    /// Returns the repositories that `exports` describes, without open object stores.
     pub(crate) fn new(rt: &'r R, files: &'f F, exports: Exports<'f>) -> Stored<'f, 'r, R, F> {
         Stored {
             rt,

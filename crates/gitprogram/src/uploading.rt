@@ -21,7 +21,7 @@ pub(crate) const REPLY_BUFFER: usize = 65_536;
 const NO_VERSION_2: &[u8] =
     b"gitrepo serves protocol version 2 alone: use git -c protocol.version=2";
 
-// The error line for a missing repository.
+// The error line if there is no repository at the path.
 const NOT_THERE: &[u8] = b"upload-pack: no such repository";
 
 /// Serves a repository on standard input and output (git-upload-pack(1)).
@@ -40,7 +40,7 @@ where
     let mut worded = Worded::new(&mut writer);
     let mut sink = ToWrite::new(&mut worded);
     let upload = upload_to(rt, dir, &mut source, &mut sink);
-    // Buffered bytes that could not be written are dropped.
+    // Bytes in the buffer that could not be written are dropped.
     let (_writer, _unwritten) = writer.into_parts();
     upload
 }

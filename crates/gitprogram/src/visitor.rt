@@ -50,7 +50,7 @@ impl<'n, S> Visitor<'n, S> {
         (side, path, fault)
     }
 
-    // Moves the details of the last call from the notes into this visitor.
+    // Moves the recorded details of the last call from `notes` into this visitor.
     fn take_notes(&mut self)
         ensures { self.new.side ≡ self.old.side }
     {
@@ -93,7 +93,7 @@ where
         answer
     }
 
-    // It is not an error if a client ends the connection between two requests.
+    // A client may end the connection between two requests without an error.
     fn refuse(&mut self, fault: MessageFault) -> ServerReply<Global, K, K::Parts> {
         if self.has_path && fault.frame == 0 && matches!(fault.why, Why::Ended) {
             return ServerReply::Speech(Speech::silent());

@@ -69,7 +69,7 @@ where
     let _ = writeln!(errors, "{line}");
 }
 
-// Returns why a connection failed, or `None` if it was served to its end.
+// Returns the fault of a failed connection, or `None` if the connection ended without a fault.
 fn fault_of<H, K: Blames>(
     alloc: Global,
     side: &ServerSide<'_, Global, H, K>,
@@ -93,7 +93,7 @@ fn fault_of<H, K: Blames>(
     Some(Fault::of(alloc, said))
 }
 
-// Returns why a request was refused, or `None` if no request was refused.
+// Returns the fault of a refused request, or `None` if no request was refused.
 fn fault_of_side<H, K: Blames>(
     alloc: Global,
     side: &ServerSide<'_, Global, H, K>,
