@@ -19,7 +19,7 @@ abbrev pub number_of : List ℕ → ℕ
 number_of [] = 0
 number_of (b ∷ bytes) = b + 256 * number_of bytes
 
--- the encoding of a number of `count` bytes, which contains only the bytes whose bit is set in `bits`
+-- the encoding of a number of `count` bytes: only the bytes whose bit is set in `bits` are present
 pub record IsSparse (bits count number : ℕ) (kept : List ℕ) : Type 0 where
   pub bytes : List ℕ
   pub counted : length bytes ≡ count
@@ -59,21 +59,21 @@ abbrev pub Fits : List ℕ → Instruction → Type 0
 Fits base (Copy offset size) = offset + size ≤ length base
 Fits base (Insert bytes) = ⊤
 
--- a text begins with an instruction that copies only within the base, and `rest` follows this instruction
+-- the text begins with this instruction, which copies only within the base, and `rest` follows
 pub record BeginsWithInstruction (base text : List ℕ) (i : Instruction) (rest : List ℕ) : Type 0 where
   pub front : List ℕ
   pub spelt : IsInstruction i front
   pub fits : Fits base i
   pub parts : text ≡ front ++ rest
 
--- a text encodes these instructions, and `body` consists of the bytes that the instructions add
+-- the text encodes these instructions, and the instructions add exactly the bytes of `body`
 abbrev pub Makes : List ℕ → List Instruction → List ℕ → List ℕ → Type 0
 Makes base [] text body = (text ≡ []) × (body ≡ [])
 Makes base (i ∷ is) text body =
     (rest more : List ℕ) × BeginsWithInstruction base text i rest × (body ≡ add_instruction base i ++ more) × Makes base is rest more
 
--- A delta that makes `body` from the base: the sizes of both, and instructions. Git refuses a delta of fewer than four
--- bytes (`DELTA_SIZE_MIN` in Git's `delta.h`).
+-- A delta that makes `body` from the base: the sizes of the base and of `body`, and instructions. Git refuses a delta
+-- of fewer than four bytes (`DELTA_SIZE_MIN` in Git's `delta.h`).
 pub record IsDelta (base delta body : List ℕ) : Type 0 where
   pub least : 4 ≤ length delta
   pub base_size : List ℕ

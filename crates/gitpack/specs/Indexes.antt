@@ -17,7 +17,7 @@ pub record Index : Type 0 where
 abbrev pub entry_id : IndexEntry → Id
 entry_id e = e.id
 
--- an entry whose id is a SHA-1 id, whose CRC-32 has at most 32 bits, and whose offset has at most 64 bits
+-- a valid entry of an index: a SHA-1 id, a CRC-32 of at most 32 bits, and an offset of at most 64 bits
 pub record IsLine (e : IndexEntry) : Type 0 where
   pub id : IsIdOf Sha1 e.id
   pub crc : e.crc < 2 ^ 32
@@ -29,7 +29,7 @@ pub record AreEntries (entries : List IndexEntry) : Type 0 where
   pub sorted : IsSortedByKey entry_id id_cmp entries
   pub few : length entries < 2 ^ 31
 
--- an index that can be written
+-- an index that can be written: valid entries, sorted by id, and a SHA-1 checksum
 pub record HasText (index : Index) : Type 0 where
   pub entries : AreEntries index.entries
   pub checksum : IsIdOf Sha1 index.checksum
@@ -64,7 +64,7 @@ abbrev pub is_short : IndexEntry → Bool
 is_short e = nat_lt e.offset 2147483648
 
 -- The table of 32-bit offsets: for each entry its offset, or 2^31 plus the position of its offset in the table of
--- 64-bit offsets. The table of 64-bit offsets begins with the `longs` offsets of earlier entries.
+-- 64-bit offsets. The earlier entries have `longs` offsets in the table of 64-bit offsets.
 abbrev pub short_offsets : ℕ → List IndexEntry → List ℕ
 short_offsets longs [] = []
 short_offsets longs (e ∷ entries) =
@@ -99,7 +99,7 @@ pub record IsIndex (index : Index) (text : List ℕ) : Type 0 where
 abbrev pub IsNoIndex : List ℕ → Type 0
 IsNoIndex text = (index : Index) → HasText index → ¬ (IsIndex index text)
 
--- the result of reading a text: the index with this text, or `None` if there is no such index
+-- the result of reading a text: the index with this text, or `None` if the text is not an index
 abbrev pub ReadsIndex : List ℕ → Option Index → Type 0
 ReadsIndex text found = MatchOption found (IsNoIndex text) (λ index. HasText index × IsIndex index text)
 

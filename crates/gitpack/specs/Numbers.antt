@@ -7,7 +7,7 @@ abbrev pub IsNumber : List ℕ → Type 0
 IsNumber [] = ⊥
 IsNumber (b ∷ bytes) = ((b < 128) × (bytes ≡ [])) ⊎ ((128 ≤ b) × IsNumber bytes)
 
--- the number with these groups of seven bits, the lowest first
+-- the number with these groups of seven bits, the lowest group first
 abbrev pub low_first : List ℕ → ℕ
 low_first [] = 0
 low_first (b ∷ bytes) = b % 128 + 128 * low_first bytes
@@ -17,8 +17,8 @@ abbrev pub carries : ℕ → ℕ
 carries zero = 0
 carries (suc n) = 128 ^ suc n + carries n
 
--- the number with these groups of seven bits, the highest first, plus 2^7 + 2^14 + .. with a term for each byte after
--- the first
+-- the number with these groups of seven bits, the highest group first, plus 2^7 + 2^14 + .. with a term for each byte
+-- after the first
 abbrev pub high_first : List ℕ → ℕ
 high_first bytes = low_first (reverse bytes) + carries (length bytes - 1)
 

@@ -15,13 +15,13 @@ pub record IsEntry (form : EntryForm) (size : ℕ) (stream text : List ℕ) : Ty
   pub is : IsHead form size head
   pub parts : text ≡ head ++ stream
 
--- a pack that consists of the bytes `old` and one more entry
+-- the bytes `new` are the bytes `old`, followed by one more entry
 pub record AddsEntry (form : EntryForm) (size : ℕ) (stream old new : List ℕ) : Type 0 where
   pub text : List ℕ
   pub entry : IsEntry form size stream text
   pub after : new ≡ old ++ text
 
--- a pack with its trailer, which is the SHA-1 of all other bytes
+-- the bytes with their SHA-1 appended as the trailer
 abbrev pub with_trailer : List ℕ → List ℕ
 with_trailer bytes = bytes ++ sha1 bytes
 

@@ -1,8 +1,8 @@
-//! A hash table of the blocks of a delta base.
+//! A hash table of the 16-byte blocks of a delta base.
 
 use std::alloc::{AllocError, Allocator};
 
-/// The length of a block.
+/// The length of a block in bytes.
 pub(crate) const BLOCK: usize = 16;
 
 // The multiplier of the rolling hash of a block.
@@ -13,7 +13,7 @@ const FIRST_DIGIT: u32 = 0xd69d_215b;
 // The maximum number of blocks in a slot that are compared with the target.
 const MAX_TRIES: usize = 32;
 
-// The length from which a match is accepted without looking for a longer one.
+// The minimum length of a match that is accepted without a search for longer matches.
 const NICE_LENGTH: usize = 4_096;
 
 // The hash of a block, and the number of the next block in the same slot.
@@ -23,8 +23,8 @@ struct Block {
     next: u32,
 }
 
-/// A hash table of the blocks of a delta base. Stored block numbers are one higher than block
-/// positions, and 0 means no block.
+/// A hash table of the blocks of a delta base. A block number is one higher than the position of
+/// the block, and 0 means no block.
 #[derive(Drop)]
 pub(crate) struct Blocks<A: Allocator + Copy> {
     // The number of the first block in each slot.
@@ -90,8 +90,8 @@ impl<A: Allocator + Copy> Blocks<A> {
     }
 
     /// Returns the first match of at least one block that begins in the target at or after `from`
-    /// and before `to`, or `None` if there is no such match. The match extends as far as the bytes
-    /// are equal.
+    /// and before `to`, or `None` if there is no such match. The match ends where the bytes of the
+    /// target and the base differ.
     pub(crate) fn next_match(
         &self,
         base: &[u8],
@@ -113,8 +113,8 @@ impl<A: Allocator + Copy> Blocks<A> {
         None
     }
 
-    // Returns the longest match that begins at `at` in the target. `start` holds the hash of the
-    // block at `at`, and the number of the first block in the slot of this hash.
+    // Returns the longest match that begins at `at` in the target. `start` is the hash of the block
+    // at `at`, and the number of the first block in the slot of this hash.
     fn longest(&self, base: &[u8], target: &[u8], at: usize, start: (u32, u32)) -> Match {
         let mut best = Match {
             at,
@@ -144,8 +144,8 @@ impl<A: Allocator + Copy> Blocks<A> {
 }
 
 impl Match {
-    /// Returns the match, extended backwards while bytes are equal, at most to offset `least` of
-    /// the target.
+    /// Returns the match, extended backwards as long as bytes are equal. The extended match does
+    /// not begin before offset `least` of the target.
     pub(crate) fn from_front(self, base: &[u8], target: &[u8], least: usize) -> Match {
         let more = common_back(base.get(..self.offset), target.get(least..self.at));
         Match {
@@ -156,7 +156,7 @@ impl Match {
     }
 }
 
-// Returns the block that begins at an offset.
+// Returns the block that begins at an offset, or `None` if fewer than 16 bytes remain.
 fn block_at(bytes: &[u8], offset: usize) -> Option<&[u8]> {
     bytes.get(offset..)?.get(..BLOCK)
 }

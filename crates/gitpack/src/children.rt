@@ -26,7 +26,7 @@ pub(crate) struct Children<A: Allocator + Copy> {
     by_id: Vec<RefChild, A>,
 }
 
-/// An iterator over the deltas of one base, as positions in both lists of [`Children`].
+/// An iterator over the deltas against one base: a range of positions in each list of [`Children`].
 #[derive(Clone, Copy, Debug, Drop)]
 pub(crate) struct Cursor {
     start: usize,
@@ -56,7 +56,8 @@ impl<A: Allocator + Copy> Children<A> {
         Ok(Children { by_offset, by_id })
     }
 
-    /// Returns a cursor over the deltas of the object with this id, whose entry begins at `start`.
+    /// Returns a cursor over the deltas against the object with this id, whose entry begins at
+    /// `start`.
     pub(crate) fn of(&self, start: usize, id: Oid) -> Cursor {
         let offset_place = self.by_offset.partition_point(|child| child.base < start);
         let id_place = self.by_id.partition_point(|child| child.base < id);
@@ -77,7 +78,7 @@ impl<A: Allocator + Copy> Children<A> {
         }
     }
 
-    /// Returns the cursor after the next delta.
+    /// Returns the cursor advanced past the next delta.
     pub(crate) fn after(&self, cursor: &Cursor) -> Cursor {
         let mut next = *cursor;
         if self.next_by_offset(cursor).is_some() {

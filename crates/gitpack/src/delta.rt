@@ -23,8 +23,8 @@ const SIZE_BYTES: u32 = 3;
 // The size of a copy whose encoded size is 0.
 const FULL_COPY: usize = 0x10000;
 
-/// Returns the size of the object that a delta makes, as the delta records it. Returns `None` if
-/// the bytes do not begin with two sizes, as a delta does.
+/// Returns the size of the resulting object, which a delta records. Returns `None` if the bytes do
+/// not begin with two sizes, as a delta does.
 pub fn made_size(delta: &[u8]) -> Option<usize>
     ensures { MatchOption result
         ((base body : List ℕ) → ¬ (IsDelta base delta.now body))
@@ -40,8 +40,8 @@ pub fn made_size(delta: &[u8]) -> Option<usize>
 }
 
 /// Applies a delta to its base and returns the resulting object. Returns `None` if the bytes are
-/// not a delta against this base, or the result has more than `most` bytes. The result uses at most
-/// twice its size in memory.
+/// not a delta against this base, or the result has more than `most` bytes. The memory for the
+/// result is at most twice its size.
 ///
 /// Fails only if out of memory.
 pub fn apply_delta<A: Allocator + Copy>(
@@ -105,8 +105,8 @@ fn follow<A: Allocator + Copy>(
     }
 }
 
-// Returns the initial capacity for the result of a delta. The result needs more capacity only if
-// parts of the base are copied more than once.
+// Returns the initial capacity for the result of a delta. More capacity is needed only if the delta
+// copies parts of the base more than once.
 fn first_room(base: &[u8], commands: &[u8], size: usize) -> usize {
     size.min(base.len().saturating_add(commands.len()))
 }

@@ -60,7 +60,7 @@ impl<A: Allocator + Copy> DeltaBase<A> {
     }
 
     /// Returns a delta of at most `limit` bytes that makes the target from this base, or `None` if
-    /// the search finds no such delta. The delta is applied as a check before it is returned.
+    /// the search does not find one. The delta is applied as a check before it is returned.
     ///
     /// Fails only if out of memory.
     pub fn make_delta(&self, target: &[u8], limit: usize) -> Result<Option<Vec<u8, A>>, AllocError>
@@ -138,7 +138,7 @@ fn put_copies<A: Allocator + Copy>(
     Ok(())
 }
 
-// Appends a copy instruction. Zero bytes of the offset and the size are left out.
+// Appends a copy instruction. Bytes of the offset and the size that are zero are left out.
 fn put_copy<A: Allocator + Copy>(
     delta: &mut Vec<u8, A>,
     offset: usize,

@@ -30,7 +30,7 @@ pub(crate) const REF_DELTA: u8 = 7;
 pub enum EntryForm {
     /// An undeltified object of this type.
     Whole(ObjectType),
-    /// A delta whose base is the entry that begins this number of bytes earlier.
+    /// A delta whose base is the entry that begins this number of bytes before the delta.
     OffsetDelta(usize),
     /// A delta whose base is the object with this id.
     RefDelta(Oid),
@@ -94,8 +94,8 @@ fn split_type_and_size(bytes: &[u8]) -> Option<(TypeAndSize, &[u8])>
     Some((TypeAndSize { number, size }, rest))
 }
 
-// Returns the entry type with this number, and the remaining bytes. The base of a delta is read
-// from the start of the bytes.
+// Returns the entry type with this number, and the remaining bytes. For a delta, the offset or id
+// of the base is read from the start of the bytes.
 fn split_form(number: u8, bytes: &[u8]) -> Option<(EntryForm, &[u8])>
     ensures { MatchOption result
         ((form : EntryForm) (text rest : List ℕ) → IsBaseOf form number text

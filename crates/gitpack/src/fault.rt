@@ -13,14 +13,14 @@ pub enum PackFileFault {
     /// The header, the number of entries or the trailer of the pack is wrong.
     Frame,
     /// The entry at this position is truncated, or its zlib stream is malformed or has the wrong
-    /// size. A delta also causes this fault if it does not fit its base, or if the base occurs
-    /// twice.
+    /// size. A delta also causes this fault if it cannot be applied to its base, or if the base
+    /// occurs twice.
     Entry(usize),
     /// The base of a delta is not in the pack: the pack is thin, or an offset is wrong.
     Thin,
-    /// The number of objects, the size of an object, the total size, the memory for delta bases, or
-    /// a written pack exceeds a limit. A chain of more than 8,191 deltas, or a size or offset that
-    /// an entry header cannot encode, causes the same fault.
+    /// A limit is exceeded: the number of objects, the size of an object, the total size, the
+    /// memory for delta bases, or the size of a written pack. A chain of more than 8,191 deltas, or
+    /// a size or offset that an entry header cannot encode, causes the same fault.
     TooLarge,
     /// The id of the base of a written delta is not a SHA-1 id.
     Format,

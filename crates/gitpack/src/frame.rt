@@ -50,7 +50,7 @@ impl<A: Allocator + Copy> Model for PackBytes<A> {
 }
 
 impl<A: Allocator + Copy> PackBytes<A> {
-    /// Returns a pack without received bytes.
+    /// Returns a `PackBytes` without received bytes.
     pub(crate) fn new(alloc: A) -> PackBytes<A>
         ensures { result ≡ [] }
     {
@@ -111,8 +111,9 @@ pub(crate) fn body_of(pack: &[u8]) -> &[u8] {
     }
 }
 
-// Returns the entry count and the trailer of a pack. `sum` is the SHA-1 of all bytes except the
-// last twenty. Returns `None` if the trailer differs from `sum`, or if the pack header is wrong.
+// Returns the entry count and the trailer of a pack. The argument `sum` must be the SHA-1 of all
+// bytes except the last twenty. Returns `None` if the trailer differs from `sum`, or if the pack
+// header is wrong.
 fn frame_of(pack: &[u8], sum: &[u8; ID_BYTES]) -> Option<(u32, Oid)>
     requires { sum.now ≡ sha1 (take (length pack.now - 20) pack.now) }
     ensures frame { IfSome result (λ frame. IsFramed frame.0 frame.1 pack.now) }

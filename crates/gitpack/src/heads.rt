@@ -11,7 +11,7 @@ use crate::fault::PackFileFault;
 use gname::{Format, Oid};
 use std::alloc::{AllocError, Allocator};
 
-// The bit that is set if more bytes of the number follow.
+// The bit of a byte that is set if more bytes of the number follow.
 const MORE: u8 = 128;
 
 const DIGITS: usize = 128;
@@ -28,8 +28,8 @@ const OFFSETS: usize = 1 << 56;
 /// Appends the header of an entry of type `form`, whose stream inflates to `size` bytes.
 ///
 /// Fails with `TooLarge` if the size has more than 60 bits or the offset more than 56. Fails with
-/// `Format` if the id of the base is not a SHA-1 id, and with `Memory`. After a fault, a part of
-/// the header may have been appended.
+/// `Format` if the id of the base is not a SHA-1 id, or with `Memory` if out of memory. After a
+/// fault, a part of the header may have been appended.
 pub(crate) fn put_head<A: Allocator + Copy>(
     out: &mut Vec<u8, A>,
     form: EntryForm,
@@ -113,7 +113,7 @@ fn put_offset<A: Allocator + Copy>(out: &mut Vec<u8, A>, offset: usize) -> Resul
     Ok(())
 }
 
-// Appends all bytes of an encoded offset except the last.
+// Appends all bytes of an encoded offset except the last byte.
 fn put_high<A: Allocator + Copy>(out: &mut Vec<u8, A>, number: usize) -> Result<(), AllocError>
     ensures { OnOk result ((text : List ℕ) × (0 < length text) × All (λ b. 128 ≤ b) text
         × (number ≡ high_first text)

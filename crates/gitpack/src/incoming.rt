@@ -15,8 +15,8 @@ use std::marker::Model;
 /// A pack that is indexed while it arrives: call `new`, then `feed` for each piece, then `finish`.
 /// In contracts, this value is the list of received bytes.
 ///
-/// Bytes are hashed on arrival. Complete entries are inflated in batches of at least 128 KiB; a
-/// batch is larger if a longer entry is incomplete.
+/// Bytes are hashed on arrival. Complete entries are inflated in batches of at least 128 KiB. If a
+/// long entry is incomplete, the next batch is larger.
 #[derive(Drop)]
 pub struct IncomingPack<A: Allocator + Copy> {
     bytes: PackBytes<A>,
@@ -61,7 +61,7 @@ impl<A: Allocator + Copy> IncomingPack<A> {
     /// Returns the received pack and its objects, once all bytes have arrived. The visitor receives
     /// the remaining objects, and must be the visitor of all `feed` calls.
     ///
-    /// Fails as [`crate::index_pack`] does.
+    /// Fails for the same reasons as [`crate::index_pack`].
     pub fn finish<V: ObjectVisitor>(
         self,
         visitor: &mut V,

@@ -106,7 +106,7 @@ impl<A: Allocator + Copy> PackIndex<A> {
         self.entries.as_slice()
     }
 
-    /// Returns the position of the entry with this id, or `None` if there is none.
+    /// Returns the position of the entry with this id, or `None` if the index lacks the id.
     pub fn find(&self, id: &Oid) -> Option<usize>
         ensures { MatchOption result (All (λ e. e.id ≢ id.now) self.now.entries)
             (HoldsAt (λ e. e.id ≡ id.now) self.now.entries) }
@@ -198,7 +198,7 @@ fn front_of(id: &Oid) -> u64 {
     }
 }
 
-// For each byte, the number of ids whose first byte is at most this byte.
+// Returns, for each byte, the number of ids whose first byte is at most this byte.
 fn ends_of(entries: &[IndexEntry]) -> [u32; 256]
     requires { length entries.now < 2 ^ 31 }
 {
@@ -211,7 +211,7 @@ fn ends_of(entries: &[IndexEntry]) -> [u32; 256]
     ends
 }
 
-// Returns the position of the entry with this id, or `None` if there is none.
+// Returns the position of the entry with this id, or `None` if no entry has the id.
 fn find(entries: &[IndexEntry], id: &Oid) -> Option<usize>
     requires { AreEntries entries.now }
     ensures { MatchOption result (All (λ e. e.id ≢ id.now) entries.now)

@@ -24,9 +24,9 @@ struct Tables<'a> {
     long_offsets: &'a [u8],
 }
 
-/// Returns the entries of a pack index whose bytes before the two checksums are `bytes`, or `None`
-/// if there are too few bytes. The signature, the fan-out table and the order of the ids are not
-/// checked.
+/// Returns the entries of a pack index, or `None` if there are too few bytes. The argument `bytes`
+/// is the index without its two checksums. The signature, the fan-out table and the order of the
+/// ids are not checked.
 ///
 /// Fails only if out of memory.
 pub(crate) fn read_entries<A: Allocator + Copy>(
@@ -145,8 +145,8 @@ fn split_line(tables: Tables<'_>) -> Option<(IndexEntry, Tables<'_>)>
     Some((entry, more))
 }
 
-// Returns the offset that a number in the offset table denotes, and the unread part of the table of
-// 64-bit offsets.
+// Returns the offset that a number in the table of 32-bit offsets denotes, and the unread part of
+// the table of 64-bit offsets.
 fn split_offset(short: u32, longs: &[u8]) -> Option<(u64, &[u8])>
     ensures { (before : ℕ) (line : IndexEntry) (more : List ℕ) → IsLine line
         → short ≡ short_of before line → longs.now ≡ long_bytes line ++ more

@@ -18,14 +18,14 @@ use std::marker::Model;
 
 /// A receiver of the objects of a pack.
 pub trait ObjectVisitor {
-    /// Receives the id, type and bytes of an object. If this call fails, indexing the pack fails
-    /// with the same fault.
+    /// Receives the id, type and bytes of an object. If this call fails, the pack is refused with
+    /// the same fault.
     fn visit(&mut self, id: &Oid, kind: ObjectType, body: &[u8]) -> Result<(), PackFileFault>
         requires { id.now ≡ id_of kind body.now };
 }
 
 /// The limits for indexing a pack. Limits are needed because a small pack can contain huge objects.
-/// An entry takes at least nine bytes of the pack, but about two hundred bytes of memory.
+/// An entry needs only nine bytes of the pack or more, but about two hundred bytes of memory.
 #[derive(Clone, Copy, Debug, Drop)]
 pub struct IndexLimits {
     /// The maximum number of objects.
@@ -104,8 +104,8 @@ impl<A: Allocator + Copy> IndexedPack<A> {
         self.checksum
     }
 
-    /// Returns the bytes of the pack index, in version 2. [`crate::PackIndex::read`] reads these
-    /// bytes back as the same index.
+    /// Returns the bytes of the pack index, in version 2. [`crate::PackIndex::read`] returns the
+    /// same index from these bytes.
     ///
     /// Fails only if out of memory.
     pub fn write_index(&self, alloc: A) -> Result<Vec<u8, A>, AllocError>
@@ -118,7 +118,7 @@ impl<A: Allocator + Copy> IndexedPack<A> {
     }
 }
 
-// Returns an object with this id, or `None` if there is none.
+// Returns an object with this id, or `None` if no object has the id.
 fn find(entries: &[IndexedEntry], id: &Oid) -> Option<IndexedEntry>
     requires { AreObjects entries.now }
     ensures { MatchOption result (All (λ e. object_id e ≢ id.now) entries.now)
@@ -148,8 +148,8 @@ fn lines_of<A: Allocator + Copy>(
 /// Fails with `Entry` if an entry is malformed or missing, and with `Thin` if the base of a delta
 /// is not in the pack. Fails with `TooLarge` if the pack exceeds a limit, a chain has more than
 /// 8,191 deltas, or there are 2^31 objects or more. Fails with the visitor's fault if the visitor
-/// fails, and with `Memory`. The visitor may already have received objects when this function
-/// fails.
+/// fails, or with `Memory` if out of memory. The visitor may already have received objects when
+/// this function fails.
 pub fn index_pack<A: Allocator + Copy, V: ObjectVisitor>(
     alloc: A,
     pack: &[u8],

@@ -3,18 +3,18 @@
 
 ghost use Rattle.gitpack.specs.Laws.{HeadsAreOne, IndexesAreOne, IndexesReadBack};
 
-/// States that bytes begin with at most one entry header, so that a written entry header is read
-/// back.
+/// Proves that bytes begin with at most one entry header, so a written entry header is read back
+/// unchanged.
 pub fn heads_are_one()
     ensures { HeadsAreOne }
 {}
 
-/// States that the same bytes encode at most one pack index.
+/// Proves that the same bytes encode at most one pack index.
 pub fn indexes_are_one()
     ensures { IndexesAreOne }
 {}
 
-/// States that the written bytes of a pack index are read back as the same index, and are never
+/// Proves that the written bytes of a pack index are read back as the same index, and are never
 /// refused.
 pub fn indexes_read_back()
     ensures { IndexesReadBack }

@@ -28,7 +28,7 @@
 //!   bytes. `IncomingPack` returns the concatenation of all received bytes. The visitor receives
 //!   each object with the id that its type and bytes determine. The returned objects are sorted by
 //!   id.
-//! - [`index_pack`] does the same for a pack in one slice.
+//! - [`index_pack`] makes the same promises for a pack in one slice.
 //! - No call panics, overflows or reads out of bounds, and every call returns.
 //!
 //! # Only tested
@@ -39,16 +39,16 @@
 //!
 //! # Differences from Git
 //!
-//! - The encoded sizes in a delta, and the encoded offset of a base, have at most eight bytes each.
+//! - Each encoded size in a delta has at most eight bytes, and so has the encoded offset of a base.
 //! - A pack of version 3 is refused; Git reads it. All ids are SHA-1 ids.
 //! - An index of version 1 is refused. An index of version 2 is accepted only in the form that Git
 //!   writes. Its table of 64-bit offsets contains only offsets of at least 2^31, one per entry, in
 //!   the order of the entries. The index's own checksum is not checked.
-//! - A pack of 2^31 objects or more is refused. A thin pack is refused, and so is a chain of more
-//!   than 8,191 deltas. No Git command makes a longer chain, but Git can read longer chains.
-//! - A pack may contain the same object twice, and then both entries are in the index. Git accepts
-//!   a pack with duplicate objects, unless `--strict` is set. A pack is refused if it contains the
-//!   base of a ref delta twice, as in Git 2.39; later versions of Git accept the pack.
+//! - A pack of 2^31 objects or more is refused. A thin pack is refused, and so is a pack with a
+//!   chain of more than 8,191 deltas. No Git command makes longer chains, but Git can read them.
+//! - A pack may contain the same object twice, and then the index lists both entries. Git accepts a
+//!   pack with duplicate objects, unless `--strict` is set. A pack is refused if it contains the
+//!   base of a ref delta twice, as in Git 2.39; later versions of Git accept such a pack.
 //!
 //! # What the contracts do not rule out
 //!
@@ -65,7 +65,7 @@
 //!   at which the visitor receives an object.
 //! - [`IndexedPack::find`] returns an object with the id, but no contract says that
 //!   [`IndexedPack::entries`] contains this object.
-//! - [`PackWriter`] and [`put_entry`] might refuse any entry with any fault. After a fault,
+//! - [`PackWriter`] and [`put_entry`] might fail for any entry, with any fault. After a fault,
 //!   [`put_entry`] and [`put_header`] might leave any bytes in `out`.
 //! - No contract compares the number of written entries with the count in the pack header. No
 //!   contract bounds the length of a written pack or of an entry header ([`MAX_HEAD`]).
@@ -73,8 +73,8 @@
 //!
 //! # Dependencies
 //!
-//! `gzlib` has zlib streams and CRC-32, `gitobject` has object types and the hashing of objects,
-//! `gname` has ids, and `sha1` has checksums.
+//! `gzlib` inflates and deflates zlib streams, and computes CRC-32. `gitobject` defines object
+//! types and hashes objects. `gname` defines ids, and `sha1` computes checksums.
 #![tactic(auto)]
 
 mod blocks;

@@ -3,15 +3,15 @@
 ghost use Rattle.std.specs.Prelude.{◌≡◌, ◌^◌, ◌<◌, ◌≤◌, ◌++◌, ◌∷◌, List, ℕ, MatchOption, length, slice_index};
 ghost use Rattle.gitpack.specs.Numbers.{IsNumber, IsOffset, IsSize, high_first, low_first};
 
-// The number of values of seven bits. A byte of at least this value is not the last byte of a
-// number.
+// The number of values of seven bits. If a byte has at least this value, more bytes of the number
+// follow.
 const DIGITS: u8 = 128;
 
 // The maximum number of bytes of an encoded size or offset.
 const MAX_BYTES: usize = 8;
 
-/// Splits the bytes after their first encoded number. Returns `None` if this number has more than
-/// `most` bytes or has no end.
+/// Splits the bytes after the encoded number at their start. Returns `None` if this number has more
+/// than `most` bytes or has no end.
 pub(crate) fn split_number(most: usize, bytes: &[u8]) -> Option<(&[u8], &[u8])>
     ensures { MatchOption result
         ((text rest : List ℕ) → IsNumber text → length text ≤ most → ¬ (bytes.now ≡ text ++ rest))
@@ -42,7 +42,7 @@ fn last_place(bytes: &[u8]) -> Option<usize>
     None
 }
 
-/// Decodes a number in groups of seven bits, the lowest group first.
+/// Decodes a number whose groups of seven bits are stored lowest first.
 pub(crate) fn low_first(bytes: &[u8]) -> usize
     requires { length bytes.now ≤ 8 }
     ensures number { result ≡ low_first bytes.now }
@@ -57,7 +57,7 @@ pub(crate) fn low_first(bytes: &[u8]) -> usize
     number
 }
 
-// Decodes the offset of a delta base, the highest group of seven bits first.
+// Decodes the offset of a delta base, whose groups of seven bits are stored highest first.
 fn high_first(first: u8, more: &[u8]) -> usize
     requires { length more.now ≤ 7 }
     ensures { result ≡ high_first (first ∷ more.now) }

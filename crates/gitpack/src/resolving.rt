@@ -38,7 +38,7 @@ pub(crate) struct Resolver<'a, A: Allocator + Copy> {
     pack: &'a [u8],
     limits: IndexLimits,
     entries: Vec<Scanned, A>,
-    // The inflated streams that are still in memory, one position per entry.
+    // The inflated stream of each entry, or `None` if the stream is not in memory.
     texts: Vec<Option<Vec<u8, A>>, A>,
     children: Children<A>,
     // The current chain of bases, starting with the undeltified object.
@@ -119,7 +119,8 @@ impl<'a, A: Allocator + Copy> Resolver<'a, A> {
         }
     }
 
-    // Removes and returns the inflated stream of an entry, if it is still in memory.
+    // Removes and returns the inflated stream of an entry, or `None` if the stream is not in
+    // memory.
     fn take_text(&mut self, place: usize) -> Option<Vec<u8, A>> {
         self.texts.get_mut(place)?.take()
     }
@@ -232,7 +233,7 @@ impl<'a, A: Allocator + Copy> Resolver<'a, A> {
         }
     }
 
-    // Fails with `TooLarge` if `more` additional bytes in memory exceed the limit.
+    // Fails with `TooLarge` if `more` additional bytes would exceed the memory limit.
     fn check_held(&self, more: usize) -> Result<(), PackFileFault> {
         if self.held.saturating_add(more) > self.limits.held {
             return Err(PackFileFault::TooLarge);
@@ -250,7 +251,7 @@ impl<'a, A: Allocator + Copy> Resolver<'a, A> {
         }
     }
 
-    // Adds `size` to the total size, and fails with `TooLarge` above the limit.
+    // Adds `size` to the total size. Fails with `TooLarge` if the sum exceeds the limit.
     fn count(&mut self, size: usize) -> Result<(), PackFileFault> {
         self.total = self.total.saturating_add(size);
         if self.total > self.limits.total {
@@ -273,7 +274,7 @@ impl<'a, A: Allocator + Copy> Resolver<'a, A> {
     }
 
     /// Returns the objects of all entries. Fails with `Thin` if the base of a delta is not in the
-    /// pack, and with `Memory`.
+    /// pack, or with `Memory` if out of memory.
     pub(crate) fn into_entries(self) -> Result<Vec<IndexedEntry, A>, PackFileFault>
         ensures { IfOk result (λ objects. All (λ e. IsLine (line_of e)) objects.items) }
     {

@@ -54,7 +54,7 @@ pub(crate) struct Scanned {
 /// A pack whose entries are all scanned.
 #[derive(Drop)]
 pub(crate) struct ScannedPack<A: Allocator + Copy> {
-    /// The allocator for further memory.
+    /// The allocator of the pack.
     pub alloc: A,
     /// The limits that remain for applying deltas.
     pub limits: IndexLimits,
@@ -69,8 +69,8 @@ pub(crate) struct ScannedPack<A: Allocator + Copy> {
 /// A scanner of a pack that arrives in pieces. The scanner reads each complete entry, and passes
 /// undeltified objects to a visitor.
 ///
-/// An incomplete entry is inflated again only when twice as many bytes of it have arrived. So the
-/// total work is linear in the length of the pack, however small the pieces are.
+/// An incomplete entry is inflated again only when twice as many of its bytes have arrived. So the
+/// total work is linear in the length of the pack, even if the pieces are small.
 #[derive(Drop)]
 pub(crate) struct Scanner<A: Allocator + Copy> {
     alloc: A,
@@ -119,8 +119,8 @@ impl<A: Allocator + Copy> Scanner<A> {
         self.enough = body.len().saturating_add(waiting.max(BATCH));
     }
 
-    /// Scans the remaining entries of a complete pack. `body` is the pack without its trailer, and
-    /// `count` its entry count.
+    /// Scans the remaining entries of a complete pack. The argument `body` is the pack without its
+    /// trailer, and `count` is the entry count in its header.
     pub(crate) fn finish<V: ObjectVisitor>(
         self,
         body: &[u8],
@@ -155,7 +155,7 @@ impl<A: Allocator + Copy> Scanner<A> {
         }
     }
 
-    // Scans the next entries until one is incomplete.
+    // Scans entries until an entry is incomplete.
     fn scan_entries<V: ObjectVisitor>(
         &mut self,
         body: &[u8],
@@ -211,8 +211,8 @@ impl<A: Allocator + Copy> Scanner<A> {
         Ok(true)
     }
 
-    // Returns the total size of inflated streams plus `size`. Fails with `TooLarge` if a limit is
-    // exceeded.
+    // Returns the sum of `size` and the total size of the inflated streams so far. Fails with
+    // `TooLarge` if a limit is exceeded.
     fn total_with(&self, size: usize) -> Result<usize, PackFileFault> {
         let total = self.total.saturating_add(size);
         if size > self.limits.object || total > self.limits.total {

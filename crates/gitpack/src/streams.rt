@@ -6,8 +6,8 @@ use crate::fault::PackFileFault;
 use gzlib::{InflateFault, Inflater};
 use std::alloc::Allocator;
 
-// The maximum ratio of an inflated size to the length of its stream, since two bits can encode 258
-// bytes (RFC 1951, section 3.2.5).
+// The maximum ratio of the inflated size to the length of a zlib stream, since two bits can encode
+// 258 bytes (RFC 1951, section 3.2.5).
 const MAX_RATIO: usize = 1_032;
 
 // The number of bytes that an inflater reserves beyond the inflated size.

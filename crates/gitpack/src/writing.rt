@@ -56,7 +56,7 @@ impl<A: Allocator + Copy> PackWriter<A> {
     /// Appends an undeltified object of `size` bytes, with the zlib stream `stream`.
     ///
     /// Fails with `TooLarge` if the size has more than 60 bits or the pack would exceed its limit.
-    /// Also fails with `Memory`.
+    /// Fails with `Memory` if out of memory.
     pub fn put_whole(
         &mut self,
         kind: ObjectType,
@@ -71,7 +71,8 @@ impl<A: Allocator + Copy> PackWriter<A> {
     /// Appends a delta of `size` bytes, with the zlib stream `stream`. The base of the delta is the
     /// object whose entry begins `back` bytes earlier.
     ///
-    /// Fails as `put_whole` does, and with `TooLarge` if the offset has more than 56 bits.
+    /// Fails for the same reasons as `put_whole`, and with `TooLarge` if the offset has more than
+    /// 56 bits.
     pub fn put_offset_delta(
         &mut self,
         size: usize,
@@ -87,7 +88,8 @@ impl<A: Allocator + Copy> PackWriter<A> {
     /// Appends a delta of `size` bytes, with the zlib stream `stream`. The base of the delta is the
     /// object with id `base`.
     ///
-    /// Fails as `put_whole` does, and with `Format` if the base's id is not a SHA-1 id.
+    /// Fails for the same reasons as `put_whole`, and with `Format` if the base's id is not a SHA-1
+    /// id.
     pub fn put_ref_delta(
         &mut self,
         size: usize,
@@ -102,7 +104,7 @@ impl<A: Allocator + Copy> PackWriter<A> {
 
     /// Appends an undeltified object with these bytes, in a zlib stream without compression.
     ///
-    /// Fails as `put_whole` does.
+    /// Fails for the same reasons as `put_whole`.
     pub fn put_body(&mut self, kind: ObjectType, body: &[u8]) -> Result<(), PackFileFault>
         ensures { OnOk result (AddsEntry (forms.Whole kind) (length body.now)
             (stored_stream body.now) self.old self.new) }
@@ -147,7 +149,7 @@ pub fn put_header<A: Allocator + Copy>(out: &mut Vec<u8, A>, count: u32) -> Resu
 ///
 /// Fails with `TooLarge` if the size has more than 60 bits, an offset has more than 56 bits, or
 /// `out` would have more than `most` bytes. Fails with `Format` if the base's id is not a SHA-1 id,
-/// and with `Memory`. After a fault, a part of the entry may have been appended.
+/// or with `Memory` if out of memory. After a fault, a part of the entry may have been appended.
 pub fn put_entry<A: Allocator + Copy>(
     out: &mut Vec<u8, A>,
     form: EntryForm,

@@ -8,7 +8,7 @@ use Rattle.gitpack.specs.declared.index.IndexEntry.{IndexEntry}
 abbrev pub index_rows : List IndexEntry → List ℕ
 index_rows lines = flat_map id_bytes lines ++ (flat_map crc_bytes lines ++ (short_offsets 0 lines ++ flat_map long_bytes lines))
 
--- the tables of these entries, if earlier entries have `longs` offsets in the table of 64-bit offsets
+-- the tables contain exactly these entries, if earlier entries have `longs` offsets in the table of 64-bit offsets
 pub record AreRows (ids crcs offsets long_offsets : List ℕ) (longs : ℕ) (lines : List IndexEntry) : Type 0 where
   pub of_ids : ids ≡ flat_map id_bytes lines
   pub of_crcs : crcs ≡ flat_map crc_bytes lines
