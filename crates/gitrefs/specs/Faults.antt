@@ -9,8 +9,7 @@ use Rattle.gitrefs.specs.declared.fault.Cause.TheVariants as cause
 use Rattle.gitrefs.specs.declared.fault.RefFault.{RefFault}
 use Rattle.gitrefs.specs.declared.fault.RefFault.TheVariants as fault
 
--- a parse fault is correct: the fault `Malformed` requires a text with no valid reading, and the fault `Memory` is
--- always possible
+-- a fault that parsing may return: `Malformed` only if the text has no valid reading, and `Memory` for any text
 abbrev pub IsTextFault : Type 0 → TextFault → Type 0
 IsTextFault Reading Malformed = ¬ Reading
 IsTextFault Reading Memory = ⊤
@@ -20,7 +19,7 @@ abbrev pub text_fault_text : TextFault → List ℕ
 text_fault_text Malformed = codes "the text is malformed"
 text_fault_text Memory = out_of_memory_text
 
--- the displayed text of a cause, which is unspecified for a system error
+-- the displayed text of a cause, or none if the cause is a system error
 abbrev pub cause_text : Cause → Option (List ℕ)
 cause_text cause.Malformed = Some (codes "the file is malformed")
 cause_text cause.Locked = Some (codes "the file is locked")
@@ -34,7 +33,7 @@ cause_text cause.Refs = Some (codes "the ref can't be set")
 cause_text cause.Format = Some (codes "the new id is none of SHA-1")
 cause_text (cause.System error) = None
 
--- the displayed text of a ref fault: the path of the file, a colon and the cause
+-- the displayed text of a ref fault: the path of the file, a colon, and the text of the cause
 abbrev pub ref_fault_text : {A : Type 0} → RefFault A → Option (List ℕ)
 ref_fault_text fault.Memory = Some out_of_memory_text
 ref_fault_text (fault.File path cause) = option_map (λ text. string_bytes path ++ codes ": " ++ text) (cause_text cause)

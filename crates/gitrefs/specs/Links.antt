@@ -5,7 +5,8 @@ use Rattle.std.specs.Prelude.{◌≡◌, ℕ, Bool, List, [], ◌∷◌, ◌++�
 abbrev pub is_line_end : ℕ → Bool
 is_line_end b = (b == 10) || (b == 13)
 
--- a text that consists of a path and any number of line ends; the last byte of the path is not a line end
+-- the text is the path, followed by any number of line feeds and carriage returns, with which the path itself does not
+-- end
 pub record IsPathFile (text path : List ℕ) : Type 0 where
   pub front : List ℕ
   pub last : ℕ

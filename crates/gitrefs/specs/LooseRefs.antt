@@ -8,11 +8,11 @@ use Rattle.gitrefs.specs.Spaces.{EndsWord, IsBlank}
 use Rattle.gitrefs.specs.declared.loose.LooseRef.{LooseRef}
 use Rattle.gitrefs.specs.declared.loose.LooseRef.TheVariants as loose
 
--- the text of a ref file with an id; white space and then any bytes may follow the id
+-- the text of a ref file with an id; after the id, the text ends or continues with white space and any bytes
 abbrev pub IsIdFile : List ℕ → Id → Type 0
 IsIdFile text id = (rest : List ℕ) × BeginsWithId text id rest × EndsWord rest
 
--- a ref name that white space may surround
+-- a ref name, possibly with white space before and after it
 pub record IsTarget (text : List ℕ) (name : Name) : Type 0 where
   pub before : List ℕ
   pub after : List ℕ
@@ -30,6 +30,6 @@ abbrev pub LooseRefOf : {A : Type 0} → List ℕ → LooseRef A → Type 0
 LooseRefOf text (loose.Id id) = IsIdFile text id
 LooseRefOf text (loose.Symref name) = IsSymrefFile text name
 
--- a valid text of a ref file
+-- a valid text of a loose ref file
 abbrev pub IsLooseRefFile : List ℕ → Type 0
 IsLooseRefFile text = ((id : Id) × IsIdFile text id) ⊎ ((name : Name) × IsSymrefFile text name)

@@ -20,14 +20,14 @@ pub record BeginsWithRef (text : List ℕ) (line : PackedLine) (rest : List ℕ)
   pub clean : All (λ b. b ≢ 10) line.name
   pub parts : after_id ≡ 32 ∷ (line.name ++ 10 ∷ rest)
 
--- the text begins with a line of `^` and a peeled id, and `rest` follows this line; without a peeled id, `rest` is the
--- text
+-- the text begins with a line of `^` and the peeled id, and `rest` follows the line; if there is no peeled id, `rest`
+-- is the whole text
 abbrev pub BeginsWithPeeled : List ℕ → Option Id → List ℕ → Type 0
 BeginsWithPeeled text None rest = (text ≡ rest) × ((more : List ℕ) → ¬ (text ≡ codes "^" ++ more))
 BeginsWithPeeled text (Some id) rest =
     (line : List ℕ) × (text ≡ codes "^" ++ line) × BeginsWithId line id (10 ∷ rest)
 
--- the text begins with the line of a ref and the line of its peeled id, if it has one, and `rest` follows
+-- the text begins with the line of a ref and, if the ref has a peeled id, the line of the peeled id; `rest` follows
 abbrev pub BeginsWithLine : List ℕ → PackedLine → List ℕ → Type 0
 BeginsWithLine text line rest =
     (next : List ℕ) × BeginsWithRef text line next × BeginsWithPeeled next line.peeled rest
@@ -43,12 +43,12 @@ pub record HasHeader (text words rest : List ℕ) : Type 0 where
   pub clean : All (λ b. b ≢ 10) words
   pub parts : text ≡ codes "# pack-refs with:" ++ (words ++ 10 ∷ rest)
 
--- the text may begin with a header, and `rest` follows the header; without a header, `rest` is the text
+-- the text begins with a header that `rest` follows, or has no header and equals `rest`
 abbrev pub BeginsWithHeader : List ℕ → List ℕ → Type 0
 BeginsWithHeader text rest = ((words : List ℕ) × HasHeader text words rest)
     ⊎ ((text ≡ rest) × ((more : List ℕ) → ¬ (text ≡ codes "#" ++ more)))
 
--- whether the name in a line is a ref name below refs/; a parser ignores all other lines
+-- whether the name in a line is a ref name below refs/; parsing ignores all other lines
 abbrev pub names_ref : PackedLine → Bool
 names_ref line = is_none (name_fault line.name) && starts_with nat_eq line.name (codes "refs/")
 

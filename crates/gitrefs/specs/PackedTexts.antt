@@ -19,7 +19,7 @@ peeled_header = codes "# pack-refs with: peeled fully-peeled sorted \n"
 abbrev pub line_text : Name → Id → List ℕ
 line_text name id = id_text id ++ 32 ∷ (name ++ 10 ∷ [])
 
--- the text of the line of a peeled id, or no line if there is no peeled id
+-- the text of the line of a peeled id, or the empty text if there is no peeled id
 abbrev pub peeled_text : Option Id → List ℕ
 peeled_text None = []
 peeled_text (Some id) = 94 ∷ (id_text id ++ 10 ∷ [])
@@ -45,7 +45,7 @@ HasSha1Ids refs = All (λ ref. IsIdOf Sha1 ref.1) refs
 abbrev pub LeadsToSha1 : RefList → Type 0
 LeadsToSha1 refs = (name : Name) (id : Id) → ref_at refs name ≡ Some id → IsIdOf Sha1 id
 
--- the written text of packed-refs reads back as the same refs, with and without peeled ids
+-- parsing a written text of packed-refs returns the same refs, with and without peeled ids
 abbrev pub WrittenRefsReadBack : Type 0
 WrittenRefsReadBack = (refs peeled : RefList) → IsRefs refs → HasSha1Ids refs → LeadsToSha1 peeled →
     PackedLinesOf (plain_header ++ flat_map plain_ref_text refs) (map plain_line refs)

@@ -7,7 +7,7 @@ use Rattle.gname.specs.Names.{IsRefName}
 abbrev pub PathIsBelow : List ℕ → List ℕ → List ℕ → Type 0
 PathIsBelow directory path name = path ≡ directory ++ 47 ∷ name
 
--- a component of a path that is not empty, `.` or `..`
+-- a component of a path; it is neither empty nor `.` nor `..`
 pub record Descends (part : List ℕ) : Type 0 where
   pub named : part ≢ []
   pub goes : part ≢ codes "."

@@ -13,7 +13,7 @@ is_other b = not (is_space b)
 abbrev pub IsBlank : List ℕ → Type 0
 IsBlank text = All (λ b. is_space b ≡ true) text
 
--- a text that is empty or begins with white space, so that a word can end before it
+-- a text that is empty or begins with white space, so that a preceding word ends there
 abbrev pub EndsWord : List ℕ → Type 0
 EndsWord rest = (rest ≡ [])
     ⊎ ((space : ℕ) × (more : List ℕ) × (rest ≡ space ∷ more) × (is_space space ≡ true))

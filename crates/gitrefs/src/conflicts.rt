@@ -3,12 +3,11 @@
 use gname::RefName;
 use std::alloc::{AllocError, Allocator};
 
-/// Returns the first name that has another of these names as a parent directory. The caller must
-/// sort the names.
+/// Returns the first name such that another name in the list is one of its parent directories. The
+/// caller must sort the names.
 ///
-/// A prefix of a name sorts before the name, and all names between the two have the same prefix. So
-/// each name is compared only with its prefixes among the earlier names. Fails only if out of
-/// memory.
+/// A prefix sorts before the whole name, and all names between them have the same prefix. So each
+/// name is compared only with its prefixes among the earlier names. Fails only if out of memory.
 pub(crate) fn first_conflict<'n, A: Allocator + Copy>(
     alloc: A,
     names: &[&'n RefName<A>],
@@ -25,8 +24,8 @@ pub(crate) fn first_conflict<'n, A: Allocator + Copy>(
     Ok(None)
 }
 
-// Removes the names that are not prefixes of `text`. Each name in `fronts` must be a prefix of the
-// next.
+// Removes each name that is not a prefix of `text` from `fronts`. In `fronts`, each name must be a
+// prefix of the next name.
 fn keep_fronts<A: Allocator + Copy>(fronts: &mut Vec<&[u8], A>, text: &[u8]) {
     for _ in 0..fronts.len() {
         match fronts.last() {

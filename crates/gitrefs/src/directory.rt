@@ -24,8 +24,8 @@ pub struct GitDirectory<'r, R: Files, A: Allocator + Copy = Global> {
     head_path: &'r str,
 }
 
-// The first directory of a new repository. If several processes create a repository at once, the
-// process that creates this directory wins.
+// The first directory of a new repository. If several processes create a repository at once, only
+// the process that creates this directory succeeds.
 const OBJECTS: &str = "objects";
 
 // The other directories of a new repository, in the order in which they are created.
@@ -37,7 +37,7 @@ const DIRECTORIES: [&str; 5] = [
     "refs/tags",
 ];
 
-// The files of a new repository. HEAD is removed first, since a directory without it is not a
+// The files of a new repository. HEAD is removed first, since a directory without HEAD is not a
 // repository.
 const FILES: [&str; 3] = ["HEAD", "config", "packed-refs"];
 
@@ -95,8 +95,8 @@ impl<'r, R: Files, A: Allocator + Copy> GitDirectory<'r, R, A> {
     /// parents. All files and directories are synced.
     ///
     /// Fails with `Exists` and changes nothing if the directory is not empty, or if the path is not
-    /// a directory. Fails with `Exists` too if another process creates a repository there at the
-    /// same time. Fails with `System` if a system call fails, and removes the repository again.
+    /// a directory. Fails with `Exists` if another process creates a repository there at the same
+    /// time. Fails with `System` if a system call fails, and then removes the new repository.
     pub fn make(&self, config: &[u8], branch: &Target<A>) -> Result<Origin, RefFault<A>> {
         let origin = self.make_own()?;
         if let Err(fault) = self.claim() {
@@ -113,7 +113,7 @@ impl<'r, R: Files, A: Allocator + Copy> GitDirectory<'r, R, A> {
     }
 
     /// Removes a new repository, as far as the system permits. A directory that existed before
-    /// remains, and is empty again.
+    /// `make` remains, and is empty again.
     pub fn unmake(&self, origin: Origin) {
         match origin {
             Origin::Made => {
@@ -195,7 +195,7 @@ impl<'r, R: Files, A: Allocator + Copy> GitDirectory<'r, R, A> {
         Ok(path)
     }
 
-    // Fills the directory of a new repository. HEAD is written last, since a directory without it
+    // Fills the directory of a new repository. HEAD is written last, since a directory without HEAD
     // is not a repository.
     fn fill(&self, config: &[u8], branch: &Target<A>) -> Result<(), RefFault<A>> {
         self.sync_name(self.path_below(OBJECTS)?.as_str())?;
@@ -227,8 +227,8 @@ impl<'r, R: Files, A: Allocator + Copy> GitDirectory<'r, R, A> {
     /// Replaces HEAD with a detached id or a symbolic ref (git-symbolic-ref(1)). HEAD is unchanged
     /// if `head` is `Head::None`.
     ///
-    /// Fails with `Locked`, `System` or `Memory`. HEAD is then either unchanged or completely
-    /// replaced.
+    /// Fails with `Locked` if HEAD is locked, with `System` if a system call fails, or with
+    /// `Memory` if out of memory. After a fault, HEAD is either unchanged or completely replaced.
     pub fn set_head(&self, head: &Head<A>) -> Result<(), RefFault<A>> {
         match head {
             Head::None => Ok(()),
@@ -244,11 +244,11 @@ impl<'r, R: Files, A: Allocator + Copy> GitDirectory<'r, R, A> {
     }
 
     /// Checks that the names of these refs do not conflict. [`GitDirectory::write_packed_refs`]
-    /// makes the same check. This function lets a caller check the names before it receives
-    /// objects.
+    /// makes the same check before it writes. This function lets a caller check the names before it
+    /// receives objects.
     ///
-    /// Fails with `Conflict` if the name of a ref is also a directory of another ref, and with
-    /// `Memory`.
+    /// Fails with `Conflict` if the name of a ref is also a directory of another ref, or with
+    /// `Memory` if out of memory.
     pub fn check_refs(&self, refs: &Refs<A>) -> Result<(), RefFault<A>> {
         let mut names = Vec::new(self.alloc);
         for pair in refs.as_slice() {
@@ -257,13 +257,14 @@ impl<'r, R: Files, A: Allocator + Copy> GitDirectory<'r, R, A> {
         self.check_apart(names.as_slice())
     }
 
-    /// Writes `packed-refs` in a repository that has none, as a clone does (git-pack-refs(1)).
+    /// Writes `packed-refs` in a repository without this file, as a clone does (git-pack-refs(1)).
     /// `peeled` maps the names of tags to their peeled ids. If `peeled` is `None`, the header does
     /// not contain the word `peeled`.
     ///
     /// Fails with `Conflict` if the name of a ref is also a directory of another ref, and with
-    /// `Exists` if `packed-refs` exists. Also fails with `Missing`, `Locked`, `System` or `Memory`.
-    /// After a fault, `packed-refs` is either missing or complete, and its lock is removed.
+    /// `Exists` if `packed-refs` exists. Other possible faults are `Missing`, `Locked`, `System`
+    /// and `Memory`. After a fault, `packed-refs` is either missing or complete, and its lock is
+    /// removed.
     pub fn write_packed_refs(
         &self,
         refs: &Refs<A>,

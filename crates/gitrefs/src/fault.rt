@@ -25,7 +25,7 @@ pub enum Cause {
     Malformed,
     /// The lockfile of the file already exists.
     Locked,
-    /// The file already exists.
+    /// The file or directory already exists.
     Exists,
     /// The file is `HEAD` and is missing, so the directory is not a Git directory.
     Missing,

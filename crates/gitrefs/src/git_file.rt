@@ -68,7 +68,7 @@ impl<'r, R: Files, A: Allocator + Copy> GitFile<'r, R, A> {
         self.path.as_str()
     }
 
-    /// Returns the fault of a failed call, with the stored cause.
+    /// Converts the fault of a failed call to a `RefFault` with the stored cause.
     pub(crate) fn into_fault(self, fault: StorageFault) -> RefFault<A> {
         match (fault, self.cause) {
             (StorageFault::Failed, Some(cause)) => {
@@ -78,7 +78,7 @@ impl<'r, R: Files, A: Allocator + Copy> GitFile<'r, R, A> {
         }
     }
 
-    // Stores the error of a failed system call as the cause.
+    // Stores the error of a failed system call as the cause, and returns the fault for the caller.
     fn refuse(&mut self, error: io::Error) -> StorageFault
         ensures { self.new ≡ self.old }
     {
@@ -89,7 +89,7 @@ impl<'r, R: Files, A: Allocator + Copy> GitFile<'r, R, A> {
         StorageFault::Failed
     }
 
-    // Stores the cause of a failed call.
+    // Stores the cause of a failed call, and returns the fault for the caller.
     fn fail(&mut self, cause: Cause) -> StorageFault
         ensures { self.new ≡ self.old }
     {
@@ -129,7 +129,7 @@ fn make_parents<R: Files>(files: &R, path: &str) -> Result<(), Cause> {
     }
 }
 
-// Returns whether an error means that a parent in the path is a file.
+// Returns whether an error means that a parent directory in the path is a file.
 fn is_no_directory(kind: ErrorKind) -> bool {
     kind == ErrorKind::AlreadyExists || kind == ErrorKind::NotADirectory
 }

@@ -9,7 +9,7 @@ use gname::laws::{
     texts_have_one_reading,
 };
 
-/// States that the written text of `packed-refs` reads back as the same refs, with or without
+/// Proves that parsing a written text of `packed-refs` returns the same refs, with or without
 /// peeled ids.
 pub fn written_refs_read_back()
     ensures { WrittenRefsReadBack }
@@ -21,7 +21,7 @@ pub fn written_refs_read_back()
     texts_have_one_reading();
 }
 
-/// States that no component of a ref name is empty, `.` or `..`. So the file of a ref is always
+/// Proves that no component of a ref name is empty, `.` or `..`. So the file of a ref is always
 /// below the Git directory.
 pub fn names_descend()
     ensures { NamesDescend }

@@ -10,11 +10,11 @@
 //!   the path in the file. The function [`parse_git_file`] returns a path only for a valid `.git`
 //!   file, but might refuse a valid file.
 //! - [`packed_refs_text`] and [`peeled_refs_text`] write a header and a line for each ref, sorted
-//!   by name. If all ids are SHA-1, the text reads back as the same refs ([`laws`]).
-//! - The written text of a HEAD that points at a branch reads back as that branch.
+//!   by name. If all ids are SHA-1, parsing the text returns the same refs ([`laws`]).
+//! - The crate writes a HEAD that points at a branch so that parsing the text returns the branch.
 //! - [`prepare_ref`] writes an id to the lockfile of a ref file, with any `Storage` of `glockfile`,
-//!   and does not change the file. The function [`commit_file`] replaces the file atomically, and
-//!   always releases the lock. After `Ok`, the file has the new text.
+//!   and leaves the ref file unchanged. The function [`commit_file`] replaces the file atomically,
+//!   and always releases the lock. After `Ok`, the file has the new text.
 //! - The path of a ref file is the Git directory, a slash and the ref name. No component of a ref
 //!   name is empty, `.` or `..` ([`laws`]).
 //! - A file that will be replaced is read only while it is locked. A lockfile is renamed only after
@@ -30,8 +30,8 @@
 //!   ref file only after an id and white space.
 //! - Git accepts any white space between an id and a name in `packed-refs`. This crate requires
 //!   exactly one space.
-//! - Git dies if a name in `packed-refs` contains `..`, such as `refs/../x`. This crate ignores
-//!   each line with an invalid ref name.
+//! - Git exits with an error if a name in `packed-refs` contains `..`, such as `refs/../x`. This
+//!   crate ignores each line with an invalid ref name.
 //! - A ref name has at most 1,000 bytes, and a repository has at most 65,536 refs.
 //! - A loose ref whose name is not UTF-8 is ignored, and cannot be updated. In `packed-refs`, names
 //!   that are not UTF-8 are accepted.
@@ -43,8 +43,8 @@
 //!   directories first.
 //! - Git skips a ref whose file cannot be read, or whose symbolic link is cyclic. This crate fails
 //!   if it encounters an unreadable ref file or a cyclic link.
-//! - Git dies if a directory has neither HEAD nor `refs`. This crate returns no refs if both are
-//!   missing.
+//! - Git exits with an error if a directory has neither HEAD nor `refs`. This crate returns no refs
+//!   if both are missing.
 //! - Git follows a symbolic ref to a name outside `refs/`, such as `ORIG_HEAD`. This crate ignores
 //!   a symbolic ref to a name outside `refs/`.
 //! - Git refuses a ref to a missing object, and a branch that does not point to a commit. This
@@ -56,15 +56,15 @@
 //! # What the contracts do not rule out
 //!
 //! No contract can describe the contents of a system file, so [`GitDirectory`] is only tested,
-//! against Git. No contract covers the files that [`GitDirectory`] opens, the precedence of loose
-//! refs, and symbolic refs. No contract covers the updates that [`GitDirectory`] refuses, and the
+//! against Git. No contract covers which files [`GitDirectory`] opens, the precedence of loose
+//! refs, or symbolic refs. No contract covers which updates [`GitDirectory`] refuses, or the
 //! removal of locks. A lockfile is removed when its guard is dropped, but no contract states this.
 //!
 //! The contracts let [`PackedPeels`] contain any data. In fact [`PackedPeels`] contains the peeled
 //! ids of `packed-refs`, which may be wrong.
 //!
-//! Name conflicts are checked before files are locked, so a conflict with a ref that is packed
-//! meanwhile is missed. If two lines of `packed-refs` have the same name, the first line wins.
+//! Name conflicts are checked before files are locked, so a conflict with a ref that Git packs at
+//! the same time is missed. If two lines of `packed-refs` have the same name, the first line wins.
 //!
 //! Any call that allocates may fail with out-of-memory. The contracts do not say when. A killed
 //! process can leave its lockfile on disk. The crate does not notice that two paths name the same
@@ -74,8 +74,8 @@
 //!
 //! # Dependencies
 //!
-//! `gname` has names and ids, `grefs` has lists of refs and HEAD, `glockfile` replaces files, and
-//! `memchr` searches bytes.
+//! `gname` defines names and ids, and `grefs` defines lists of refs and HEAD. `glockfile` replaces
+//! files, and `memchr` searches for bytes.
 #![tactic(auto)]
 
 mod conflicts;

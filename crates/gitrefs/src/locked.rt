@@ -13,7 +13,8 @@ use gname::Oid;
 use std::alloc::Allocator;
 use std::fs::Files;
 
-/// A file that this process has locked, with its text. The lockfile is removed on drop.
+/// A file that this process has locked, with its text. The lockfile is removed when the value is
+/// dropped.
 pub(crate) struct LockedFile<'r, R: Files, A: Allocator + Copy> {
     file: GitFile<'r, R, A>,
     text: Vec<u8, A>,
@@ -70,7 +71,8 @@ impl<'r, R: Files, A: Allocator + Copy> LockedFile<'r, R, A> {
     }
 }
 
-/// A locked file whose new text is already in the synced lockfile. The lockfile is removed on drop.
+/// A locked file whose new text is already in the synced lockfile. The lockfile is removed when the
+/// value is dropped.
 pub(crate) struct PreparedFile<'r, R: Files, A: Allocator + Copy> {
     file: GitFile<'r, R, A>,
     ghost prepared: { file ≡ Synced },
@@ -96,7 +98,8 @@ impl<'r, R: Files, A: Allocator + Copy> PreparedFile<'r, R, A> {
 
 /// Writes an id to the lockfile of a locked ref file, and syncs the lockfile (git-update-ref(1)).
 ///
-/// Fails with `Failed` or `Memory`, and then removes the lockfile. The ref file is unchanged.
+/// Fails with `Failed` if the storage fails, or with `Memory` if out of memory. A failed call
+/// removes the lockfile. The ref file is unchanged.
 pub fn prepare_ref<A: Allocator + Copy, T: Storage>(
     alloc: A,
     file: &mut T,
@@ -148,8 +151,8 @@ fn write_text<T: Storage>(file: &mut T, text: &[u8]) -> Result<(), StorageFault>
 
 /// Replaces a file with its lockfile, which unlocks the file.
 ///
-/// Fails with `Failed` or `Memory`. A failed call leaves either the old text or the whole new text
-/// in the file. The file is unlocked in any case.
+/// Fails with `Failed` if the storage fails, or with `Memory` if out of memory. A failed call
+/// leaves either the old text or the whole new text in the file. The file is unlocked in any case.
 pub fn commit_file<T: Storage>(file: &mut T) -> Result<(), StorageFault>
     requires { T.lockfile file.old ≡ Synced }
     ensures states { WhereKnown (T.texts file.old) (T.texts file.new)

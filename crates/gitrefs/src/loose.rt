@@ -11,7 +11,7 @@ use gname::laws::{names_are_clean, texts_have_one_reading};
 use gname::{NameFault, Oid, RefName};
 use std::alloc::{Allocator, Global};
 
-/// The value in a ref file (gitrepository-layout(5), "refs").
+/// The value of a loose ref, parsed from its file (gitrepository-layout(5), "refs").
 #[derive(Debug, Drop)]
 pub enum LooseRef<A: Allocator + Copy = Global> {
     /// The ref points to the object with this id.
@@ -20,11 +20,12 @@ pub enum LooseRef<A: Allocator + Copy = Global> {
     Symref(RefName<A>),
 }
 
-/// Parses the text of a loose ref file, or of `HEAD`. The text is either `ref:` and a ref name,
-/// with optional white space around the name, or forty hexadecimal digits. White space may follow
-/// the digits, and then any bytes.
+/// Parses the text of a loose ref file, or of `HEAD`. The text is either forty hexadecimal digits,
+/// or `ref:` and a ref name with optional white space around it. The digits may be followed by
+/// white space, and then by any bytes.
 ///
-/// Fails with `Malformed` if the text is not a valid ref file. Also fails with `Memory`.
+/// Fails with `Malformed` if the text is not a valid ref file. Fails with `Memory` if out of
+/// memory.
 pub fn parse_loose_ref<A: Allocator + Copy>(alloc: A, text: &[u8]) -> Result<LooseRef<A>, TextFault>
     ensures { MatchResult result (λ value. LooseRefOf text.now value)
         (IsTextFault (IsLooseRefFile text.now)) }
@@ -66,8 +67,8 @@ fn parse_target<A: Allocator + Copy>(alloc: A, text: &[u8]) -> Result<RefName<A>
     }
 }
 
-/// Returns the ref name with these bytes, or `None` if the bytes are not a ref name. Fails only
-/// with `Memory`.
+/// Returns the ref name with these bytes, or `None` if the bytes are not a ref name. Fails only if
+/// out of memory.
 pub(crate) fn name_of<A: Allocator + Copy>(
     alloc: A,
     text: &[u8],

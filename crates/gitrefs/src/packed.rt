@@ -37,7 +37,7 @@ struct Line<'a> {
 /// refs may be in any order.
 ///
 /// A line whose name is not a ref name below `refs/` is ignored. Fails with `Malformed` if the text
-/// is not valid. Also fails with `Memory`.
+/// is not valid, or with `Memory` if out of memory.
 pub fn parse_packed_refs<A: Allocator + Copy>(
     alloc: A,
     text: &[u8],
@@ -102,7 +102,8 @@ fn is_over(text: &[u8]) -> bool
     text.is_empty()
 }
 
-// Returns the first line of a text with its peeled line, and the rest of the text.
+// Returns the first line of a text, together with the peeled line that may follow, and the rest of
+// the text.
 fn cut_ref(text: &[u8]) -> Option<(Line<'_>, &[u8])>
     ensures line { MatchOption result
         ((line : PackedLine) (rest : List ℕ) → ¬ (BeginsWithLine text.now line rest))
@@ -149,7 +150,8 @@ fn cut_peeled(text: &[u8]) -> Option<(Option<Oid>, &[u8])>
     }
 }
 
-// Appends the ref of a line if it is a valid ref name below `refs/`. Fails only with `Memory`.
+// Appends the ref of a line if the name in the line is a valid ref name below `refs/`. Fails only
+// if out of memory.
 fn push_ref<A: Allocator + Copy>(
     alloc: A,
     refs: &mut Vec<PackedRef<A>, A>,

@@ -26,8 +26,8 @@ pub fn packed_refs_text<A: Allocator + Copy>(
 }
 
 /// Returns the text of `packed-refs` with peeled ids. `peeled` maps the names of tags to their
-/// peeled ids. Each peeled id has a line with `^` and the id after the line of its ref. Fails only
-/// if out of memory.
+/// peeled ids. The line of a ref with a peeled id is followed by a line of `^` and the peeled id.
+/// Fails only if out of memory.
 pub fn peeled_refs_text<A: Allocator + Copy>(
     alloc: A,
     refs: &Refs<A>,

@@ -26,7 +26,7 @@ impl<A: Allocator + Copy> Model for FilePath<A> {
 impl<A: Allocator + Copy> FilePath<A> {
     /// Returns the path of the file for a ref or for `HEAD`.
     ///
-    /// Fails with `Utf8` if the name is not UTF-8, and with `Memory`.
+    /// Fails with `Utf8` if the name is not UTF-8, or with `Memory` if out of memory.
     pub(crate) fn of_ref(
         alloc: A,
         git_dir: &str,
@@ -72,8 +72,8 @@ fn join<A: Allocator + Copy>(alloc: A, git_dir: &str, name: &str) -> Result<File
     Ok(FilePath { text })
 }
 
-/// Returns whether an error means that a path does not exist. A path with a file as a parent
-/// directory does not exist either.
+/// Returns whether an error means that a path does not exist. This includes a path in which a
+/// parent directory is a file.
 pub(crate) fn is_absent(kind: ErrorKind) -> bool {
     matches!(kind, ErrorKind::NotFound | ErrorKind::NotADirectory)
 }

@@ -5,7 +5,7 @@ use crate::words::{cut_line, strip};
 use gname::Oid;
 use std::alloc::{AllocError, Allocator, Global};
 
-/// The peeled object of an object in `packed-refs`.
+/// The peeled object of an object that a ref in `packed-refs` points to.
 #[derive(Clone, Copy, Debug, PartialEq, Eq, Drop)]
 pub enum Peel {
     /// The object itself, since it is not a tag.
@@ -54,8 +54,8 @@ impl<A: Allocator + Copy> PackedPeels<A> {
     }
 }
 
-/// Returns whether the header of `packed-refs` contains `fully-peeled`, which claims that each tag
-/// has its peeled id.
+/// Returns whether the header of `packed-refs` contains `fully-peeled`, which claims that the
+/// peeled id of each tag is listed.
 pub(crate) fn is_fully_peeled(text: &[u8]) -> bool {
     let Some(words) = strip(b"# pack-refs with:", text) else {
         return false;

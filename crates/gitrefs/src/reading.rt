@@ -33,7 +33,7 @@ enum RefEntry<A: Allocator + Copy = Global> {
 pub(crate) struct PackedRefs<A: Allocator + Copy> {
     /// The refs, in the order of the file.
     pub(crate) refs: Vec<PackedRef<A>, A>,
-    /// Whether the header claims that each tag has its peeled id.
+    /// Whether the header claims that the peeled id of each tag is listed.
     pub(crate) are_peeled: bool,
 }
 
@@ -61,9 +61,10 @@ impl<R: Files, A: Allocator + Copy> GitDirectory<'_, R, A> {
     /// resolves to. The returned HEAD points at the last ref name that HEAD leads to, even if that
     /// ref does not exist.
     ///
-    /// A ref is ignored if its name is invalid, its file is malformed, its id is all zeros, or it
-    /// does not resolve to an id. Fails with `Malformed` if `packed-refs` or `HEAD` is malformed,
-    /// and with `Refs` if there are too many refs. Also fails with `System` or `Memory`.
+    /// A ref is ignored if its name is invalid, its file is malformed, its id is all zeros, or the
+    /// ref does not resolve to an id. Fails with `Malformed` if `packed-refs` or `HEAD` is
+    /// malformed, and with `Refs` if there are too many refs. Fails with `System` if a system call
+    /// fails, or with `Memory` if out of memory.
     pub fn read_refs(&self) -> Result<(Refs<A>, Head<A>), RefFault<A>> {
         let mut values = self.read_loose_values()?;
         add_packed(&mut values, self.packed_refs()?.refs)?;
@@ -100,11 +101,12 @@ impl<R: Files, A: Allocator + Copy> GitDirectory<'_, R, A> {
         }
     }
 
-    /// Returns the first ref in the order of names whose file is malformed or whose id is all
-    /// zeros, with its fault. Returns `None` if there is no such ref. [`GitDirectory::read_refs`]
-    /// ignores such refs.
+    /// Returns the name and the fault of the first broken ref, in the order of names, or `None` if
+    /// no ref is broken. A ref is broken if its file is malformed, or if its id is all zeros.
+    /// [`GitDirectory::read_refs`] ignores broken refs.
     ///
-    /// Fails with `Malformed` if `packed-refs` is malformed. Also fails with `System` or `Memory`.
+    /// Fails with `Malformed` if `packed-refs` is malformed. Fails with `System` if a system call
+    /// fails, or with `Memory` if out of memory.
     pub fn broken_ref(&self) -> Result<Option<(RefName<A>, RefFault<A>)>, RefFault<A>> {
         let mut values = self.read_loose_values()?;
         add_packed(&mut values, self.packed_refs()?.refs)?;
@@ -163,7 +165,8 @@ impl<R: Files, A: Allocator + Copy> GitDirectory<'_, R, A> {
     }
 
     // Reads the files of a directory. A file whose name is not UTF-8 is ignored. A directory that
-    // another process has removed or replaced by a file is ignored, unless it is `refs` itself.
+    // another process has removed, or has replaced by a file, is ignored, unless it is `refs`
+    // itself.
     fn read_directory(&self, directory: &str, walk: &mut Walk<A>) -> Result<(), RefFault<A>> {
         let mut path = String::from_str(self.alloc, self.path)?;
         path.push_str("/")?;
@@ -263,7 +266,7 @@ impl<R: Files, A: Allocator + Copy> GitDirectory<'_, R, A> {
         }
     }
 
-    // Reads the file at a path that is not a symbolic link and has this metadata.
+    // Looks up a path with this metadata, which is not a symbolic link to a ref name.
     fn look_at(&self, path: &FilePath<A>, metadata: &Metadata) -> Result<RefEntry<A>, RefFault<A>> {
         if metadata.is_dir() {
             return Ok(RefEntry::Directory);
@@ -282,7 +285,7 @@ impl<R: Files, A: Allocator + Copy> GitDirectory<'_, R, A> {
     }
 }
 
-// Adds the refs of `packed-refs`, over which loose refs take precedence.
+// Adds the refs of `packed-refs`. Loose refs with the same names take precedence.
 fn add_packed<A: Allocator + Copy>(
     values: &mut Values<A>,
     refs: Vec<PackedRef<A>, A>,

@@ -1,4 +1,4 @@
-//! Updating refs: either all or none, as far as this can be checked in advance.
+//! Updating several refs: if a check before the update fails, no ref is changed.
 
 use crate::conflicts::first_conflict;
 use crate::directory::GitDirectory;
@@ -28,11 +28,12 @@ impl<R: Files, A: Allocator + Copy> GitDirectory<'_, R, A> {
     /// old id is the id in `packed-refs`. Reflogs are not changed.
     ///
     /// Fails with `Format` if a new id is not a SHA-1 id, and with `Conflict` if the name of one
-    /// ref is a directory in the name of another ref. Also fails with `Missing`, `Refs`, `Locked`,
-    /// `Moved`, `Symbolic`, `Malformed` or `Utf8`. No ref is changed after any of these faults.
-    /// Also fails with `System` or `Memory`. If renaming a lockfile failed, some refs may have
-    /// changed, and otherwise no ref is changed. After any fault, each ref has its old or its new
-    /// id. All locks of this call are removed, but directories created for them may remain.
+    /// ref is a directory in the name of another ref. Other possible faults are `Missing`, `Refs`,
+    /// `Locked`, `Moved`, `Symbolic`, `Malformed` and `Utf8`. All faults so far leave every ref
+    /// unchanged. Fails with `System` if a system call fails, or with `Memory` if out of memory. In
+    /// these two cases, some refs may have changed if renaming a lockfile failed. After any fault,
+    /// each ref has its old or its new id. All locks of this call are removed, but directories
+    /// created for them may remain.
     pub fn update_refs(&self, updates: &[RefUpdate<A>]) -> Result<(), RefFault<A>> {
         self.check_updates(updates)?;
         let mut locked = Vec::new(self.alloc);
@@ -48,7 +49,7 @@ impl<R: Files, A: Allocator + Copy> GitDirectory<'_, R, A> {
     }
 
     /// Checks the names, new ids and number of refs before an update. [`GitDirectory::update_refs`]
-    /// makes the same check. This function lets a caller check the updates before it fetches
+    /// makes the same checks. This function lets a caller check the updates before it fetches
     /// objects. Old ids, symbolic links and locks are not checked.
     ///
     /// Fails with `Missing`, `Format`, `Conflict`, `Refs`, `Malformed`, `Utf8`, `System` or
@@ -61,8 +62,8 @@ impl<R: Files, A: Allocator + Copy> GitDirectory<'_, R, A> {
         self.check_conflicts(&refs, updates)
     }
 
-    // Replaces locked ref files. All lockfiles are synced before the first file is replaced, so no
-    // ref changes if the disk is full.
+    // Replaces locked ref files. All lockfiles are synced before the first file is replaced, so a
+    // full disk is noticed before any ref is changed.
     fn move_all(
         &self,
         locked: Vec<LockedFile<'_, R, A>, A>,
@@ -102,7 +103,7 @@ impl<R: Files, A: Allocator + Copy> GitDirectory<'_, R, A> {
         Ok(())
     }
 
-    // Checks that no ref, after the updates, has the name of a directory of another ref.
+    // Checks that, after the updates, no ref name would be a directory of another ref name.
     fn check_conflicts(&self, refs: &Refs<A>, updates: &[RefUpdate<A>]) -> Result<(), RefFault<A>> {
         let mut names = Vec::new(self.alloc);
         for pair in refs.as_slice() {
@@ -116,7 +117,8 @@ impl<R: Files, A: Allocator + Copy> GitDirectory<'_, R, A> {
     }
 
     /// Checks that none of these names is a directory of another name. The caller must sort the
-    /// names. Fails with `Conflict` or `Memory`.
+    /// names. Fails with `Conflict` if a name is a directory of another, or with `Memory` if out of
+    /// memory.
     pub(crate) fn check_apart(&self, names: &[&RefName<A>]) -> Result<(), RefFault<A>> {
         match first_conflict(self.alloc, names)? {
             Some(name) => Err(self.fault_of(name, Cause::Conflict)),

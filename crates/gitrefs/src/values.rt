@@ -25,8 +25,8 @@ impl<A: Allocator + Copy> Values<A> {
         }
     }
 
-    /// Adds a ref, with the value `None` if its file is malformed. A ref with the same name that
-    /// was added earlier takes precedence.
+    /// Adds a ref, with the value `None` if its file is malformed. If two refs have the same name,
+    /// the ref that was added first takes precedence.
     pub(crate) fn push(
         &mut self,
         name: RefName<A>,
@@ -60,8 +60,8 @@ impl<A: Allocator + Copy> Values<A> {
         Some(&self.values.get(place)?.1)
     }
 
-    // Returns the id that each ref resolves to, in the same order. The id is `None` if a ref does
-    // not resolve, and for `HEAD`.
+    // Returns the id that each ref resolves to, in the order of the refs. The id is `None` for
+    // `HEAD`, and for a ref that does not resolve.
     fn ids(&self, alloc: A) -> Result<Vec<Option<Oid>, A>, AllocError> {
         let mut ids = Vec::with_capacity(alloc, self.values.len())?;
         for value in &self.values {
@@ -76,7 +76,7 @@ impl<A: Allocator + Copy> Values<A> {
     }
 }
 
-/// Returns `value`, or `None` if it is the all-zero id, which no object has.
+/// Returns `value`, or `None` if the value is the all-zero id, which no object has.
 pub(crate) fn unless_null<A: Allocator + Copy>(value: LooseRef<A>) -> Option<LooseRef<A>> {
     if is_null(&value) { None } else { Some(value) }
 }
@@ -89,7 +89,7 @@ fn is_null<A: Allocator + Copy>(value: &LooseRef<A>) -> bool {
     }
 }
 
-// Returns the id that a ref with this value resolves to, or `None` if it does not resolve.
+// Returns the id that a ref with this value resolves to, or `None` if the ref does not resolve.
 fn resolve<A: Allocator + Copy>(values: &Values<A>, meaning: &Option<LooseRef<A>>) -> Option<Oid> {
     let mut value = meaning;
     for _ in 0..MAX_DEPTH {

@@ -73,7 +73,8 @@ pub(crate) fn is_blank(text: &[u8]) -> bool
     text.iter().all(|byte| is_space(*byte))
 }
 
-/// Returns whether the text is empty or begins with white space, so that a word can end before it.
+/// Returns whether the text is empty or begins with white space, so that a preceding word ends
+/// there.
 pub(crate) fn ends_word(text: &[u8]) -> bool
     ensures { IsTrue result ↔ EndsWord text.now }
 {
@@ -97,7 +98,7 @@ fn other_at(text: &[u8]) -> Option<usize>
     text.iter().position(|byte| !is_space(*byte))
 }
 
-/// Splits a text after its leading white space.
+/// Splits a text into its leading white space and the rest.
 pub(crate) fn skip_blank(text: &[u8]) -> (&[u8], &[u8])
     ensures parts { text.now ≡ result.0.now ++ result.1.now }
     ensures blank { IsBlank result.0.now }
@@ -109,7 +110,7 @@ pub(crate) fn skip_blank(text: &[u8]) -> (&[u8], &[u8])
     }
 }
 
-/// Splits a text after its first word.
+/// Splits a text into its first word and the rest.
 pub(crate) fn cut_word(text: &[u8]) -> (&[u8], &[u8])
     ensures parts { text.now ≡ result.0.now ++ result.1.now }
     ensures word { All (λ b. is_space b ≡ false) result.0.now }

@@ -2,6 +2,6 @@
 use Rattle.gitrefs.specs.PackedRefs.{PackedLine}
 use Rattle.gitrefs.specs.declared.packed.Line.{Line}
 
--- the line of `packed-refs` that a `Line` of the code represents
+-- the parsed line that a Rust value of type `Line` describes
 abbrev pub line_at : Line → PackedLine
 line_at line = record { name = line.name.now; id = line.id; peeled = line.peeled }
