@@ -4,7 +4,7 @@
 //! # Proved
 //!
 //! Each function is memory-safe and returns. After [`fetch_records`], the repository has every
-//! object that its refs reach. Further guarantees are the contracts of the called functions.
+//! object that its refs reach. For further guarantees, see the contracts of the called functions.
 //!
 //! # What the contracts do not rule out
 //!
@@ -12,8 +12,8 @@
 //!
 //! # Dependencies
 //!
-//! `gserve` and `gclient` run the conversations, `ggraph` has repositories and packs, and `gcmd`
-//! has one type for all faults.
+//! `gserve` and `gclient` run the conversations. `ggraph` defines repositories and packs, and
+//! `gcmd` defines one fault type for all commands.
 #![tactic(auto)]
 
 mod client;

@@ -80,7 +80,7 @@ impl<A: Allocator + Copy> Indexer<A> for Records {
 /// Fetches the refs that `specs` match from a server that sends packs of [`Records`]. Whatever the
 /// server sends, the repository then has every object that its refs reach.
 ///
-/// Fails as `fetch_over` does, and then leaves the refs unchanged.
+/// Fails for the same reasons as `fetch_over`. A failed call leaves the refs unchanged.
 pub fn fetch_records<A: Allocator + Copy, S: Source, W: Sink>(
     repo: &mut Repo<A>,
     specs: &[Spec<A>],
