@@ -15,13 +15,13 @@ checksum_of file = file.checksum
 abbrev pub graph_commits : List GraphFile → List Commit
 graph_commits files = flat_map file_commits files
 
--- the position of a commit with this id, or none if no commit has the id
+-- the position of a commit with this id, or `None` if no commit has the id
 abbrev pub FindsCommit : List Commit → Id → Option ℕ → Type 0
 FindsCommit commits id result =
     MatchOption result (All (λ c. c.id ≢ id) commits)
     (λ position. (position < length commits) × HoldsAt (λ c. c.id ≡ id) commits position)
 
--- the list of these parents, or none if there are more parents than the maximum
+-- the list of these parents, or `None` if there are more than `most` parents
 abbrev pub ListsParents : {A : Type 0} → ℕ → List ℕ → Option (Vec ℕ A) → Type 0
 ListsParents most parents found =
     MatchOption found (most < length parents) (λ list. (list.items ≡ parents) × (length parents ≤ most))
@@ -34,8 +34,8 @@ HasParentsBelow end commit = All (λ position. position < end) commit.parents
 abbrev pub AreClosed : List Commit → Type 0
 AreClosed commits = All (HasParentsBelow (length commits)) commits
 
--- The chain with one more file on top. The base graphs of the file are the earlier files, each parent position in the
--- file is the position of a commit, and there are at most 0x7000_0000 commits.
+-- The chain with one more file on top. The base graphs of the new file are the earlier files. Each parent position in
+-- the file is the position of a commit, and there are at most 0x7000_0000 commits.
 pub record AddsFile (old : List GraphFile) (text : List ℕ) (new : List GraphFile) : Type 0 where
   pub file : GraphFile
   pub is : IsGraphText file text

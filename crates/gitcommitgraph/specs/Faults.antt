@@ -11,12 +11,12 @@ use Rattle.gitcommitgraph.specs.declared.fault.CommitGraphFault.TheVariants.{Mem
 abbrev pub IsNoFile : List ℕ → Type 0
 IsNoFile text = (file : GraphFile) → ¬ IsGraphText file text
 
--- the text is the text of a commit-graph file with this property
+-- the text encodes a commit-graph file with this property
 abbrev pub IsOfFile : List ℕ → (GraphFile → Type 0) → Type 0
 IsOfFile text P = (file : GraphFile) × IsGraphText file text × P file
 
--- The reasons to refuse a text for a chain: out of memory, wrong base graphs, too many commits, a position without a
--- commit, or a text that is not a commit-graph file.
+-- The reasons to refuse a text as the next file of a chain: out of memory, wrong base graphs, too many commits, a
+-- position without a commit, or a text that is not a commit-graph file.
 abbrev pub IsRefused : List GraphFile → List ℕ → CommitGraphFault → Type 0
 IsRefused old text Memory = ⊤
 IsRefused old text Bases = IsOfFile text (λ file. file.bases ≢ map checksum_of old)

@@ -34,22 +34,22 @@ first_parent row = number (slice_range row 20 24)
 abbrev pub second_parent : List ℕ → ℕ
 second_parent row = number (slice_range row 24 28)
 
--- the number that means that there is no parent
+-- the number that is stored if there is no parent
 abbrev pub no_parent : ℕ
 no_parent = 0x7000_0000
 
--- 2^31, the bit that marks the last edge of a list, or a second parent number that refers to a list
+-- 2^31: the bit that marks the last edge of a list, and also a second parent number that refers to an edge list
 abbrev pub mark : ℕ
 mark = 0x8000_0000
 
--- the parents in a list of edges: the positions up to the first marked number, and that number without its mark
+-- the parents in an edge list: the positions before the first marked number, and the marked number without its mark
 abbrev pub edge_list : List (List ℕ) → List ℕ
 edge_list [] = []
 edge_list (edge ∷ edges) =
     if nat_lt (number edge) mark then number edge ∷ edge_list edges else (number edge - mark) ∷ []
 
--- The parents that the two numbers of a row encode: none, the first, or both. A marked second number refers to the
--- index in the edges at which the list of further parents starts.
+-- The parents that the two numbers of a row encode: none, the first, or both. A marked second number is the index in
+-- the edge table at which the list of further parents begins.
 abbrev pub parents_by : List (List ℕ) → ℕ → ℕ → List ℕ
 parents_by edges first second =
     if first == no_parent then []
@@ -88,13 +88,14 @@ IsAscending ids = AllAdjacentBelow (λ one other. slice_cmp nat_cmp one other �
 abbrev pub NamesEdge : ℕ → List ℕ → Type 0
 NamesEdge count row = mark ≤ second_parent row → second_parent row - mark < count
 
--- Each edge list that a row refers to starts at an edge of the table. The last edge is marked, so each list has an end.
+-- Each edge list that a row refers to begins at a valid index in the edge table. The last edge is marked, so each list
+-- has an end.
 pub record HaveEnds (edges rows : List (List ℕ)) : Type 0 where
   pub last : (d : List ℕ) → 0 < length edges → mark ≤ number (slice_index_or edges (length edges - 1) d)
   pub begins : All (NamesEdge (length edges)) rows
 
 -- The form of a file: ascending ids of 20 bytes, a row of 36 bytes for each id, and edges of 4 bytes. There are at most
--- 0x7000_0000 ids, so no index is the number that means no parent.
+-- 0x7000_0000 ids, so no position equals the number for a missing parent.
 pub record IsGraphFile (file : GraphFile) : Type 0 where
   pub bases : AreLong 20 file.bases
   pub ids : AreLong 20 file.ids

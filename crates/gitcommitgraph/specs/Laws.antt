@@ -5,7 +5,7 @@ use Rattle.gitcommitgraph.specs.Chains.{IsChainText}
 use Rattle.gitcommitgraph.specs.Files.{GraphFile}
 use Rattle.gitcommitgraph.specs.Texts.{IsGraphText}
 
--- a text of fewer than 2^64 bytes encodes at most one file
+-- a text of fewer than 2^64 bytes encodes at most one commit-graph file
 abbrev pub FilesAreOne : Type 0
 FilesAreOne =
     (one other : GraphFile) (text : List ℕ)

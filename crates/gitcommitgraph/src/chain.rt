@@ -15,7 +15,7 @@ const DIGITS: usize = 40;
 const LINE: usize = 41;
 
 /// Parses the text of the file `commit-graph-chain` into the checksums of the files of the chain,
-/// lowest file first. Returns `None` for any other text. Fails only if out of memory.
+/// lowest file first. Returns `None` if the text is malformed. Fails only if out of memory.
 pub fn parse_chain<A: Allocator + Copy>(
     alloc: A,
     text: &[u8],

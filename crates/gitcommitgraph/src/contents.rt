@@ -24,7 +24,7 @@ pub(crate) struct Header {
     pub(crate) bases: u8,
 }
 
-/// The location of a chunk: its bytes are from `start` up to `end`, without `end`.
+/// The location of a chunk: its bytes have the offsets from `start` up to but excluding `end`.
 #[derive(Clone, Copy, Drop)]
 pub(crate) struct Span {
     pub(crate) start: usize,
@@ -46,8 +46,8 @@ pub(crate) fn read_header(bytes: &[u8]) -> Option<Header>
 }
 
 /// Returns the rows of the table of contents for `chunks` chunks, in a file without its trailer.
-/// Returns `None` if the chunks are not contiguous up to the end, or if two chunks have the same
-/// name.
+/// Returns `None` if the chunks do not fill the file up to its trailer, or if two chunks have the
+/// same name.
 pub(crate) fn read_rows(chunks: u8, body: &[u8]) -> Option<&[[u8; ENTRY_BYTES]]>
     ensures { MatchOption result ((rows : List (List ℕ)) → ¬ IsTable chunks body.now rows)
         (λ rows. IsTable chunks body.now rows.now) }

@@ -9,7 +9,7 @@ use std::alloc::{AllocError, AllocFailed};
 use std::error::Error;
 use std::fmt;
 
-/// The reason a file can't be added to a commit-graph.
+/// The reason why a file cannot be added to a commit-graph.
 #[derive(Clone, Copy, Debug, PartialEq, Eq, Drop)]
 pub enum CommitGraphFault {
     /// Out of memory.
@@ -20,19 +20,19 @@ pub enum CommitGraphFault {
     /// The table of contents is wrong: the chunks do not fill the file up to the trailer, or two
     /// chunks have the same name.
     Contents,
-    /// A chunk is missing or has a wrong length.
+    /// A required chunk is missing, or a chunk has a wrong length.
     Chunk,
-    /// The ids do not ascend.
+    /// The ids of the file are not in ascending order.
     Order,
     /// The fan-out table does not match the ids.
     FanOut,
-    /// An edge list is not terminated.
+    /// An edge list has no end.
     Edges,
     /// The base graphs of the file are not the files that were added earlier.
     Bases,
-    /// There are more commits than positions.
+    /// The commit-graph would have more commits than there are positions.
     TooMany,
-    /// The position of a parent is not the position of a commit.
+    /// The file lists a parent position at which there is no commit.
     Parents,
 }
 

@@ -50,12 +50,13 @@ impl<A: Allocator + Copy> CommitGraph<A> {
     }
 
     /// Adds a single file, or the next file of a chain. The files of a chain must be added from the
-    /// lowest to the highest. Keeps the bytes unchanged, and does not check the file's checksum.
+    /// lowest to the highest. The bytes are kept unchanged, and the file's checksum is not checked.
     ///
     /// Fails with `Bases` if the base graphs of the file are not the files added earlier, and with
-    /// `TooMany` if there are more commits than positions. Fails with `Parents` if the file has a
-    /// position without a commit, and with `Memory` if out of memory. Fails with any other fault if
-    /// the bytes are not a commit-graph file. After a failure the commit-graph is unchanged.
+    /// `TooMany` if there would be more commits than positions. Fails with `Parents` if the file
+    /// lists a parent position without a commit, or with `Memory` if out of memory. Fails with any
+    /// other fault if the bytes are not a commit-graph file. After a failure the commit-graph is
+    /// unchanged.
     pub fn add(&mut self, bytes: Vec<u8, A>) -> Result<(), CommitGraphFault>
         ensures ok { OnOk result (AddsFile self.old bytes.items self.new) }
         ensures err { IfErr result (IsRefused self.old bytes.items) }
@@ -77,8 +78,8 @@ impl<A: Allocator + Copy> CommitGraph<A> {
         Ok(())
     }
 
-    /// A law: each parent of a commit is a commit of the commit-graph, and there are at most
-    /// 0x7000_0000 commits.
+    /// Proves that each parent of a commit is a commit of the commit-graph, and that there are at
+    /// most 0x7000_0000 commits.
     pub fn laws(&self)
         ensures closed { AreClosed (graph_commits self.now) }
         ensures few { length (graph_commits self.now) ≤ no_parent }

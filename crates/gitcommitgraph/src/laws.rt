@@ -3,12 +3,12 @@
 
 ghost use Rattle.gitcommitgraph.specs.Laws.{ChainsAreOne, FilesAreOne};
 
-/// A law: a text encodes at most one commit-graph file.
+/// Proves that a text encodes at most one commit-graph file.
 pub fn files_are_one()
     ensures { FilesAreOne }
 {}
 
-/// A law: a text lists the files of at most one chain.
+/// Proves that a text lists the files of at most one chain.
 pub fn chains_are_one()
     ensures { ChainsAreOne }
 {}

@@ -63,8 +63,8 @@ impl<A: Allocator + Copy> Layer<A> {
     /// Parses and checks the bytes of a file.
     ///
     /// Fails with `Header`, `Contents` or `Chunk` if the header, the table of contents or a chunk
-    /// is wrong. Fails with `Order` if the ids do not ascend, with `FanOut` if the fan-out table
-    /// does not match the ids, and with `Edges` if an edge list has no end.
+    /// is wrong. Fails with `Order` if the ids are not in ascending order, with `FanOut` if the
+    /// fan-out table does not match the ids, and with `Edges` if an edge list has no end.
     pub(crate) fn read(bytes: Vec<u8, A>) -> Result<Layer<A>, CommitGraphFault>
         ensures { MatchResult result (λ file. IsGraphText file bytes.items)
             (λ fault. (old : List GraphFile) → IsRefused old bytes.items fault) }
@@ -112,7 +112,7 @@ impl<A: Allocator + Copy> Layer<A> {
         self.tables().parents_of(alloc, place, most)
     }
 
-    /// Returns whether each position in the file is less than `end`.
+    /// Returns whether each parent position in the file is less than `end`.
     pub(crate) fn is_before(&self, end: usize) -> bool
         ensures { IsTrue result ↔ HasPositionsBefore end self.now }
     {
@@ -163,8 +163,8 @@ impl<A: Allocator + Copy> Layer<A> {
     }
 }
 
-// Returns the locations of the chunks of a file, after a check of their lengths. Fails with
-// `Header`, `Contents` or `Chunk`.
+// Returns the locations of the chunks of a file. Fails with `Header`, `Contents` or `Chunk` if the
+// header, the table of contents, or the length of a chunk is wrong.
 fn read_places(bytes: &[u8]) -> Result<Places, CommitGraphFault>
     ensures { MatchResult result (IsCut bytes.now)
         (λ fault. (old : List GraphFile) → IsRefused old bytes.now fault) }
@@ -187,7 +187,8 @@ fn read_places(bytes: &[u8]) -> Result<Places, CommitGraphFault>
     Ok(places)
 }
 
-// Checks the tables at these locations. Fails with `Order`, `FanOut` or `Edges`.
+// Checks the tables at these locations. Fails with `Order`, `FanOut` or `Edges` if the ids, the
+// fan-out table or the edges are wrong.
 fn test_tables(bytes: &[u8], places: &Places) -> Result<(), CommitGraphFault>
     requires { IsCut bytes.now places.now }
     ensures { MatchResult result (λ _. AreTested bytes.now places.now)

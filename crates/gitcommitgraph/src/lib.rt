@@ -8,8 +8,8 @@
 //!   header, table of contents, chunks and trailer. The ids ascend, the fan-out table matches the
 //!   ids, and each edge list has an end. The base graphs are the files added earlier, and each
 //!   position in the file is the position of a commit. `Bases`, `TooMany` and `Parents` are
-//!   returned only if the file has this fault. Any other fault except `Memory` is returned only if
-//!   the text is not a commit-graph file. After a failure the commit-graph is unchanged.
+//!   returned only if the file has the returned fault. Any other fault except `Memory` is returned
+//!   only if the text is not a commit-graph file. After a failure the commit-graph is unchanged.
 //! - [`CommitGraph::find`] finds a commit if and only if some file has a commit with the id.
 //! - [`CommitGraph::parents_of`] lists the parents of a commit, from its commit data and its edge
 //!   list. Each parent is a commit of the commit-graph. The result is `None` if and only if a
@@ -25,10 +25,11 @@
 //!
 //! # Differences from Git
 //!
-//! - Git checks little when it opens a file, and dies when it encounters a wrong position. This
-//!   crate checks each file completely, in time linear in its size.
-//! - The chunks must fill the file between the table of contents and the trailer. Git accepts gaps.
-//!   Git also accepts a last edge that does not end its list, but never writes such an edge.
+//! - Git checks little when it opens a file, and exits with an error when it encounters a wrong
+//!   position. This crate checks each file completely, in time linear in its size.
+//! - The chunks must fill the file between the table of contents and the trailer. Git accepts gaps
+//!   between chunks. Git also accepts a last edge that does not end its list, but never writes such
+//!   an edge.
 //! - The crate does not check the trailer. Git does not check the trailer either when it opens a
 //!   file, but `git commit-graph verify` does. A chain must list the trailers of its files. Git
 //!   also compares these trailers with the names of the files.
@@ -39,12 +40,12 @@
 //!
 //! - A commit-graph may be wrong, because this crate does not compare it with the commits. A caller
 //!   should rely on the commit-graph only for commits in the repository.
-//! - If a text is not a commit-graph file, the contracts do not state which of `Header`,
-//!   `Contents`, `Chunk`, `Order`, `FanOut` and `Edges` is returned.
+//! - If a text is not a commit-graph file, the contracts do not state which of the
+//!   faults `Header`, `Contents`, `Chunk`, `Order`, `FanOut` and `Edges` is returned.
 //! - If two files of a chain have the same commit, [`CommitGraph::find`] returns one of the two
 //!   positions.
-//! - [`CommitGraph::add`] and [`CommitGraph::parents_of`] may fail if out of memory, but the
-//!   contracts do not state when. The contracts do not limit time or memory.
+//! - [`CommitGraph::add`] and [`CommitGraph::parents_of`] may fail if out of memory. The contracts
+//!   do not state when memory runs out. The contracts do not limit time or memory.
 //!
 //! This crate has no tests of its own.
 //!

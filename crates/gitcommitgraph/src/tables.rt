@@ -20,7 +20,7 @@ const FIRST_PARENT: usize = 20;
 
 const SECOND_PARENT: usize = 24;
 
-// The parent number that means that there is no parent.
+// The parent number that is stored if there is no parent.
 const NO_PARENT: u32 = 0x7000_0000;
 
 // The highest bit, which marks the last edge of a list. The same bit marks a second parent number
@@ -122,7 +122,7 @@ impl Tables<'_> {
         true
     }
 
-    /// Returns whether each edge list that a row refers to has an end.
+    /// Returns whether each edge list that a row refers to begins at a valid index and has an end.
     pub(crate) fn lists_end(&self) -> bool
         ensures { IsTrue result ↔ HaveEnds self.now.edges.now self.now.rows.now }
     {
@@ -138,7 +138,7 @@ impl Tables<'_> {
     }
 }
 
-// Returns the index of an id among ascending ids, or `None` if they do not contain the id.
+// Returns the index of an id among ascending ids, or `None` if `ids` does not contain the id.
 fn search(ids: &[[u8; ID_BYTES]], id: &[u8; ID_BYTES]) -> Option<usize>
     requires { IsAscending ids.now }
     ensures { IsPlaceOf ids.now id.now result }
@@ -157,7 +157,7 @@ fn ids_within(ids: &[[u8; ID_BYTES]], byte: usize) -> usize
     ids.partition_point(|id| usize::from(id[0]) <= byte)
 }
 
-// Appends the parents from an edge list to `list`. Returns `None` if the list would have more than
+// Appends the parents from an edge list to `list`. Returns `None` if `list` would have more than
 // `most` parents.
 fn follow<A: Allocator + Copy>(
     edges: &[[u8; 4]],
@@ -198,7 +198,7 @@ fn last_is_marked(edges: &[[u8; 4]]) -> bool
     }
 }
 
-// Returns whether each row that refers to an edge list has an edge index less than `count`.
+// Returns whether each row that refers to an edge list contains an edge index less than `count`.
 fn name_edges(rows: &[[u8; ROW_BYTES]], count: usize) -> bool
     ensures { IsTrue result ↔ All (NamesEdge count) rows.now }
 {

@@ -3,14 +3,14 @@ use Rattle.std.specs.Prelude.{◌≡◌, ℕ, ◌<◌, ◌≤◌, List, All, len
 use Rattle.gitcommitgraph.specs.Chains.{AreClosed, graph_commits}
 use Rattle.gitcommitgraph.specs.Files.{Commit, GraphFile, IsGraphFile, file_commits, no_parent}
 
--- the files of a commit-graph in memory, and the number of their commits
+-- `files` are the files of a commit-graph in memory, and `count` is the number of their commits
 pub record IsGraph (count : ℕ) (files : List GraphFile) : Type 0 where
   pub counted : count ≡ length (graph_commits files)
   pub few : count ≤ no_parent
   pub closed : AreClosed (graph_commits files)
   pub formed : All IsGraphFile files
 
--- the commit at this position of the chain is the commit at this index of the file
+-- the commit at this position of the chain has this index in the file
 pub record IsIn (files : List GraphFile) (position : ℕ) (file : GraphFile) (place : ℕ) : Type 0 where
   pub inside : place < length (file_commits file)
   pub same : (c : Commit) → slice_index_or (graph_commits files) position c ≡ slice_index_or (file_commits file) place c

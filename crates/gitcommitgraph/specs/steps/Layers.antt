@@ -46,7 +46,7 @@ pub record LacksChunk (rows : List (List ℕ)) : Type 0 where
 abbrev pub size : Span → ℕ
 size span = span.end - span.start
 
--- the lengths of the chunks of a file with this number of base graphs are right
+-- the chunks at these locations have the right lengths for a file with this number of base graphs
 pub record HaveLengths (places : Places) (bases : ℕ) : Type 0 where
   pub fan_out : size places.fan_out ≡ 1024
   pub ids : size places.ids % 20 ≡ 0

@@ -11,14 +11,15 @@ pub record IsFanOut (rows : List (List ℕ)) (ids : List Id) : Type 0 where
   pub counted : (byte : ℕ) (d : List ℕ) → byte < 256
       → number (slice_index_or rows byte d) ≡ count_by (begins_within byte) ids
 
--- the ids before `start` begin with lower bytes than this byte, and the ids from `end` on begin with higher bytes
+-- all ids at an index below `start` begin with a lower byte than this, and all ids from index `end` on with a higher
+-- byte
 pub record AreBetween (byte : ℕ) (ids : List Id) (start end : ℕ) : Type 0 where
   pub ordered : start ≤ end
   pub inside : end ≤ length ids
   pub before : (k : ℕ) (d : Id) → k < start → slice_index (slice_index_or ids k d) 0 < byte
   pub after : (k : ℕ) (d : Id) → end ≤ k → k < length ids → byte < slice_index (slice_index_or ids k d) 0
 
--- the index of an id, or none if the id is not in the list
+-- the index of an id, or `None` if the id is not in the list
 abbrev pub IsPlaceOf : List Id → Id → Option ℕ → Type 0
 IsPlaceOf ids id result =
     MatchOption result (All (λ other. other ≢ id) ids)
