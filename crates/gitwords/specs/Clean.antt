@@ -9,7 +9,7 @@ abbrev pub keeps_return : Shown → Bool
 keeps_return Lines = false
 keeps_return Progress = true
 
--- printable ASCII, line feed, tab, and in progress lines carriage return
+-- printable ASCII, a line feed, a tab, and in progress lines also a carriage return
 abbrev pub is_shown : Shown → ℕ → Bool
 is_shown shown b = (nat_le 32 b && nat_le b 126) || b == 10 || b == 9 || (b == 13 && keeps_return shown)
 
@@ -17,11 +17,11 @@ is_shown shown b = (nat_le 32 b && nat_le b 126) || b == 10 || b == 9 || (b == 1
 abbrev pub clean_byte : Shown → ℕ → ℕ
 clean_byte shown b = if is_shown shown b then b else 63
 
--- a text with each byte cleaned
+-- a text in which a question mark replaces each byte that a terminal may not show
 abbrev pub clean_text : Shown → List ℕ → List ℕ
 clean_text shown = map (clean_byte shown)
 
--- cleaning a text in two pieces gives the same result as cleaning the whole text, and a cleaned text has only bytes
+-- cleaning a text in two pieces has the same result as cleaning the whole text, and a cleaned text contains only bytes
 -- that a terminal may show
 pub record PiecesAreClean : Type 0 where
   pub whole : (shown : Shown) (front back : List ℕ)

@@ -9,12 +9,12 @@ use Rattle.gitwords.specs.declared.url.GitUrl.{GitUrl}
 abbrev pub IsUrl : GitUrl → Type 0
 IsUrl url = (text : List ℕ) × IsGitUrl text url.host.now url.port url.path.now
 
--- a number of connections that a server accepts as a limit
+-- a valid limit on the number of connections, from 1 to 1,000,000
 abbrev pub IsServed : ℕ → Type 0
 IsServed count = (1 ≤ count) × (count ≤ 1_000_000)
 
--- A URL is valid, a fetch has a refspec, a server has an address HOST:PORT, and each given limit of connections is from
--- 1 to 1,000,000.
+-- The command is well-formed: its URL is valid, a fetch has a refspec, a server has an address HOST:PORT, and each
+-- given limit on connections is valid.
 abbrev pub IsCommand : GitrepoCommand → Type 0
 IsCommand (Check dir) = Unit {0}
 IsCommand (Clone asked) = IsUrl asked.url

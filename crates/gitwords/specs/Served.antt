@@ -16,18 +16,18 @@ components path = slice_split is_slash path
 abbrev pub is_name : List ℕ → Bool
 is_name part = not (length part == 0) && not (starts_with nat_eq part (codes "."))
 
--- A path of a request: a slash, and components that a request may name, with slashes between them. One more slash may
--- end the path.
+-- A path of a request: a slash, and components that a request may name, with slashes between them. The path may end
+-- with one more slash.
 pub record IsServedPath (path rest : List ℕ) : Type 0 where
   pub parts : (path ≡ 47 ∷ rest) ⊎ (path ≡ 47 ∷ (rest ++ 47 ∷ []))
   pub names : IsTrue (list_all is_name (components rest))
 
--- a path names at most one directory
+-- a path of a request names at most one directory
 abbrev pub PathsHaveOneReading : Type 0
 PathsHaveOneReading = (path rest other : List ℕ) → IsServedPath path rest → IsServedPath path other → rest ≡ other
 
--- The directory names that Git tries for a path, in order: the path's `.git` subdirectory, the path itself, and both
--- again with `.git` appended to the path.
+-- The directory names that Git tries for a path, in order: the path's `.git` subdirectory, the path itself, and then
+-- both with `.git` appended to the path.
 abbrev pub ending_text : Ending → List ℕ
 ending_text DotGit = codes "/.git"
 ending_text Itself = []

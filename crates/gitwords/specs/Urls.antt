@@ -16,7 +16,7 @@ is_name_byte b =
     (nat_le 65 b && nat_le b 90) || (nat_le 97 b && nat_le b 122) || (nat_le 48 b && nat_le b 57)
     || b == 45 || b == 46 || b == 95
 
--- the maximum length of a host in bytes, as in the first line of a connection
+-- the maximum length of a host in bytes; the first line of a connection has the same limit
 abbrev pub max_host : ℕ
 max_host = 255
 
@@ -60,7 +60,7 @@ pub record IsListenAddress (text : List ℕ) : Type 0 where
 abbrev pub is_path_byte : ℕ → Bool
 is_path_byte b = nat_le 32 b && nat_le b 126 && not (b == 37)
 
--- the maximum length of a path in bytes, as in the first line of a connection
+-- the maximum length of a path in bytes; the first line of a connection has the same limit
 abbrev pub max_path : ℕ
 max_path = 1000
 
@@ -68,7 +68,7 @@ max_path = 1000
 abbrev pub is_path_text : List ℕ → Bool
 is_path_text text = nat_le (length text) max_path && list_all is_path_byte text
 
--- a path: a slash, and more bytes that a path may have
+-- a path: a slash and any number of path bytes, of valid total length
 abbrev pub IsPath : List ℕ → Type 0
 IsPath path = ((rest : List ℕ) × (path ≡ 47 ∷ rest)) × IsTrue (is_path_text path)
 
@@ -87,12 +87,12 @@ pub record IsGitUrl (text host : List ℕ) (port : ℕ) (path : List ℕ) : Type
   pub names : IsAuthority authority host port
   pub is_path : IsPath path
 
--- a URL has only one host, one port and one path
+-- a URL has at most one host, one port and one path
 abbrev pub UrlsHaveOneReading : Type 0
 UrlsHaveOneReading = (text host other : List ℕ) (port number : ℕ) (path rest : List ℕ)
     → IsGitUrl text host port path → IsGitUrl text other number rest → (host ≡ other) × (port ≡ number) × (path ≡ rest)
 
--- the text is not HOST[:PORT]
+-- the text does not have the form HOST[:PORT]
 abbrev pub IsNoAuthority : List ℕ → Type 0
 IsNoAuthority text = (host : List ℕ) (port : ℕ) → ¬ (IsAuthority text host port)
 
@@ -113,7 +113,7 @@ IsCause text BadPath = (authority path : List ℕ) × IsCut text authority path 
 IsCause text BadHost = (authority path : List ℕ) × IsCut text authority path × IsNoAuthority authority
 IsCause text BadPort = (authority path : List ℕ) × IsCut text authority path × HasBadPort authority
 
--- the reason why a text is not HOST[:PORT]
+-- the reason why a text does not have the form HOST[:PORT]
 abbrev pub IsAuthorityCause : List ℕ → Cause → Type 0
 IsAuthorityCause text BadHost = IsNoAuthority text
 IsAuthorityCause text BadPort = IsNoAuthority text × HasBadPort text

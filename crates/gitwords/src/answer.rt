@@ -8,7 +8,7 @@ use gname::OUT_OF_MEMORY_TEXT;
 /// A text that `gitrepo` prints instead of running a command.
 #[derive(Debug, Drop)]
 pub enum Answer {
-    /// The requested help or version.
+    /// The help or version text that the arguments request.
     Asked(String),
     /// The first mistake in the arguments, and the usage of the command.
     Usage(String),

@@ -6,7 +6,7 @@ use crate::url::GitUrl;
 use gname::Prefix;
 use grefs::Spec;
 
-/// A parsed command. Its texts borrow from the arguments.
+/// A parsed command. The texts of the command borrow from the arguments.
 #[derive(Debug, Drop)]
 pub enum GitrepoCommand<'a> {
     /// `check DIR`
@@ -29,7 +29,7 @@ pub enum GitrepoCommand<'a> {
     },
 }
 
-/// The amount of output of `clone` and `fetch` on standard error (git-fetch(1), "--quiet",
+/// The options that control the output of `clone` and `fetch` (git-fetch(1), "--quiet",
 /// "--progress").
 #[derive(Clone, Copy, Debug, PartialEq, Eq, Drop)]
 pub struct Verbosity {
@@ -52,7 +52,7 @@ impl Verbosity {
 /// The arguments of `clone`.
 #[derive(Clone, Copy, Debug, Drop)]
 pub struct CloneArgs<'a> {
-    /// The amount of output.
+    /// The options that control the output.
     pub verbosity: Verbosity,
     /// The repository of the server.
     pub url: GitUrl<'a>,
@@ -63,13 +63,13 @@ pub struct CloneArgs<'a> {
 /// The arguments of `fetch`.
 #[derive(Debug, Drop)]
 pub struct FetchArgs<'a> {
-    /// The amount of output.
+    /// The options that control the output.
     pub verbosity: Verbosity,
     /// The directory of the repository.
     pub dir: &'a str,
     /// The repository of the server.
     pub url: GitUrl<'a>,
-    /// The refspecs. There is at least one.
+    /// The refspecs, of which there is at least one.
     pub specs: Vec<Spec>,
 }
 
@@ -78,7 +78,7 @@ pub struct FetchArgs<'a> {
 pub struct LsArgs<'a> {
     /// The repository of the server.
     pub url: GitUrl<'a>,
-    /// The prefixes of the refs to list. An empty list lists all refs.
+    /// The prefixes of the refs to list. If there are no prefixes, all refs are listed.
     pub prefixes: Vec<Prefix>,
 }
 

@@ -6,8 +6,8 @@ ghost use Rattle.gitwords.specs.Faults.{cause_text, transport_text, url_fault_te
 use std::error::Error;
 use std::fmt;
 
-/// A URL from which `gitrepo` can't fetch. The printed text is one sentence that names the URL and
-/// suggests a remedy.
+/// A URL from which `gitrepo` can't fetch. The displayed text of the fault is one sentence that
+/// names the URL and suggests a remedy.
 #[derive(Clone, Copy, Debug, Drop)]
 pub struct UrlFault<'a> {
     /// The refused text.
@@ -41,12 +41,12 @@ pub enum Transport {
     Http,
     /// The local transport: `file://`, or a path.
     File,
-    /// A transport that is unknown to Git, too.
+    /// A transport that Git does not know either.
     Unknown,
 }
 
 impl Cause {
-    // Returns the part of the sentence that follows the URL.
+    // Returns the part of the displayed sentence that follows the URL.
     fn phrase(self) -> &'static str
         ensures { result.now ≡ cause_text self }
     {

@@ -4,18 +4,18 @@ ghost use Rattle.gitwords.specs.Clean.{PiecesAreClean};
 ghost use Rattle.gitwords.specs.Served.{PathsHaveOneReading};
 ghost use Rattle.gitwords.specs.Urls.{UrlsHaveOneReading};
 
-/// A law: cleaning a text in two pieces gives the same result as cleaning the whole text, and a
-/// cleaned text has only bytes that a terminal may show.
+/// Proves that cleaning a text in two pieces has the same result as cleaning the whole text. A
+/// cleaned text contains only bytes that a terminal may show.
 pub fn pieces_are_clean()
     ensures { PiecesAreClean }
 {}
 
-/// A law: the path of a request names at most one directory.
+/// Proves that the path of a request names at most one directory.
 pub fn paths_have_one_reading()
     ensures { PathsHaveOneReading }
 {}
 
-/// A law: a URL has exactly one host, one port and one path.
+/// Proves that a URL has at most one host, one port and one path.
 pub fn urls_have_one_reading()
     ensures { UrlsHaveOneReading }
 {}

@@ -4,10 +4,10 @@
 //! # Proved
 //!
 //! - [`GitUrl::parse`] accepts exactly the texts `git://HOST[:PORT]/PATH` of `specs/Urls.antt`, and
-//!   returns their parts. A text has only one host, port and path
+//!   returns their parts. A text has at most one host, port and path
 //!   ([`urls_have_one_reading`](laws::urls_have_one_reading)). Any other text is refused, and the
-//!   reported cause applies to the text. The printed text of a fault is the sentence for its cause
-//!   (`specs/Faults.antt`).
+//!   reported cause is correct for the text. The printed text of a fault is the sentence for its
+//!   cause (`specs/Faults.antt`).
 //! - [`ServedPath::parse`] accepts exactly the paths of `specs/Served.antt`. No component of an
 //!   accepted path is empty or begins with a dot, and the path may end with one slash. A path names
 //!   at most one directory ([`paths_have_one_reading`](laws::paths_have_one_reading)).
@@ -21,7 +21,7 @@
 //!   ([`pieces_are_clean`](laws::pieces_are_clean)).
 //! - [`read_words`] returns only well-formed commands (`specs/Commands.antt`). The URL of a command
 //!   is valid, and a fetch has at least one refspec. The address of a server has the form
-//!   HOST:PORT. Each given limit of connections is from 1 to 1,000,000.
+//!   HOST:PORT. Each given limit on connections is from 1 to 1,000,000.
 //! - [`Verbosity::shows_progress`] follows the rule of git-fetch(1).
 //! - An [`Answer`] with help or the version is printed on standard output with status 0. Any other
 //!   answer is printed on standard error with another status.
@@ -44,16 +44,15 @@
 //!
 //! [`read_words`] may refuse any arguments, and may return any well-formed command for any
 //! arguments. The contracts do not state the text of an answer to wrong arguments, or the
-//! [`Transport`] of a URL that does not begin with `git://`. A host may be reported as malformed if
-//! its port is malformed, too. Any call that allocates may fail if out of memory. The crate does
-//! not check symbolic links below the base directory.
+//! [`Transport`] of a URL that does not begin with `git://`. If both the host and the port of a URL
+//! are malformed, either may be reported. Any call that allocates may fail if out of memory. The
+//! crate does not check symbolic links below the base directory.
 //!
 //! This crate has no tests of its own.
 //!
 //! # Dependencies
 //!
-//! The crate uses `clap` for arguments, `grefs` for refspecs, and `gname` for prefixes of ref
-//! names.
+//! `clap` parses arguments, `grefs` parses refspecs, and `gname` defines prefixes of ref names.
 #![tactic(auto)]
 
 mod answer;

@@ -7,7 +7,8 @@ ghost use Rattle.gitwords.specs.Numbers.{IsCount};
 // The maximum number of connections.
 const MAX_CONNECTIONS: u32 = 1_000_000;
 
-/// Returns the number of connections in a text of decimal digits, from 1 to 1,000,000.
+/// Returns the number from 1 to 1,000,000 that a text of decimal digits denotes, or `None` for any
+/// other text.
 pub(crate) fn connections_of(text: &str) -> Option<u32>
     ensures { MatchOption result ((count : ℕ) → ¬ (IsCount text.now count)) (IsCount text.now) }
 {
@@ -17,8 +18,8 @@ pub(crate) fn connections_of(text: &str) -> Option<u32>
     }
 }
 
-/// Returns the number that the text's decimal digits denote, if it is less than 2^32. Refuses a
-/// leading `+`, which `parse` accepts.
+/// Returns the number that a text of decimal digits denotes, if the number is less than 2^32. A
+/// leading `+` is refused, although `parse` accepts it.
 pub(crate) fn number_of(digits: &str) -> Option<u32>
     ensures { MatchOption result
         ((number : ℕ) → number < 2 ^ 32 → ¬ (IsNumber 10 digits.now number))

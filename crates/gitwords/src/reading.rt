@@ -17,7 +17,7 @@ use grefs::{Spec, SpecFault};
 use std::alloc::{AllocError, AllocFailed, Global};
 use std::fmt;
 
-// The reasons why arguments that `clap` accepts are not a command.
+// The reasons to refuse arguments that `clap` accepts.
 #[derive(Drop)]
 enum WordFault<'a> {
     // The argument with this name is missing.
@@ -30,8 +30,8 @@ enum WordFault<'a> {
     Memory,
 }
 
-/// Parses the arguments, the first of which is the program name, into a command. The command is
-/// well-formed (`specs/Commands.antt`).
+/// Parses the arguments, the first of which is the program name, into a command. The returned
+/// command is well-formed (`specs/Commands.antt`).
 ///
 /// Fails with the answer to print: the requested help or version, a mistake in the arguments, or
 /// out of memory.

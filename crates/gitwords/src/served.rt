@@ -7,7 +7,8 @@ ghost use Rattle.gitwords.specs.Served.{IsServedPath, StaysBelow, components, en
 use std::alloc::{AllocError, Allocator};
 use std::marker::Model;
 
-/// The ending that is appended to a path to get a directory name.
+/// An ending that is appended to the path of a request, to form the path of a possible Git
+/// directory.
 #[derive(Clone, Copy, Debug, PartialEq, Eq, Drop)]
 pub enum Ending {
     /// `PATH/.git`
@@ -79,8 +80,8 @@ impl<'a> ServedPath<'a> {
         }
     }
 
-    /// Returns the path with this ending, relative to the base directory. Fails only if out of
-    /// memory.
+    /// Returns the path with this ending appended, relative to the base directory. Fails only if
+    /// out of memory.
     pub fn candidate<A: Allocator + Copy>(
         &self,
         alloc: A,

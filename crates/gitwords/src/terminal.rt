@@ -26,7 +26,7 @@ pub fn clean_byte(byte: u8, shown: Shown) -> u8
     }
 }
 
-/// Returns a text with each byte cleaned. Fails only if out of memory.
+/// Returns a text with each byte replaced as in [`clean_byte`]. Fails only if out of memory.
 pub fn clean<A: Allocator + Copy>(
     alloc: A,
     bytes: &[u8],
@@ -40,8 +40,8 @@ pub fn clean<A: Allocator + Copy>(
         .collect(alloc)
 }
 
-/// Appends the cleaned bytes to a text. Fails only if out of memory, perhaps after some of the
-/// bytes are appended.
+/// Appends these bytes to a text, each replaced as in [`clean_byte`]. Fails only if out of memory,
+/// possibly after appending some of the bytes.
 pub fn push_clean<A: Allocator + Copy>(
     text: &mut Vec<u8, A>,
     bytes: &[u8],

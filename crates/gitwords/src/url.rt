@@ -14,7 +14,8 @@ use std::net::Ipv6Addr;
 /// The default port of `git://`.
 pub const DEFAULT_PORT: u16 = 9418;
 
-// The maximum lengths of a host and of a path, as in the first line of a connection.
+// The maximum lengths in bytes of a host and of a path. The first line of a connection has the same
+// limits.
 const MAX_HOST: usize = 255;
 
 const MAX_PATH: usize = 1_000;
@@ -39,7 +40,7 @@ pub struct GitUrl<'a> {
 impl<'a> GitUrl<'a> {
     /// Parses a URL. The path stays unchanged, including a `~user` at its start.
     ///
-    /// Fails if the text is not a URL of this form. The fault has the text and the cause.
+    /// Fails if the text is not a URL of this form. The fault contains the text and the cause.
     pub fn parse(text: &'a str) -> Result<GitUrl<'a>, UrlFault<'a>>
         ensures url { MatchResult result
             (λ url. IsGitUrl text.now url.host.now url.port url.path.now)
@@ -137,7 +138,7 @@ fn is_path_byte(byte: u8) -> bool
     (b' '..=b'~').contains(&byte) && byte != b'%'
 }
 
-// Returns the host and the port of the text HOST[:PORT].
+// Returns the host and the port of a text of the form HOST[:PORT].
 fn read_authority(text: &str) -> Result<(&str, u16), Cause>
     ensures { MatchResult result (λ parts. IsAuthority text.now parts.0.now parts.1)
         (IsAuthorityCause text.now) }
@@ -166,7 +167,8 @@ fn split_port(text: &str) -> Option<(&str, &str)>
     text.rsplit_once(':')
 }
 
-// Returns the port number, from 1 to 65,535, that these decimal digits denote.
+// Returns the port number that these decimal digits denote, or `None` if it is not from 1 to
+// 65,535.
 fn port_of(digits: &str) -> Option<u16>
     ensures { MatchOption result ((port : ℕ) → ¬ (IsPort digits.now port)) (IsPort digits.now) }
 {
@@ -209,7 +211,7 @@ fn is_bracketed(text: &str) -> bool
     }
 }
 
-// Returns the text between enclosing brackets, or `None` if brackets do not enclose the text.
+// Returns the text between enclosing brackets, or `None` if the text is not enclosed in brackets.
 fn in_brackets(text: &str) -> Option<&str>
     ensures { MatchOption result ((inner : List ℕ) → ¬ (text.now ≡ 91 ∷ (inner ++ 93 ∷ [])))
         (λ inner. text.now ≡ 91 ∷ (inner.now ++ 93 ∷ [])) }

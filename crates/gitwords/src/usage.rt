@@ -1,4 +1,4 @@
-//! The commands of the program, declared to `clap`.
+//! The declarations of the program's commands for `clap`.
 
 use clap::{Arg, ArgAction, Command};
 use std::alloc::{AllocError, Global};
@@ -13,15 +13,15 @@ pub(crate) struct Row {
     notes: &'static str,
 }
 
-// One or more arguments of a command. The first text is the name for look-up, and the last text is
-// the help.
+// One or more arguments of a command. The first field is the name that identifies the argument, and
+// the last field is its help text.
 #[derive(Clone, Copy)]
 enum Word {
     // `--NAME`
     Flag(&'static str, &'static str),
     // `--NAME VALUE`, a required option.
     Valued(&'static str, &'static str, &'static str),
-    // `--NAME VALUE`, which may be absent.
+    // `--NAME VALUE`, an optional option.
     Optional(&'static str, &'static str, &'static str),
     // A required argument.
     One(&'static str, &'static str),
