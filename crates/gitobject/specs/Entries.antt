@@ -8,6 +8,6 @@ use Rattle.gitobject.specs.declared.trees.TreeEntry.{TreeEntry}
 abbrev pub entry_of : TreeEntry → Entry
 entry_of e = record { mode = e.mode.now; name = e.name.now; id = e.id }
 
--- the link of the entry, or none for a gitlink
+-- the link of the entry, or `None` for a gitlink
 abbrev pub link_of_entry : TreeEntry → Option Link
 link_of_entry e = link_to e.links_to e.id

@@ -21,7 +21,7 @@ abbrev pub HasParents : List ℕ → List Id → Type 0
 HasParents text [] = GoesOn text
 HasParents text (id ∷ ids) = (rest : List ℕ) × BeginsWithId (codes "parent ") text id rest × HasParents rest ids
 
--- a commit: a tree line, a line for each parent, and more text
+-- a commit: a tree line, a line for each parent, and other text that is not empty
 pub record IsCommit (body : List ℕ) (tree : Id) (parents : List Id) : Type 0 where
   pub rest : List ℕ
   pub names : BeginsWithId (codes "tree ") body tree rest
@@ -48,7 +48,7 @@ LinksOf Blob body links = links ≡ []
 LinksOf Tag body links =
     (target : Id) × (kind : ObjectType) × IsTag body target kind × (links ≡ link_of kind target ∷ [])
 
--- the reason why an object cannot be read: the object is malformed, or memory ran out
+-- a fault that reading may return: `Malformed` only if the object is malformed, and `Memory` for any object
 abbrev pub IsObjectFault : Type 0 → ObjectFault → Type 0
 IsObjectFault Reading faults.Malformed = ¬ Reading
 IsObjectFault Reading faults.Memory = ⊤

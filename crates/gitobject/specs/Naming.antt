@@ -6,7 +6,7 @@ use Rattle.gitobject.specs.Types.{type_name}
 use Rattle.gitobject.specs.declared.types.ObjectType.{ObjectType}
 
 -- The text of an object: the name of its type, a space, its length in decimal, NUL, and its bytes. A loose object file
--- is this text, compressed.
+-- contains this text in compressed form.
 abbrev pub object_text : ObjectType → List ℕ → List ℕ
 object_text kind body = type_name kind ++ 32 ∷ (decimal (length body) ++ 0 ∷ body)
 

@@ -54,11 +54,11 @@ linked_type n = if n == 4 then Some Tree else (if n == 8 then Some Blob else (if
 abbrev pub link_of : ObjectType → Id → Link
 link_of kind id = record { id = id; kind = kind }
 
--- the link to the object with this id and type, or no link if there is no type
+-- the link to the object with this id and type, or `None` if there is no type
 abbrev pub link_to : Option ObjectType → Id → Option Link
 link_to None id = None
 link_to (Some kind) id = Some (link_of kind id)
 
--- the link of an entry, or none for a gitlink
+-- the link of an entry, or `None` for a gitlink
 abbrev pub entry_link : Entry → Option Link
 entry_link e = link_to (linked_type (file_type e.mode)) e.id

@@ -12,7 +12,7 @@ use std::fmt;
 /// The reason why the links of an object cannot be read.
 #[derive(Clone, Copy, Debug, PartialEq, Eq, Drop)]
 pub enum ObjectFault {
-    /// The bytes do not have the form of the object type.
+    /// The bytes are not a valid object of the type.
     Malformed,
     /// Out of memory.
     Memory,

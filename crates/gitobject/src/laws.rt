@@ -3,12 +3,12 @@
 
 ghost use Rattle.gitobject.specs.Laws.{LinksAreOne, TextsAreOne};
 
-/// An object has at most one list of links.
+/// Proves that an object has at most one list of links.
 pub fn links_are_one()
     ensures { LinksAreOne }
 {}
 
-/// A text encodes at most one object.
+/// Proves that a text encodes at most one object.
 pub fn texts_are_one()
     ensures { TextsAreOne }
 {}

@@ -3,18 +3,18 @@
 //!
 //! # Proved
 //!
-//! - [`ObjectType`] returns the name of each object type and its number in a pack. Only these names
-//!   and numbers are accepted.
+//! - The methods of [`ObjectType`] return the name of each object type and its number in a pack.
+//!   Conversions from other names or numbers return `None`.
 //! - [`id_of`] returns the SHA-1 of the type, a space, the length in decimal, NUL, and the bytes.
 //! - [`commit_links`] reads the tree and the parents of a commit, in order. The function
 //!   [`tag_link`] reads the object that a tag names. The function [`split_entry`] reads the first
 //!   entry of a tree, and [`tree_links`] reads the links of all entries. The function [`links_of`]
 //!   reads the links of an object of any type. Each function accepts exactly the texts of the form
 //!   defined in `specs/`, and refuses all others.
-//! - A link has an id, and the type that the object with that id must have. In a tree, the file
-//!   type in the mode of an entry decides the type of the link. A directory links to a tree. A file
-//!   or a symbolic link links to a blob. A gitlink names a commit of another repository, and is not
-//!   a link.
+//! - A link consists of an id, and the type that the object with that id must have. In a tree, the
+//!   file type in the mode of an entry decides the type of the link. A directory links to a tree. A
+//!   file or a symbolic link links to a blob. A gitlink names a commit of another repository, and
+//!   is not a link.
 //! - [`split_loose`] accepts exactly the texts that encode an object.
 //! - An object has at most one list of links, and a text encodes at most one object: [`laws`].
 //! - No call panics, overflows or reads out of bounds, and every call returns.
@@ -30,7 +30,8 @@
 //!   committers, and the names and order of tree entries.
 //! - Git accepts a commit that ends within a parent line, and ignores that line. This crate refuses
 //!   the commit, as git-fsck(1) does.
-//! - Git reads the type of a tag only up to the first NUL.
+//! - Git reads the type of a tag only up to the first NUL, so it accepts `commit`, a NUL and other
+//!   bytes.
 //!
 //! # What the contracts do not rule out
 //!
@@ -39,7 +40,8 @@
 //!
 //! # Dependencies
 //!
-//! `gname` for ids, `sha1` for the hash, `itoa` for a length in decimal, `memchr` for searches.
+//! `gname` defines ids, and `sha1` computes the hash. `itoa` formats a length in decimal, and
+//! `memchr` searches for bytes.
 #![tactic(auto)]
 
 mod fault;

@@ -32,8 +32,8 @@ pub(crate) fn cut(byte: u8, text: &[u8]) -> Option<(&[u8], &[u8])>
     }
 }
 
-/// Returns the id after this word on the first line, and the text after the line. Returns `None` if
-/// the first line does not have this form.
+/// Returns the id that follows `word` on the first line, and the text after the line. Returns
+/// `None` if the first line does not have this form.
 pub(crate) fn id_line<'a>(word: &[u8], text: &'a [u8]) -> Option<(Oid, &'a [u8])>
     ensures line { MatchOption result
         ((id : Id) (rest : List ℕ) → ¬ (BeginsWithId word.now text.now id rest))
@@ -65,8 +65,8 @@ fn split_front(count: usize, text: &[u8]) -> Option<(&[u8], &[u8])>
     text.split_at_checked(count)
 }
 
-/// Returns the type after `type` on the first line, and the text after the line. Returns `None` if
-/// the first line does not have this form.
+/// Returns the object type that follows the word `type` on the first line, and the text after the
+/// line. Returns `None` if the first line does not have this form.
 pub(crate) fn type_line(text: &[u8]) -> Option<(ObjectType, &[u8])>
     ensures { MatchOption result
         ((kind : ObjectType) (rest : List ℕ) → ¬ (BeginsWithType text.now kind rest))

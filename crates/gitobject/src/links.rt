@@ -22,9 +22,9 @@ const MIN_TAG: usize = 64;
 /// A link of an object: the id and the required type of another object.
 #[derive(Clone, Copy, Debug, PartialEq, Eq, Drop)]
 pub struct Link {
-    /// The id.
+    /// The id of the linked object.
     pub id: Oid,
-    /// The type.
+    /// The required type of the linked object.
     pub kind: ObjectType,
 }
 
@@ -40,7 +40,8 @@ pub struct CommitLinks<A: Allocator + Copy> {
 /// Returns the links of an object of this type. A commit links to its tree and its parents, a tree
 /// to the objects of its entries, and a tag to its target. A blob has no links.
 ///
-/// Fails with `Malformed` if the bytes do not have the form of the type, and with `Memory`.
+/// Fails with `Malformed` if the bytes are not a valid object of the type, or with `Memory` if out
+/// of memory.
 pub fn links_of<A: Allocator + Copy>(
     alloc: A,
     kind: ObjectType,
@@ -59,7 +60,8 @@ pub fn links_of<A: Allocator + Copy>(
 
 /// Returns the tree and the parents of a commit, in order.
 ///
-/// Fails with `Malformed` if the bytes do not begin like a commit, and with `Memory`.
+/// Fails with `Malformed` if the bytes do not begin like a commit, or with `Memory` if out of
+/// memory.
 pub fn commit_links<A: Allocator + Copy>(
     alloc: A,
     body: &[u8],
@@ -116,8 +118,8 @@ fn goes_on(text: &[u8]) -> bool
     }
 }
 
-/// Returns the object that a tag names, or `None` if the bytes do not begin like a tag, or if there
-/// are fewer than 64 bytes.
+/// Returns the link of a tag to the object that the tag names, or `None` if the bytes do not begin
+/// like a tag, or if there are fewer than 64 bytes.
 pub fn tag_link(body: &[u8]) -> Option<Link>
     ensures { MatchOption result
         ((target : Id) (kind : ObjectType) → ¬ (IsTag body.now target kind))

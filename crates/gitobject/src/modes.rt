@@ -7,10 +7,11 @@ ghost use Rattle.gitobject.specs.Trees.{file_type, linked_type};
 
 use crate::types::ObjectType;
 
-// The number of values of the lowest sixteen bits of a mode: the file type and the permissions.
+// The number of values of the lowest sixteen bits of a mode, which are the file type and the
+// permissions.
 const MODE_VALUES: u32 = 0o200000;
 
-// The number of values of the lowest twelve bits of a mode: the permissions.
+// The number of values of the lowest twelve bits of a mode, which are the permissions.
 const PERMISSIONS: u32 = 0o10000;
 
 // The file types that link to an object (inode(7)).

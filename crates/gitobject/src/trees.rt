@@ -26,8 +26,8 @@ pub struct TreeEntry<'a> {
     pub name: &'a [u8],
     /// The id of the object that the entry names.
     pub id: Oid,
-    /// The type of the object, or `None` for a gitlink, which names a commit of another repository
-    /// (gitsubmodules(7)).
+    /// The type of the object that the entry names, or `None` for a gitlink, which names a commit
+    /// of another repository (gitsubmodules(7)).
     pub links_to: Option<ObjectType>,
 }
 
@@ -77,7 +77,8 @@ pub fn split_entry(text: &[u8]) -> Option<(TreeEntry<'_>, &[u8])>
 
 /// Returns the links of a tree, in the order of its entries. Gitlinks are left out.
 ///
-/// Fails with `Malformed` if the bytes are not a sequence of entries, and with `Memory`.
+/// Fails with `Malformed` if the bytes are not a sequence of entries, or with `Memory` if out of
+/// memory.
 pub fn tree_links<A: Allocator + Copy>(alloc: A, body: &[u8]) -> Result<Vec<Link, A>, ObjectFault>
     ensures { MatchResult result (λ links. LinksOf types.Tree body.now links.items)
         (IsObjectFault ((links : List Link) × LinksOf types.Tree body.now links)) }

@@ -13,7 +13,7 @@ pub enum ObjectType {
     Tree,
     /// A blob: the bytes of a file, or the target of a symbolic link.
     Blob,
-    /// An annotated tag: the object that it names, and a message.
+    /// An annotated tag: the name of another object, and a message.
     Tag,
 }
 
