@@ -10,11 +10,11 @@ is_blank b = b == 32 || b == 9 || b == 13
 abbrev pub is_space : ℕ → Bool
 is_space b = is_blank b || b == 10
 
--- a byte of a variable name: a letter, a digit or `-`
+-- a byte that a variable name may contain: a letter, a digit or `-`
 unfoldable pub is_name_byte : ℕ → Bool
 is_name_byte b = is_ascii_alphanumeric b || b == 45
 
--- a byte of a section name: a byte of a variable name, or a dot
+-- a byte that a section name may contain: a byte of a variable name, or a dot
 unfoldable pub is_section_byte : ℕ → Bool
 is_section_byte b = is_name_byte b || b == 46
 
@@ -27,10 +27,10 @@ abbrev pub IsEndOr : (ℕ → Bool) → List ℕ → Type 0
 IsEndOr p [] = ⊤
 IsEndOr p (b ∷ rest) = p b ≡ true
 
--- the line ends here: the text is empty or begins with an LF
+-- a line can end before this text: the text is empty or begins with an LF
 abbrev pub EndsLine : List ℕ → Type 0
 EndsLine rest = IsEndOr (λ b. b == 10) rest
 
--- the value ends here: the text is empty or begins with an LF or a comment
+-- a value can end before this text: the text is empty or begins with an LF or a comment
 abbrev pub EndsValue : List ℕ → Type 0
 EndsValue rest = IsEndOr (λ b. b == 10 || is_mark b) rest

@@ -34,8 +34,8 @@ pub record BeginsWithSubsection (text name rest : List ℕ) : Type 0 where
   pub blank : All (λ b. is_blank b ≡ true) blanks
   pub has : HasQuoted quoted name rest
 
--- The end of a header: a bracket, or a subsection name in quotes and a bracket. In the section name, a dot precedes the
--- subsection name.
+-- The end of a header: a bracket, or a subsection name in quotes and a bracket. The full section name is the section, a
+-- dot and the subsection name.
 abbrev pub EndsHeader : List ℕ → List ℕ → List ℕ → List ℕ → Type 0
 EndsHeader text name section rest = ((text ≡ 93 ∷ rest) × (section ≡ name))
     ⊎ ((subsection : List ℕ) × BeginsWithSubsection text subsection (93 ∷ rest)
@@ -109,7 +109,7 @@ settings_of section (Begins next ∷ items) = settings_of next items
 settings_of section (Sets name value ∷ items) =
     record { section = section; name = name; value = value } ∷ settings_of section items
 
--- the text is a configuration that sets these variables, in order
+-- the text is a configuration that sets exactly these variables, in order
 pub record IsConfig (text : List ℕ) (sets : List Setting) : Type 0 where
   pub items : List Item
   pub has : HasItems text items

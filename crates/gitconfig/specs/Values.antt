@@ -46,7 +46,7 @@ mark_pieces (Joint ∷ pieces) = mark_pieces pieces
 abbrev pub is_marked : ℕ × Bool → Type 0
 is_marked b = b.1 ≡ true
 
--- the value is the bytes without the unquoted blanks at both ends
+-- the value consists of the bytes without the unquoted blanks at both ends
 pub record IsTrimmed (bytes : List (ℕ × Bool)) (value : List ℕ) : Type 0 where
   pub before : List (ℕ × Bool)
   pub kept : List (ℕ × Bool)

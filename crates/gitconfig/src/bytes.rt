@@ -50,7 +50,7 @@ pub(crate) fn strip(byte: u8, text: &[u8]) -> Option<&[u8]>
     }
 }
 
-/// Returns the blanks at the front of a text, and the text after them.
+/// Returns the blanks at the front of a text, and the rest of the text.
 pub(crate) fn split_blanks(text: &[u8]) -> (&[u8], &[u8])
     ensures parts { text.now ≡ result.0.now ++ result.1.now }
     ensures each { All (λ b. is_blank b ≡ true) result.0.now }
@@ -61,7 +61,7 @@ pub(crate) fn split_blanks(text: &[u8]) -> (&[u8], &[u8])
     }
 }
 
-/// Returns the variable-name bytes at the front of a text, and the text after them.
+/// Returns the variable-name bytes at the front of a text, and the rest of the text.
 pub(crate) fn split_name(text: &[u8]) -> (&[u8], &[u8])
     ensures parts { text.now ≡ result.0.now ++ result.1.now }
     ensures each { All (λ b. is_name_byte b ≡ true) result.0.now }
@@ -72,7 +72,7 @@ pub(crate) fn split_name(text: &[u8]) -> (&[u8], &[u8])
     }
 }
 
-/// Returns the section-name bytes at the front of a text, and the text after them.
+/// Returns the section-name bytes at the front of a text, and the rest of the text.
 pub(crate) fn split_section(text: &[u8]) -> (&[u8], &[u8])
     ensures parts { text.now ≡ result.0.now ++ result.1.now }
     ensures each { All (λ b. is_section_byte b ≡ true) result.0.now }
@@ -83,7 +83,8 @@ pub(crate) fn split_section(text: &[u8]) -> (&[u8], &[u8])
     }
 }
 
-/// Returns the first line of a text, and the text after it, starting with the LF.
+/// Returns the first line of a text without its LF, and the rest of the text, which begins with the
+/// LF.
 pub(crate) fn split_line(text: &[u8]) -> (&[u8], &[u8])
     ensures parts { text.now ≡ result.0.now ++ result.1.now }
     ensures each { All (λ b. b ≢ 10) result.0.now }
@@ -95,7 +96,7 @@ pub(crate) fn split_line(text: &[u8]) -> (&[u8], &[u8])
     }
 }
 
-/// Returns whether the text is empty or begins with an LF, so that a line can end there.
+/// Returns whether the text is empty or begins with an LF, so that a line can end before the text.
 pub(crate) fn ends_line(text: &[u8]) -> bool
     ensures { IsTrue result ↔ EndsLine text.now }
 {
@@ -106,7 +107,7 @@ pub(crate) fn ends_line(text: &[u8]) -> bool
 }
 
 /// Returns whether the text is empty or begins with an LF or a comment, so that a value can end
-/// there.
+/// before the text.
 pub(crate) fn ends_value(text: &[u8]) -> bool
     ensures { IsTrue result ↔ EndsValue text.now }
 {

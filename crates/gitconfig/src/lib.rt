@@ -6,7 +6,7 @@
 //! - [`parse_config`] succeeds only for a text that is a configuration, as defined in `specs/`. The
 //!   function returns the variables that the text sets, in order, with their sections and values.
 //! - [`bare_config`] writes a configuration that sets exactly the variables of a new bare
-//!   repository. The URL is read back unchanged, whatever its bytes.
+//!   repository. The URL is read back unchanged, even if it contains arbitrary bytes.
 //! - No call panics, overflows or reads out of bounds, and every call returns, for any text.
 //!
 //! # Differences from Git
@@ -20,14 +20,15 @@
 //!
 //! # What the contracts do not rule out
 //!
-//! A configuration might be refused as malformed. [`bare_config`] might add any spaces and comments
-//! to the text. Any call that allocates may fail if out of memory; the contracts do not say when.
+//! A valid configuration might be refused as malformed. [`bare_config`] might add any spaces and
+//! comments to the text. Any call that allocates may fail if out of memory; the contracts do not
+//! say when.
 //!
 //! This crate has no tests.
 //!
 //! # Dependencies
 //!
-//! `std` alone.
+//! This crate depends only on `std`.
 #![tactic(auto)]
 
 mod bytes;

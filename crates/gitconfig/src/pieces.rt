@@ -18,7 +18,8 @@ pub(crate) enum Piece {
     Joint,
 }
 
-/// Returns the first piece of a value, and the text after the piece, or `None` if no piece follows.
+/// Returns the first piece of a value, and the text after the piece, or `None` if the text does not
+/// begin with a piece.
 pub(crate) fn split_piece(text: &[u8], is_quoted: bool) -> Option<(Piece, &[u8])>
     ensures piece { IfSome result (λ parts.
         BeginsWithPiece is_quoted text.now parts.0 parts.1.now) }
@@ -36,8 +37,7 @@ pub(crate) fn split_piece(text: &[u8], is_quoted: bool) -> Option<(Piece, &[u8])
     }
 }
 
-// Returns the piece that a backslash and the start of this text encode, and the text after the
-// piece.
+// Returns the piece that a backslash followed by this text encodes, and the text after the piece.
 fn split_escape(text: &[u8]) -> Option<(Piece, &[u8])>
     ensures piece { IfSome result (λ parts. (is_quoted : Bool)
         → BeginsWithPiece is_quoted (92 ∷ text.now) parts.0 parts.1.now) }

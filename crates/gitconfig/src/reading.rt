@@ -16,7 +16,7 @@ use crate::pieces::{Piece, split_piece};
 use crate::setting::Setting;
 use std::alloc::{AllocError, Allocator};
 
-// A configuration being read: its variables so far, and the current section.
+// The state of reading a configuration: the variables read so far, and the current section.
 #[derive(Drop)]
 struct Reading<A: Allocator + Copy> {
     alloc: A,
@@ -25,7 +25,7 @@ struct Reading<A: Allocator + Copy> {
 }
 
 /// Returns the variables that a configuration sets, in order. Fails with `Malformed` if the text is
-/// not a configuration, and with `Memory`.
+/// not a configuration, or with `Memory` if out of memory.
 pub fn parse_config<A: Allocator + Copy>(
     alloc: A,
     text: &[u8],
@@ -164,7 +164,8 @@ fn end_header<'t, A: Allocator + Copy>(
     }
 }
 
-// Reads a name and its closing quote, appends the name, and returns the text that follows.
+// Reads a quoted name and its closing quote, and appends the name to `name`. Returns the text
+// after the quote.
 fn read_quoted<'t, A: Allocator + Copy>(
     name: &mut Vec<u8, A>,
     text: &'t [u8],
@@ -184,7 +185,7 @@ fn read_quoted<'t, A: Allocator + Copy>(
     }
 }
 
-// Returns the first byte of a quoted name, and the text after it. Returns `None` at the closing
+// Returns the first byte of a quoted name, and the rest of the text. Returns `None` at the closing
 // quote, and at the end of a line or the text.
 fn split_quoted(text: &[u8]) -> Option<(u8, &[u8])>
     ensures byte { IfSome result (λ parts. BeginsWithQuoted text.now parts.0 parts.1.now) }
@@ -205,8 +206,8 @@ fn split_quoted(text: &[u8]) -> Option<(u8, &[u8])>
     }
 }
 
-// Reads the value of a variable, if there is one, from the text after the name and blanks. Returns
-// the value, and the text after it.
+// Reads the value of a variable, if any, from the text after the variable's name and blanks.
+// Returns the value and the rest of the text.
 fn read_assigned<A: Allocator + Copy>(
     alloc: A,
     text: &[u8],
@@ -225,10 +226,10 @@ fn read_assigned<A: Allocator + Copy>(
     }
 }
 
-// A value being read.
+// A partly read value.
 #[derive(Drop)]
 struct ValueText<A: Allocator + Copy> {
-    // The bytes of the value so far, without leading blanks.
+    // The bytes of the value read so far, without leading blanks.
     bytes: Vec<u8, A>,
     // The number of bytes before the trailing blanks.
     kept: usize,
@@ -259,7 +260,7 @@ impl<A: Allocator + Copy> ValueText<A> {
     }
 }
 
-// Reads a value. Returns the value, and the text after it.
+// Reads a value. Returns the value and the rest of the text.
 fn read_value<A: Allocator + Copy>(
     alloc: A,
     text: &[u8],

@@ -11,6 +11,6 @@ pub struct Setting<A: Allocator + Copy> {
     pub section: Vec<u8, A>,
     /// The name of the variable in lower case.
     pub name: Vec<u8, A>,
-    /// The value of the variable, or `None` if the configuration has only the name.
+    /// The value of the variable, or `None` if only the name is given, without `=`.
     pub value: Option<Vec<u8, A>>,
 }

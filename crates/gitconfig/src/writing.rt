@@ -79,7 +79,7 @@ fn push_setting<A: Allocator + Copy>(
     Ok(())
 }
 
-// Appends a value, in quotes if necessary.
+// Appends a value, with quotes around it if necessary.
 fn push_value<A: Allocator + Copy>(text: &mut Vec<u8, A>, value: &[u8]) -> Result<(), AllocError>
     ensures { OnOk result (AddsValue value.now text.old.items text.new.items) }
 {

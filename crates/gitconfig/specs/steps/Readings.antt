@@ -12,13 +12,13 @@ abbrev pub section_after : List ℕ → Item → List ℕ
 section_after section (Begins next) = next
 section_after section item = section
 
--- an item was read: the variable that it sets was added, and the current section was updated
+-- the state after reading an item: the variable that the item sets is added, and the current section is updated
 abbrev pub HasRead : {A : Type 0} → Reading A → Item → Reading A → Type 0
 HasRead old item new =
     (map setting_of new.settings.items ≡ map setting_of old.settings.items ++ settings_of old.section.items (item ∷ []))
     × (new.section.items ≡ section_after old.section.items item)
 
--- the value was extended by a piece
+-- the value after the call is the value before the call, extended by a piece
 abbrev pub Pushes : {A : Type 0} → Piece → ValueText A → ValueText A → Type 0
 Pushes (Byte b) old new = (new.bytes.items ≡ old.bytes.items ++ b ∷ []) × (new.kept ≡ length new.bytes.items)
 Pushes (Blank b) old new = (new.kept ≡ old.kept) × (((old.bytes.items ≡ []) × (new.bytes.items ≡ []))

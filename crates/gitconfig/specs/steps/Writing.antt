@@ -13,7 +13,7 @@ abbrev pub is_word : List ℕ → Bool
 is_word [] = false
 is_word (b ∷ word) = is_ascii_lowercase b && list_all is_ascii_lowercase word
 
--- the text has these items, whatever items follow
+-- the text consists of these items, no matter which items follow
 abbrev pub HoldsItems : List Item → List ℕ → Type 0
 HoldsItems items text = (rest : List ℕ) (more : List Item) → HasItems rest more → HasItems (text ++ rest) (items ++ more)
 
@@ -23,7 +23,7 @@ pub record AddsItems (items : List Item) (old new : List ℕ) : Type 0 where
   pub after : new ≡ old ++ text
   pub holds : HoldsItems items text
 
--- a text was appended that is read as this value, provided that the value ends there
+-- the appended text reads back as this value, if the value ends after the appended text
 abbrev pub AddsValue : List ℕ → List ℕ → List ℕ → Type 0
 AddsValue value old new = (text : List ℕ) × (new ≡ old ++ text)
     × ((rest : List ℕ) → EndsValue rest → BeginsWithValue (32 ∷ text ++ rest) value rest)
