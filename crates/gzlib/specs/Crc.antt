@@ -22,10 +22,10 @@ abbrev pub register_after : ℕ → List ℕ → ℕ
 register_after register [] = register
 register_after register (byte ∷ bytes) = register_after (next_register register byte) bytes
 
--- the checksum: the complement of the register, which starts with all bits 1
+-- the checksum: the complement of the register, if the register starts with all bits set
 abbrev pub crc32 : List ℕ → ℕ
 crc32 bytes = bit_not w32 (register_after 0xFFFF_FFFF bytes)
 
--- the state holds the register after these bytes
+-- the state is the register after these bytes
 abbrev pub HasCrcOf : Crc32 → List ℕ → Type 0
 HasCrcOf crc bytes = crc.register ≡ register_after 0xFFFF_FFFF bytes

@@ -6,7 +6,7 @@ ghost use Rattle.gzlib.specs.Adler.{adler32, HasAdlerOf};
 // The largest prime below 65,536.
 const BASE: u64 = 65_521;
 
-// The number of bytes to add before the sums are reduced modulo the prime.
+// The maximum number of bytes that are added before the sums are reduced modulo the prime.
 const PART: usize = 5_552;
 
 /// The running Adler-32 of bytes that arrive in pieces: call `new`, `update` for each piece, and
@@ -18,7 +18,7 @@ pub struct Adler32 {
 }
 
 impl Adler32 {
-    /// Returns the state to which no byte has been added.
+    /// Returns the state before any byte is added.
     pub fn new() -> Adler32
         ensures { HasAdlerOf result [] }
     {

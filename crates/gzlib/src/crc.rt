@@ -13,7 +13,7 @@ pub struct Crc32 {
 }
 
 impl Crc32 {
-    /// Returns the state to which no byte has been added.
+    /// Returns the state before any byte is added.
     pub fn new() -> Crc32
         ensures { HasCrcOf result [] }
     {
@@ -41,8 +41,8 @@ impl Crc32 {
     }
 }
 
-// Returns the register after eight more bytes. The first four bytes are combined with the bytes of
-// the register.
+// Returns the register after eight more bytes. The first four of these bytes are combined with the
+// register.
 fn next_eight(register: u32, bytes: &[u8; 8]) -> u32
     ensures { result ≡ register_after register bytes.now }
 {

@@ -1,5 +1,5 @@
-//! Tables of the CRC-32 register after 1 to 8 zero bytes, if its value at the start is a single
-//! byte.
+//! Tables of the CRC-32 register after 1 to 8 zero bytes, if the register starts at the value of a
+//! single byte.
 //!
 //! Each table has 256 rows, one for each value of the byte.
 

@@ -4,11 +4,11 @@
 //! # Proved
 //!
 //! - [`crc32_of`] and [`Crc32`] return the CRC-32 of the bytes. [`adler32_of`] and [`Adler32`]
-//!   return their Adler-32. Both checksums can be computed from pieces of the bytes.
+//!   return the Adler-32 of the bytes. Both checksums can be computed from pieces of the bytes.
 //! - [`Inflater::inflate`] appends at most `most` bytes. The last four bytes of the stream are
 //!   the Adler-32 of the inflated bytes. The stream does not extend past the end of the input. On
 //!   failure `body` is unchanged. [`Inflater::inflate_front`] appends at most `count` bytes.
-//! - [`put_stored`] appends exactly the stream of stored blocks that `specs/Stored.antt` defines.
+//! - [`put_stored`] appends exactly the zlib stream that `specs/Stored.antt` defines.
 //! - [`Deflater::deflate`] appends a header, unspecified bytes as the blocks, and the Adler-32 of
 //!   the input. On failure `out` is unchanged.
 //! - No call panics, overflows or reads out of bounds, and every call returns, for any input.
@@ -19,23 +19,23 @@
 //!   `examples/with-git.sh` tests packs made by Git.
 //! - Deflated bytes inflate to the same bytes: `gitcases` inflates them with this crate, and
 //!   `examples/with-git.sh` inflates them with Git.
-//! - In manual tests, this crate and zlib accepted the same altered streams. A header may name any
-//!   window up to 32 KiB. A code may be incomplete only if it has a single symbol, with a code of
-//!   one bit. The distance code may be empty.
+//! - In manual tests, this crate and zlib accepted the same altered streams. Both accept a header
+//!   with any window up to 32 KiB. Both accept an incomplete code only if it has a single symbol,
+//!   with a code of one bit. Both accept an empty distance code.
 //!
 //! # What the contracts do not rule out
 //!
 //! No contract says that inflating conforms to RFC 1951, or that deflated bytes inflate to the same
 //! bytes. No contract says which fault is returned, so an inflater could refuse a valid stream.
-//! Deflated blocks could be larger than necessary. [`Inflater::inflate_front`] could append fewer
-//! bytes than the stream holds.
+//! Deflated blocks could be larger than necessary. [`Inflater::inflate_front`] could append too few
+//! bytes.
 //!
 //! Any call that allocates may fail for lack of memory, and no contract says when. No contract
 //! covers time or memory use.
 //!
 //! # Dependencies
 //!
-//! Only `std`.
+//! This crate depends only on `std`.
 #![tactic(auto)]
 
 mod adler;
