@@ -24,8 +24,8 @@ use std::marker::Model;
 // MiB. Without this limit, a small pack of deltas could use up all memory.
 const MAX_KEPT: usize = 117_440_512;
 
-// The bytes of memory counted for each named id, for each commit or tag, and for each parent. Spare
-// table slots and allocator overhead are included.
+// The numbers of bytes of memory that are counted for each named id, for each commit or tag, and
+// for each parent. Spare table slots and allocator overhead are included.
 const NEED_BYTES: usize = 56;
 
 const ENTRY_BYTES: usize = 96;
@@ -47,7 +47,7 @@ const MAX_LINKING: usize = 67_108_864;
 pub(crate) struct Arrival<A: Allocator + Copy> {
     alloc: A,
     entries: Vec<Entry<A>, A>,
-    // The expected type of each object that another object names, by id.
+    // The expected type of each named object, by id.
     needs: IndexMap<Oid, ObjectType, IdHasher, A>,
     // The number of bytes of `MAX_KEPT` that are still unused.
     room: usize,

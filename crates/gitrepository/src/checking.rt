@@ -88,7 +88,7 @@ pub fn check_refs<F: ObjectFiles, A: Allocator + Copy>(
     }
 }
 
-// Checks the objects that a detached HEAD reaches, except those that refs reach.
+// Checks the objects that a detached HEAD reaches, except objects that refs reach.
 fn check_head<F: ObjectFiles, A: Allocator + Copy>(
     history: &mut History<'_, A>,
     gathering: &mut Gathering<'_, '_, F, A>,
@@ -102,7 +102,7 @@ fn check_head<F: ObjectFiles, A: Allocator + Copy>(
     }
 }
 
-// Checks the objects that this id reaches, except those that earlier refs reach.
+// Checks the objects that this id reaches, except objects that earlier refs reach.
 fn check_ref<F: ObjectFiles, A: Allocator + Copy>(
     history: &mut History<'_, A>,
     gathering: &mut Gathering<'_, '_, F, A>,

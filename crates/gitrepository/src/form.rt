@@ -25,7 +25,7 @@ const NO: [&[u8]; 5] = [b"", b"false", b"no", b"off", b"0"];
 /// reftable. Also refuses a repository whose configuration names an unknown version or extension
 /// (git-config(1), "core.repositoryFormatVersion", "extensions").
 ///
-/// Fails with `Form` if the format is unsupported. Also fails as [`ObjectStore::open`] does.
+/// Fails with `Form` if the format is unsupported. Other faults are those of [`ObjectStore::open`].
 pub fn open_store<'f, F: ObjectFiles, A: Allocator + Copy>(
     files: &'f F,
     alloc: A,

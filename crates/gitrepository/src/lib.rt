@@ -2,8 +2,8 @@
 //! packs it receives (gitrepository-layout(5), gitformat-pack(5)).
 //!
 //! - [`open_repository`] returns the graph of everything the refs reach. The function
-//!   [`read_commit_graph`] reads the commit-graph, which lists the parents of commits. The commits
-//!   themselves need not be read.
+//!   [`read_commit_graph`] reads the commit-graph, which lists the parents of commits. A commit
+//!   that the commit-graph lists need not be read.
 //! - [`open_tips`] returns the objects that refs point to, without their history. The command
 //!   `ls-refs` needs no other objects. [`lead_with_newest`] puts refs to the newest objects first.
 //! - A [`StorePacker`] packs commits and tags with their trees and blobs. The packer copies stored
@@ -66,33 +66,34 @@
 //! - The packer might send objects other than the wanted ones, or send the entry of one object in
 //!   place of another. No contract says which trees and blobs are sent. The stream of an entry may
 //!   be any bytes, and a delta may name a base that is not sent. The reader compares the CRC-32 of
-//!   each copied entry with the index, but no contract states this.
+//!   each copied entry with the index, but no contract covers this comparison.
 //! - If a commit-graph is wrong, the graph may be wrong too. The commit-graph is used only for
-//!   commits in the store. No contract states this, or from which file the commit-graph is read.
+//!   commits in the store. No contract covers which commits are looked up in the commit-graph, or
+//!   from which file it is read.
 //! - The graph might contain objects that no ref reaches, and a ref might be left out. No contract
 //!   covers HEAD.
 //! - [`open_tips`] might find objects other than those of the refs, or peel a tag to the wrong
-//!   object. This function trusts the peeled ids in `packed-refs`, as Git does. The function
+//!   object. [`open_tips`] trusts the peeled ids in `packed-refs`, as Git does. The function
 //!   [`lead_with_newest`] might leave refs out or put other refs first.
-//! - [`check_refs`] might look at objects other than those that the refs reach. The function might
-//!   count the nodes of another graph, and no contract covers the number of objects.
+//! - [`check_refs`] might look at objects other than those that the refs reach. [`check_refs`]
+//!   might count the nodes of another graph, and no contract covers the number of objects.
 //! - [`Tips`] might forget an id, [`add_leaves`] might add other nodes, and a repository in any
 //!   format might be opened or refused. The function [`is_bare`] might return any result. The names
 //!   of peeled refs in a new repository might be wrong.
 //! - The indexer might leave out an entry, or return one for an object that the pack does not have.
 //!   The indexer looks up the named trees and blobs, and compares objects that the store already
-//!   has. No contract states this, or when the indexer reads an object. The indexer may miss a
-//!   loose object that is added meanwhile.
+//!   has. No contract covers these look-ups and comparisons, or states when the indexer reads an
+//!   object. The indexer may miss a loose object that is added meanwhile.
 //! - A parent of a commit in the graph may be a tag, tree or blob. The types of parents are
-//!   checked, but no contract states this.
+//!   checked, but no contract covers this check.
 //! - [`PackCounts`] and [`StorePacker::counts`] have no contract, because they serve only
 //!   measurements.
 //! - [`StoreIndexer::kind_of`] may return the wrong type. The method
 //!   [`StoreIndexer::take_received`] may return a pack that was not received, or `None`.
 //! - A [`NewRepository`] might lack its pack, its refs or HEAD, or be removed once it is finished.
 //! - No contract can describe the contents of a system file: only the order of the calls in
-//!   [`install_pack`] is proved. The function might not create the file `.keep`, or might install
-//!   nothing.
+//!   [`install_pack`] is proved. [`install_pack`] might not create the file `.keep`, or might
+//!   install nothing.
 //! - Any call may fail if out of memory. The contracts do not cover which fault is returned, the
 //!   text of a fault, running time, or memory use.
 //!
@@ -100,11 +101,11 @@
 //!
 //! # Dependencies
 //!
-//! `gparts` defines packers that return parts, `ggraph` and `gdag` graphs, `gobject` objects of a
-//! graph, and `grefs` refs. `gitobjects` reads objects, `gitcommitgraph` commit-graphs, `gitrefs`
-//! refs, and `gitconfig` settings. `gitpack` reads and writes packs, and `gitobject` parses links.
-//! `gzlib` deflates, `gname` defines ids, `indexmap` defines maps by id, and `sha1` computes the
-//! trailer of a pack.
+//! `gparts` defines packers that return parts, and `ggraph` and `gdag` define graphs. `gobject`
+//! defines the objects of a graph, and `grefs` defines refs. `gitobjects` reads objects,
+//! `gitcommitgraph` reads commit-graphs, `gitrefs` reads refs, and `gitconfig` reads settings.
+//! `gitpack` reads and writes packs, and `gitobject` parses links. `gzlib` deflates, `gname`
+//! defines ids, `indexmap` defines maps by id, and `sha1` computes the trailer of a pack.
 #![tactic(auto)]
 
 mod arrival;

@@ -47,8 +47,8 @@ impl<'f, F: ObjectFiles, A: Allocator + Copy> StorePacker<'f, F, A> {
         self.counts.get()
     }
 
-    /// Removes and returns the fault of the last call that returned `Other`, or `None` if there is
-    /// none.
+    /// Removes and returns the fault of the last call that returned `Other`, or `None` if no fault
+    /// is stored.
     pub fn take_fault(&self) -> Option<RepositoryFault<A>> {
         match self.fault.try_replace(None) {
             Ok(fault) => fault,

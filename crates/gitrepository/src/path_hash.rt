@@ -1,4 +1,4 @@
-//! Path hashes, which sort objects before deltas are made.
+//! Hashes of paths, by which objects are sorted before deltas are made.
 
 /// The hash of the path at which an object was found. The last bytes of a path have the most
 /// weight. Sorting by this hash makes the versions of a file adjacent, and puts files whose names
