@@ -91,7 +91,8 @@ fn empty_slots<A: Allocator + Copy>(alloc: A) -> Result<Vec<Option<Kept<A>>, A>,
     Ok(slots)
 }
 
-// Returns the slot of a location, which is a multiplicative hash based on the golden ratio.
+// Returns the slot of a location. The slot number is a multiplicative hash, based on the golden
+// ratio.
 fn slot_of(spot: Spot) -> usize {
     let mixed = spot
         .start

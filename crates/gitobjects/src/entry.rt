@@ -38,7 +38,8 @@ const MATCH: usize = 258;
 
 /// Inflates the pack entry that has exactly these bytes.
 ///
-/// Fails with `Head`, `ObjectSize`, `Stream` or `Memory`.
+/// Fails with `Head` or `Stream` if the header or the stream is malformed, with `ObjectSize` if the
+/// contents are too large, or with `Memory` if out of memory.
 pub(crate) fn inflate_entry<A: Allocator + Copy>(
     alloc: A,
     inflater: &mut Inflater,

@@ -185,8 +185,8 @@ impl<P: OpenPack + Drop, A: Allocator + Copy> IndexFile<P, A> {
         Places { low, high }
     }
 
-    // Returns the positions to search for an id whose likely position is `middle`. If the ids in
-    // memory include `middle`, no other ids are read.
+    // Returns the positions to search for an id whose likely position is `middle`. If the id at
+    // `middle` is already in memory, no other ids are read.
     fn part_for(&self, places: Places, middle: usize) -> Places {
         let held = self.held;
         if held.low <= middle

@@ -1,6 +1,5 @@
-//! The objects of a Git directory, read-only (gitrepository-layout(5)): in packs, which are read
-//! block by block, in loose files, and in alternates. This crate does not handle refs, graphs or
-//! the protocol.
+//! Read-only access to the objects of a Git directory (gitrepository-layout(5)): packs, loose
+//! objects, and alternates. This crate does not handle refs, graphs or the protocol.
 //!
 //! - An [`ObjectStore`] opens the packs of a directory and finds objects.
 //! - An [`ObjectReader`] reads objects, and returns their types. The reader applies deltas without
@@ -20,7 +19,7 @@
 //! - The window on the packs returns the correct bytes of a pack, no matter which blocks are in
 //!   memory. The window holds at most 64 blocks for all packs together, each of at most 1 MiB.
 //! - A folder must be listed again unless it was listed twice since its names changed. A private
-//!   function decides this.
+//!   function makes this decision.
 //! - The path of a loose object consists of a folder and the digits of the id. The paths in
 //!   `info/alternates` are read in the order of its lines.
 //! - A private function finds in a listing exactly the packs whose index is listed. The name of an
@@ -63,9 +62,10 @@
 //! - No contract says that other copies of a broken object are tried. No contract says that a
 //!   listed pack is opened.
 //! - The entry that [`ObjectReader::raw_entry`] returns may be any bytes. The CRC-32 of the entry
-//!   is compared with the index, but no contract states this.
-//! - A pack may be added in the same tick of the file system's clock as a listing. Such a pack is
-//!   not seen until the folder changes again, or until [`ObjectReader::refresh`].
+//!   is compared with the index, but no contract covers this comparison.
+//! - A pack may be added in the same tick of the file system's clock as a listing. A pack that was
+//!   added in this tick is not seen until the folder changes again, or until
+//!   [`ObjectReader::refresh`].
 //! - Only the safety of the base cache is proved.
 //! - [`ObjectStore::find`], [`ObjectStore::find_in`] and [`ObjectReader::find`] may return a wrong
 //!   location of an object, or `None`. The methods [`ObjectStore::index`] and
@@ -73,13 +73,13 @@
 //! - No contract says from which pack and position an entry is read. Only the bytes that the window
 //!   returns are proved.
 //! - A pack that does not match its index may be opened. The header, object count and checksum of
-//!   the pack are compared with the index, but no contract states this.
+//!   the pack are compared with the index, but no contract covers this comparison.
 //! - A loose object may be accepted even if bytes follow its stream.
 //! - No contract says which alternates are read, where a relative path begins, or how the open
 //!   packs are ordered.
 //! - [`ObjectReader::refresh`] may find nothing new. A folder may be listed more or less often than
 //!   the proved function decides.
-//! - [`MemoryFiles`] may return bytes other than those that were added.
+//! - [`MemoryFiles`] may return bytes that differ from the added bytes.
 //! - A [`QuickReader`] may find no object, report one that does not exist, or return a wrong type.
 //!   A quick reader does not check a whole index.
 //! - The contracts do not cover which fault is returned, which file it names, or its text.

@@ -184,7 +184,7 @@ impl<A: Allocator + Copy> PackFile<A> {
 
     /// Returns the unchanged entry at this index position, or `None` past the end of the index.
     /// Fails with `Crc` if the CRC-32 of the entry does not match the index, and with `Head` if the
-    /// entry header is malformed. Also fails as `bytes_at` does.
+    /// entry header is malformed. Other faults are those of `bytes_at`.
     pub(crate) fn raw_entry<P: OpenPack + Drop>(
         &self,
         window: &mut Window<P, A>,

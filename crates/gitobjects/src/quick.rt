@@ -35,7 +35,7 @@ impl<'f, F: ObjectFiles, A: Allocator + Copy> QuickReader<'f, F, A> {
     /// Opens the objects of the Git directory with this path. Unusable packs, and the packs of a
     /// folder that cannot be listed, are left out.
     ///
-    /// Fails as [`crate::ObjectStore::open`] does.
+    /// Fails for the same reasons as [`crate::ObjectStore::open`].
     pub fn open(
         files: &'f F,
         alloc: A,

@@ -218,7 +218,7 @@ fn inflate_front<A: Allocator + Copy>(
 }
 
 // Applies deltas to a whole object, beginning with the last delta of the list. Returns the
-// resulting object, or `None` if a delta does not fit its base.
+// resulting object, or `None` if a delta cannot be applied to its base.
 fn apply_all<A: Allocator + Copy>(
     alloc: A,
     kind: ObjectType,

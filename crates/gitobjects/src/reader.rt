@@ -17,7 +17,7 @@ use std::alloc::{AllocError, Allocator};
 /// A reader of the objects of a store. The reader caches some delta bases.
 ///
 /// A call that does not find an object lists the packs again, because Git may have packed the
-/// object meanwhile. A pack folder is listed at most twice after each change of its names, however
+/// object meanwhile. A pack folder is listed at most twice after each change of its names, even if
 /// many objects are not found. [`ObjectReader::refresh`] lists all folders.
 #[derive(Drop)]
 pub struct ObjectReader<'f, F: ObjectFiles, A: Allocator + Copy> {
@@ -45,7 +45,8 @@ impl<'f, F: ObjectFiles, A: Allocator + Copy> ObjectReader<'f, F, A> {
     /// Lists all folders again to find new alternates and packs, even in folders that seem
     /// unchanged.
     ///
-    /// Fails as [`ObjectStore::open`] does. After a fault the reader still has all its packs.
+    /// Fails for the same reasons as [`ObjectStore::open`]. After a fault the reader still has all
+    /// its packs.
     pub fn refresh(&mut self) -> Result<(), StoreFault<A>> {
         self.store.reload()
     }
@@ -91,7 +92,8 @@ impl<'f, F: ObjectFiles, A: Allocator + Copy> ObjectReader<'f, F, A> {
 
     /// Returns the object with this id. The id of the object is computed and checked.
     ///
-    /// Fails as [`ObjectReader::read`] does, and with the cause `Id` if the object has another id.
+    /// Fails for the same reasons as [`ObjectReader::read`], and with the cause `Id` if the object
+    /// has another id.
     pub fn read_checked(&mut self, id: &Oid) -> Result<Object<A>, StoreFault<A>>
         ensures { IfOk result (λ object. id_of object.kind object.body.items ≡ id.now) }
     {
@@ -107,8 +109,8 @@ impl<'f, F: ObjectFiles, A: Allocator + Copy> ObjectReader<'f, F, A> {
     /// delta chain, or from the start of a loose object. If these bytes do not determine the type,
     /// the whole object is read.
     ///
-    /// Fails as [`ObjectReader::read`] does. The type of an object with a broken body may be
-    /// returned.
+    /// Fails for the same reasons as [`ObjectReader::read`]. The type of an object with a broken
+    /// body may be returned.
     pub fn kind_of(&mut self, id: &Oid) -> Result<ObjectType, StoreFault<A>> {
         match self.kind_listed(id) {
             Ok(Some(kind)) => Ok(kind),

@@ -65,7 +65,7 @@ impl<'f, F: ObjectFiles, A: Allocator + Copy> ObjectStore<'f, F, A> {
     /// Looks for alternates and packs that were added since the store was opened or reloaded. Open
     /// packs stay open.
     ///
-    /// Fails as `open` does. After a fault the store still has all its packs.
+    /// Fails for the same reasons as `open`. After a fault the store still has all its packs.
     pub fn reload(&mut self) -> Result<(), StoreFault<A>> {
         self.folders = object_folders(self.files, self.alloc, self.own.as_str())?;
         self.list_stale()?;
