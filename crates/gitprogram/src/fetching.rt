@@ -345,7 +345,7 @@ fn check_moved(alloc: Global, fetched: &Fetched<Global>) -> Result<(), Fault> {
     Ok(())
 }
 
-// Prints the result for each ref, unless quiet.
+// Prints the result for each ref, unless `report` is quiet.
 fn report_unless<R: Print + AllocGlobal>(
     rt: &R,
     report: Report,

@@ -211,7 +211,7 @@ fn end_after(exchange: ExchangeEnd) -> Option<End> {
     }
 }
 
-// Returns a conversation with this number of answered requests, which ended in this way.
+// Returns the conversation that answered this number of requests and ended with `end`.
 fn conversation_of(alloc: Global, requests: u32, end: End) -> Conversation {
     let outcome = match end {
         End::Closed | End::Ended => Ok(()),

@@ -9,9 +9,9 @@
 //!   sends a pack entry by entry, and holds one entry and at most 10 possible delta bases in
 //!   memory. `serve` logs one line per connection.
 //! - `upload-pack` serves one connection on standard input and output (git-upload-pack(1)).
-//! - `serve` and `upload-pack` answer ls-refs from the objects that refs point to. Both commands
-//!   read the history at the first request that may be a fetch. If the history is incomplete, both
-//!   commands refuse the request, as Git does.
+//! - `serve` and `upload-pack` answer ls-refs from the objects that refs point to. `serve` and
+//!   `upload-pack` read the history at the first request that may be a fetch. If the history is
+//!   incomplete, the request is refused, as in Git.
 //! - `clone` and `fetch` store the received pack unchanged, and then update the refs. `ls` prints
 //!   the refs of a server as git-ls-remote(1) does. `check` checks the connectivity of the refs.
 //! - A failed command prints one sentence on standard error, and exits with status 1. The exit
@@ -19,14 +19,14 @@
 //!
 //! # Proved
 //!
-//! - No call panics, overflows or reads out of bounds, and every call returns, whatever the
-//!   arguments, files, standard streams and peers.
+//! - No call panics, overflows or reads out of bounds, and every call returns, for any arguments,
+//!   files, standard streams and peers.
 //! - `ls` prints the refs in the format of git-ls-remote(1) (`specs/Listing.antt`). A private
 //!   function derives the HEAD of a clone from the server's reply (`specs/Heads.antt`). Another
 //!   private function finds version 2 among the keys of `GIT_PROTOCOL` (`specs/Versions.antt`).
 //! - `serve` runs each connection as a `Dialogue` in an event loop of `gevents`, so the proofs of
-//!   `gserver` and `gevents` apply to each connection. A pack that `serve` sends to the end is
-//!   complete.
+//!   `gserver` and `gevents` apply to each connection. If `serve` sends a pack to its end, the pack
+//!   is complete.
 //!
 //! # Only tested
 //!
