@@ -80,7 +80,7 @@ impl<A: Allocator + Copy> IncomingPack<A> {
     }
 }
 
-// Returns the objects of a complete pack. Some of its entries may have been scanned already.
+// Returns the objects of a complete pack. Some entries of the pack may have been scanned already.
 fn objects_of<A: Allocator + Copy, V: ObjectVisitor>(
     scanner: Scanner<A>,
     pack: &FramedPack<A>,

@@ -13,9 +13,9 @@
 //! - [`DeltaBase::make_delta`] returns only a delta that makes the target from the base, and whose
 //!   size is within the limit.
 //! - [`PackIndex::read`] returns an index if and only if the bytes are an index of version 2
-//!   (`ReadsIndex` in `specs/Indexes.antt`). This function does not check the index's own checksum.
-//!   The entries of an index are sorted by id, and the fan-out table and both offset tables match
-//!   the entries. The same bytes encode at most one index ([`laws`]).
+//!   (`ReadsIndex` in `specs/Indexes.antt`). [`PackIndex::read`] does not check the index's own
+//!   checksum. The entries of an index are sorted by id, and the fan-out table and both offset
+//!   tables match the entries. The same bytes encode at most one index ([`laws`]).
 //! - [`PackIndex::find`] finds an id if and only if the index contains it. The methods
 //!   [`PackIndex::id`], [`PackIndex::crc`] and [`PackIndex::offset`] return the fields of the entry
 //!   at a position.
@@ -56,13 +56,13 @@
 //! - [`DeltaBase::make_delta`] might never find a delta, or might find a longer delta than
 //!   necessary. Only the memory safety of the search is proved. Each found delta is applied as a
 //!   check, and returned only if it makes the target.
-//! - [`IncomingPack`] and [`index_pack`] might refuse a good pack. Both might omit any object, or
-//!   return an object that the visitor did not receive, or received with another type. Both might
-//!   return a wrong offset or CRC-32 of an object, or apply a delta to a wrong base. Both might
-//!   accept a thin pack, a pack with bytes after its last entry, or a pack with the same delta base
-//!   twice. Both might accept a pack after the visitor refused an object, or pass the visitor an
-//!   object that is not in the pack. The contracts of both do not cover limits, faults, or the time
-//!   at which the visitor receives an object.
+//! - [`IncomingPack`] and [`index_pack`] might refuse a good pack. Indexing might omit any object,
+//!   or return an object that the visitor did not receive, or received with another type. Indexing
+//!   might return a wrong offset or CRC-32 of an object, or apply a delta to a wrong base. Indexing
+//!   might accept a thin pack, a pack with bytes after its last entry, or a pack with the same
+//!   delta base twice. Indexing might accept a pack after the visitor refused an object, or pass
+//!   the visitor an object that is not in the pack. The contracts of indexing do not cover limits,
+//!   faults, or the time at which the visitor receives an object.
 //! - [`IndexedPack::find`] returns an object with the id, but no contract says that
 //!   [`IndexedPack::entries`] contains this object.
 //! - [`PackWriter`] and [`put_entry`] might fail for any entry, with any fault. After a fault,
