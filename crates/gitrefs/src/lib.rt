@@ -36,7 +36,8 @@
 //! - A loose ref whose name is not UTF-8 is ignored, and cannot be updated. In `packed-refs`, names
 //!   that are not UTF-8 are accepted.
 //! - Git cannot resolve HEAD if it leads to a malformed ref file, or through too many symbolic
-//!   refs. For such a HEAD, this crate returns the last ref name in the chain of symbolic refs.
+//!   refs. For a HEAD that Git cannot resolve, this crate returns the last ref name in the chain of
+//!   symbolic refs.
 //! - Git updates a symbolic ref by updating its target. This crate updates neither symbolic refs
 //!   nor symbolic links.
 //! - A ref cannot replace a directory that contains empty directories. Git removes empty
@@ -58,7 +59,8 @@
 //! No contract can describe the contents of a system file, so [`GitDirectory`] is only tested,
 //! against Git. No contract covers which files [`GitDirectory`] opens, the precedence of loose
 //! refs, or symbolic refs. No contract covers which updates [`GitDirectory`] refuses, or the
-//! removal of locks. A lockfile is removed when its guard is dropped, but no contract states this.
+//! removal of locks. A lockfile is removed when its guard is dropped, but no contract covers this
+//! removal.
 //!
 //! The contracts let [`PackedPeels`] contain any data. In fact [`PackedPeels`] contains the peeled
 //! ids of `packed-refs`, which may be wrong.

@@ -224,7 +224,7 @@ impl<R: Files, A: Allocator + Copy> GitDirectory<'_, R, A> {
     }
 
     // Looks up the path of a ref. A symbolic link to a ref name counts as a symbolic ref, since old
-    // versions of Git wrote such links. Any other link is followed.
+    // versions of Git wrote symbolic refs as links. Any other link is followed.
     fn look(&self, name: &RefName<A>) -> Result<RefEntry<A>, RefFault<A>> {
         let path = self.path_of(name)?;
         let Some(metadata) = self.metadata_of(&path, self.files.symlink_metadata(path.as_str()))?

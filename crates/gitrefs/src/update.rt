@@ -29,11 +29,11 @@ impl<R: Files, A: Allocator + Copy> GitDirectory<'_, R, A> {
     ///
     /// Fails with `Format` if a new id is not a SHA-1 id, and with `Conflict` if the name of one
     /// ref is a directory in the name of another ref. Other possible faults are `Missing`, `Refs`,
-    /// `Locked`, `Moved`, `Symbolic`, `Malformed` and `Utf8`. All faults so far leave every ref
-    /// unchanged. Fails with `System` if a system call fails, or with `Memory` if out of memory. In
-    /// these two cases, some refs may have changed if renaming a lockfile failed. After any fault,
-    /// each ref has its old or its new id. All locks of this call are removed, but directories
-    /// created for them may remain.
+    /// `Locked`, `Moved`, `Symbolic`, `Malformed` and `Utf8`. None of the faults mentioned so far
+    /// changes a ref. Fails with `System` if a system call fails, or with `Memory` if out of
+    /// memory. After `System` or `Memory`, some refs may have changed if renaming a lockfile
+    /// failed. After any fault, each ref has its old or its new id. All locks of this call are
+    /// removed, but directories created for them may remain.
     pub fn update_refs(&self, updates: &[RefUpdate<A>]) -> Result<(), RefFault<A>> {
         self.check_updates(updates)?;
         let mut locked = Vec::new(self.alloc);
