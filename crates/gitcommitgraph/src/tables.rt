@@ -101,7 +101,7 @@ impl Tables<'_> {
         follow(&self.edges[(second - MARK) as usize..], list, most)
     }
 
-    /// Returns whether the ids ascend.
+    /// Returns whether the ids are in ascending order.
     pub(crate) fn are_ascending(&self) -> bool
         ensures { IsTrue result ↔ IsAscending self.now.ids.now }
     {
