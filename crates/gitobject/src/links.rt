@@ -118,7 +118,7 @@ fn goes_on(text: &[u8]) -> bool
     }
 }
 
-/// Returns the link of a tag to the object that the tag names, or `None` if the bytes do not begin
+/// Returns the link of a tag to the object that it names. Returns `None` if the bytes do not begin
 /// like a tag, or if there are fewer than 64 bytes.
 pub fn tag_link(body: &[u8]) -> Option<Link>
     ensures { MatchOption result
