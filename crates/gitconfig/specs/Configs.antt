@@ -15,7 +15,7 @@ pub record Setting : Type 0 where
 
 -- ---- the header of a section: `[section]`, or `[section "subsection"]`
 
--- the text begins with a byte of a quoted name, or with a backslash and such a byte
+-- the text begins with a byte of a quoted name, possibly after a backslash
 abbrev pub BeginsWithQuoted : List ℕ → ℕ → List ℕ → Type 0
 BeginsWithQuoted text b rest =
     (b ≢ 10) × (((text ≡ b ∷ rest) × (b ≢ 34) × (b ≢ 92)) ⊎ (text ≡ 92 ∷ b ∷ rest))
@@ -101,7 +101,7 @@ abbrev pub HasItems : List ℕ → List Item → Type 0
 HasItems text [] = text ≡ []
 HasItems text (item ∷ items) = (rest : List ℕ) × BeginsWithItem text item rest × HasItems rest items
 
--- the variables that the items set, each in the section of the nearest header before it
+-- the variables that the items set, each in the section of the nearest header before the variable
 abbrev pub settings_of : List ℕ → List Item → List Setting
 settings_of section [] = []
 settings_of section (Nothing ∷ items) = settings_of section items

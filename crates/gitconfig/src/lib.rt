@@ -15,7 +15,7 @@
 //! - A CR always counts as a blank. In Git a CR is a blank only before LF and in values.
 //! - A byte order mark at the start of the text is refused. Git skips a byte order mark. A blank
 //!   before a section name, and a `\` before CR LF or at the end of the text, are also refused. Git
-//!   accepts a blank before a section name, and a `\` in these places.
+//!   accepts a blank before a section name, and a `\` before CR LF or at the end of the text.
 //! - `include` and `includeIf` are ordinary sections.
 //!
 //! # What the contracts do not rule out

@@ -13,11 +13,11 @@ abbrev pub is_word : List ℕ → Bool
 is_word [] = false
 is_word (b ∷ word) = is_ascii_lowercase b && list_all is_ascii_lowercase word
 
--- the text consists of these items, no matter which items follow
+-- the text has these items, even if a text with other items follows
 abbrev pub HoldsItems : List Item → List ℕ → Type 0
 HoldsItems items text = (rest : List ℕ) (more : List Item) → HasItems rest more → HasItems (text ++ rest) (items ++ more)
 
--- a text with these items was appended
+-- the new text is the old text, followed by a text of these items
 pub record AddsItems (items : List Item) (old new : List ℕ) : Type 0 where
   pub text : List ℕ
   pub after : new ≡ old ++ text
@@ -28,7 +28,7 @@ abbrev pub AddsValue : List ℕ → List ℕ → List ℕ → Type 0
 AddsValue value old new = (text : List ℕ) × (new ≡ old ++ text)
     × ((rest : List ℕ) → EndsValue rest → BeginsWithValue (32 ∷ text ++ rest) value rest)
 
--- the bytes of a quoted value were appended
+-- the new text is the old text, followed by the bytes of a quoted value
 abbrev pub AddsQuoted : List ℕ → List ℕ → List ℕ → Type 0
 AddsQuoted value old new = (text : List ℕ) × (new ≡ old ++ text)
     × ((rest : List ℕ) (more : List Piece) (end : List ℕ) → HasPieces true rest more end
