@@ -10,11 +10,11 @@ pub struct Ask<A: Allocator + Copy = Global> {
     pub name: RefName<A>,
     /// The new id of the ref.
     pub id: Oid,
-    /// Whether to move the ref even if that is not a fast-forward (git-fetch(1), `--force`).
+    /// Whether to move the ref even if the move is not a fast-forward (git-fetch(1), `--force`).
     pub forced: bool,
 }
 
-/// The outcome of an ask for a ref.
+/// The outcome of a requested ref update.
 #[derive(Clone, Copy, Debug, PartialEq, Eq, Drop)]
 pub enum RefUpdate {
     /// The ref was set to the id: the ref was new, or the update was forced or a fast-forward.
