@@ -58,8 +58,8 @@
 //! # Dependencies
 //!
 //! The crate uses `ggraph` for graphs, refs and walks, and the crates `gobject`, `gdag`, `grefs`
-//! and `gwalk` below `ggraph`. It uses `gname` for ids and names, and `indexmap` to look up updates by
-//! name.
+//! and `gwalk` below `ggraph`. It uses `gname` for ids and names, and `indexmap` to look up updates
+//! by name.
 #![tactic(auto)]
 
 mod ask;
