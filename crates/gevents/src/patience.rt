@@ -3,7 +3,7 @@
 use crate::limits::Limits;
 use std::time::{Duration, Instant};
 
-// The next action that the loop expects of a peer.
+// The action that the loop expects next from a peer.
 #[derive(Clone, Copy, PartialEq, Eq)]
 enum Due {
     // Send all packets before the first answer.
@@ -16,7 +16,7 @@ enum Due {
     Take,
 }
 
-/// The next action expected of a peer, and its deadline.
+/// The action expected next from a peer, and its deadline.
 #[derive(Clone, Copy)]
 pub(crate) struct Patience {
     began: Instant,
