@@ -11,7 +11,7 @@ use std::alloc::{AllocError, AllocFailed, Allocator};
 use std::error::Error;
 use std::{fmt, io};
 
-/// The reason a stored file could not be read or replaced.
+/// The reason why a stored file could not be read or replaced.
 #[derive(Clone, Copy, Debug, PartialEq, Eq)]
 pub enum StorageFault {
     /// Out of memory.
@@ -70,7 +70,7 @@ pub enum Lockfile {
     Written,
     /// The lockfile has the new text, and the text is synced to disk.
     Synced,
-    /// A call failed. The lockfile can only be removed.
+    /// A call failed, and the run can only remove the lockfile.
     Unusable,
 }
 
