@@ -1,4 +1,4 @@
-//! Commands that fetch into the repository of a file. The file is replaced as a whole or not at
+//! Commands that fetch into the repository of a file. They replace the file as a whole or not at
 //! all.
 
 use crate::faults::fail;
