@@ -9,18 +9,18 @@
 //!   reaches is marked. This invariant is a postcondition of [`Repo::format`] and of each method
 //!   that changes a repository.
 //! - [`Repo::add_local`] adds an object exactly when the repository holds its parents and the graph
-//!   accepts the object. It reports the first missing parent before any fault of the graph.
+//!   accepts the object. The first missing parent is reported before any fault of the graph.
 //! - [`Repo::insert_all`] adds all objects of a pack or no objects, and accepts objects whose
-//!   parents are missing. It leaves marks and refs unchanged.
+//!   parents are missing. The call leaves marks and refs unchanged.
 //! - [`Repo::set_local_ref`] sets a ref exactly when the new id is connected and the ref can be
-//!   set. It checks both conditions before it allocates memory for the ref.
+//!   set. This call checks both conditions before it allocates memory for the ref.
 //! - [`Asks`] is a list of requested ref updates. It keeps only the first update that was added for
 //!   each ref. Its methods look up the ref, the id and the force flag of an update by index.
 //! - [`Repo::settle`] makes all allowed updates of refs at once, and leaves all other refs
-//!   unchanged. It moves no ref if one of the new ids is not connected, or if the refs can't all be
-//!   set. It returns the outcome of each requested update. It marks every object that the new ids
-//!   reach, and keeps all other marks. It reports out of memory for refs (`RepoFault::Refs`) only
-//!   if all ids are connected and the refs can be set.
+//!   unchanged. The call moves no ref if one of the new ids is not connected, or if the refs can't
+//!   all be set. The call returns the outcome of each requested update. It marks every object that
+//!   the new ids reach, and keeps all other marks. `Repo::settle` reports out of memory for refs
+//!   (`RepoFault::Refs`) only if all ids are connected and the refs can be set.
 //! - If each object of the graph was added after its parents, no check needs a walk, so a lack of
 //!   memory does not hide any other fault. In any other graph, a lack of memory for a walk
 //!   (`RepoFault::Graph`) may hide an unconnected ref or id, but never an absent id.

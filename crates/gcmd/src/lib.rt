@@ -25,9 +25,9 @@
 //!   repository without HEAD whose refs are all connected. With any other file nothing is read or
 //!   written. If the conversation succeeds, the new file is the text of the repository after the
 //!   fetch. The fetch only adds objects, every ref is connected, and each allowed update of a ref
-//!   was made. The report (`specs/Reporting.antt`) is written and flushed. If its sink fails, a
-//!   prefix of the report is written. If memory for the report runs out, there is a new file
-//!   without a report. After any other fault there is no new file and no report.
+//!   was made. The report (`specs/Reporting.antt`) is written and flushed. If the sink for the
+//!   report fails, a prefix of the report is written. If memory for the report runs out, there is a
+//!   new file without a report. After any other fault there is no new file and no report.
 //! - [`read_specs`] reads arguments as refspecs, and fails at the first argument that is not a
 //!   refspec.
 //! - [`read_prefixes`] reads arguments as prefixes of ref names, unchanged, and fails at the first
@@ -59,8 +59,8 @@
 //! memory. If a sink does not record its bytes, the contracts do not state which bytes the sink
 //! receives. The contracts do not limit how often a source or a sink is called, or how long a call
 //! takes. Formatting a fault may return `fmt::Error` for no reason. The function
-//! [`cmd_fetch_stored`] may report that a file can't be locked, read or replaced although it could
-//! be.
+//! [`cmd_fetch_stored`] may report that a file can't be locked, read or replaced, even if each of
+//! these steps would succeed.
 //!
 //! # Dependencies
 //!

@@ -16,7 +16,7 @@ pub enum Refusal {
     FullOfAddress,
 }
 
-/// How a connection ended.
+/// The kind of end of a connection.
 #[derive(Clone, Copy, Debug, PartialEq, Eq)]
 pub enum End {
     /// The conversation is done, and all its packets were sent.
@@ -34,15 +34,15 @@ pub enum End {
     Memory,
 }
 
-/// A connection that has ended. Its state matches the bytes that were received and sent, the count
-/// of sent bytes, and how the connection ended ([`laws`](Ended::laws)).
+/// A connection that has ended. The state of the connection matches the bytes that were received
+/// and sent, the count of sent bytes, and the kind of end ([`laws`](Ended::laws)).
 #[derive(Drop)]
 pub struct Ended<C: Conversation, A: Allocator + Copy> {
     /// The connection in its final state.
     pub connection: Connection<C, A>,
     /// The peer's address.
     pub address: SocketAddr,
-    /// How the connection ended.
+    /// The kind of end of the connection.
     pub end: End,
     /// The number of sent bytes, saturated at the maximum.
     pub sent: u64,

@@ -34,7 +34,7 @@ pub(crate) enum PendingCalls {
     None,
     /// Connections may be pending.
     Some,
-    /// Connections may be pending, but the system accepts none for now.
+    /// Connections may be pending, but the system can't accept any connection for now.
     Later,
 }
 

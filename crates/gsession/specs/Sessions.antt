@@ -1,5 +1,6 @@
 -- A session: a client's conversation with one server, from the request for refs to the update of the local refs. The
--- requests have the order of gitprotocol-v2(5), "Command Request". The manual does not define the state of a session.
+-- order of the requests follows gitprotocol-v2(5), "Command Request". The manual does not define the state of a
+-- session.
 use Rattle.std.specs.Prelude.{◌≡◌, ◌≢◌, ℕ, ◌+◌, ◌≤◌, ◌<◌, Bool, true, false, List, [], length, All, Contains, codes}
 use Rattle.std.specs.Prelude.{if◌then◌else◌, Option, Some, None, Result, Ok, Err}
 use Rattle.std.specs.List.{IsDistinct}
@@ -85,7 +86,7 @@ pub record IsSession {A : Type 0} (s : SessionState A) : Type 0 where
   pub some : s.stage ≡ Fetching → s.wants ≢ []
   pub stage : FitsStage s s.stage s.pending
 
--- the session after its end, which rejects every further call
+-- the ended session, which rejects every further call
 abbrev pub over : {A : Type 0} → SessionState A → SessionState A
 over s = record s { stage = Over; pending = None }
 

@@ -106,8 +106,8 @@ reading_for s asked = record { format = s.format; direct = is_direct asked; limi
 abbrev pub ReadsFetch : Reading → Change → FetchReply → Type 0
 ReadsFetch reading change reply = ReadsMessage (judge reading) (Says reading) change reply
 
--- The session rejects a packet of the reply. The sink for the pack never fails, so only for a packet that acknowledges
--- an id can memory run out.
+-- The session rejects a packet of the reply. The sink for the pack never fails, so memory can run out only for a packet
+-- that acknowledges an id.
 abbrev pub RefusesFetch : Reading → Change → MessageFault → Type 0
 RefusesFetch reading change fault =
     (front : List Packet) × ReadsRefused (judge reading) (brings_into false reading) front change fault

@@ -129,7 +129,8 @@ pub fn open_is_the_sessions<A: Allocator + Copy>()
 {}
 
 /// Proves that exactly one update is requested for each local ref to which a refspec maps a line of
-/// the reply. The first such refspec, and its first matching line, determine the update.
+/// the reply. The first refspec that maps a line to this ref, and its first matching line,
+/// determine the update.
 #[tactic(auto, using(crate::proofs::AskLemmas::first_is_asked))]
 pub fn first_is_asked<A: Allocator + Copy>()
     ensures { FirstIsAsked A }

@@ -20,7 +20,7 @@
 //!
 //! # Only tested
 //!
-//! Only tests show that all available memory is used.
+//! Only tests check that a simulation uses all available memory.
 //!
 //! # What the contracts do not rule out
 //!

@@ -26,8 +26,8 @@
 //!   well-formed.
 //! - [`cmd_ls_remote`] lists refs like [`ls_on`], writes the lines of the reply, and flushes them.
 //!   After any fault except a failed output, the program has written nothing (`specs/Listing.antt`,
-//!   `Remote.antt`). With more than 64 prefixes the program reports this limit or out of memory,
-//!   but never a missing socket.
+//!   `Remote.antt`). If there are more than 64 prefixes, the program reports `Limit` or out of
+//!   memory, and never `Socket`.
 //! - [`cmd_fetch_remote`] fetches into a stored file. At any time the file has the old text or the
 //!   whole new text. The new text is written only if the conversation succeeds. The new text
 //!   describes the repository after the fetch. The fetch only adds objects. The report, with the
@@ -37,18 +37,19 @@
 //! - [`cmd_serve`] shows the number of its port, and then serves the repository of its file like
 //!   [`serve_listener`]. [`cmd_serve`] serves no client if the file is refused, the socket can't be
 //!   opened or the port can't be shown.
-//! - Each program exits with status 0 or 1. With status 0 it prints no fault line. With status 1 it
-//!   prints the line that reports its fault, or a prefix of this line. The fault is a refused file,
-//!   a failed conversation, a missing socket, out of memory, or a failed output. Before this line
-//!   [`cmd_serve`] prints only the faults of connections, and the other programs print nothing.
+//! - Each program exits with status 0 or 1. With status 0 the program prints no fault line. With
+//!   status 1 the program prints the line that reports its fault, or a prefix of this line. The
+//!   fault is a refused file, a failed conversation, a missing socket, out of memory, or a failed
+//!   output. Before the line of its own fault, [`cmd_serve`] prints only the faults of connections.
+//!   The other programs print nothing before this line.
 //! - A [`Timer`] limits each read to a time of more than zero and at most 60 seconds
 //!   (`specs/Deadlines.antt`).
 //! - A [`Turns`] timer subtracts the elapsed time of the clock from a client's remaining time. If
 //!   the clock goes backwards, the client has no time left. The client gets the full time again
 //!   only when the server starts to wait for a request (`specs/steps/Deadlines.antt` and
 //!   `Turns.antt`, which specify private functions).
-//! - A [`Location`] has the given address and path. Its host is the text of the address before the
-//!   port, and the port is a decimal number up to 65,535 (`specs/Places.antt`).
+//! - A [`Location`] has the given address and path. The host of a location is the text of the
+//!   address before the port, and the port is a decimal number up to 65,535 (`specs/Places.antt`).
 //! - A [`MessageSink`] has written or still holds each byte that its caller wrote.
 //!   `MessageSink::hold` stores bytes without writing them, and fails if the bytes would make a
 //!   message too long (`specs/Messages.antt`). The inner sink receives nothing before a flush. A
@@ -74,7 +75,8 @@
 //! or opened. It may also report out of memory. In a pair, an implementation may report any failed
 //! fetch as a message that is too long, or a message that is too long as any other failure. The
 //! program of [`cmd_fetch_remote`] may connect before it locks the file. The program may also
-//! report that the file can't be locked, read or replaced although it could be.
+//! report that the file can't be locked, read or replaced, even if each of these steps would
+//! succeed.
 //!
 //! [`serve_listener`] may accept further connections between the served connections. The program of
 //! [`cmd_serve`] may listen at a different address, and may show a different port or show the port

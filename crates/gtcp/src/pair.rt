@@ -331,7 +331,7 @@ where
 }
 
 // Returns the reason why client and server stopped: a message was too long, memory for a message
-// ran out, or the client's own fault.
+// ran out, or the client failed for another reason.
 fn fault_of<V: Sink, W: Sink, A: Allocator + Copy>(
     fault: FetchFault<A>,
     requests: &MessageSink<V, A>,

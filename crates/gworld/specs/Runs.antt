@@ -1,4 +1,4 @@
--- Runs: events one after the other, each with its outcome.
+-- Runs: sequences of events, each with its outcome.
 use Rattle.std.specs.Prelude.{◌≡◌, ◌⊎◌, ⊤, true, List, [], ◌∷◌, ◌++◌, slice_get, IsSome, Some}
 use Rattle.gdag.specs.Laws.{AgreesWith}
 use Rattle.gsession.specs.Requesting.{is_due}
