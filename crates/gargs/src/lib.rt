@@ -2,8 +2,8 @@
 //!
 //! [`read_command`] takes the arguments from the system, and returns a [`Gitv2Command`] with parsed
 //! parameters. [`read_command`] parses an address and a path as a `Location`, a limit as a
-//! `PackLimit`, and a flag as the form of replies. It leaves file names, refspecs and prefixes
-//! unparsed, and opens no file.
+//! `PackLimit`, and a flag as the form of replies. The function leaves file names, refspecs and
+//! prefixes unparsed, and opens no file.
 //!
 //! # Proved
 //!

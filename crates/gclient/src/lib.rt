@@ -7,10 +7,10 @@
 //!
 //! - [`fetch_over`] holds a conversation (`specs/Conversations.antt`, `Turns.antt`). The bytes
 //!   alone determine the advertisement and the replies, even if the bytes arrive in pieces.
-//!   `fetch_over` reads nothing after the last reply. It writes each request of the session in its
-//!   canonical encoding, and a lone flush packet after the last reply. It flushes each request
-//!   before it reads the reply. At the end `fetch_over` updates the local refs. [`fetch_over_with`]
-//!   does the same with options for packs.
+//!   `fetch_over` reads nothing after the last reply. The client writes each request of the session
+//!   in its canonical encoding, and a lone flush packet after the last reply. The client flushes
+//!   each request before it reads the reply. At the end `fetch_over` updates the local refs.
+//!   [`fetch_over_with`] does the same with options for packs.
 //! - [`Fetched`] contains the updates of the local refs, the number of requests for objects, and
 //!   the target of the server's unborn `HEAD`.
 //! - The first fault ends a conversation. With too many refspecs, or out of memory at the start,

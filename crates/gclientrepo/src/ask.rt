@@ -3,7 +3,7 @@
 use gname::{Oid, RefName};
 use std::alloc::{Allocator, Global};
 
-/// A request to set a ref to an id.
+/// A requested ref update: a request to set a ref to an id.
 #[derive(Debug, Drop)]
 pub struct Ask<A: Allocator + Copy = Global> {
     /// The name of the ref.

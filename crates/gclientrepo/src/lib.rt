@@ -4,9 +4,9 @@
 //! # Proved
 //!
 //! - [`Repo::new`] returns a repository of exactly the given objects and refs, if each ref is
-//!   connected. Otherwise it reports the first unconnected ref, in the order of the names.
+//!   connected. Otherwise the call reports the first unconnected ref, in the order of the names.
 //! - After each call every ref and every marked object is connected, and every object that a ref
-//!   reaches is marked. This invariant is a postcondition of [`Repo::format`] and of each method
+//!   reaches is marked. The invariant is a postcondition of [`Repo::format`] and of each method
 //!   that changes a repository.
 //! - [`Repo::add_local`] adds an object exactly when the repository holds its parents and the graph
 //!   accepts the object. The first missing parent is reported before any fault of the graph.
@@ -14,13 +14,13 @@
 //!   parents are missing. The call leaves marks and refs unchanged.
 //! - [`Repo::set_local_ref`] sets a ref exactly when the new id is connected and the ref can be
 //!   set. This call checks both conditions before it allocates memory for the ref.
-//! - [`Asks`] is a list of requested ref updates. It keeps only the first update that was added for
-//!   each ref. Its methods look up the ref, the id and the force flag of an update by index.
+//! - [`Asks`] is a list of requested ref updates. The list keeps only the first update that was
+//!   added for each ref. Methods look up the ref, the id and the force flag of an update by index.
 //! - [`Repo::settle`] makes all allowed updates of refs at once, and leaves all other refs
 //!   unchanged. The call moves no ref if one of the new ids is not connected, or if the refs can't
-//!   all be set. The call returns the outcome of each requested update. It marks every object that
-//!   the new ids reach, and keeps all other marks. `Repo::settle` reports out of memory for refs
-//!   (`RepoFault::Refs`) only if all ids are connected and the refs can be set.
+//!   all be set. The call returns the outcome of each requested update. The call marks every object
+//!   that the new ids reach, and keeps all other marks. `Repo::settle` reports out of memory for
+//!   refs (`RepoFault::Refs`) only if all ids are connected and the refs can be set.
 //! - If each object of the graph was added after its parents, no check needs a walk, so a lack of
 //!   memory does not hide any other fault. In any other graph, a lack of memory for a walk
 //!   (`RepoFault::Graph`) may hide an unconnected ref or id, but never an absent id.
@@ -58,8 +58,8 @@
 //! # Dependencies
 //!
 //! The crate uses `ggraph` for graphs, refs and walks, and the crates `gobject`, `gdag`, `grefs`
-//! and `gwalk` below `ggraph`. It uses `gname` for ids and names, and `indexmap` to look up updates
-//! by name.
+//! and `gwalk` below `ggraph`. The crate uses `gname` for ids and names, and `indexmap` to look up
+//! updates by name.
 #![tactic(auto)]
 
 mod ask;

@@ -116,8 +116,8 @@ impl<A: Allocator + Copy> Repo<A> {
 
     /// Returns an id that one of the given ids reaches, but that the repository does not hold.
     /// Returns `None` if all given ids are connected. First checks whether the graph holds the
-    /// given ids. This check is enough if the graph stores each object after its parents. Otherwise
-    /// walks the ancestries, and stops at marked objects.
+    /// given ids. If the graph stores each object after its parents, no further check is necessary.
+    /// Otherwise walks the ancestries, and stops at marked objects.
     ///
     /// Fails only with `Memory`, and only if the repository holds all given ids and stores some
     /// object before one of its parents.

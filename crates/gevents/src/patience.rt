@@ -26,7 +26,8 @@ pub(crate) struct Patience {
 }
 
 impl Patience {
-    /// Returns the state of a peer that connects now. Its first message is expected next.
+    /// Returns the state of a peer that connects now. The first message of the peer is expected
+    /// next.
     pub(crate) fn new(now: Instant, limits: &Limits) -> Patience {
         Patience {
             began: now,

@@ -45,8 +45,8 @@ where
     cmd_simulate(rt.alloc(), &files, &mut output, errors)
 }
 
-// Returns the fault for a file that can't be read, unless an earlier file is invalid. In that case
-// returns the fault of the earlier file.
+// Returns the fault of the first invalid file among the files read so far. If there is none,
+// returns the fault for a file that can't be read.
 fn unread(alloc: Global, server: &[u8], client: Option<&[u8]>) -> ProgramFault {
     if let Err(fault) = load_server(alloc, server) {
         return fault;

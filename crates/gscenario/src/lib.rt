@@ -19,9 +19,9 @@
 //! # What the contracts do not rule out
 //!
 //! An implementation may report out of memory for any text whose first line begins with a command,
-//! even if memory is available. This report may replace the report of a later malformed line. An
-//! implementation may take any time, and more memory than it needs. Formatting a fault may return
-//! `fmt::Error` for no reason.
+//! even if memory is available. The report of out of memory may replace the report of a later
+//! malformed line. An implementation may take any time, and more memory than it needs. Formatting a
+//! fault may return `fmt::Error` for no reason.
 //!
 //! # Dependencies
 //!

@@ -5,8 +5,8 @@
 //! # Proved
 //!
 //! - [`Session::begin`] stores the refspecs and the distinct ids of the local refs, in the order of
-//!   their names. It fails for more than 16 refspecs. [`Session::hear`] stores whether the server
-//!   reports an unborn `HEAD`.
+//!   their names. The call fails for more than 16 refspecs. [`Session::hear`] stores whether the
+//!   server reports an unborn `HEAD`.
 //! - [`Session::request`] makes the next request. A request for refs has the source of each refspec
 //!   as a prefix, and has `unborn` exactly when the server offers to report an unborn `HEAD`. A
 //!   request for objects has the wants, and its haves are the common ids and a batch of new ids. A
@@ -65,9 +65,10 @@
 //! - An unconnected id or a ref that can't be set, if [`Session::settle`] needs a walk in
 //!   `gclientrepo`.
 //!
-//! A session may store a complete pack before it passes the pack to the indexer. It may start the
-//! indexer more often than necessary, or pass it bytes after a fault. A call may take any time, and
-//! more memory than it needs. Formatting a fault may return `fmt::Error` for no reason.
+//! A session may store a complete pack before it passes the pack to the indexer. The session may
+//! start the indexer more often than necessary, or pass bytes to the indexer after a fault. A call
+//! may take any time, and more memory than it needs. Formatting a fault may return `fmt::Error` for
+//! no reason.
 //!
 //! No clause bounds the time of a call. The method [`Session::request`] starts each walk at the
 //! tips. [`Session::request_on`] continues the walk of the previous request, so all requests over
@@ -79,8 +80,8 @@
 //! # Dependencies
 //!
 //! The crate uses `grefs` for refspecs, `gclientrepo` for the repository, `ggraph` and `gwalk` for
-//! the walk that selects haves, `gobject` for indexers, and `indexmap` for sets of ids. It uses
-//! `grequest`, `glsreply`, `gfetchreply` and `ghello` for messages.
+//! the walk that selects haves, `gobject` for indexers, and `indexmap` for sets of ids. The crate
+//! uses `grequest`, `glsreply`, `gfetchreply` and `ghello` for messages.
 #![tactic(auto)]
 
 mod acks;

@@ -34,10 +34,10 @@ use std::net::OpenStream;
 /// Fails with `BadText` (42) if the host or the path is not well-formed. The fault reports packet
 /// position 0. Fails with `Memory` (53) if out of memory for the first line, and with `NoBuffer`
 /// (28) if out of memory for the buffers of the stream. After these three faults nothing was read
-/// or written. Otherwise fails with the faults of `fetch_over`. These faults leave the refs
-/// unchanged, and the graph only gains objects. A read fails if the server sends no byte for
-/// [`MAX_SILENCE`](crate::MAX_SILENCE) seconds, and a write fails if the server accepts no byte for
-/// the same time.
+/// or written. Otherwise fails with the faults of `fetch_over`. After a fault of `fetch_over` the
+/// refs are unchanged, and the graph has only gained objects. A read fails if the server sends no
+/// byte for [`MAX_SILENCE`](crate::MAX_SILENCE) seconds, and a write fails if the server accepts no
+/// byte for the same time.
 pub fn fetch_on<A, K, S>(
     stream: S,
     host: &[u8],

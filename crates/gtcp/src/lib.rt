@@ -72,11 +72,11 @@
 //! nor what the server of a pair does. An implementation may therefore return any result that some
 //! peer could cause: any reply, any added objects, or any served connection. An implementation may
 //! send any bytes. An implementation may fail with `Socket` although a connection can be accepted
-//! or opened. It may also report out of memory. In a pair, an implementation may report any failed
-//! fetch as a message that is too long, or a message that is too long as any other failure. The
-//! program of [`cmd_fetch_remote`] may connect before it locks the file. The program may also
-//! report that the file can't be locked, read or replaced, even if each of these steps would
-//! succeed.
+//! or opened. An implementation may also report out of memory. In a pair, an implementation may
+//! report any failed fetch as a message that is too long, or a message that is too long as any
+//! other failure. The program of [`cmd_fetch_remote`] may connect before it locks the file. The
+//! program may also report that the file can't be locked, read or replaced, even if each of these
+//! steps would succeed.
 //!
 //! [`serve_listener`] may accept further connections between the served connections. The program of
 //! [`cmd_serve`] may listen at a different address, and may show a different port or show the port

@@ -80,8 +80,8 @@ module _ {A : Type 0} (tools : PackTools A) where
     pub faithful : LosesNothing tools.packs tools.pack_fails tools.indexes tools.index_fails image
     pub unforged : w.forged ≡ false
 
-  -- A session that is marked as answered can settle. Its requested ids are connected, if no bytes were forged and the
-  -- packer and the indexer are faithful.
+  -- A session that is marked as answered can settle. The requested ids of the session are connected, if no bytes were
+  -- forged and the packer and the indexer are faithful.
   pub record IsAnswered (w : WorldState A) (s : SessionState A) : Type 0 where
     pub stage : s.stage ≡ Settling
     pub connected : IsUnforgedAndFaithful w → All (IsConnected w.repo.graph.entries) (asked_ids s.asks)

@@ -170,7 +170,7 @@ pub fn honest_runs_keep_all<A: Allocator + Copy, K: Faithful<A>>(tools: &K)
 }
 
 /// Proves that each step leaves all refs of the server and of the client connected. The only
-/// premise is that refs are sorted and the session is valid. This premise does not follow from the
+/// premise is that refs are sorted and the session is valid. The premise does not follow from the
 /// definition of a step.
 pub fn ends_stay_connected<A: Allocator + Copy, K: Packer<A> + Indexer<A>>()
     ensures { (k : K) → EndsStayConnected (tools_of (K.packs k) (K.pack_fails k) (K.indexes k)

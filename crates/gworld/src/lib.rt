@@ -67,9 +67,9 @@
 //! # Dependencies
 //!
 //! The crate uses `gscenario` for events, `gsession` and `gclientrepo` for the client, and `gserve`
-//! and `ganswer` for the server. It uses `gmsg` and the crates below `gmsg` for messages, `gpkt`
-//! for packets, and `ggraph` and `gdag` for graphs. It uses `gobject` for objects, packers and
-//! indexers, `grefs` for refspecs and refs, and `gname` for ids and ref names.
+//! and `ganswer` for the server. The crate uses `gmsg` and the crates below `gmsg` for messages,
+//! `gpkt` for packets, and `ggraph` and `gdag` for graphs. The crate uses `gobject` for objects,
+//! packers and indexers, `grefs` for refspecs and refs, and `gname` for ids and ref names.
 #![tactic(auto)]
 
 mod fault;
