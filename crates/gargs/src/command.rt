@@ -3,12 +3,12 @@
 use gcmd::{Ends, PackLimit};
 use gtcp::Location;
 
-/// The command that the arguments describe, with its parameters.
+/// A command with its parameters.
 #[derive(Debug, Drop)]
 pub enum Gitv2Command {
     /// `check FILE`
     Check {
-        /// The name of the file of the repository.
+        /// The name of the file that contains the repository.
         file: String,
     },
     /// `fetch (--stdio or --tcp ADDR --path PATH) [--limit N] [--response-end] FILE SPEC...`
@@ -17,7 +17,7 @@ pub enum Gitv2Command {
     Lines,
     /// `ls --stdio-server FILE`
     LsStdioServer {
-        /// The name of the file of the server's repository.
+        /// The name of the file that contains the server's repository.
         file: String,
     },
     /// `ls --tcp ADDR --path PATH [PREFIX]...`
@@ -29,11 +29,11 @@ pub enum Gitv2Command {
     },
     /// `pair SERVERFILE CLIENTFILE SPEC...`
     Pair {
-        /// The name of the file of the server's repository.
+        /// The name of the file that contains the server's repository.
         server: String,
-        /// The name of the file of the client's repository.
+        /// The name of the file that contains the client's repository.
         client: String,
-        /// The refspecs. There is at least one refspec.
+        /// The refspecs. The list has at least one refspec.
         specs: Vec<String>,
     },
     /// `serve --listen ADDR --path PATH --connections N [--response-end] FILE`
@@ -44,7 +44,7 @@ pub enum Gitv2Command {
     Upload {
         /// Whether each reply ends with a response-end packet.
         ends: Ends,
-        /// The name of the file of the server's repository.
+        /// The name of the file that contains the server's repository.
         file: String,
     },
 }
@@ -58,9 +58,9 @@ pub struct Fetch {
     pub limit: PackLimit,
     /// Whether each reply ends with a response-end packet.
     pub ends: Ends,
-    /// The name of the file of the client's repository. The fetch replaces this file.
+    /// The name of the file that contains the client's repository. The fetch replaces this file.
     pub file: String,
-    /// The refspecs, which are not parsed yet. There is at least one refspec.
+    /// The refspecs, which are not parsed yet. The list has at least one refspec.
     pub specs: Vec<String>,
 }
 
@@ -73,16 +73,16 @@ pub struct Serve {
     pub connections: u32,
     /// Whether each reply ends with a response-end packet.
     pub ends: Ends,
-    /// The name of the file of the served repository.
+    /// The name of the file that contains the served repository.
     pub file: String,
 }
 
 /// The names of the files of a simulation.
 #[derive(Debug, Drop)]
 pub struct Simulate {
-    /// The name of the file of the server's repository.
+    /// The name of the file that contains the server's repository.
     pub server: String,
-    /// The name of the file of the client's repository.
+    /// The name of the file that contains the client's repository.
     pub client: String,
     /// The name of the file that lists the events.
     pub scenario: String,

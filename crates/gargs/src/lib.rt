@@ -1,13 +1,13 @@
 //! The arguments of the command line, parsed into a command.
 //!
 //! [`read_command`] takes the arguments from the system, and returns a [`Gitv2Command`] with parsed
-//! parameters. An address and a path become a `Location`, a limit becomes a `PackLimit`, and a flag
-//! selects the form of replies. File names, refspecs and prefixes stay unchanged, and no file is
-//! opened.
+//! parameters. [`read_command`] parses an address and a path as a `Location`, a limit as a
+//! `PackLimit`, and a flag as the form of replies. The function leaves file names, refspecs and
+//! prefixes unparsed, and opens no file.
 //!
 //! # Proved
 //!
-//! - A call ends, and is memory safe, for any arguments.
+//! - For any arguments a call returns and is memory safe.
 //! - Private functions parse a limit and a count of connections from a text of at least one decimal
 //!   digit. The functions accept exactly the limits up to 67,108,864, and the counts from 1 to
 //!   1,000,000 (`specs/Numbers.antt`).
@@ -20,7 +20,7 @@
 //!
 //! # What the contracts do not rule out
 //!
-//! An implementation may refuse any arguments, and may return any command for any arguments.
+//! An implementation may reject any arguments, and may return any command for any arguments.
 //!
 //! # Dependencies
 //!

@@ -31,8 +31,8 @@ pub(crate) fn connections_of(text: &str) -> Option<u32>
     }
 }
 
-// Returns the number that the text's decimal digits denote. Refuses a leading `+`, which `parse`
-// accepts.
+// Returns the number that the text's decimal digits denote. Rejects a leading `+`, although `parse`
+// accepts it.
 fn number_of(text: &str) -> Option<usize>
     ensures { MatchOption result (((number : ℕ) → number < 2 ^ 64 → Says text.now number → ⊥))
         (Says text.now) }

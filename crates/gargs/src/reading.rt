@@ -80,7 +80,8 @@ enum Transport {
     Tcp,
 }
 
-// Returns the transport. The arguments must have either the flag, or an address and a path.
+// Returns the transport that the arguments select. Returns `None` if the arguments select no
+// transport, or both.
 fn transport_of(matches: &ArgMatches<'_>, flag: &str) -> Option<Transport> {
     let is_named = matches.get_str("tcp").is_some() || matches.get_str("path").is_some();
     match (matches.get_flag(flag), is_named) {
@@ -90,7 +91,7 @@ fn transport_of(matches: &ArgMatches<'_>, flag: &str) -> Option<Transport> {
     }
 }
 
-// Returns the location that this option and the option `path` give.
+// Returns the location with the address in this option and the path in the option `path`.
 fn place_in(alloc: Global, matches: &ArgMatches<'_>, option: &str) -> Option<Location> {
     Location::new(alloc, matches.get_str(option)?, matches.get_str("path")?)
 }

@@ -3,7 +3,7 @@
 use clap::{Arg, ArgAction, Command};
 use std::alloc::{AllocError, Global};
 
-// One or several arguments of a command, with the name that `clap` looks up.
+// One or more arguments of a command, with the name under which `clap` looks them up.
 #[derive(Clone, Copy)]
 enum Word {
     // `--NAME`

@@ -52,13 +52,13 @@ request_bytes format asked = canonical_all (canonical_request format asked)
 abbrev pub requests_bytes : Format → List Turn → Bytes
 requests_bytes format turns = flat_map (λ turn. request_bytes format turn.asked) turns
 
--- the requests of the turns were written and flushed, and nothing was written before them
+-- exactly the requests of the turns were written and flushed
 abbrev pub HasAsked : Format → Output → List Turn → Type 0
 HasAsked format output [] = IsUnwritten output
 HasAsked format output (turn ∷ turns) = Passes output (requests_bytes format (turn ∷ turns))
 
--- The sink failed while the client sent these bytes. A prefix of the bytes was written, and all bytes flushed earlier
--- remain flushed.
+-- The sink failed while the client sent these bytes. A prefix of the bytes was written, and all previously flushed
+-- bytes remain flushed.
 abbrev pub FailsToSend : Output → Bytes → Type 0
 FailsToSend output due = SendsSome output due × KeepsPassed output.passed_on
 
@@ -96,19 +96,19 @@ abbrev pub RefusesAdvert : Format → Input → MessageFault → Type 0
 RefusesAdvert format input cause =
     RefusesToRead input cause ⊎ Mismatches format input cause
 
--- nothing more is read, and the source has not failed
+-- the client reads nothing more, and the source has not failed
 pub record IsLeft (rest : Input) : Type 0 where
   pub unread : rest.read.new ≡ rest.read.old
   pub up : IsUp rest
 
 -- ---- a conversation so far
 
--- the inputs of a conversation over this repository, with pack options
+-- the inputs of a conversation that uses this repository and these pack options
 abbrev pub start_for : {A : Type 0} → RepoState A → List Refspec → ℕ → Ends → PackOptions → Start A
 start_for repo refspecs limit ends options =
     record { repo = repo; refspecs = refspecs; limit = limit; ends = ends; options = options }
 
--- the inputs of a conversation over this repository, with the default pack options
+-- the inputs of a conversation that uses this repository and the default pack options
 abbrev pub start_of : {A : Type 0} → RepoState A → List Refspec → ℕ → Ends → Start A
 start_of repo refspecs limit ends = start_for repo refspecs limit ends no_options
 
@@ -120,7 +120,7 @@ module _ {A : Type 0} (start : Start A) where
         options = start.options;
       }
 
-  -- the client after it read the server's advertisement
+  -- the state of the client after it read the server's advertisement
   abbrev pub hear_advert : List Capability → ClientState A
   hear_advert capabilities = record {
     session = record begin_session { offers_unborn = tells_unborn capabilities };
@@ -151,7 +151,7 @@ module _ {A : Type 0} (indexes : Indexes A) (index_fails : IndexFails) (start : 
       requests_bytes start.repo.graph.format talk ++ request_bytes start.repo.graph.format Empty
 
   -- The client accepted all replies, flushed the requests and the lone flush packet, and updated the refs. `fetched`
-  -- has the number of requests for objects.
+  -- contains the number of requests for objects.
   pub record HasFetched (input : Input) (output : Output) (new : RepoState A) (fetched : Fetched A) : Type 0 where
     pub talk : List Turn
     pub last : ClientState A
@@ -168,8 +168,8 @@ module _ {A : Type 0} (indexes : Indexes A) (index_fails : IndexFails) (start : 
     request : (asked : Asked) (waiting : SessionState A) → AsksNext last asked waiting → IsDue last asked
     ending : last.session.stage ≡ Settling → IsDue last Empty
 
-  -- The reasons for a conversation to fail. All steps before the fault succeeded, and the repository keeps the effects
-  -- of the completed turns.
+  -- The reasons why a conversation fails. All steps before the fault succeeded, and the repository keeps the effects of
+  -- the completed turns.
   pub data Fails (input : Input) (output : Output) (new : RepoState A) : FetchFault A → Type 0 where
     -- the session can't begin, and the client reads nothing
     cannot_begin : (cause : ClientFault A) → Begins start.repo start.refspecs start.limit start.ends (Err cause)
@@ -208,7 +208,7 @@ module _ {A : Type 0} (indexes : Indexes A) (index_fails : IndexFails) (start : 
   FetchesOver input output new (Ok fetched) = HasFetched input output new fetched
   FetchesOver input output new (Err fault) = Fails input output new fault
 
--- the effect of a call that writes and flushes these bytes
+-- the effect of a call that tries to write and flush these bytes
 abbrev pub HasPassed : {E : Type 0} → Output → Result (Unit {0}) E → Bytes → Type 0
 HasPassed output (Ok done) bytes = Passes output bytes
 HasPassed output (Err failed) bytes = FailsToSend output bytes

@@ -1,5 +1,5 @@
--- A client's conversation over the `git://` transport: the first line, and then a conversation without a first line
--- (gitprotocol-pack(5), "Git Transport").
+-- A client's conversation over the `git://` transport: the client sends a first line, and then holds a conversation as
+-- in protocol v2 (gitprotocol-pack(5), "Git Transport").
 use Rattle.std.specs.Prelude.{◌≡◌, ◌⊎◌, Result, Err}
 use Rattle.gpkt.specs.Sending.{Input, Output}
 use Rattle.ghello.specs.Hello.{Hello}

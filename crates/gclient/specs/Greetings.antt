@@ -9,7 +9,7 @@ use Rattle.gclient.specs.Conversations.{FailsToSend}
 abbrev pub hello_bytes : Hello → Bytes
 hello_bytes hello = canonical_all (canonical_hello hello)
 
--- the part of the output before a point at which the sink had not failed
+-- the part of the output before a moment at which the sink had not failed
 abbrev pub head_of : Output → Option Bytes → Option Bytes → Output
 head_of output written passed = record {
   written = record { old = output.written.old; new = written };
@@ -18,7 +18,7 @@ head_of output written passed = record {
   is_down = false;
 }
 
--- the part of the output after a point at which the sink had not failed
+-- the part of the output after a moment at which the sink had not failed
 abbrev pub tail_of : Output → Option Bytes → Option Bytes → Output
 tail_of output written passed = record {
   written = record { old = written; new = output.written.new };

@@ -39,7 +39,7 @@ RoundsAreAsked {A} indexes index_fails =
     → AreTurns indexes index_fails (hear_advert start capabilities) talk last
     → last.session.rounds ≡ objects_asked (asked_in talk)
 
--- the turns have at most N + 1 requests for objects, if the refs reached N ids at the beginning
+-- the turns contain at most N + 1 requests for objects, if the refs reached N ids at the beginning
 abbrev pub TalksAreFew : {A : Type 0} → Indexes A → IndexFails → Type 0
 TalksAreFew {A} indexes index_fails =
     (start : Start A) (capabilities : List Capability) (talk : List Turn) (last : ClientState A) (held parents : ℕ)
@@ -48,7 +48,7 @@ TalksAreFew {A} indexes index_fails =
     → CountsReached start.repo.graph.entries (tips_of start.repo) held parents
     → objects_asked (asked_in talk) ≤ held + 1
 
--- the turns and the next request have at most N + 1 requests for objects, if the refs reached N ids at the beginning
+-- the turns and the next request contain at most N + 1 requests for objects, if the refs reached N ids at the beginning
 abbrev pub NextIsFew : {A : Type 0} → Indexes A → IndexFails → Type 0
 NextIsFew {A} indexes index_fails =
     (start : Start A) (capabilities : List Capability) (talk : List Turn) (last : ClientState A) (asked : Asked)
@@ -57,7 +57,7 @@ NextIsFew {A} indexes index_fails =
     → CountsReached start.repo.graph.entries (tips_of start.repo) held parents
     → objects_asked (asked_in talk ++ asked ∷ []) ≤ held + 1
 
--- The client wrote a prefix of the encoding of a list of requests. At most `most` requests of the list are for objects.
+-- The client wrote a prefix of the encoding of a list of requests. At most `most` requests in the list are for objects.
 pub record AsksAtMost (format : Format) (output : Output) (most : ℕ) : Type 0 where
   pub requests : List Asked
   pub few : objects_asked requests ≤ most
@@ -77,7 +77,7 @@ EndsAreFew {A} indexes index_fails =
 
 -- ---- the repository
 
--- over a conversation the graph only gains objects
+-- during a conversation the graph only gains objects
 abbrev pub FetchingGrows : {A : Type 0} → Indexes A → IndexFails → Type 0
 FetchingGrows {A} indexes index_fails =
     (start : Start A) (input : Input) (output : Output) (new : RepoState A) (result : Result (Fetched A) (FetchFault A))

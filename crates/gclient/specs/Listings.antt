@@ -48,7 +48,7 @@ pub record HasHeard (input : Input) (format : Format) (capabilities : List Capab
   pub read : ReadsPackets (record { old = input.read.old; new = between }) packets
   pub rest : Rest (rest_of input between)
 
--- the client reads the advertisement of a server that no client supports, whatever its object format
+-- the client reads the advertisement of a server that no client supports, whatever the client's object format
 pub record FitsNone (input : Input) (cause : MessageFault) : Type 0 where
   pub packets : List Packet
   pub capabilities : List Capability
@@ -58,7 +58,7 @@ pub record FitsNone (input : Input) (cause : MessageFault) : Type 0 where
   pub frame : cause.frame ≡ 0
   pub up : IsUp input
 
--- the client reads the reply in this format, and nothing after it
+-- the client reads the reply in this object format, and nothing after the reply
 pub record ReadsReply (format : Format) (input : Input) (reply : ls.LsReply) : Type 0 where
   pub packets : List Packet
   pub lines : ReadsPackets input.read packets
@@ -82,7 +82,7 @@ module _ (asked : LsRefsAsked) where
     pub read : HasHeard input format capabilities (λ rest. ReadsReply format rest reply)
     pub passed : Passes output (asking_bytes format capabilities asked ++ ending_bytes format)
 
-  -- The reasons for a listing to fail. All steps before the fault succeeded.
+  -- The reasons why a listing fails. All steps before the fault succeeded.
   pub data FailsToList {A : Type 0} (input : Input) (output : Output) : FetchFault A → Type 0 where
     -- the client does not have enough memory for the reader's buffer, and reads nothing
     no_buffer : IsUnread input → IsUnwritten output → FailsToList input output fetch.NoBuffer

@@ -22,13 +22,13 @@ use Rattle.gsession.specs.declared.taken.LsTaken.{LsTaken}
 use Rattle.gsession.specs.Sessions.{SessionState}
 use Rattle.gsession.specs.declared.taken.Taken.{Taken}
 
--- the state of a client in a conversation: its session, its repository, and the target of the server's unborn HEAD
+-- the state of a client during a conversation: its session, its repository, and the target of the server's unborn HEAD
 pub record ClientState (A : Type 0) : Type 0 where
   pub session : SessionState A
   pub repo : RepoState A
   pub unborn : Option Name
 
--- a request, and the packets of the reply to it
+-- a request, and the packets of its reply
 pub record Turn : Type 0 where
   pub asked : Asked
   pub reply : List Packet
@@ -39,7 +39,8 @@ AsksNext client asked waiting = Requests client.session client.repo.graph.entrie
 
 -- ---- an accepted reply
 
--- the packets are an ls-refs reply, and the client accepts the reply and determines its asks and wants
+-- the packets are an ls-refs reply, which the client accepts and which determines the requested ref updates and the
+-- wants
 pub record TakesRefs {A : Type 0} (waiting : SessionState A) (old : ClientState A) (packets : List Packet)
     (new : ClientState A) : Type 0 where
   pub reply : LsReply
@@ -50,7 +51,7 @@ pub record TakesRefs {A : Type 0} (waiting : SessionState A) (old : ClientState 
   pub stays : new.repo ≡ old.repo
 
 module _ {A : Type 0} (indexes : Indexes A) (index_fails : IndexFails) where
-  -- the packets are a fetch reply, with acknowledgments or a pack or both, and the client accepts the reply
+  -- the packets are a fetch reply, which the client accepts and which has acknowledgments, a pack, or both
   pub record TakesObjects (waiting : SessionState A) (asked : FetchAsked) (old : ClientState A) (packets : List Packet)
       (new : ClientState A) : Type 0 where
     pub reply : FetchReply
@@ -84,7 +85,7 @@ FitsSource down (Message cause) = IsReadFailure false down cause.why
 FitsSource down fault = down ≡ false
 
 module _ {A : Type 0} (indexes : Indexes A) (index_fails : IndexFails) where
-  -- the client rejects the reply to the request with this fault: the reply is malformed, or its content is not
+  -- the client rejects the reply to the request with this fault, because the reply is malformed or its content is not
   -- acceptable
   abbrev pub IsUntaken : SessionState A → Asked → RepoState A → Change → ClientFault A → Type 0
   IsUntaken waiting Empty repo change cause = ⊥

@@ -37,15 +37,15 @@ use std::alloc::Allocator;
 /// request, and reads nothing after the last reply. A pack has at most `limit` bytes, and `ends`
 /// says whether a response-end packet follows each reply.
 ///
-/// Fails with `TooManySpecs` for more than 16 refspecs. Fails with `Repo` or `NoBuffer`, before it
-/// reads anything, if out of memory at the start. Otherwise the first fault ends the conversation.
-/// Fails with `Message` if the advertisement or a reply is malformed, or if the client does not
-/// support the server (`UnknownCommand`, `Format`). Fails with `Message` (`BadName`) if the name of
-/// a local ref would be invalid. Fails with `TooManyWants` if a request can't hold all wants. Fails
-/// with `StrangeAck`, `Index` or `Repo` if the client rejects the content of a reply. Fails with
-/// `WriteFailed` if the sink fails, after a prefix of the requests was written. Fails with `Repo`
-/// if the refs can't be updated (`NotConnected`, `Refs`), or if out of memory. After every fault
-/// the refs are unchanged, and the graph has only gained objects.
+/// Fails with `TooManySpecs` for more than 16 refspecs. Fails with `Repo` or `NoBuffer` if out of
+/// memory at the start, and then reads nothing. Later, the first fault ends the conversation. Fails
+/// with `Message` if the advertisement or a reply is malformed, or if the client does not support
+/// the server (`UnknownCommand`, `Format`). Fails with `Message` (`BadName`) if the name of a local
+/// ref would be invalid. Fails with `TooManyWants` if a request can't hold all wants. Fails with
+/// `StrangeAck`, `Index` or `Repo` if the client rejects the content of a reply. Fails with
+/// `WriteFailed` if the sink fails. The sink has then received a prefix of the requests. Fails with
+/// `Repo` if the refs can't be updated (`NotConnected`, `Refs`), or if out of memory. After every
+/// fault the refs are unchanged, and the graph has lost no objects.
 pub fn fetch_over<S: Source, W: Sink, A: Allocator + Copy, K: Indexer<A>>(
     repo: &mut Repo<A>,
     source: &mut S,
@@ -110,7 +110,7 @@ pub fn fetch_over_with<S: Source, W: Sink, A: Allocator + Copy, K: Indexer<A>>(
     fetched
 }
 
-// Fetches with a writer whose sink has not failed.
+// Fetches over a reader and a writer whose sink has not failed.
 fn fetch_to<S: Source, W: Sink, A: Allocator + Copy, K: Indexer<A>>(
     repo: &mut Repo<A>,
     source: &mut S,
@@ -215,8 +215,8 @@ fn talk<S: Source, W: Sink, A: Allocator + Copy, K: Indexer<A>>(
     Ok(taken.unborn)
 }
 
-// Requests objects in rounds until the server sends a pack. The conversation may have begun before
-// this call, with the source and the sink in other states.
+// Requests objects in rounds until the server sends a pack. The conversation began before this
+// call, from earlier states of the source and the sink.
 fn fetch_all<S: Source, W: Sink, A: Allocator + Copy, K: Indexer<A>>(
     repo: &mut Repo<A>,
     session: &mut Session<A>,

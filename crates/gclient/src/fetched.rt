@@ -11,6 +11,6 @@ pub struct Fetched<A: Allocator + Copy = Global> {
     pub settled: Settled<A>,
     /// The number of requests for objects.
     pub requests: usize,
-    /// The ref that an unborn `HEAD` of the server points at, if a refspec fetches `HEAD`.
+    /// The ref that the server's unborn `HEAD` points at, if a refspec fetches `HEAD`.
     pub unborn: Option<RefName<A>>,
 }

@@ -1,4 +1,4 @@
-//! A client's conversation over the `git://` transport, starting at its first line.
+//! A client's conversation over the `git://` transport, including the first line.
 
 ghost use Rattle.std.specs.Prelude.{◌≡◌, ◌≤◌, ◌+◌, ℕ, IfOk, OnErr};
 ghost use Rattle.gpkt.specs.Sending.{input_of, output_of};
@@ -46,7 +46,7 @@ pub struct GitFetch<'a, A: Allocator + Copy> {
 ///
 /// Fails with `WriteFailed` (27) if the sink fails before the first line is flushed. The client
 /// then reads nothing, and the repository is unchanged. Otherwise fails like `fetch_over_with`.
-/// After every fault the refs are unchanged, and the graph has only gained objects.
+/// After every fault the refs are unchanged, and the graph has lost no objects.
 pub fn fetch_git<S: Source, W: Sink, A: Allocator + Copy, K: Indexer<A>>(
     repo: &mut Repo<A>,
     source: &mut S,

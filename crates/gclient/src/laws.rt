@@ -1,4 +1,4 @@
-//! The laws of conversations: functions without effect, which exist for their contracts.
+//! Laws of conversations. Each function does nothing, and its contract states a proved property.
 
 ghost use Rattle.gclient.specs.Laws.{EndsAreFew, FailingKeepsRefs, FetchingGrows, NextIsFew, RoundsAreAsked, TalksAreFew};
 
@@ -8,13 +8,14 @@ use gsession::laws::{
 };
 use std::alloc::Allocator;
 
-/// A session counts as many rounds as its conversation has requests for objects.
+/// Proves that a session counts as many rounds as its conversation has requests for objects.
 pub fn rounds_are_asked<A: Allocator + Copy, K: Indexer<A>>()
     ensures { (k : K) → RoundsAreAsked (K.indexes k) (K.index_fails k) }
 {}
 
-/// A conversation has at most N + 1 requests for objects, if the local refs reached N ids when it
-/// began. This bound holds for any bytes from the server, and also for a failed conversation.
+/// Proves that a conversation has at most N + 1 requests for objects, if the local refs reached N
+/// ids when it began. The bound holds for any bytes from the server, and also for a failed
+/// conversation.
 pub fn requests_are_few<A: Allocator + Copy, K: Indexer<A>>()
     ensures talks { (k : K) → TalksAreFew (K.indexes k) (K.index_fails k) }
     ensures next { (k : K) → NextIsFew (K.indexes k) (K.index_fails k) }
@@ -27,8 +28,8 @@ pub fn requests_are_few<A: Allocator + Copy, K: Indexer<A>>()
     requests_are_counted::<A, K>();
 }
 
-/// Over a conversation, completed or failed, the graph of the repository only gains objects. A
-/// failed conversation leaves the refs unchanged.
+/// Proves that during a conversation, completed or failed, the graph of the repository only gains
+/// objects. A failed conversation leaves the refs unchanged.
 pub fn fetching_only_grows<A: Allocator + Copy, K: Indexer<A>>()
     ensures grows { (k : K) → FetchingGrows (K.indexes k) (K.index_fails k) }
     ensures refs { (k : K) → FailingKeepsRefs (K.indexes k) (K.index_fails k) }

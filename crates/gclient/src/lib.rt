@@ -1,38 +1,38 @@
 //! A client of Git's fetch service, protocol version 2 (gitprotocol-v2(5)). The client holds a
-//! complete conversation with a server over a source and a sink, to fetch objects or only to list
-//! refs. With the `git://` transport, the client sends a first line before the conversation
+//! complete conversation with a server over a source and a sink, either to fetch objects or only to
+//! list refs. With the `git://` transport, the client sends a first line before the conversation
 //! (gitprotocol-pack(5), "Git Transport").
 //!
 //! # Proved
 //!
 //! - [`fetch_over`] holds a conversation (`specs/Conversations.antt`, `Turns.antt`). The bytes
 //!   alone determine the advertisement and the replies, even if the bytes arrive in pieces.
-//!   `fetch_over` reads nothing after the last reply. It writes each request of the session in its
-//!   canonical encoding, and a lone flush packet after the last reply. It flushes each request
-//!   before it reads the reply. At the end `fetch_over` updates the local refs. [`fetch_over_with`]
-//!   does the same with options for packs.
-//! - [`Fetched`] has the updates of the local refs, the number of requests for objects, and the
-//!   target of the server's unborn `HEAD`.
+//!   `fetch_over` reads nothing after the last reply. The client writes each request of the session
+//!   in its canonical encoding, and a lone flush packet after the last reply. The client flushes
+//!   each request before it reads the reply. At the end `fetch_over` updates the local refs.
+//!   [`fetch_over_with`] does the same with options for packs.
+//! - [`Fetched`] contains the updates of the local refs, the number of requests for objects, and
+//!   the target of the server's unborn `HEAD`.
 //! - The first fault ends a conversation. With too many refspecs, or out of memory at the start,
 //!   the client reads nothing. Later faults are a malformed advertisement, an unsupported server,
-//!   and a fault of a request, of its reply or of the update of refs (see `gsession`). The client
-//!   reports a failed source exactly when the source failed.
+//!   and the faults of requests, replies and ref updates (see `gsession`). The client reports a
+//!   failed source exactly when the source failed.
 //! - If the sink fails, all earlier requests were flushed, and a prefix of the next request was
 //!   written.
 //! - After every fault the refs are unchanged. In all cases the graph only gains objects, and each
 //!   ref stays connected.
 //! - A conversation has at most N + 1 requests for objects, if the local refs reached N ids at the
-//!   start ([`laws`]). This bound also holds for a failed conversation. The session counts each of
-//!   these requests as a round. So a conversation ends for any bytes from the server, if each call
-//!   of the source and the sink returns.
+//!   start ([`laws`]). The bound also holds for a failed conversation. The session counts each
+//!   request for objects as a round. A conversation therefore ends for any bytes from the server,
+//!   if each call of the source and the sink returns.
 //! - [`fetch_git`] flushes the first line before it reads anything (`specs/GitFetches.antt`). The
 //!   rest of the conversation has every guarantee of [`fetch_over_with`]. If the sink fails at the
 //!   first line, `fetch_git` reads nothing, and the repository is unchanged.
 //! - [`list_git`] and [`list_over`] hold a conversation that only requests refs
-//!   (`specs/Listings.antt`). Only `list_git` sends a first line. Both read the reply in the object
-//!   format that the advertisement names. The request has `unborn` exactly when the server offers
-//!   to report an unborn `HEAD`. The client flushes the request before it reads the reply, and
-//!   reads nothing after the final lone flush packet.
+//!   (`specs/Listings.antt`). Only `list_git` sends a first line. Both functions read the reply in
+//!   the object format that the advertisement names. The request has `unborn` exactly when the
+//!   server offers to report an unborn `HEAD`. The client flushes the request before it reads the
+//!   reply, and reads nothing after the final lone flush packet.
 //! - The first fault ends a listing. The faults are a malformed advertisement, an unsupported
 //!   server, a malformed reply, and a failed sink. The contract states which bytes were read and
 //!   written. The client reports a failed source exactly when the source failed.
@@ -51,19 +51,20 @@
 //! # What the contracts do not rule out
 //!
 //! If a source or a sink does not record its bytes, the contracts say nothing about the bytes read
-//! or written. They still state the outcome of the conversation, and whether the source or the sink
-//! failed. If the sink fails, the written prefix may be shorter than necessary. A call may report
-//! out of memory at the start, when it stores data, and when it updates refs. At the start, it may
-//! report out of memory for the session instead of for the reader's buffer, and vice versa. A call
-//! may take any time, and flush more often than necessary. Formatting a fault may return
-//! `fmt::Error` for no reason.
+//! or written. The contracts still state the outcome of the conversation, and whether the source or
+//! the sink failed. If the sink fails, the written prefix may be shorter than necessary. A call may
+//! report out of memory at the start, when it stores data, and when it updates refs. At the start,
+//! out of memory for the session may be reported as out of memory for the reader's buffer, or the
+//! reverse. A call may take any time, and flush more often than necessary. Formatting a fault may
+//! return `fmt::Error` for no reason.
 //!
 //! # Dependencies
 //!
 //! The crate uses `gsession` for the session, and `grefs` and `gclientrepo` for refspecs and the
-//! repository. It uses `ghello` for the first line and the advertisement, `grequest` for requests,
-//! and `glsreply` for listed refs. It uses `ggrammar` and `gpkt` for messages and packets,
-//! `gfetchreply` for the limit of a pack, `ggraph` for indexers, and `gname` for object formats.
+//! repository. The crate uses `ghello` for the first line and the advertisement, `grequest` for
+//! requests, and `glsreply` for listed refs. The crate uses `ggrammar` and `gpkt` for messages and
+//! packets, `gfetchreply` for the limit of a pack, `ggraph` for indexers, and `gname` for object
+//! formats.
 #![tactic(auto)]
 
 mod conversation;

@@ -24,12 +24,12 @@ use std::alloc::Allocator;
 /// The ids have the object format that the advertisement names. The request has `unborn` exactly
 /// when the server offers to report an unborn `HEAD`, even if `asked` differs.
 ///
-/// Fails with `NoBuffer` (28) if there is not enough memory for the reader's buffer, and then reads
-/// nothing. Fails with `Message` if the advertisement or the reply is malformed. The faults of an
+/// Fails with `NoBuffer` (28), and reads nothing, if there is not enough memory for the reader's
+/// buffer. Fails with `Message` if the advertisement or the reply is malformed. The faults of an
 /// advertisement are 20 to 25, 41, 42, 48, 49, 53 and 54. A reply may also have an invalid id (46)
 /// or an invalid ref name (47). Fails with `Message` for an unsupported server: `UnknownCommand`
-/// (43) or `Format` (52). Fails with `WriteFailed` (27) if the sink fails, after a prefix of the
-/// output was written.
+/// (43) or `Format` (52). Fails with `WriteFailed` (27) if the sink fails. The sink has then
+/// received a prefix of the output.
 pub fn list_git<S: Source, W: Sink, A: Allocator + Copy>(
     hello: &Hello<A>,
     source: &mut S,

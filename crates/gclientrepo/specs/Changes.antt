@@ -46,14 +46,14 @@ pub record Marks {A : Type 0} (old : RepoState A) (ids : List Id) (new : RepoSta
   pub connected : All (IsConnected old.graph.entries) ids
   pub known : MarksReached old.graph.entries ids old.known new.known
 
--- only a walk can decide whether the ids are connected: the graph holds each id, but stores some object before one of
--- its parents
+-- only a walk can decide whether the ids are connected, because the graph holds each id, but stores some object before
+-- one of its parents
 pub record NeedsWalk {A : Type 0} (g : List (Entry A)) (ids : List Id) : Type 0 where
   pub held : All (Holds g) ids
   pub unordered : ¬ (IsOrdered g)
 
--- the result of setting a ref: success, an id that is missing in the ancestry of the new id, a ref that can't be set,
--- or out of memory
+-- the result of setting a ref: success, an id that is missing in the new id's ancestry, a ref that can't be set, or out
+-- of memory
 abbrev pub SetsLocal : {A : Type 0} → RepoState A → Name → Id → RepoState A → Result (Unit {0}) (RepoFault A) → Type 0
 SetsLocal old name id new (Ok _) = Marks old (id ∷ []) new × SetsRef old.refs new.refs name id
 SetsLocal old name id new (Err (UnconnectedId missing)) = (new ≡ old) × Misses old.graph.entries (id ∷ []) (Some missing)
@@ -64,7 +64,8 @@ SetsLocal old name id new (Err (Refs refs.Memory)) =
 SetsLocal old name id new (Err (Graph graph.Memory)) = (new ≡ old) × NeedsWalk old.graph.entries (id ∷ [])
 SetsLocal old name id new (Err _) = ⊥
 
--- the result of settling asks: the update of each ref, a missing ancestor, refs that can't be set, or out of memory
+-- the result of settling: the outcome of each requested update, a missing ancestor, refs that can't be set, or out of
+-- memory
 abbrev pub SettlesAsks : {A : Type 0} → RepoState A → List (Ask A) → RepoState A
     → Result (List RefUpdate) (RepoFault A) → Type 0
 SettlesAsks old asks new (Ok updates) =

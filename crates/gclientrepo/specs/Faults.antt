@@ -7,7 +7,8 @@ use Rattle.gclientrepo.specs.declared.fault.RepoFault.{RepoFault}
 use Rattle.gclientrepo.specs.declared.fault.RepoFault.TheVariants.{UnconnectedRef, UnconnectedId, NotConnected, MissingParent}
 use Rattle.gclientrepo.specs.declared.fault.RepoFault.TheVariants.{Graph, Refs}
 
--- the number and the name of each fault of a repository; a fault of the graph or of the refs keeps its own row
+-- the number and the name of each fault of a repository; a fault of the graph or of the refs keeps the number and the
+-- name of its own table
 abbrev pub repo_fault_row : {A : Type 0} → RepoFault A → FaultRow
 repo_fault_row (MissingParent id) = missing_parent
 repo_fault_row (UnconnectedRef name) = (80, codes "UnsafeRef")

@@ -22,7 +22,7 @@ ConnectedRepoStays A =
     → IsConnectedRepo (record { graph = g; refs = refs; known = known })
     → IsConnectedRepo (record { graph = h; refs = refs; known = known })
 
--- a repository stays connected when asks are settled
+-- a repository stays connected when requested ref updates are settled
 abbrev pub SettlingStaysConnected : Type 0 → Type 0
 SettlingStaysConnected A =
     (old new : RepoState A) (asks : List (Ask A)) (updates : List RefUpdate)
@@ -48,7 +48,7 @@ HeldIsNotMissing A =
     (g : List (Entry A)) (ids : List Id) (missing : Id)
     → All (IsConnected g) ids → ¬ (Misses g ids (Some missing))
 
--- the asks determine the outcomes of settling, and the refs after settling
+-- the requested updates determine the outcomes of settling, and the refs after settling
 abbrev pub OneSettling : Type 0 → Type 0
 OneSettling A =
     (g : List (Entry A)) (old : RefList) (asks : List (Ask A)) (updates others : List RefUpdate) (new other : RefList)

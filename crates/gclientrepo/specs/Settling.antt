@@ -19,14 +19,14 @@ MayMove g refs ask =
     (ref_at refs ask.name ≡ None) ⊎ IsTrue ask.forced
     ⊎ ((old : Id) × (ref_at refs ask.name ≡ Some old) × Reaches g ask.id old)
 
--- the outcome of an ask: the ref already has the id, the ref moves, or the update is not allowed
+-- the outcome of a requested update: the ref already has the id, the ref moves, or the update is not allowed
 abbrev pub IsUpdate : {A : Type 0} → List (Entry A) → RefList → Ask A → RefUpdate → Type 0
 IsUpdate g refs ask Same = ref_at refs ask.name ≡ Some ask.id
 IsUpdate g refs ask Moved = (ref_at refs ask.name ≢ Some ask.id) × MayMove g refs ask
 IsUpdate g refs ask NotForward = (ref_at refs ask.name ≢ Some ask.id) × ¬ (MayMove g refs ask)
 
--- the asks are settled: each allowed update was made, every other ref is unchanged, and each outcome depends only on
--- the old refs
+-- the requested updates are settled: each allowed update was made, every other ref is unchanged, and each outcome
+-- depends only on the old refs
 pub record Settles {A : Type 0} (g : List (Entry A)) (old : RefList) (asks : List (Ask A)) (updates : List RefUpdate)
     (new : RefList) : Type 0 where
   pub each : AllZip (IsUpdate g old) asks updates
@@ -34,11 +34,11 @@ pub record Settles {A : Type 0} (g : List (Entry A)) (old : RefList) (asks : Lis
   pub others :
       (name : Name) → All (λ ask. MayMove g old ask → ask.name ≢ name) asks → ref_at new name ≡ ref_at old name
 
--- whether the ask is for a new ref
+-- whether the requested update is for a new ref
 abbrev pub is_new : {A : Type 0} → RefList → Ask A → Bool
 is_new refs ask = is_none (ref_at refs ask.name)
 
--- the asks can't be settled: an ask is for HEAD, or there would be too many refs
+-- the requested updates can't be settled: an update is for HEAD, or there would be too many refs
 abbrev pub CannotSettle : {A : Type 0} → RefList → List (Ask A) → Type 0
 CannotSettle refs asks =
     Contains (map (λ ask. ask.name) asks) head_name ⊎ (max_refs < length refs + count_by (is_new refs) asks)

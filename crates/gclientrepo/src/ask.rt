@@ -3,18 +3,18 @@
 use gname::{Oid, RefName};
 use std::alloc::{Allocator, Global};
 
-/// A request to set a ref to an id.
+/// A requested ref update: a request to set a ref to an id.
 #[derive(Debug, Drop)]
 pub struct Ask<A: Allocator + Copy = Global> {
     /// The name of the ref.
     pub name: RefName<A>,
     /// The new id of the ref.
     pub id: Oid,
-    /// Whether to move the ref even if that is not a fast-forward (git-fetch(1), `--force`).
+    /// Whether to move the ref even if the move is not a fast-forward (git-fetch(1), `--force`).
     pub forced: bool,
 }
 
-/// The outcome of an ask for a ref.
+/// The outcome of a requested ref update.
 #[derive(Clone, Copy, Debug, PartialEq, Eq, Drop)]
 pub enum RefUpdate {
     /// The ref was set to the id: the ref was new, or the update was forced or a fast-forward.

@@ -22,7 +22,8 @@ pub(crate) struct Aim {
     pub(crate) forced: bool,
 }
 
-/// A list of asks, in the order in which they were added. No two asks are for the same ref.
+/// A list of requested ref updates, in the order in which they were added. No two updates in the
+/// list are for the same ref.
 #[derive(Debug, Drop)]
 pub struct Asks<A: Allocator + Copy = Global> {
     aims: IndexMap<RefName<A>, Aim, NameHasher, A>,
@@ -41,7 +42,7 @@ impl<A: Allocator + Copy> Model for Asks<A> {
 }
 
 impl<A: Allocator + Copy> Asks<A> {
-    /// Returns an empty list of asks. Allocates nothing.
+    /// Returns an empty list. Allocates nothing.
     pub fn new(alloc: A) -> Asks<A>
         ensures { result ≡ [] }
     {
@@ -50,7 +51,7 @@ impl<A: Allocator + Copy> Asks<A> {
         }
     }
 
-    /// Returns the number of asks.
+    /// Returns the number of requested updates.
     pub fn len(&self) -> usize
         ensures count { result ≡ length self.now }
         ensures differ { NamesDiffer self.now }
@@ -58,23 +59,23 @@ impl<A: Allocator + Copy> Asks<A> {
         self.aims.len()
     }
 
-    /// Returns whether the list of asks is empty.
+    /// Returns whether the list is empty.
     pub fn is_empty(&self) -> bool
         ensures { IsTrue result ↔ (self.now ≡ []) }
     {
         self.aims.is_empty()
     }
 
-    /// Returns whether one of the asks is for the ref of this name.
+    /// Returns whether an update of the ref with this name is requested.
     pub fn is_asked(&self, name: &RefName<A>) -> bool
         ensures { result ≡ is_asked self.now name.now }
     {
         self.aims.contains_key(name)
     }
 
-    /// Appends an ask, unless the list already has an ask for the same ref.
+    /// Appends a requested update, unless the list already has an update of the same ref.
     ///
-    /// Fails only if out of memory. A failed call leaves the asks unchanged.
+    /// Fails only if out of memory. A failed call leaves the list unchanged.
     pub fn add(&mut self, ask: Ask<A>) -> Result<(), AllocError>
         ensures ok { OnOk result (self.new ≡ with_ask self.old ask) }
         ensures err { OnErr result (self.new ≡ self.old) }
@@ -90,7 +91,8 @@ impl<A: Allocator + Copy> Asks<A> {
         Ok(())
     }
 
-    /// Returns the ref name and the new id of the ask at this index, or `None` past the end.
+    /// Returns the ref name and the new id of the requested update at this index, or `None` if the
+    /// index is out of range.
     pub fn at(&self, place: usize) -> Option<(&RefName<A>, Oid)>
         ensures { MatchOption result (length self.now ≤ place)
             (λ pair. IsAskAt self.now place pair.0.now pair.1) }
@@ -102,8 +104,8 @@ impl<A: Allocator + Copy> Asks<A> {
         Some((name, aim.id))
     }
 
-    /// Returns whether the ask at this index is forced, or `None` past the end. A forced ask moves
-    /// its ref even if that is not a fast-forward.
+    /// Returns whether the requested update at this index is forced, or `None` if the index is out
+    /// of range. A forced update moves its ref even if the move is not a fast-forward.
     pub fn is_forced(&self, place: usize) -> Option<bool>
         ensures { MatchOption result (length self.now ≤ place) (IsForcedAt self.now place) }
     {
@@ -114,7 +116,7 @@ impl<A: Allocator + Copy> Asks<A> {
         Some(aim.forced)
     }
 
-    /// Returns the new id of each ask, in the order of the asks.
+    /// Returns the new id of each requested update, in the order of the list.
     ///
     /// Fails only if out of memory.
     pub fn ids(&self, alloc: A) -> Result<Vec<Oid, A>, AllocError>
@@ -123,12 +125,13 @@ impl<A: Allocator + Copy> Asks<A> {
         ids_of(alloc, &self.aims)
     }
 
-    /// Returns the allocator of the asks.
+    /// Returns the allocator of the list.
     pub fn allocator(&self) -> A {
         *self.aims.allocator()
     }
 
-    /// Returns the ref name of the ask at this index, and the ref's new id.
+    /// Returns the ref name of the requested update at this index, with the new id and the force
+    /// flag.
     pub(crate) fn aim(&self, place: usize) -> (&RefName<A>, &Aim)
         requires { place < length self.now }
         ensures { slice_get self.now place ≡ Some (ask_of_aim (result.0.now, result.1.now)) }

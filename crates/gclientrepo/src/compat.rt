@@ -1,4 +1,4 @@
-//! Alternative names for items of this library.
+//! Alternative names for items of this crate.
 
 ghost use Rattle.std.specs.Prelude.{◌≡◌};
 

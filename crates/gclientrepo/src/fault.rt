@@ -17,13 +17,13 @@ use std::fmt;
 pub enum RepoFault<A: Allocator + Copy = Global> {
     /// The repository does not hold this parent of the object to add.
     MissingParent { id: Oid },
-    /// The ref of this name is not connected. It is the first such ref in the order of the names.
+    /// The ref with this name is the first ref, in the order of the names, that is not connected.
     UnconnectedRef { name: RefName<A> },
     /// The new id of a ref is not connected: it reaches the id `missing`, which the repository does
     /// not hold.
     UnconnectedId { missing: Oid },
-    /// Some new id of the asks is not connected: it reaches the id `missing`, which the repository
-    /// does not hold.
+    /// The new id of a requested update is not connected: it reaches the id `missing`, which the
+    /// repository does not hold.
     NotConnected { missing: Oid },
     /// The graph rejected the change, or there is not enough memory for a walk or a copy.
     Graph(GraphFault),

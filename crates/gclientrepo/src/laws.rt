@@ -1,4 +1,4 @@
-//! The laws of repositories: functions without effect, which exist for their contracts.
+//! Laws of repositories. Each function does nothing, and its contract states a proved property.
 
 ghost use Rattle.gclientrepo.specs.Laws.{HeldIsNotMissing, OneSettling, RefusalsChangeNothing, SettingStaysConnected, SettlingStaysConnected, ConnectedRepoStays};
 
@@ -8,8 +8,8 @@ use ggraph::walk_laws::{covering_stays, marks_stay_connected};
 use grefs::laws::{refs_are_their_look_ups, refs_come_in_order};
 use std::alloc::Allocator;
 
-/// A repository stays connected if its graph gains objects. In a connected repository each ref and
-/// each marked object is connected, and every object that a ref reaches is marked.
+/// Proves that a repository stays connected if its graph gains objects. In a connected repository
+/// each ref and each marked object is connected, and every object that a ref reaches is marked.
 pub fn connected_repo_stays<A: Allocator + Copy>()
     ensures { ConnectedRepoStays A }
 {
@@ -19,7 +19,7 @@ pub fn connected_repo_stays<A: Allocator + Copy>()
     covering_stays::<A>();
 }
 
-/// A repository stays connected if asks are settled.
+/// Proves that a repository stays connected if requested ref updates are settled.
 #[tactic(auto, using(crate::proofs::KeepingConnected::settling_stays_connected))]
 pub fn settling_stays_connected<A: Allocator + Copy>()
     ensures { SettlingStaysConnected A }
@@ -28,7 +28,7 @@ pub fn settling_stays_connected<A: Allocator + Copy>()
     reaching_goes_on::<A>();
 }
 
-/// A repository stays connected if a ref is set.
+/// Proves that a repository stays connected if a ref is set.
 #[tactic(auto, using(crate::proofs::KeepingConnected::setting_stays_connected))]
 pub fn setting_stays_connected<A: Allocator + Copy>()
     ensures { SettingStaysConnected A }
@@ -36,19 +36,21 @@ pub fn setting_stays_connected<A: Allocator + Copy>()
     reaching_goes_on::<A>();
 }
 
-/// A failed call that adds an object, sets a ref or settles asks leaves the repository unchanged.
+/// Proves that a failed call of `add_local`, `set_local_ref` or `settle` leaves the repository
+/// unchanged.
 #[tactic(auto, using(crate::proofs::Refusals::refusals_change_nothing))]
 pub fn refusals_change_nothing<A: Allocator + Copy>()
     ensures { RefusalsChangeNothing A }
 {}
 
-/// No id is missing in the ancestries of connected ids.
+/// Proves that no id is missing in the ancestries of connected ids.
 #[tactic(auto, using(crate::proofs::RepoLemmas::not_all_held))]
 pub fn held_is_not_missing<A: Allocator + Copy>()
     ensures { HeldIsNotMissing A }
 {}
 
-/// A list of asks determines the outcome of each ask, and the id of each ref after settling.
+/// Proves that a list of requested updates determines the outcome of each update, and the id of
+/// each ref after settling.
 #[tactic(auto, using(crate::proofs::OneSettling::one_settling))]
 pub fn one_settling<A: Allocator + Copy>()
     ensures { OneSettling A }

@@ -4,35 +4,35 @@
 //! # Proved
 //!
 //! - [`Repo::new`] returns a repository of exactly the given objects and refs, if each ref is
-//!   connected. Otherwise it reports the first unconnected ref, in the order of the names.
+//!   connected. Otherwise the call reports the first unconnected ref, in the order of the names.
 //! - After each call every ref and every marked object is connected, and every object that a ref
-//!   reaches is marked. Each method that changes a repository has this invariant as a
-//!   postcondition, and so has [`Repo::format`].
+//!   reaches is marked. The invariant is a postcondition of [`Repo::format`] and of each method
+//!   that changes a repository.
 //! - [`Repo::add_local`] adds an object exactly when the repository holds its parents and the graph
-//!   accepts the object. It reports the first missing parent before any fault of the graph.
-//! - [`Repo::insert_all`] adds all objects of a pack or none, even if their parents are missing. It
-//!   changes neither marks nor refs.
+//!   accepts the object. The first missing parent is reported before any fault of the graph.
+//! - [`Repo::insert_all`] adds all objects of a pack or no objects, and accepts objects whose
+//!   parents are missing. The call leaves marks and refs unchanged.
 //! - [`Repo::set_local_ref`] sets a ref exactly when the new id is connected and the ref can be
-//!   set. It checks both conditions before it allocates memory for the ref.
-//! - [`Asks`] keeps at most one ask for each ref: the first that was added. Its methods look up the
-//!   ref, the id and the force flag of an ask by index.
+//!   set. This call checks both conditions before it allocates memory for the ref.
+//! - [`Asks`] is a list of requested ref updates. The list keeps only the first update that was
+//!   added for each ref. Methods look up the ref, the id and the force flag of an update by index.
 //! - [`Repo::settle`] makes all allowed updates of refs at once, and leaves all other refs
-//!   unchanged. It moves no ref if one of the new ids is not connected, or if the refs can't all be
-//!   set. It returns the outcome of each ask. It marks every object that the new ids reach, and
-//!   keeps all other marks. It reports out of memory for refs (`RepoFault::Refs`) only if all ids
-//!   are connected and the refs can be set.
-//! - If each object of the graph was added after its parents, no check needs a walk, so out of
-//!   memory does not hide a fault. In any other graph, out of memory for a walk
+//!   unchanged. The call moves no ref if one of the new ids is not connected, or if the refs can't
+//!   all be set. The call returns the outcome of each requested update. The call marks every object
+//!   that the new ids reach, and keeps all other marks. `Repo::settle` reports out of memory for
+//!   refs (`RepoFault::Refs`) only if all ids are connected and the refs can be set.
+//! - If each object of the graph was added after its parents, no check needs a walk, so a lack of
+//!   memory does not hide any other fault. In any other graph, a lack of memory for a walk
 //!   (`RepoFault::Graph`) may hide an unconnected ref or id, but never an absent id.
 //! - A failed call leaves the repository and its marks unchanged.
 //! - [`Repo::missing`] returns an id that is missing in the ancestries of the given ids.
 //! - Each fault has the number, the name and the text of its row in `specs/Faults.antt`.
 //! - No call panics, overflows or reads out of bounds, and each call returns.
 //!
-//! [`laws`] state that a repository stays connected if its graph gains objects, if a ref is set and
-//! if asks are settled. A failed call leaves the repository unchanged. No id is missing in the
-//! ancestries of connected ids. A list of asks determines the outcome of each ask, and the refs
-//! after settling.
+//! [`laws`] state that a repository stays connected if its graph gains objects, if a ref is set or
+//! if requested ref updates are settled. A failed call leaves the repository unchanged. No id is
+//! missing in the ancestries of connected ids. A list of requested updates determines the outcome
+//! of each update, and the refs after settling.
 //!
 //! # Only tested
 //!
@@ -43,23 +43,23 @@
 //!
 //! If several ids are missing, a call may return any of them. A call may report out of memory
 //! although memory is available, but not when it adds an object that the repository already holds.
-//! If the graph stores an object before one of its parents, out of memory for a walk may hide an
-//! unconnected ref or id. It may also hide refs that can't be set. A walk may continue past marked
-//! objects. A call may take any time, and more memory than it needs. No clause says which allocator
-//! provides the memory. [`Asks::allocator`] may return any allocator of its type, and [`Asks::ids`]
-//! may use the allocator of the asks. Formatting a fault may return `fmt::Error` for no reason.
-//! With format options, such as a width, formatting may write another text.
+//! If the graph stores an object before one of its parents, a lack of memory for a walk may hide an
+//! unconnected ref or id, or refs that can't be set. A walk may continue past marked objects. A
+//! call may take any time, and more memory than it needs. No clause says which allocator provides
+//! the memory. [`Asks::allocator`] may return any allocator of its type, and [`Asks::ids`] may use
+//! the allocator of the list. Formatting a fault may return `fmt::Error` for no reason. With format
+//! options, such as a width, formatting may write a different text.
 //!
-//! No clause bounds time. In this code, adding an ask takes one hash look-up of the ref's name.
-//! Settling takes time proportional to the number of asks and refs times the logarithm of the
-//! number of refs. Settling also walks over the graph for each ask that moves an existing ref,
-//! unless the ask is forced.
+//! No clause bounds the time of a call. In this implementation, adding a requested update takes one
+//! hash look-up of the ref's name. Settling `n` updates of `r` refs takes time proportional to `(n
+//! + r) log r`. Settling also walks over the graph for each update that moves an existing ref,
+//! unless the update is forced.
 //!
 //! # Dependencies
 //!
 //! The crate uses `ggraph` for graphs, refs and walks, and the crates `gobject`, `gdag`, `grefs`
-//! and `gwalk` below `ggraph`. It uses `gname` for ids and names, and `indexmap` to look up asks by
-//! name.
+//! and `gwalk` below `ggraph`. The crate uses `gname` for ids and names, and `indexmap` to look up
+//! updates by name.
 #![tactic(auto)]
 
 mod ask;

@@ -11,7 +11,7 @@ use std::alloc::{AllocError, Allocator};
 use std::collections::BTreeMap;
 use std::marker::Model;
 
-/// A map of refs. In a sorted list, each insertion would have to shift all later refs.
+/// A map of refs. An insertion does not shift all later refs, as it would in a sorted list.
 #[derive(Drop)]
 pub(crate) struct RefMap<A: Allocator + Copy> {
     refs: BTreeMap<RefName<A>, Oid, A>,

@@ -104,7 +104,7 @@ impl<A: Allocator + Copy> Repo<A> {
         self.graph.format()
     }
 
-    /// A law: the invariants of each repository.
+    /// Proves that every repository satisfies its invariants.
     pub fn laws(&self)
         ensures whole { IsConnectedRepo self.now }
         ensures graph { IsGraph self.now.graph }
@@ -115,9 +115,9 @@ impl<A: Allocator + Copy> Repo<A> {
     }
 
     /// Returns an id that one of the given ids reaches, but that the repository does not hold.
-    /// Returns `None` if all given ids are connected. It first checks whether the graph holds the
-    /// given ids. If the graph stores each object after its parents, this check is enough.
-    /// Otherwise it walks the ancestries, and stops at marked objects.
+    /// Returns `None` if all given ids are connected. First checks whether the graph holds the
+    /// given ids. If the graph stores each object after its parents, no further check is necessary.
+    /// Otherwise walks the ancestries, and stops at marked objects.
     ///
     /// Fails only with `Memory`, and only if the repository holds all given ids and stores some
     /// object before one of its parents.
@@ -138,8 +138,8 @@ impl<A: Allocator + Copy> Repo<A> {
         self.missing_by_walk(ids)
     }
 
-    // Walks the ancestries of the ids, and returns an id that is missing there. Fails only with
-    // `Memory`.
+    // Walks the ancestries of the ids, and returns an id that the repository does not hold. Fails
+    // only with `Memory`.
     fn missing_by_walk(&self, ids: &[Oid]) -> Result<Option<Oid>, GraphFault>
         ensures answer { IfOk result (Misses self.now.graph.entries ids.now) }
         ensures fault { IfErr result (λ fault. fault ≡ Memory) }
@@ -166,8 +166,8 @@ impl<A: Allocator + Copy> Repo<A> {
         Ok(self.graph.insert(entry)?)
     }
 
-    /// Adds all objects of a pack or none, and returns the number of new ids. The parents of the
-    /// objects may be missing. Refs and marks are unchanged.
+    /// Adds all objects of a pack or no objects, and returns the number of new ids. The parents of
+    /// the objects may be missing. Refs and marks are unchanged.
     ///
     /// Fails like `Graph::insert_all`. A failed call leaves the repository unchanged.
     pub fn insert_all(&mut self, entries: Vec<Entry<A>, A>) -> Result<usize, GraphFault>
@@ -190,8 +190,8 @@ impl<A: Allocator + Copy> Repo<A> {
         self.graph.insert_all(entries)
     }
 
-    /// Sets a ref to a connected id, even if that is not a fast-forward. Marks every object that
-    /// the id reaches before it sets the ref.
+    /// Sets a ref to a connected id, even if the move is not a fast-forward. First marks every
+    /// object that the id reaches.
     ///
     /// Fails with `UnconnectedId` if the repository does not hold an id that the new id reaches.
     /// Otherwise fails with `Refs` if the ref is HEAD, if there would be too many refs, or if out
@@ -227,13 +227,13 @@ impl<A: Allocator + Copy> Repo<A> {
         Ok(())
     }
 
-    /// Settles the asks: makes each requested update if the ref is new, or if the update is forced
-    /// or a fast-forward. All updates happen at once, and all other refs are unchanged. Returns the
-    /// outcome of each ask, in the order of the asks. All outcomes depend on the refs before the
-    /// call. Marks every object that the new ids reach before it moves a ref.
+    /// Makes each requested update if the ref is new, or if the update is forced or a fast-forward.
+    /// All updates happen at once, and all other refs are unchanged. Returns the outcome of each
+    /// requested update, in the order of the list. All outcomes depend on the refs before the call.
+    /// Marks every object that the new ids reach before moving any ref.
     ///
     /// Fails with `NotConnected` if the repository does not hold an id that the new ids reach.
-    /// Otherwise fails with `Refs` if an ask is for HEAD, if there would be too many refs, or if
+    /// Otherwise fails with `Refs` if an update is for HEAD, if there would be too many refs, or if
     /// out of memory. If [`Repo::missing`] needs a walk, out of memory for the walk (`Graph`) may
     /// be reported instead of these faults. A failed call leaves the repository unchanged.
     pub fn settle(&mut self, asks: &Asks<A>) -> Result<Vec<RefUpdate, A>, RepoFault<A>>
@@ -254,7 +254,8 @@ impl<A: Allocator + Copy> Repo<A> {
         }
     }
 
-    // Returns the result of `missing` for the new ids of the asks. Only a walk allocates memory.
+    // Returns the result of `missing` for the new ids of the requested updates. Allocates memory
+    // only for a walk.
     fn missing_of(&self, asks: &Asks<A>) -> Result<Option<Oid>, GraphFault>
         ensures answer { IfOk result (Misses self.now.graph.entries (asked_ids asks.now)) }
         ensures fault { IfErr result (λ fault. (fault ≡ Memory)

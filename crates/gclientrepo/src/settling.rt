@@ -1,4 +1,4 @@
-//! The updates of refs that asks request (git-fetch(1), "<refspec>").
+//! The settling of requested ref updates (git-fetch(1), "<refspec>").
 
 ghost use Rattle.std.specs.Prelude.{◌≡◌, ◌↔◌, All, Contains, IfErr, IfOk, IsTrue, MatchOption, None, count_by, map};
 ghost use Rattle.gdag.specs.declared.fault.GraphFault.TheVariants.{Memory};
@@ -18,8 +18,8 @@ use gname::{Oid, RefName};
 use grefs::laws::limits_are_the_constants;
 use std::alloc::Allocator;
 
-/// Returns the refs after settling, and the outcome of each ask. Requires that the asks can be
-/// settled. Fails only with `Memory`.
+/// Returns the refs after settling, and the outcome of each requested update. Requires that the
+/// updates can be settled. Fails only with `Memory`.
 pub(crate) fn settle_refs<A: Allocator + Copy>(
     graph: &Graph<A>,
     refs: &Refs<A>,
@@ -37,7 +37,7 @@ pub(crate) fn settle_refs<A: Allocator + Copy>(
     Ok((new, updates))
 }
 
-// Makes the allowed updates of refs, and returns the outcome of each ask.
+// Makes the allowed updates of refs, and returns the outcome of each requested update.
 fn take_asks<A: Allocator + Copy>(
     graph: &Graph<A>,
     old: &Refs<A>,
@@ -58,7 +58,8 @@ fn take_asks<A: Allocator + Copy>(
     Ok(updates)
 }
 
-/// Returns the first new id of the asks that the graph does not hold. Allocates nothing.
+/// Returns the first new id of the requested updates that the graph does not hold. Allocates
+/// nothing.
 pub(crate) fn first_absent<A: Allocator + Copy>(graph: &Graph<A>, asks: &Asks<A>) -> Option<Oid>
     ensures { MatchOption result (All (Holds graph.now.entries) (asked_ids asks.now))
         (λ id. Contains (asked_ids asks.now) id × (node_at graph.now.entries id ≡ None)) }
@@ -80,7 +81,8 @@ pub(crate) fn cannot_set<A: Allocator + Copy>(refs: &Refs<A>, name: &RefName<A>)
     name.is_head() || (refs.get(name).is_none() && refs.len() == MAX_REFS)
 }
 
-/// Returns whether the asks can't be settled: an ask is for HEAD, or there would be too many refs.
+/// Returns whether the requested updates can't be settled: an update is for HEAD, or there would be
+/// too many refs.
 pub(crate) fn cannot_settle<A: Allocator + Copy>(refs: &Refs<A>, asks: &Asks<A>) -> bool
     ensures { IsTrue result ↔ CannotSettle refs.now asks.now }
 {
@@ -89,7 +91,7 @@ pub(crate) fn cannot_settle<A: Allocator + Copy>(refs: &Refs<A>, asks: &Asks<A>)
     asks_for_head(asks) || count_new(refs, asks) > MAX_REFS - refs.len()
 }
 
-// Returns whether one of the asks is for HEAD.
+// Returns whether one of the requested updates is for HEAD.
 fn asks_for_head<A: Allocator + Copy>(asks: &Asks<A>) -> bool
     ensures { IsTrue result ↔ Contains (map (λ ask. ask.name) asks.now) head_name }
 {
@@ -102,7 +104,7 @@ fn asks_for_head<A: Allocator + Copy>(asks: &Asks<A>) -> bool
     false
 }
 
-// Returns the number of asks for new refs.
+// Returns the number of requested updates of new refs.
 fn count_new<A: Allocator + Copy>(refs: &Refs<A>, asks: &Asks<A>) -> usize
     ensures { result ≡ count_by (is_new refs.now) asks.now }
 {
@@ -116,8 +118,8 @@ fn count_new<A: Allocator + Copy>(refs: &Refs<A>, asks: &Asks<A>) -> usize
     count
 }
 
-// Moves the ref of one ask if the update is allowed, and returns the outcome. The outcome depends
-// on the old refs.
+// Makes one requested update if it is allowed, and returns the outcome. The outcome depends on the
+// old refs.
 fn take_ask<A: Allocator + Copy>(
     graph: &Graph<A>,
     old: &Refs<A>,
@@ -137,7 +139,7 @@ fn take_ask<A: Allocator + Copy>(
     Ok(update)
 }
 
-// Returns the outcome of an ask.
+// Returns the outcome of a requested update.
 fn update_of<A: Allocator + Copy>(
     graph: &Graph<A>,
     refs: &Refs<A>,

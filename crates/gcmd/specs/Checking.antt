@@ -14,7 +14,8 @@ use Rattle.gcmd.specs.Programs.{ProgramOutcome}
 use Rattle.gcmd.specs.declared.check.Report.{Report}
 use Rattle.gcmd.specs.declared.fault.ProgramFault.TheVariants as program
 
--- the report has the numbers of the repository's nodes and refs, and the results of both checks
+-- the report states the numbers of the repository's nodes and refs, and the results of both checks: whether the graph
+-- is closed, and whether the repository is connected
 pub record IsReport {A : Type 0} (repo : Repository A) (report : Report) : Type 0 where
   pub nodes : report.nodes ≡ length repo.graph.entries
   pub refs : report.refs ≡ length repo.refs
@@ -24,7 +25,7 @@ pub record IsReport {A : Type 0} (repo : Repository A) (report : Report) : Type 
 abbrev pub yes_or_no : Bool → Bytes
 yes_or_no holds = if holds then codes "yes" else codes "no"
 
--- the line of a report
+-- the printed line for a report
 abbrev pub report_line : Report → Bytes
 report_line report =
     codes "nodes " ++ decimal report.nodes ++ codes " refs " ++ decimal report.refs

@@ -1,4 +1,4 @@
--- The table of the programs' faults, with the printed parts of each fault.
+-- The table of faults of the programs, with the printed parts of each fault.
 use Rattle.std.specs.Prelude.{ℕ, codes, Option, Some, None}
 use Rattle.gname.specs.Faults.{FaultRow, name_fault_row, name_fault_text, out_of_memory, out_of_memory_text}
 use Rattle.gname.specs.declared.faults.NameFault.{NameFault}
@@ -51,7 +51,7 @@ plain row = record { number = row.0; name = row.1; frame = None; line = None; at
 
 -- ---- names
 
--- the index of the byte at which a name is refused
+-- the index of the first byte that makes a name invalid
 abbrev pub place_in_name : NameFault → Option ℕ
 place_in_name (name.BadByte at) = Some at
 place_in_name (name.Component at) = Some at
@@ -64,7 +64,7 @@ printed_of_name fault = record (plain (name_fault_row fault)) { at = place_in_na
 
 -- ---- repository texts
 
--- the number of the line at which a repository's text is refused
+-- the number of the line that makes a repository's text invalid
 abbrev pub line_in_text : LoadFault → Option ℕ
 line_in_text (load.Text line) = Some line
 line_in_text (load.ParentLater line) = Some line
@@ -100,7 +100,7 @@ printed_of_build fault =
 
 -- ---- requests
 
--- the position of the packet at which a request was refused
+-- the position of the packet for which a request was refused
 abbrev pub frame_in_request : ServeFault → Option ℕ
 frame_in_request (serve.Request fault) = Some fault.frame
 frame_in_request _ = None
@@ -132,7 +132,7 @@ printed_of_request fault = record (plain (number_and_name (serve_fault_row fault
 
 -- ---- fetching
 
--- the position of the packet at which a message was refused
+-- the position of the packet for which a message was refused
 abbrev pub frame_in_client : {A : Type 0} → ClientFault A → Option ℕ
 frame_in_client (client.Message fault) = Some fault.frame
 frame_in_client _ = None

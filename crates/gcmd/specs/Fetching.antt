@@ -34,11 +34,11 @@ use Rattle.gcmd.specs.declared.fault.ProgramFault.TheVariants as program
 
 -- ---- arguments
 
--- the text is the text of a refspec
+-- the text encodes a refspec
 abbrev pub IsSpecText : Bytes → Type 0
 IsSpecText text = (spec : Refspec) × IsSpec text spec
 
--- the first argument that is not a refspec, or an argument for which memory runs out
+-- the fault of the first argument that is not a refspec, or out of memory for an argument
 pub record RefusesWord (words : List Bytes) (fault : SpecFault) : Type 0 where
   pub front : List Bytes
   pub word : Bytes
@@ -47,7 +47,7 @@ pub record RefusesWord (words : List Bytes) (fault : SpecFault) : Type 0 where
   pub before : All IsSpecText front
   pub refused : Reads (IsSpec word) (Err fault)
 
--- the result of reading the arguments: a refspec for each argument, or the fault of the first bad argument
+-- the result of reading the arguments: a refspec for each argument, or the fault of the first invalid argument
 abbrev pub ReadsSpecs : {A : Type 0} → List Bytes → Result (List Refspec) (ProgramFault A) → Type 0
 ReadsSpecs words (Ok specs) = AllZip IsSpec words specs
 ReadsSpecs words (Err (program.Spec fault)) = RefusesWord words fault
@@ -55,17 +55,17 @@ ReadsSpecs words (Err _) = ⊥
 
 -- ---- files
 
--- the absent HEAD of a client's repository
+-- the value for the absent HEAD of a client's repository
 abbrev pub no_head : {A : Type 0} → Head A
 no_head = head.None
 
--- the file is the text of a client's repository, which is connected
+-- the file is the text of a connected repository of a client
 pub record NamesClient {A : Type 0} (file : Bytes) (repo : RepoState A) : Type 0 where
   pub text : file ≡ repository_text repo.graph repo.refs (no_head {A = A})
   pub loadable : IsLoadable Any repo.graph repo.refs (no_head {A = A})
   pub whole : IsConnectedRepo repo
 
--- the file is the text of a repository with a HEAD, which is at this line
+-- the file is the text of a repository whose HEAD is on the line with this number
 pub record NamesHead (A : Type 0) (file : Bytes) (line : ℕ) : Type 0 where
   pub repo : Repository A
   pub text : file ≡ repository_text repo.graph repo.refs repo.head
@@ -73,7 +73,7 @@ pub record NamesHead (A : Type 0) (file : Bytes) (line : ℕ) : Type 0 where
   pub stands : repo.head ≢ no_head
   pub place : line ≡ length repo.graph.entries + length repo.refs + 2
 
--- the file is the text of a repository that the client refuses for this cause
+-- the file is the text of a repository that the client refuses for a reason that satisfies `Cause`
 pub record NamesUnconnected (A : Type 0) (file : Bytes) (Cause : History A → RefList → Type 0) : Type 0 where
   pub graph : History A
   pub refs : RefList
@@ -115,19 +115,19 @@ abbrev pub IsNewFile : {A : Type 0} → RepoState A → RepoState A → Fetched 
 IsNewFile old new fetched None = ⊥
 IsNewFile old new fetched (Some text) = NamesClient text new × IsFetchedInto old new fetched
 
--- the report is written and flushed, or its sink fails
+-- the report is written and flushed, or the sink for the report fails
 abbrev pub SendsReport : {A : Type 0} → Bytes → Output → ProgramOutcome A → Type 0
 SendsReport bytes report (Ok done) = Sends report bytes
 SendsReport bytes report (Err program.WriteFailed) = BreaksOff report bytes
 SendsReport bytes report (Err _) = ⊥
 
--- the result of reporting: the report is sent or its sink fails, or memory for the report runs out
+-- the result of reporting: the report is written and flushed, the sink fails, or memory for the report runs out
 abbrev pub Reports : {A : Type 0} → Fetched A → Output → ProgramOutcome A → Type 0
 Reports fetched report outcome =
     SendsReport (fetch_report fetched) report outcome ⊎ ((outcome ≡ Err program.Memory) × IsUnwritten report)
 
--- the outcome after a successful conversation: either there is a new file and the report is sent, or memory for the new
--- file runs out and nothing is reported
+-- the outcome after a successful conversation: there is a new file and then a report, or memory for the new file runs
+-- out and nothing is reported
 abbrev pub Concludes : {A : Type 0} → RepoState A → RepoState A → Fetched A → Output → Option Bytes → ProgramOutcome A → Type 0
 Concludes old new fetched report file outcome =
     (IsNewFile old new fetched file × Reports fetched report outcome)
@@ -155,7 +155,7 @@ module _ {A : Type 0} (old : Bytes) (specs : List Refspec) (limit : ℕ) (ends :
       pub unreported : IsUnwritten report
       pub none : file ≡ None
 
-    -- the repository of the client's file fetches with the refspecs
+    -- a fetch with the refspecs into the repository of the client's file
     pub record IsFetched (outcome : ProgramOutcome A) : Type 0 where
       pub repo : RepoState A
       pub names : NamesClient old repo

@@ -45,7 +45,7 @@ abbrev pub StopsAfter : ℕ → Change → Result (Unit {0}) PacketFault → Typ
 StopsAfter count bytes (Ok done) = Reads bytes (Ok None) ⊎ ((count ≡ max_lines) × (bytes.new ≡ bytes.old))
 StopsAfter count bytes (Err fault) = Reads bytes (Err fault)
 
--- whether the source has failed after reading, which is so exactly if the fault is a fault of the source
+-- after reading, the source has failed exactly if the fault reports a failed source
 abbrev pub LeavesSource : Bool → Result (Unit {0}) PacketFault → Type 0
 LeavesSource down (Ok done) = down ≡ false
 LeavesSource down (Err fault) = IsReadFailure false down (why.Line fault)
@@ -57,7 +57,7 @@ pub record ReadsEach (input : Input) (lines : List Packet) (ended : Result (Unit
   pub stops : StopsAfter (length lines) (record { old = between; new = input.read.new }) ended
   pub source : LeavesSource input.is_down ended
 
--- these packets are read, and perhaps one of the reasons to stop applies after them
+-- these packets are read, and reading may or may not stop after them
 abbrev pub ReadsSome : Input → List Packet → Type 0
 ReadsSome input lines =
     ReadsPackets input.read lines ⊎ ((ended : Result (Unit {0}) PacketFault) × ReadsEach input lines ended)
@@ -68,14 +68,14 @@ ReadsSome input lines =
 abbrev pub ShowsSome : Input → Output → Type 0
 ShowsSome input output = (lines : List Packet) × ReadsSome input lines × BreaksOff output (shown_lines lines)
 
--- the packets before a refused packet are shown; or memory for the reader's buffer runs out, and nothing is read
+-- the packets before a refused packet are shown, or nothing is read because memory for the reader's buffer runs out
 abbrev pub ShowsUntil : Input → Output → PacketFault → Type 0
 ShowsUntil input output fault =
     ((lines : List Packet) × ReadsEach input lines (Err fault) × Sends output (shown_lines lines))
     ⊎ ((fault ≡ Memory) × IsUnread input × IsUnwritten output)
 
--- The effect of `lines`: all packets up to the end or to a refused packet are shown. If the sink fails, a prefix of the
--- lines is written.
+-- The effect of `lines`: all packets before the end or before a refused packet are shown. If the sink fails, a prefix
+-- of the lines is written.
 abbrev pub ShowsLines : {A : Type 0} → Input → Output → ProgramOutcome A → Type 0
 ShowsLines input output (Ok done) =
     (lines : List Packet) × ReadsEach input lines (Ok tt) × Sends output (shown_lines lines)

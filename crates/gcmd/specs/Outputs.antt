@@ -16,11 +16,11 @@ pub record FailsAtFlush (output : Output) (bytes : Bytes) : Type 0 where
   pub passed_on : KeepsPassed output.passed_on
   pub down : output.is_down ≡ true
 
--- the sink failed before these bytes were written and flushed
+-- the sink failed before all of these bytes were written and flushed
 abbrev pub BreaksOff : Output → Bytes → Type 0
 BreaksOff output bytes = FailsAtWrite output bytes ⊎ FailsAtFlush output bytes
 
--- the outcome of a call that writes these bytes and flushes them
+-- the outcome of a call that tries to write and flush these bytes
 abbrev pub IsSent : Output → Result (Unit {0}) Down → Bytes → Type 0
 IsSent output (Ok done) bytes = Sends output bytes
 IsSent output (Err down) bytes = BreaksOff output bytes

@@ -6,7 +6,7 @@ use Rattle.gpkt.specs.Packets.{Bytes}
 use Rattle.gcmd.specs.declared.fault.ProgramFault.{ProgramFault}
 use Rattle.gcmd.specs.declared.fault.ProgramFault.TheVariants as program
 
--- the first argument that is not a prefix, with its fault; or an argument for which memory runs out
+-- the fault of the first argument that is not a prefix, or out of memory for an argument
 pub record RefusesPrefix (words : List Bytes) (fault : NameFault) : Type 0 where
   pub front : List Bytes
   pub word : Bytes
@@ -15,8 +15,8 @@ pub record RefusesPrefix (words : List Bytes) (fault : NameFault) : Type 0 where
   pub before : All IsPrefix front
   pub refused : Owns prefix_fault word (Err fault)
 
--- the result of reading the arguments: the arguments, unchanged, if each is a prefix of ref names, or the fault of the
--- first bad argument
+-- the result of reading the arguments: the unchanged arguments if each argument is a prefix of ref names, and otherwise
+-- the fault of the first invalid argument
 abbrev pub ReadsPrefixes : {A : Type 0} → List Bytes → Result (List Bytes) (ProgramFault A) → Type 0
 ReadsPrefixes words (Ok prefixes) = (prefixes ≡ words) × All IsPrefix words
 ReadsPrefixes words (Err (program.Name fault)) = RefusesPrefix words fault

@@ -1,6 +1,5 @@
--- The printed line of a fault: `gitv2: fault NUMBER NAME`. After the name come those of the following parts that the
--- fault has: the position of the packet, the line number, the index of the byte, and the id, the ref name or the error
--- text.
+-- The printed line of a fault: `gitv2: fault NUMBER NAME`. The following parts come after the name, if the fault has
+-- them: the position of the packet, the line number, the index of the byte, and the id, the ref name or the error text.
 use Rattle.std.specs.Prelude.{ℕ, ◌++◌, ◌&&◌, nat_le, if◌then◌else◌, [], map, codes, Option, None, Some}
 use Rattle.std.specs.Fmt.{decimal}
 use Rattle.gname.specs.Ids.{Id, id_text}
@@ -8,11 +7,11 @@ use Rattle.gpkt.specs.Packets.{Bytes}
 use Rattle.gcmd.specs.Faults.{Printed, printed_of}
 use Rattle.gcmd.specs.declared.fault.ProgramFault.{ProgramFault}
 
--- a byte as it is printed: `?` replaces each byte outside 32 to 126
+-- the printed form of a byte: `?` replaces each byte outside 32 to 126
 abbrev pub printable : ℕ → ℕ
 printable byte = if nat_le 32 byte && nat_le byte 126 then byte else 63
 
--- a word and a number, or nothing if the fault has no such number
+-- a word and a number, or nothing if there is no number
 abbrev pub number_part : Bytes → Option ℕ → Bytes
 number_part word None = []
 number_part word (Some number) = word ++ decimal number

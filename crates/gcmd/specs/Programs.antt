@@ -20,6 +20,6 @@ abbrev pub ExitsWith : {A : Type 0} → ProgramOutcome A → Output → ℕ → 
 ExitsWith (Ok done) errors status = IsUnwritten errors × (status ≡ 0)
 ExitsWith (Err fault) errors status = Prints errors (fault_line fault) × (status ≡ 1)
 
--- a program has an outcome, and ends with the printed line and the exit status of the outcome
+-- a program has an outcome, and ends with the printed line and the exit status for this outcome
 abbrev pub Runs : {A : Type 0} → (ProgramOutcome A → Type 0) → Output → ℕ → Type 0
 Runs {A} Works errors status = (outcome : ProgramOutcome A) × Works outcome × ExitsWith outcome errors status

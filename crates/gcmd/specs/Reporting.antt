@@ -1,4 +1,4 @@
--- The report of a fetch: a line for each requested ref update, in the order of the requests.
+-- The report of a fetch: a line for each requested ref update, in the order of the requested updates.
 use Rattle.std.specs.Prelude.{List, [], ◌∷◌, ◌++◌, codes, Option, None, Some}
 use Rattle.gname.specs.Ids.{Id, id_text}
 use Rattle.gname.specs.Names.{Name}

@@ -24,7 +24,7 @@ use Rattle.gcmd.specs.declared.fault.ProgramFault.TheVariants as program
 
 -- ---- files
 
--- the file is the text of this graph, these refs and this HEAD, with each parent before its children
+-- the file encodes this graph, these refs and this HEAD, and lists each parent before its children
 pub record NamesParts {A : Type 0} (file : Bytes) (parts : Server A) : Type 0 where
   pub text : file ≡ repository_text parts.graph parts.refs parts.head
   pub loadable : IsLoadable ParentsFirst parts.graph parts.refs parts.head
@@ -34,12 +34,12 @@ pub record NamesServer {A : Type 0} (file : Bytes) (server : Server A) : Type 0 
   pub names : NamesParts file server
   pub whole : IsServer server
 
--- the reasons why these parts do not form a server; a parent is never missing
+-- the reasons why a graph, refs and a HEAD do not form a server; no parent is missing in the graph
 abbrev pub MissesPart : {A : Type 0} → Server A → BuildFault A → Type 0
 MissesPart parts (build.NotClosed id) = ⊥
 MissesPart parts cause = IsUnserved parts cause
 
--- the reasons to reject a file: it is not the text of a repository that lists each parent before its children, or an
+-- the reasons to reject a file: it is not the text of a repository that lists each parent before its children, or the
 -- object of a ref or of HEAD is missing
 abbrev pub RefusesFile : {A : Type 0} → Bytes → ProgramFault A → Type 0
 RefusesFile {A} file (program.Text cause) = StopsAt A ParentsFirst file cause
@@ -60,7 +60,7 @@ module _ {A : Type 0} (file : Bytes) (input : Input) (output : Output) where
     pub unread : IsUnread input
     pub unwritten : IsUnwritten output
 
-  -- the server of the file has this outcome
+  -- serving the repository of the file has this outcome
   pub record IsServedBy (Does : Server A → ProgramOutcome A → Type 0) (outcome : ProgramOutcome A) : Type 0 where
     pub server : Server A
     pub names : NamesServer file server

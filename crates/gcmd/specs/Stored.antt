@@ -1,6 +1,6 @@
--- A fetch into a stored file: the file is locked and read, the refs are updated, and then the whole text is replaced.
--- The report follows the new text. The contracts state which texts the file had since it was read: only the old text
--- (`IsKept`), or the old text and then perhaps the new text (`IsReplaced`).
+-- A fetch into a stored file. The file is locked and read, the refs are updated, and then the whole text is replaced.
+-- The report is written only after the new text. The contracts state which texts the file had after it was read: only
+-- the old text (`IsKept`), or the old text and then perhaps the new text (`IsReplaced`).
 use Rattle.std.specs.Prelude.{◌≡◌, ◌⊎◌, ℕ, List, Option, Result, Ok, Err}
 use Rattle.gpkt.specs.Packets.{Bytes}
 use Rattle.gpkt.specs.Sending.{Input, Output, IsUnread, IsUnwritten}
@@ -32,16 +32,16 @@ pub record Stored : Type 0 where
 abbrev pub stored_of : {T : Type 0} → (T → Option Texts) → (T → Lockfile) → T → T → Stored
 stored_of texts lockfile old new = record { old = texts old; new = texts new; lockfile = lockfile new }
 
--- since it was read, the file had no text except its old text
+-- after it was read, the file only ever had its old text
 abbrev pub IsKept : Stored → Type 0
 IsKept stored = KeepsStates stored.old stored.new
 
--- the old text was replaced by the whole new text; if the replacement failed, the file may have either text
+-- the whole new text replaced the old text; if the replacement failed, the file may have either text
 abbrev pub IsReplaced : Bytes → Bytes → Stored → Result (Unit {0}) StorageFault → Type 0
 IsReplaced old new stored result =
     WhereKnown stored.old stored.new (λ before after. Replaces old new before after result)
 
--- the fault of a program that can't lock, read or replace its file
+-- the fault that a program reports if it can't lock, read or replace its file
 abbrev pub storage_fault : {A : Type 0} → StorageFault → ProgramFault A
 storage_fault storage.Memory = program.Memory
 storage_fault storage.Failed = program.File
@@ -112,7 +112,7 @@ module _ {A : Type 0} (specs : List Refspec) (limit : ℕ) (ends : Ends) (stored
       pub unwritten : IsUnwritten output
       pub unreported : IsUnwritten report
 
-    -- the repository of the file fetches with the refspecs
+    -- a fetch with the refspecs into the repository of the file
     pub record IsFetchedStored (outcome : ProgramOutcome A) : Type 0 where
       pub old : Bytes
       pub held : Holds stored.old old
@@ -124,7 +124,7 @@ module _ {A : Type 0} (specs : List Refspec) (limit : ℕ) (ends : Ends) (stored
           (start_of repo specs limit ends) input output new result
       pub ends_so : EndsStored old repo new result stored report outcome
 
-    -- the effect of `fetch` on a stored file; at the end this run holds no lockfile
+    -- the effect of `fetch` on a stored file; at the end the program holds no lockfile
     abbrev pub FetchesStored : ProgramOutcome A → Type 0
     FetchesStored outcome = (stored.lockfile ≡ Absent) × (IsFetchedStored outcome ⊎ IsNotOpened outcome)
 

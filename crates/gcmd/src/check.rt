@@ -19,9 +19,10 @@ use std::alloc::Allocator;
 /// The maximum length in bytes of a report: its words, and two numbers of 20 digits.
 const MAX_REPORT: usize = 76;
 
-/// `gitv2 check FILE`: reports on the repository whose text is `file`, with its nodes in any order.
-/// The report has the number of nodes and refs, whether the graph is closed (`closed`), and whether
-/// the repository is connected (`safe`). A fault is printed as one line on `errors`.
+/// `gitv2 check FILE`: reports on the repository whose text is `file`. The text may list the nodes
+/// in any order. The report has the number of nodes and refs, whether the graph is closed
+/// (`closed`), and whether the repository is connected (`safe`). A fault is printed as one line on
+/// `errors`.
 ///
 /// Returns exit status 0 if the report is written and flushed, and 1 after a fault. After a fault
 /// nothing is written to `output`, except a prefix of the report if the output failed.

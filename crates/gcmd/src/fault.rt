@@ -17,11 +17,11 @@ use std::alloc::{AllocError, AllocFailed, Allocator, Global};
 use std::error::Error;
 use std::fmt;
 
-/// The reason a program ends with status 1. The reason is printed as one line.
+/// The reason why a program ends with status 1. The program prints the reason as one line.
 #[derive(Debug, Drop)]
 pub enum ProgramFault<A: Allocator + Copy = Global> {
-    /// Fault 64: out of memory for a file, for a buffer of standard input or output, or to check a
-    /// repository.
+    /// Fault 64: there is not enough memory for a file, for a buffer of standard input or output,
+    /// or to check a repository.
     Memory,
     /// Fault 95: the file of the repository could not be read, or could not be written after a
     /// fetch.
@@ -32,17 +32,17 @@ pub enum ProgramFault<A: Allocator + Copy = Global> {
     Build(BuildFault<A>),
     /// Faults 20 to 54, 64, 65, 73 and 74: a request was refused.
     Request(ServeFault),
-    /// Faults 20 to 24 and 28: a packet to show was refused, or out of memory to read packets.
+    /// Faults 20 to 24 and 28: a packet was refused, or there is not enough memory to read packets.
     Line(PacketFault),
-    /// Faults 18 and 87: a word is not a refspec, or out of memory to keep the refspecs.
+    /// Faults 18 and 87: a word is not a refspec, or there is not enough memory for the refspecs.
     Spec(SpecFault),
-    /// Faults 20 to 25, 27 to 30, 41 to 54, 60 to 64, 66, 69, 75, 80, 82 and 84 to 86: fetching
-    /// into the client's repository failed, or out of memory. Fault 80 reports an unconnected ref.
+    /// Faults 20 to 25, 27 to 30, 41 to 54, 60 to 64, 66, 69, 75, 80, 82 and 84 to 86: the fetch
+    /// into the client's repository failed, or memory ran out. Fault 80 reports an unconnected ref.
     Fetch(FetchFault<A>),
     /// Fault 27: the output failed.
     WriteFailed,
-    /// Faults 11, 13 and 18: a word is not a prefix of ref names, or out of memory to keep the
-    /// prefixes.
+    /// Faults 11, 13 and 18: a word is not a prefix of ref names, or there is not enough memory for
+    /// the prefixes.
     Name(NameFault),
     /// Fault 94: a message between the client and the server of `gitv2 pair` is too long.
     PairLimit,

@@ -33,12 +33,13 @@ pub struct FetchRun<A: Allocator + Copy = Global> {
 /// `gitv2 fetch --stdio [--limit N] [--response-end] FILE SPEC...`: fetches with the refspecs from
 /// the server at `input` and `output` into the client's repository whose text is `file`
 /// (gitprotocol-v2(5)). `limit` is the maximum size of a pack, and `ends` states how each reply
-/// ends. The report has a line for each ref: `moved NAME ID`, `same NAME`, or `notforward NAME` if
-/// the move is not a fast-forward. The last line is `unborn NAME` if HEAD was fetched and the
-/// server's HEAD is unborn and points at NAME. A fault is printed as one line on `errors`.
+/// ends. The report has a line for each requested ref update: `moved NAME ID`, `same NAME`, or
+/// `notforward NAME` if the move is not a fast-forward. The last line is `unborn NAME` if HEAD was
+/// fetched and the server's HEAD is unborn and points at NAME. A fault is printed as one line on
+/// `errors`.
 ///
-/// Returns the exit status. Also returns the new text of the file if the conversation succeeded and
-/// memory for the text did not run out. The caller writes this text to the file, and shows the
+/// Returns the exit status. Also returns the new text of the file, unless the conversation failed
+/// or memory for the text ran out. The caller must write this text to the file, and may show the
 /// report only afterwards. If the conversation failed, the file is unchanged.
 pub fn cmd_fetch<A: Allocator + Copy, S: Source, W: Sink, R: Sink, E: Sink>(
     alloc: A,

@@ -1,8 +1,8 @@
 //! The programs of gitv2 as functions over bytes, sources and sinks. The programs serve the
 //! repository of a file, fetch into the repository, check the repository, or show packets.
 //!
-//! A device is a source or a sink. A promise about the bytes of a device holds only if the device
-//! records its bytes, as devices in memory do.
+//! A promise about the bytes of a source or a sink holds only if the source or sink records its
+//! bytes, as sources and sinks in memory do.
 //!
 //! # Proved
 //!
@@ -12,8 +12,8 @@
 //! - [`cmd_failed`] prints the line that reports a given fault.
 //! - If a write to a sink fails, nothing more is flushed. If a flush fails, the bytes of earlier
 //!   flushes remain flushed (`specs/Outputs.antt`).
-//! - [`cmd_upload`] serves one connection, and [`cmd_ls`] one request, from the repository of a
-//!   file and with plain packs (`specs/Serving.antt`). `gserve` describes both exchanges. A
+//! - From the repository of a file, [`cmd_upload`] serves one connection, and [`cmd_ls`] replies to
+//!   one request. Both use plain packs (`specs/Serving.antt`). `gserve` describes both exchanges. A
 //!   connection succeeds if the client ends it, the input ends before a request, or the limit of
 //!   requests is reached. A request succeeds if it gets a reply or is a lone flush packet, and also
 //!   if the input is empty. In every other case the fault is the refusal of a request or a failure
@@ -24,10 +24,10 @@
 //!   (`specs/Fetching.antt`). `gclient` describes the conversation. The file must be the text of a
 //!   repository without HEAD whose refs are all connected. With any other file nothing is read or
 //!   written. If the conversation succeeds, the new file is the text of the repository after the
-//!   fetch. The fetch only adds objects, every ref is connected, and each ref that may move has
-//!   moved. The report (`specs/Reporting.antt`) is written and flushed. If its sink fails, a prefix
-//!   of the report is written. If memory for the report runs out, there is a new file without a
-//!   report. After any other fault there is no new file and no report.
+//!   fetch. The fetch only adds objects, every ref is connected, and each allowed update of a ref
+//!   was made. The report (`specs/Reporting.antt`) is written and flushed. If the sink for the
+//!   report fails, a prefix of the report is written. If memory for the report runs out, there is a
+//!   new file without a report. After any other fault there is no new file and no report.
 //! - [`read_specs`] reads arguments as refspecs, and fails at the first argument that is not a
 //!   refspec.
 //! - [`read_prefixes`] reads arguments as prefixes of ref names, unchanged, and fails at the first
@@ -42,8 +42,8 @@
 //!   The line shows the number of nodes and refs, whether the graph is closed, and whether the
 //!   repository is connected. If the file is not the text of a repository, nothing is written.
 //! - [`cmd_lines`] shows exactly the packets of its input, up to the end or to the first refused
-//!   packet. The program flushes all lines, or writes a prefix of the lines if the sink fails. If
-//!   the exit status is 0, the source has not failed.
+//!   packet. The program writes and flushes all lines, or writes a prefix of the lines if the sink
+//!   fails. If the exit status is 0, the source has not failed.
 //! - Each fault has the number, the name, the text and the printed line that `specs/Faults.antt`
 //!   and `specs/Printing.antt` state.
 //!
@@ -51,23 +51,24 @@
 //!
 //! The cases of `conformance` test the exact bytes of whole runs. The cases also test that
 //! available memory is used, and that a source or a sink is not called again after a failure. The
-//! cases read and write one byte per call, and make each call fail in turn.
+//! cases let each call read or write only one byte, and make each call fail in turn.
 //!
 //! # What the contracts do not rule out
 //!
-//! A call that allocates may report out of memory whenever the crates that it uses may do so. If a
-//! sink does not record its bytes, the contracts do not state which bytes the sink receives. The
-//! contracts do not limit how often a source or a sink is called, or how long a call takes.
-//! Formatting a fault may return `fmt::Error` for no reason. The function [`cmd_fetch_stored`] may
-//! report that a file can't be locked, read or replaced although it could be.
+//! A call that allocates may report out of memory whenever a crate that it uses may report out of
+//! memory. If a sink does not record its bytes, the contracts do not state which bytes the sink
+//! receives. The contracts do not limit how often a source or a sink is called, or how long a call
+//! takes. Formatting a fault may return `fmt::Error` for no reason. The function
+//! [`cmd_fetch_stored`] may report that a file can't be locked, read or replaced, even if each of
+//! these steps would succeed.
 //!
 //! # Dependencies
 //!
 //! The crate uses `gserve` for connections, `ganswer` for the server, `gclient` for the client,
 //! `gfetchreply` for the limit of a pack, and `glockfile` for stored files. The crate uses `ggraph`
-//! for repository texts and plain packs, `ggrammar` for the ends of replies, `gpkt` for packets and
-//! devices, and `gname` for ids. The crate uses `arrayvec` for texts of bounded length, `hex` for
-//! hexadecimal digits, and `itoa` for decimal numbers.
+//! for repository texts and plain packs, `ggrammar` for the ends of replies, `gpkt` for packets,
+//! sources and sinks, and `gname` for ids. The crate uses `arrayvec` for texts of bounded length,
+//! `hex` for hexadecimal digits, and `itoa` for decimal numbers.
 #![tactic(auto)]
 
 mod check;

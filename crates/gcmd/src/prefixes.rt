@@ -10,7 +10,7 @@ use std::alloc::Allocator;
 
 /// Reads each word as a prefix of ref names (gitprotocol-v2(5), "ls-refs").
 ///
-/// Fails with `Name` at the first word that is not a prefix, and also if out of memory.
+/// Fails with `Name` if a word is not a prefix, or if out of memory.
 pub fn read_prefixes<A: Allocator + Copy>(
     alloc: A,
     words: &[String<A>],

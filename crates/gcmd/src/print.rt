@@ -1,6 +1,6 @@
-//! The printed lines of faults. A line begins with `gitv2: fault NUMBER NAME`. After the name come
-//! those of the following parts that the fault has: ` frame K`, ` line K`, ` at K`, and a space
-//! with the id, the name or the text. Each byte outside 32 to 126 is printed as `?`.
+//! The printed lines of faults. A line begins with `gitv2: fault NUMBER NAME`. The following parts
+//! come after the name, if the fault has them: ` frame K`, ` line K`, ` at K`, and a space with the
+//! id, the name or the text. Each byte outside 32 to 126 is printed as `?`.
 
 ghost use Rattle.std.specs.Prelude.{◌≡◌, ◌+◌, ◌≤◌, ◌++◌, length, map, None, []};
 ghost use Rattle.std.specs.Option.{option_copied};
@@ -265,7 +265,7 @@ fn printable(byte: u8) -> u8
     }
 }
 
-// Returns the index of the byte at which a name is refused.
+// Returns the index of the first byte that makes a name invalid.
 fn place_in_name(fault: &NameFault) -> Option<usize>
     ensures { result ≡ place_in_name fault.now }
 {

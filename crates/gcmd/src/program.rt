@@ -1,4 +1,4 @@
-//! The endings of programs.
+//! The end of a program: its printed fault, and its exit status.
 
 ghost use Rattle.std.specs.Prelude.{◌≡◌, Err};
 ghost use Rattle.gcmd.specs.Outputs.{IsSent};

@@ -1,4 +1,4 @@
-//! Functions that write bytes to a sink and flush the sink.
+//! Functions that write bytes to a sink, with or without a flush.
 
 ghost use Rattle.std.specs.Prelude.{◌≡◌};
 ghost use Rattle.gpkt.specs.Sending.{output_of};

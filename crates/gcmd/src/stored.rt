@@ -21,7 +21,7 @@ use glockfile::{Storage, open_file, replace_file};
 use gpkt::{Sink, Source};
 use std::alloc::{Allocator, Global};
 
-/// The options of a fetch.
+/// The parameters of a fetch.
 #[derive(Clone, Copy)]
 pub struct FetchOptions<'a, A: Allocator + Copy = Global> {
     /// The refspecs.
@@ -37,14 +37,14 @@ pub struct FetchOptions<'a, A: Allocator + Copy = Global> {
 pub struct OpenedFile<A: Allocator + Copy = Global> {
     /// The text of the file when it was locked.
     pub text: Vec<u8, A>,
-    /// The client's repository of that text.
+    /// The client's repository that the text describes.
     pub repo: Repo<A>,
 }
 
 /// `gitv2 fetch --stdio [--limit N] [--response-end] FILE SPEC...`: locks and reads the file, and
-/// fetches into its repository from the server at `input` and `output`. Replaces the whole file if
-/// the conversation succeeded, and then writes the report to `errors`, since `output` leads to the
-/// server. A fault is also printed on `errors`, as one line. Returns the exit status.
+/// fetches into its repository from the server at `input` and `output`. If the conversation
+/// succeeded, replaces the whole file, and then writes the report to `errors`, since `output` leads
+/// to the server. A fault is also printed as one line on `errors`. Returns the exit status.
 ///
 /// The fault is `File` or `Memory` if the file can't be locked, read or replaced. Nothing is read
 /// from the input or written to the output before the file is locked and read. After every fault

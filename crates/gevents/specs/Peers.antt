@@ -1,5 +1,4 @@
--- The connection of a peer: its count of sent bytes, the outcome of one read and one write, and the ways in which it
--- ends.
+-- The connection of a peer: the count of sent bytes, the outcomes of a read and of a write, and the kinds of end.
 use Rattle.std.specs.Prelude.{◌≡◌, ◌<◌, ◌⊎◌, [], ◌-◌, ◌^◌, ℕ, length, min, Result, Ok, Err, OnOk}
 use Rattle.std.specs.Io.KnownBytes.{Appends, Consumes}
 use Rattle.gpkt.specs.Change.{Change}
@@ -13,7 +12,7 @@ use Rattle.gtalk.specs.declared.conversation.Turn.TheVariants.{Listens}
 use Rattle.gevents.specs.declared.event.End.{End}
 use Rattle.gevents.specs.declared.event.End.TheVariants as end
 
--- the number of bytes, saturated at the maximum of 64 bits
+-- the number of bytes, saturated at 2 ^ 64 - 1
 abbrev pub count_of : Bytes → ℕ
 count_of bytes = min (length bytes) (2 ^ 64 - 1)
 
@@ -30,7 +29,7 @@ module _ {C A : Type 0} (holds : C → Talk → Type 0) where
     pub held : Holds holds connection received sent
     pub counted : count ≡ count_of sent
 
-  -- the sent bytes were written, and `count` is their number
+  -- the connection counts the written bytes as sent, and `count` is the number of the written bytes
   pub record SendsCounted (old new : Connection C A) (written : Change) (count : ℕ) : Type 0 where
     pub said : Bytes
     pub sent : Appends written.old written.new said
@@ -46,8 +45,8 @@ module _ {C A : Type 0} (holds : C → Talk → Type 0) where
     pub some : OnOk result (((0 < length more) × IsByBytes (has_stopped new)) ⊎ IsByEnd (has_stopped new))
 
 module _ {C A : Type 0} (turn : C → Turn) (connection : Connection C A) where
-  -- The state of a connection at each kind of end. After `Over` and `Silent` all queued packets were sent. `Stalled` is
-  -- never the end of a peer that was only expected to send.
+  -- The state of a connection at each kind of end. After `Over` and `Silent` all queued packets were sent. A connection
+  -- never ends with `Stalled` while it only waits for the peer to send.
   abbrev pub HasEnded : End → Type 0
   HasEnded end.Over = IsDone turn connection × (pending_of connection ≡ [])
   HasEnded end.Silent = IsDone turn connection × (pending_of connection ≡ [])

@@ -44,22 +44,21 @@ module _ {C A : Type 0} {ghosts : Ghosts C} (turn : C → Turn) where
   EndsAt None turned = Unit {0}
 
 module _ {C A : Type 0} {ghosts : Ghosts C} where
-  -- the returned connection is the connection of the peer, with the peer's address, the count of sent bytes, and the
-  -- kind of end
+  -- the loop returns the connection of the peer, with the peer's address, the count of sent bytes, and the kind of end
   pub record IsEndOf (peer : Peer C A ghosts) (how : End) (ended : Ended C A ghosts) : Type 0 where
     pub connection : ended.connection ≡ peer.connection
     pub address : ended.address ≡ peer.address
     pub sent : ended.sent ≡ peer.sent
     pub how_it_ended : ended.end ≡ how
 
-  -- the connection of the peer at a key is returned, if there is such a peer
+  -- the loop returns the connection of the peer at a key, if there is a peer at this key
   abbrev pub HandsOut : Option (Slot C A ghosts) → End → Option (Ended C A ghosts) → Type 0
   HandsOut (Some (slot.Talks peer)) how result =
       (ended : Ended C A ghosts) × (result ≡ Some ended) × IsEndOf peer how ended
   HandsOut (Some (slot.Leaves leaver)) how result = result ≡ None
   HandsOut None how result = result ≡ None
 
-  -- the connection of the peer at a key is returned if this turn ends it
+  -- the loop returns the connection of the peer at a key, if this turn ends the connection
   abbrev pub HandsOutAfter : Option (Slot C A ghosts) → After → Option (Ended C A ghosts) → Type 0
   HandsOutAfter one (after.Ends how) result = HandsOut one how result
   HandsOutAfter one turned result = Unit {0}

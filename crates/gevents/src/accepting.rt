@@ -16,11 +16,11 @@ use std::io::{self, ErrorKind, Write};
 use std::net::{IpAddr, SocketAddr};
 
 // The error numbers that report a lack of resources: too many open files in the process or in the
-// system, or no memory, buffers or streams (errno(3)).
+// system, or a lack of memory, buffers or streams (errno(3)).
 const STARVED: [i32; 5] = [24, 23, 12, 105, 63];
 
-// The error numbers for faults of the network, not of the listener (accept(2), "Error handling"):
-// EPROTO, ENOPROTOOPT, EHOSTDOWN, ENONET, EOPNOTSUPP and ETIMEDOUT.
+// The error numbers that report a fault of the network and not of the listener (accept(2), "Error
+// handling"): EPROTO, ENOPROTOOPT, EHOSTDOWN, ENONET, EOPNOTSUPP and ETIMEDOUT.
 const NETWORK: [i32; 6] = [71, 92, 112, 64, 95, 110];
 
 impl<C: Conversation + Drop, A: Allocator + Copy> EventLoop<'_, C, A> {
@@ -43,7 +43,8 @@ impl<C: Conversation + Drop, A: Allocator + Copy> EventLoop<'_, C, A> {
     }
 
     /// Sends bytes to the peer of the last event, if the event was [`Event::Refused`], and closes
-    /// the connection. One write sends only the bytes that the socket accepts at once.
+    /// the connection. Writes only once, so only the bytes that the socket accepts immediately are
+    /// sent.
     pub fn refuse(&mut self, bytes: &[u8]) {
         if let Some(NewPeer::Refused(mut stream)) = self.caller.take() {
             let _ = stream.write(bytes);
@@ -91,7 +92,7 @@ impl<C: Conversation + Drop, A: Allocator + Copy> EventLoop<'_, C, A> {
         }
     }
 
-    // Adds a peer to the served peers. The first turn of the peer starts when its socket is ready.
+    // Adds a peer to the served peers. The peer has its first turn when its socket is ready.
     fn admit(&mut self, peer: Peer<C, A>)
         requires { pending_of peer.connection ≡ [] }
     {

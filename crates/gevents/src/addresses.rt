@@ -8,7 +8,7 @@ use std::net::IpAddr;
 /// The number of peers of each IP address. A search visits each address, not each peer.
 #[derive(Drop)]
 pub(crate) struct Addresses<A: Allocator + Copy> {
-    // A list in which each address occurs at most once.
+    // The addresses, each at most once, with the numbers of peers.
     counts: Vec<(IpAddr, usize), A>,
 }
 

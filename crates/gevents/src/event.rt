@@ -16,13 +16,13 @@ pub enum Refusal {
     FullOfAddress,
 }
 
-/// How a connection ended.
+/// The kind of end of a connection.
 #[derive(Clone, Copy, Debug, PartialEq, Eq)]
 pub enum End {
     /// The conversation is done, and all its packets were sent.
     Over,
-    /// The conversation is done because the peer sent its bytes too late. All packets of the
-    /// conversation were sent.
+    /// The conversation is done, because the peer did not send its bytes in time. All packets of
+    /// the conversation were sent.
     Silent,
     /// The peer accepted no byte for too long.
     Stalled,
@@ -34,15 +34,15 @@ pub enum End {
     Memory,
 }
 
-/// A connection that has ended. Its state matches the bytes that were received and sent, the count
-/// of sent bytes, and how the connection ended ([`laws`](Ended::laws)).
+/// A connection that has ended. The state of the connection matches the bytes that were received
+/// and sent, the count of sent bytes, and the kind of end ([`laws`](Ended::laws)).
 #[derive(Drop)]
 pub struct Ended<C: Conversation, A: Allocator + Copy> {
     /// The connection in its final state.
     pub connection: Connection<C, A>,
     /// The peer's address.
     pub address: SocketAddr,
-    /// How the connection ended.
+    /// The kind of end of the connection.
     pub end: End,
     /// The number of sent bytes, saturated at the maximum.
     pub sent: u64,
@@ -53,7 +53,8 @@ pub struct Ended<C: Conversation, A: Allocator + Copy> {
 }
 
 impl<C: Conversation, A: Allocator + Copy> Ended<C, A> {
-    /// A law: the properties of each connection that has ended.
+    /// Proves that the state of the ended connection matches its received and sent bytes, and that
+    /// the count of sent bytes is right.
     pub fn laws(&self)
         ensures held { ∥ IsCounted C.holds self.now.connection self.now.sent ∥₁ }
         ensures ended { ∥ HasEnded C.turn self.now.connection self.now.end ∥₁ }
@@ -65,12 +66,13 @@ impl<C: Conversation, A: Allocator + Copy> Ended<C, A> {
 /// An event that the loop reports.
 #[derive(Drop)]
 pub enum Event<C: Conversation, A: Allocator + Copy> {
-    /// A peer has connected. [`EventLoop::begin`](crate::EventLoop) starts the conversation with
-    /// the peer. If no conversation is started, the next call of `EventLoop::next` closes the
-    /// connection.
+    /// A peer has connected. The caller starts the conversation with
+    /// [`EventLoop::begin`](crate::EventLoop). Otherwise the next call of `EventLoop::next` closes
+    /// the connection.
     Connected(SocketAddr),
-    /// A peer has connected and exceeds a limit. [`EventLoop::refuse`](crate::EventLoop) sends the
-    /// peer an error. The next call of `EventLoop::next` closes the connection.
+    /// A peer has connected and exceeds a limit. The caller can send the peer an error with
+    /// [`EventLoop::refuse`](crate::EventLoop). The next call of `EventLoop::next` closes the
+    /// connection.
     Refused(SocketAddr, Refusal),
     /// A connection has ended.
     Ended(Ended<C, A>),

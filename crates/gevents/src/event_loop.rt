@@ -34,14 +34,14 @@ pub(crate) enum PendingCalls {
     None,
     /// Connections may be pending.
     Some,
-    /// Connections may be pending, but the system accepts none for now.
+    /// Connections may be pending, but the system can't accept any connection for now.
     Later,
 }
 
 /// An accepted peer, until the next call of `EventLoop::next`.
 #[derive(Drop)]
 pub(crate) enum NewPeer {
-    /// A peer with which a conversation may start.
+    /// A peer within the limits. A conversation with this peer may start.
     Welcome(TcpStream, SocketAddr),
     /// A peer that exceeds a limit.
     Refused(TcpStream),
@@ -52,11 +52,11 @@ pub(crate) enum NewPeer {
 enum LoopStep {
     // Wait until sockets are ready.
     Polls,
-    // Give the reported sockets their turn.
+    // Give each reported socket its turn.
     Moves,
     // Accept at most this number of further connections.
     Accepts(u32),
-    // Time out late peers, starting at this key.
+    // Check for late peers, starting at this key.
     GivesUp(usize),
 }
 
@@ -124,11 +124,11 @@ impl<'l, C: Conversation + Drop, A: Allocator + Copy> EventLoop<'l, C, A> {
         })
     }
 
-    /// Waits for the next event. Returns `None` when [`Limits::accepted`] connections were accepted
-    /// and all of them have ended. Every later call then also returns `None`.
+    /// Waits for the next event. Returns `None` after [`Limits::accepted`] connections were
+    /// accepted and all of them have ended. Every later call then also returns `None`.
     ///
-    /// Fails if the system does not report ready sockets, or if no further connection can be
-    /// accepted. The caller may call `next` again after a failure.
+    /// Fails if the system can't report ready sockets, or if no further connection can be accepted.
+    /// The caller may call `next` again after a failure.
     pub fn next<R: Clock>(&mut self, rt: &R) -> io::Result<Option<Event<C, A>>> {
         self.caller = None;
         if let Some(ended) = self.failed.take() {
@@ -244,7 +244,8 @@ impl<'l, C: Conversation + Drop, A: Allocator + Copy> EventLoop<'l, C, A> {
         Ok(accepted)
     }
 
-    // Returns the step that follows the accepts. The loop checks deadlines only at intervals.
+    // Returns the step of the loop after it accepted connections. The loop checks deadlines only at
+    // intervals.
     fn after_accepts(&mut self) -> LoopStep {
         if self.now < self.next {
             return LoopStep::Polls;

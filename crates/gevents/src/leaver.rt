@@ -1,4 +1,4 @@
-//! A peer whose connection has ended, until the peer closes its socket.
+//! Peers whose connections have ended, and whose sockets are still open.
 
 use crate::event::End;
 use crate::moving::After;
@@ -15,9 +15,9 @@ const PIECE: usize = 4_096;
 // The maximum number of reads before another peer has its turn.
 const READS: u32 = 64;
 
-/// A peer whose connection has ended. Further bytes from the peer are read and dropped. Closing a
-/// socket with unread bytes would reset the connection, and the peer might lose the last bytes sent
-/// to it.
+/// A peer whose connection has ended. The loop reads and drops further bytes from the peer. Closing
+/// a socket with unread bytes would reset the connection, and the peer might lose the last bytes
+/// sent to it.
 #[derive(Drop)]
 pub(crate) struct ClosingPeer {
     pub(crate) stream: TcpStream,
@@ -33,7 +33,7 @@ impl ClosingPeer {
         }
     }
 
-    /// Ends the wait for the peer to close its socket, if the deadline has passed.
+    /// Stops waiting for the peer to close its socket, if the deadline has passed.
     pub(crate) fn give_up(&self, now: Instant) -> After {
         if self.until <= now {
             After::Ends(End::Over)

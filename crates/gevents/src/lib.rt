@@ -6,51 +6,51 @@
 //! No peer has to wait until another peer sends or receives.
 //!
 //! - The loop moves bytes of one peer at most 256 times before another peer has its turn.
-//! - [`Limits`] sets the maximum number of connections, in total and from one IP address. The loop
+//! - [`Limits`] sets the maximum number of connections, in total and for each IP address. The loop
 //!   reports any further peer as refused.
 //! - Each peer has time limits for its first message, the first byte of a request, the rest of a
-//!   request, receiving bytes, and the whole connection. If a peer sends too late, its conversation
-//!   is notified that the device failed, and may send its last packets. Any other late peer is
-//!   disconnected. Both kinds of late peers have one more turn first, since a ready socket may not
-//!   have been reported yet.
-//! - A connection allocates memory for received bytes only when the first byte arrives. Before
-//!   that, a connection needs a few hundred bytes and the memory of its conversation. The send
-//!   queue of a connection has room for two packets of the maximum size. The queue is freed when
-//!   all its bytes are sent and no more bytes have arrived.
+//!   request, receiving bytes, and the whole connection. If a peer sends too late, the loop
+//!   notifies the conversation that the source failed, and the conversation may send its last
+//!   packets. Any other late peer is disconnected. Every late peer first has one more turn, since
+//!   the system may not have reported its ready socket yet.
+//! - A connection allocates memory for received bytes only when the first byte arrives. Before the
+//!   first byte, a connection needs a few hundred bytes and the memory of its conversation. The
+//!   send queue of a connection has room for two packets of the maximum size. The loop frees the
+//!   queue when all bytes in the queue are sent and no more bytes have arrived.
 //! - The thread sleeps while no socket is ready. The loop checks the deadlines ten times a second
 //!   while there are peers.
-//! - A conversation that spends time on an answer blocks all other conversations for that time.
+//! - While a conversation computes an answer, all other conversations are blocked.
 //!
 //! # Proved
 //!
 //! - The state of an ended connection matches the bytes that were received and sent (`gtalk`),
 //!   and the count of the sent bytes is right ([`Ended`]).
-//! - The kind of end matches the state of the connection (`HasEnded` in `specs/Peers.antt`).
-//!   After `Over` and `Silent` the conversation is done and no bytes are pending. After `Memory` no
-//!   bytes are pending either. `Stalled` is never reported for a peer that was only expected to
-//!   send.
+//! - The kind of end matches the state of the connection (`HasEnded` in `specs/Peers.antt`). After
+//!   `Over` and `Silent` the conversation is done and no bytes are pending. After `Memory` no bytes
+//!   are pending either. The loop never reports `Stalled` for a connection that only waits for the
+//!   peer to send.
 //! - A turn that ends a connection returns this connection, with the peer's address, the count of
 //!   sent bytes and the kind of end (`HandsOut` in `specs/Turns.antt`).
 //! - For any reader, the connection receives all bytes of each read, and no read extends past the
 //!   end of the current packet. The connection receives the end of the input only when the input
 //!   has ended. A successful read receives at least one byte, or the end of the input
-//!   (`HearsOnce`). After a successful read the conversation is not notified of a failed device.
-//! - For any writer, exactly the bytes that a write accepted count as sent and are removed from
-//!   the pending bytes.
-//! - Only one function notifies a conversation of a failed device. Its contract states the
-//!   notification, but no contract states when the function is called.
+//!   (`HearsOnce`). After a successful read the conversation is not notified of a failed source.
+//! - For any writer, exactly the bytes that a write accepted count as sent, and leave the queue of
+//!   pending bytes.
+//! - Only one function notifies a conversation of a failed source. The contract of the function
+//!   states the notification, but no contract states when the function is called.
 //! - No call panics, overflows or reads out of bounds, and each call returns.
 //!
 //! # Only tested
 //!
-//! Only tests cover the effects of sockets and the clock: that peers are accepted, refused and
-//! timed out, and that each ready peer has its turn. The tests run the loop of `gitrepo serve`
+//! Only tests check how the loop uses sockets and the clock: that it accepts, refuses and times out
+//! peers, and gives each ready peer its turn. The tests run the loop of `gitrepo serve`
 //! (`examples/many-clients.py`, `examples/trouble.py`).
 //!
 //! # What the contracts do not rule out
 //!
-//! - No contract says which bytes a socket delivers or accepts. The contracts relate the bytes of
-//!   a connection to each read and write of any reader and writer, but not to its socket.
+//! - No contract says which bytes a socket delivers or accepts. The contracts relate the bytes of a
+//!   connection to the calls of a reader and a writer, but not to a socket.
 //! - A peer might never have its turn, or be disconnected at once. A connection might never be
 //!   returned.
 //! - The loop might refuse every peer, fail, or end at once. The loop might send nothing to a
@@ -58,15 +58,15 @@
 //! - The loop might spin, or sleep while bytes are pending for a peer. The loop might write an
 //!   empty slice to a socket, and treat the result 0 as the end of the connection.
 //! - The loop might time out a peer at any moment, or never. The loop might report any ended
-//!   connection as `Lost` or `Overdue`, and an `Over` connection as `Silent`.
+//!   connection as `Lost` or `Overdue`, and might report `Silent` instead of `Over`.
 //! - The loop might drop a conversation that was started, or a connection between two turns.
 //! - No contract covers the duration of a connection. No contract says that the address of a peer
 //!   is the address in [`Event::Connected`].
 //!
 //! # Dependencies
 //!
-//! The crate uses `gtalk` for connections, `mio` for readiness, `slab` for the slots of peers, and
-//! `gpkt` for the proofs.
+//! The crate uses `gtalk` for connections, `mio` to wait for ready sockets, `slab` for the slots of
+//! peers, and `gpkt` for the proofs.
 #![tactic(auto)]
 
 mod accepting;

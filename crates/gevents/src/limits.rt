@@ -12,17 +12,18 @@ pub struct Limits {
     pub at_once: usize,
     /// The maximum number of connections at once from one IP address.
     pub at_once_of_address: usize,
-    /// The time limit, counted from the accept, for all packets before the first answer.
+    /// The time limit for all packets before the first answer, counted from the moment when the
+    /// loop accepts the connection.
     pub first_line: Duration,
-    /// The time limit, counted from the end of the last answer, for the first byte of a request.
+    /// The time limit for the first byte of a request, counted from the end of the last answer.
     pub silence: Duration,
-    /// The time limit, counted from the first byte of a request, for the rest of the request.
+    /// The time limit for the rest of a request, counted from the first byte of the request.
     pub request: Duration,
     /// The maximum time without progress while bytes are pending for the peer.
     pub taking: Duration,
     /// The time limit of the whole connection. The field `pace` extends this limit.
     pub whole: Duration,
-    /// The number of sent bytes that extend the whole time limit by one second, or 0 for no
+    /// The number of sent bytes that extends the time limit `whole` by one second, or 0 for no
     /// extension.
     pub pace: u64,
 }

@@ -40,7 +40,7 @@ pub(crate) enum After {
 
 // One move of bytes.
 enum Move {
-    // Bytes were sent, or the conversation was notified of a failed device.
+    // Bytes were sent, or the conversation was notified of a failed source.
     Moved,
     // Bytes or the end of the input were received.
     Heard,
@@ -73,8 +73,8 @@ impl<C: Conversation, A: Allocator + Copy> Peer<C, A> {
         After::GoesOn
     }
 
-    /// Times out the peer, if it is late. First the peer has one more turn, since its ready socket
-    /// may not have been reported yet.
+    /// Times out the peer, if it is late. First gives the peer one more turn, since the system may
+    /// not have reported its ready socket yet.
     pub(crate) fn give_up(&mut self, now: Instant, limits: &Limits) -> After
         ensures { EndsBy C.turn self.new.connection result }
     {
@@ -207,12 +207,12 @@ impl<C: Conversation, A: Allocator + Copy> Peer<C, A> {
         read_some(&mut self.connection, &mut self.stream)
     }
 
-    // Frees the send queue while no bytes arrive.
+    // Frees the send queue if no more bytes have arrived.
     fn rest(&mut self) {
         self.connection.give_back();
     }
 
-    // Reports a failed device to the conversation.
+    // Notifies the conversation that its source has failed.
     fn fail(&mut self)
         requires { IsTurn C.turn self.old.connection Turn.Listens }
         ensures { has_stopped self.new.connection ≡ Some stop.Failed }
@@ -247,7 +247,7 @@ fn written_count(written: &io::Result<usize>) -> usize
     }
 }
 
-// Writes once. The bytes that the writer accepts are removed from the pending bytes. After a failed
+// Writes once, and removes the bytes that the writer accepts from the pending bytes. After a failed
 // write, all pending bytes remain.
 fn write_some<C: Conversation, A: Allocator + Copy, W: Write>(
     connection: &mut Connection<C, A>,
@@ -269,8 +269,8 @@ fn write_some<C: Conversation, A: Allocator + Copy, W: Write>(
     }
 }
 
-// Reads once, not past the end of the current packet. The connection receives the bytes, or the end
-// of the input.
+// Reads once, at most up to the end of the current packet. The connection receives the bytes, or
+// the end of the input.
 fn read_some<C: Conversation, A: Allocator + Copy, R: Read>(
     connection: &mut Connection<C, A>,
     reader: &mut R,

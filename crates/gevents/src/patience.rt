@@ -3,7 +3,7 @@
 use crate::limits::Limits;
 use std::time::{Duration, Instant};
 
-// The next action that the loop expects of a peer.
+// The action that the loop expects next from a peer.
 #[derive(Clone, Copy, PartialEq, Eq)]
 enum Due {
     // Send all packets before the first answer.
@@ -16,7 +16,7 @@ enum Due {
     Take,
 }
 
-/// The next action expected of a peer, and its deadline.
+/// The action expected next from a peer, and its deadline.
 #[derive(Clone, Copy)]
 pub(crate) struct Patience {
     began: Instant,
@@ -26,7 +26,8 @@ pub(crate) struct Patience {
 }
 
 impl Patience {
-    /// Returns the state of a peer that connects now. Its first message is expected next.
+    /// Returns the state of a peer that connects now. The first message of the peer is expected
+    /// next.
     pub(crate) fn new(now: Instant, limits: &Limits) -> Patience {
         Patience {
             began: now,

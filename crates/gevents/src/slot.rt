@@ -1,4 +1,4 @@
-//! The slots of the served peers, and of the peers whose connection has ended.
+//! The slots for served peers, and for peers whose connections have ended.
 
 ghost use Rattle.slab.specs.Slab.{get};
 ghost use Rattle.gevents.specs.Turns.{EndsAt, EndsSlot, HandsOut, HandsOutAfter, ended_in};
@@ -71,8 +71,8 @@ impl<C: Conversation + Drop, A: Allocator + Copy> EventLoop<'_, C, A> {
         self.settle(key, after)
     }
 
-    // Does what follows from a turn: watches the socket again or removes the peer. Returns the
-    // event, if a connection has ended.
+    // Completes a turn: watches the socket again, or removes the peer. Returns an event if the
+    // connection has ended.
     fn settle(&mut self, key: usize, after: After) -> Option<Event<C, A>>
         requires { EndsAt C.turn (get self.old.slots key) after }
         ensures { HandsOutAfter (get self.old.slots key) after (ended_in result) }
@@ -111,8 +111,8 @@ impl<C: Conversation + Drop, A: Allocator + Copy> EventLoop<'_, C, A> {
         watched.is_ok()
     }
 
-    /// Removes a peer, and returns its connection. If the conversation is done, the loop waits
-    /// until the peer closes its socket.
+    /// Removes a peer, and returns its connection. If the conversation is done, the loop then waits
+    /// for the peer to close its socket.
     pub(crate) fn part_with(&mut self, key: usize, end: End) -> Option<Ended<C, A>>
         requires { EndsAt C.turn (get self.old.slots key) (After.Ends end) }
         ensures { HandsOut (get self.old.slots key) end result }
@@ -135,7 +135,8 @@ impl<C: Conversation + Drop, A: Allocator + Copy> EventLoop<'_, C, A> {
     }
 
     /// Shuts down the sending side of a socket, and keeps the socket until the peer closes its
-    /// side. If the loop already waits for too many such peers, it closes the socket immediately.
+    /// side. If the loop already waits for too many peers to close their sockets, it closes this
+    /// socket immediately.
     pub(crate) fn let_leave(&mut self, stream: TcpStream, is_new: bool) {
         let _ = stream.shutdown(Shutdown::Write);
         let mut leaver = ClosingPeer::new(stream, self.now);

@@ -1,4 +1,4 @@
--- The texts of the faults of a storage.
+-- The texts of the faults of a file storage.
 use Rattle.std.specs.Prelude.{List, ℕ, codes}
 use Rattle.glockfile.specs.declared.storage.StorageFault.{StorageFault}
 use Rattle.glockfile.specs.declared.storage.StorageFault.TheVariants.{Failed, Memory}

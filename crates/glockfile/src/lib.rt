@@ -1,20 +1,20 @@
 //! A file that is replaced as a whole or not at all, with Git's lockfile protocol (`lockfile.h` in
 //! Git's sources).
 //!
-//! A run first creates `FILE.lock`, and fails if this lockfile already exists. Only then does the
-//! run read FILE. The run writes the new text to the lockfile, syncs the lockfile, and renames the
-//! lockfile to FILE.
+//! A run first creates `FILE.lock`, and fails if this lockfile already exists. Then the run reads
+//! FILE. The run writes the new text to the lockfile, syncs the lockfile, and renames the lockfile
+//! to FILE.
 //!
 //! # Proved
 //!
 //! - [`open_file`] returns the text of the file, and does not change the file. The run holds the
 //!   lockfile exactly if [`open_file`] returns `Ok`.
-//! - [`replace_file`] gives the file only the new text, or leaves it unchanged if the old text
-//!   equals the new text (`specs/Storing.antt`). During and after the call the file has the old
+//! - [`replace_file`] replaces the text of the file by the new text, or leaves the file unchanged
+//!   if both texts are equal (`specs/Storing.antt`). During and after the call the file has the old
 //!   text or the whole new text. After `Ok` the file has the new text. At the end the run never
 //!   holds a lockfile.
-//! - The calls of a [`Storage`] have a fixed order: each call requires a certain state of the
-//!   lockfile. The lockfile is renamed only after its text is synced, and the file is read only
+//! - The calls of a [`Storage`] have a fixed order, because each call requires a certain state of
+//!   the lockfile. The lockfile is renamed only after its text is synced, and the file is read only
 //!   while it is locked.
 //! - [`MemoryFile`] is a storage that records all of its texts.
 //!
@@ -27,8 +27,8 @@
 //!
 //! No contract can describe the contents of a file of the system, so the contracts of
 //! [`StoredFile`] state only the order of its calls. If the file system renames atomically and
-//! syncs on request, a crash leaves the old text or the new text. A lockfile that the system
-//! refuses to remove stays. Each call may fail.
+//! syncs on request, a crash leaves the old text or the new text. If the system refuses to remove a
+//! lockfile, the lockfile stays. Each call may fail.
 #![tactic(auto)]
 
 mod memory;

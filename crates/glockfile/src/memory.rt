@@ -10,8 +10,8 @@ use std::mem;
 
 /// A file in memory, which records each text that it has had.
 ///
-/// The contracts state the texts and the state of this run's lockfile. The contracts do not state
-/// which call fails.
+/// The contracts state the texts, and the state of the lockfile that this run created. The
+/// contracts do not state which call fails.
 #[derive(Drop)]
 pub struct MemoryFile<A: Allocator + Copy = Global> {
     alloc: A,
@@ -77,7 +77,7 @@ impl<A: Allocator + Copy> MemoryFile<A> {
         })
     }
 
-    /// Returns the file with a lockfile that another run holds.
+    /// Adds a lockfile that another run holds.
     pub fn locked_by_another(mut self) -> MemoryFile<A>
         ensures { result ≡ self }
     {
@@ -93,8 +93,8 @@ impl<A: Allocator + Copy> MemoryFile<A> {
         self
     }
 
-    /// Makes the call with this number and all later calls fail without effect, as if the run was
-    /// killed before this call.
+    /// Makes the call with this number and all later calls fail without effect, as if the run had
+    /// been killed before this call.
     pub fn stop_from(mut self, call: usize) -> MemoryFile<A>
         ensures { result ≡ self }
     {
@@ -102,8 +102,8 @@ impl<A: Allocator + Copy> MemoryFile<A> {
         self
     }
 
-    /// Makes the call with this number fail after it has its effect. All later calls fail without
-    /// effect, as if the run was killed right after this call.
+    /// Makes the call with this number have its effect and then fail. All later calls fail without
+    /// effect, as if the run had been killed right after this call.
     pub fn stopping_after(mut self, call: usize) -> MemoryFile<A>
         ensures { result ≡ self }
     {
@@ -118,7 +118,7 @@ impl<A: Allocator + Copy> MemoryFile<A> {
         self.states.as_slice()
     }
 
-    /// Returns whether a lockfile exists, of this run or of another run.
+    /// Returns whether this run or another run holds a lockfile.
     pub fn is_locked(&self) -> bool {
         self.is_locked
     }

@@ -57,7 +57,7 @@ pub fn replace_file<T: Storage>(file: &mut T, old: &[u8], new: &[u8]) -> Result<
     }
 }
 
-// Writes the new text to the lockfile, syncs it, and renames it over the file.
+// Writes the new text to the lockfile, syncs the lockfile, and renames it over the file.
 fn write_new<T: Storage>(file: &mut T, new: &[u8]) -> Result<(), StorageFault>
     requires { T.lockfile file.old ≡ Empty }
     ensures replaced { WhereKnown (T.texts file.old) (T.texts file.new)

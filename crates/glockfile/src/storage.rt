@@ -11,7 +11,7 @@ use std::alloc::{AllocError, AllocFailed, Allocator};
 use std::error::Error;
 use std::{fmt, io};
 
-/// The reason a stored file could not be read or replaced.
+/// The reason why a stored file could not be read or replaced.
 #[derive(Clone, Copy, Debug, PartialEq, Eq)]
 pub enum StorageFault {
     /// Out of memory.
@@ -70,14 +70,14 @@ pub enum Lockfile {
     Written,
     /// The lockfile has the new text, and the text is synced to disk.
     Synced,
-    /// A call failed. The lockfile can only be removed.
+    /// A call failed, and the run can only remove the lockfile.
     Unusable,
 }
 
 /// A file that can be replaced, with its lockfile (Git's `lockfile.h`).
 ///
-/// Only a synced text is renamed over the file. After a crash the file therefore has one of its
-/// recorded texts.
+/// The lockfile is renamed over the file only after its text is synced. After a crash the file
+/// therefore has one of its recorded texts.
 pub trait Storage {
     // Each text that the file has had, and the text written to the lockfile, if these texts are
     // known.

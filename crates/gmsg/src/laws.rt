@@ -1,6 +1,7 @@
-//! The laws of all five kinds of message. Each law is the contract of a function without effect.
-//! The kinds are the hello, the advertisement, the request, the ls-refs reply and the fetch reply.
-//! Each law holds for all parameters of a kind's grammar, such as the object format.
+//! Laws of all five kinds of message. Each function does nothing, and its contract states a proved
+//! property. The kinds are the hello (the first line of a `git://` connection), the advertisement,
+//! the request, the ls-refs reply and the fetch reply. Each law holds for all parameters of a
+//! kind's grammar, such as the object format.
 
 ghost use Rattle.std.specs.Prelude.{◌≤◌};
 ghost use Rattle.gname.specs.Limits.{max_pack};
@@ -21,7 +22,7 @@ ghost use Rattle.gfetchreply.specs.FetchReplies as fetch_reply;
 ghost use Rattle.gfetchreply.specs.WellFormed as fetch_reply_form;
 ghost use Rattle.gmsg.specs.Laws.{NoneBeginsAnother, NoneBeginsAsBoth};
 
-/// A list of packets encodes at most one message of each kind.
+/// Proves that a list of packets encodes at most one message of each kind.
 pub fn one_meaning()
     ensures hello { OneMeaning hello.Says }
     ensures advert { OneMeaning advert.Says }
@@ -35,8 +36,8 @@ pub fn one_meaning()
     gfetchreply::laws::one_meaning();
 }
 
-/// No message is a prefix of another message of its kind, as packets or as bytes. So a reader knows
-/// where a message ends without reading the bytes after it.
+/// Proves that no message is a proper prefix of another message of the same kind, as packets or as
+/// bytes. A reader therefore finds the end of a message without reading the bytes after it.
 pub fn prefix_free()
     ensures hello { NoneBeginsAnother hello.judge }
     ensures advert { NoneBeginsAnother advert.judge }
@@ -52,8 +53,9 @@ pub fn prefix_free()
     gfetchreply::laws::prefix_free();
 }
 
-/// No byte string begins with both an ls-refs reply and a fetch reply, whatever the parameters of
-/// each reader. So a client that awaits one kind of reply rejects a reply of the other kind.
+/// Proves that no byte string begins with both an ls-refs reply and a fetch reply, whatever the
+/// parameters of each reader. A client that awaits one kind of reply therefore rejects a reply of
+/// the other kind.
 pub fn replies_differ()
     ensures { (format : Format) (ends : Ends) (reading : fetch_reply.Reading)
         → NoneBeginsAsBoth (ls_reply.judge format ends) (fetch_reply.judge reading) }
@@ -62,9 +64,9 @@ pub fn replies_differ()
     gpkt::laws::one_begins();
 }
 
-/// The grammar of each kind accepts exactly the messages of the manual, with the same meaning
-/// (gitprotocol-v2(5), "Capability Advertisement", "Command Request", "ls-refs" and "fetch"). A
-/// hello is exactly one packet (gitprotocol-pack(5), "Git Transport").
+/// Proves that the grammar of each kind accepts exactly the messages of Git's manual, with the same
+/// meaning (gitprotocol-v2(5), "Capability Advertisement", "Command Request", "ls-refs" and
+/// "fetch"). A hello is exactly one packet (gitprotocol-pack(5), "Git Transport").
 pub fn manual()
     ensures hello { SaysWhole hello.judge hello.Says }
     ensures advert { AsInManual advert.Says advert.IsAdvert }
@@ -81,8 +83,9 @@ pub fn manual()
     gfetchreply::laws::manual();
 }
 
-/// The packets written for a message encode that message, and each payload fits into a packet. The
-/// law of the fetch reply holds for each limit that a [`PackLimit`](crate::PackLimit) can hold.
+/// Proves that the packets written for a message encode that message, and that each payload fits
+/// into a packet. The law of the fetch reply holds for each limit that a
+/// [`PackLimit`](crate::PackLimit) can hold.
 pub fn canonical_says()
     ensures hello { CanonicalSays hello.Says hello.IsHello hello.IsCanonical }
     ensures advert { CanonicalSays advert.Says advert.AreCapabilities advert.IsCanonical }

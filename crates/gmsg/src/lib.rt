@@ -8,10 +8,10 @@
 //!   message is a prefix of another message of its kind, as packets or as bytes. The readers accept
 //!   exactly the messages that Git's manual defines. The packets written for a message encode that
 //!   message, and each payload fits into a packet. No byte string begins with both an ls-refs reply
-//!   and a fetch reply. The `laws` of each library prove that reading a written message returns the
+//!   and a fetch reply. The `laws` of each crate prove that reading a written message returns the
 //!   same message.
 //!
-//! The libraries below prove all other facts, and list them on their pages:
+//! The following crates define the messages, and prove further properties:
 //!
 //! - `ghello`: [`Hello`] and [`Advert`], their readers [`read_hello`] and [`read_advert`], their
 //!   writers [`write_hello`] and [`write_advert`], and look-ups in an advertisement.
@@ -20,16 +20,16 @@
 //! - `glsreply`: [`LsReply`], [`read_ls_reply`] and [`write_ls_reply`].
 //! - `gfetchreply`: [`FetchReply`], [`read_fetch_reply`], [`read_fetch_reply_into`], which writes
 //!   the pack to a [`PackSink`], and [`write_fetch_reply`].
-//! - `ggrammar`: [`MessageFault`] and [`Why`], the faults of all messages, and the reading of a
-//!   message of any kind.
+//! - `ggrammar`: [`MessageFault`] and [`Why`], the faults of all messages, and a reader for
+//!   messages of any kind.
 //!
 //! [`MsgFault`] is a shorter name for [`MessageFault`], and [`laws::canon_says`] for
 //! [`laws::canonical_says`].
 //!
 //! # What the contracts do not rule out
 //!
-//! This crate has no functions except its laws. The libraries below list the gaps in the contracts
-//! of their readers and writers.
+//! This crate has no functions except its laws. The crates above list the gaps in the contracts of
+//! their readers and writers.
 //!
 //! # Dependencies
 //!

@@ -1,5 +1,5 @@
-//! Commands that fetch into the repository of a file. The file is replaced as a whole or not at
-//! all.
+//! Commands that fetch into the repository of a file. A fetch replaces the file as a whole or not
+//! at all.
 
 use crate::faults::fail;
 use crate::streams::let_go;

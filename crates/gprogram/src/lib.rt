@@ -2,13 +2,13 @@
 //! files, and makes sources and sinks from standard streams and sockets. The crates `gcmd`, `gtcp`
 //! and `gsimulate` do the work of each command. [`run_gitv2`] returns the exit status.
 //!
-//! The program checks its input in a fixed order, and reports the first fault. The program checks
-//! the usage first, then refspecs and prefixes, then each file in turn, and sockets last.
+//! The program reports the first fault that it finds. The program checks the usage first, then
+//! refspecs and prefixes, then each file in turn, and sockets last.
 //!
 //! # Proved
 //!
-//! [`run_gitv2`] ends for any arguments, files and streams, with no index out of range, no overflow
-//! and no use after free.
+//! [`run_gitv2`] returns for any arguments, files and streams, with no index out of range, no
+//! overflow and no use after free.
 //!
 //! # Only tested
 //!

@@ -9,7 +9,7 @@ use std::io;
 use std::io::{BufReader, BufWriter};
 use std::rt::Files;
 
-// The maximum number of bytes of a reply in one write.
+// The maximum number of bytes that one write of a reply contains.
 const REPLY_BUFFER: usize = 65_536;
 
 /// `gitv2 check FILE`
@@ -59,7 +59,7 @@ where
     status
 }
 
-/// A service that is offered on standard input and output.
+/// A service that the program offers on standard input and output.
 #[derive(Clone, Copy)]
 pub(crate) enum StdioService {
     /// Serves one request, without an advertisement before the reply: `gitv2 ls --stdio-server
@@ -81,7 +81,7 @@ where
     }
 }
 
-// Serves the repository with this text.
+// Serves the repository that this text describes.
 fn serve_text<R, E>(rt: &R, served: StdioService, text: &[u8], errors: &mut E) -> u8
 where
     R: Input + Print + AllocGlobal,

@@ -1,4 +1,4 @@
-//! The start of the program, which selects the command that the arguments describe.
+//! The entry point of the program, which selects the command that the arguments describe.
 
 use crate::fetching::fetch;
 use crate::local::{StdioService, check, serve, show_lines};
@@ -13,7 +13,7 @@ use std::rt::{Clock, Env, Files};
 
 const USAGE: &[u8] = b"gitv2: usage\n";
 
-// The exit status if the arguments do not match the usage.
+// The exit status of a call whose arguments do not match the usage.
 const WRONG_USAGE: u8 = 2;
 
 /// Runs `gitv2` with the arguments of the runtime, over its files, standard streams and sockets.

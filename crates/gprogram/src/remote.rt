@@ -22,7 +22,7 @@ where
     }
 }
 
-// Serves the repository with this text to clients.
+// Serves the repository that this text describes to clients.
 fn listen_for<R, E>(rt: &R, asked: &Serve, text: &[u8], errors: &mut E) -> u8
 where
     R: Print + AllocGlobal + Clock + Net,
@@ -78,7 +78,7 @@ where
     }
 }
 
-// Loads the server, and only then reads the client's file.
+// Loads the server, and then reads the client's file.
 fn pair_by<R, E>(rt: &R, meeting: Meeting<'_>, specs: &[Spec], errors: &mut E) -> u8
 where
     R: Files + Print + AllocGlobal + Net,
@@ -90,7 +90,7 @@ where
     }
 }
 
-// Returns a server of the repository in the file.
+// Returns a server for the repository in the file.
 fn open_server<R: Files + AllocGlobal>(rt: &R, file: &str) -> Result<Server, ProgramFault> {
     match read(rt, file) {
         Ok(text) => load_server(rt.alloc(), text.as_slice()),

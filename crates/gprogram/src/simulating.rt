@@ -22,7 +22,7 @@ where
     }
 }
 
-// Runs a simulation whose server has the repository with this text.
+// Runs a simulation whose server has the repository that this text describes.
 fn simulate_server<R, E>(rt: &R, asked: &Simulate, server: &[u8], errors: &mut E) -> u8
 where
     R: Files + Print + AllocGlobal,
@@ -45,7 +45,8 @@ where
     cmd_simulate(rt.alloc(), &files, &mut output, errors)
 }
 
-// Returns the fault of a file that can't be read, or the fault of an earlier file that is refused.
+// Returns the fault of the first invalid file among the files read so far. If there is none,
+// returns the fault for a file that can't be read.
 fn unread(alloc: Global, server: &[u8], client: Option<&[u8]>) -> ProgramFault {
     if let Err(fault) = load_server(alloc, server) {
         return fault;

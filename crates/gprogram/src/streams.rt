@@ -3,7 +3,7 @@
 use std::alloc::Allocator;
 use std::io::{BufWriter, Write};
 
-/// Drops a writer. The bytes that are still in its buffer are not written.
+/// Drops a writer without writing the bytes that are still in its buffer.
 pub(crate) fn let_go<W: Write + Drop, A: Allocator>(writer: BufWriter<W, A>) {
     let (_writer, _unwritten) = writer.into_parts();
 }

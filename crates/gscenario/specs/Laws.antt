@@ -5,7 +5,7 @@ use Rattle.gscenario.specs.ScenarioText.{IsScenario, IsWrongLine}
 use Rattle.gscenario.specs.declared.event.Event.{Event}
 use Rattle.gscenario.specs.declared.event.Event.TheVariants as event
 
--- a text with a malformed line is not the text of any list of events
+-- a text with a malformed line does not encode any list of events
 abbrev pub WrongIsNone : Type 0 → Type 0
 WrongIsNone A =
     (text : List ℕ) (number : ℕ) (events : List (Event A)) → IsWrongLine A text number → ¬ (IsScenario text events)
@@ -31,7 +31,7 @@ IsSame (event.ClientAdd entry) (event.ClientAdd other) = entry ≡ other
 IsSame (event.ClientRef name id) (event.ClientRef other at) = (name ≡ other) × (id ≡ at)
 IsSame _ _ = ⊥
 
--- no text is the text of two different lists of events
+-- no text encodes two different lists of events
 abbrev pub TextsHaveOneReading : Type 0 → Type 0
 TextsHaveOneReading A =
     (text : List ℕ) (a b : List (Event A)) → IsScenario text a → IsScenario text b → AllZip IsSame a b

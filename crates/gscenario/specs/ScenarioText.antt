@@ -1,5 +1,5 @@
 -- The text of a scenario: one line for each event. Each line ends with a line feed. Single spaces separate the words of
--- a line. Only this repository uses the format.
+-- a line. No program outside this repository uses the format.
 use Rattle.std.specs.List.{AllZip}
 use Rattle.std.specs.Prelude.{◌≡◌, ◌≢◌, ◌⊎◌, ℕ, ◌+◌, ◌-◌, ◌^◌, ◌<◌, ◌==◌, if◌then◌else◌, List, [], ◌∷◌, ◌++◌, length}
 use Rattle.std.specs.Prelude.{codes, decimal, Ok}
@@ -23,7 +23,7 @@ abbrev pub with_byte : ℕ → List (List ℕ) → List (List ℕ)
 with_byte byte [] = (byte ∷ []) ∷ []
 with_byte byte (word ∷ words) = (byte ∷ word) ∷ words
 
--- the words of a line, separated by single spaces
+-- the words of a line, which single spaces separate
 abbrev pub words_of : List ℕ → List (List ℕ)
 words_of [] = [] ∷ []
 words_of (byte ∷ text) = if byte == 32 then [] ∷ words_of text else with_byte byte (words_of text)
@@ -73,7 +73,7 @@ IsCount text count = IsNumber text count ⊎ ((text ≡ codes "all") × (count �
 abbrev pub AreBytes : List ℕ → List ℕ → Type 0
 AreBytes text bytes = ((text ≡ codes "-") × (bytes ≡ [])) ⊎ ((text ≢ []) × (decode_of text ≡ Ok bytes))
 
--- there is exactly one word, and it is a number
+-- there is exactly one word, and the word is a number
 abbrev pub IsOneNumber : List (List ℕ) → ℕ → Type 0
 IsOneNumber words number = (text : List ℕ) × (words ≡ text ∷ []) × IsNumber text number
 
@@ -82,11 +82,11 @@ abbrev pub AreNumberAndCount : List (List ℕ) → ℕ → ℕ → Type 0
 AreNumberAndCount words number count =
     (text bytes : List ℕ) × (words ≡ text ∷ bytes ∷ []) × IsNumber text number × IsCount bytes count
 
--- there is exactly one word, and it is the text of the bytes
+-- there is exactly one word, and the word encodes the bytes
 abbrev pub AreOneBytes : List (List ℕ) → List ℕ → Type 0
 AreOneBytes words bytes = (text : List ℕ) × (words ≡ text ∷ []) × AreBytes text bytes
 
--- there is at least one word, and the words are the texts of the refspecs
+-- there is at least one word, and each word encodes a refspec
 abbrev pub AreSpecs : List (List ℕ) → List Refspec → Type 0
 AreSpecs words specs = (words ≢ []) × AllZip IsSpec words specs
 
@@ -99,7 +99,7 @@ IsEntry words entry =
 abbrev pub IsRef : List (List ℕ) → Name → Id → Type 0
 IsRef words name id = (digits : List ℕ) × (words ≡ digits ∷ name ∷ []) × IsIdText digits id × IsRefName name
 
--- the words are the arguments of the event's line
+-- the words are the arguments on the event's line
 abbrev pub AreArguments : {A : Type 0} → Event A → List (List ℕ) → Type 0
 AreArguments (event.Begin specs) words = AreSpecs words specs.items
 AreArguments (event.Serve request) words = IsOneNumber words request
@@ -114,13 +114,13 @@ AreArguments event words = words ≡ []
 
 -- ---- lines
 
--- the line is a text of the event
+-- the line encodes the event
 abbrev pub IsLineOf : {A : Type 0} → List ℕ → Event A → Type 0
 IsLineOf line event =
     (arguments : List (List ℕ)) × (words_of line ≡ command_text (command_of event) ∷ arguments)
     × AreArguments event arguments
 
--- the line is not a text of any event
+-- the line does not encode any event
 abbrev pub IsNoLine : Type 0 → List ℕ → Type 0
 IsNoLine A line = (event : Event A) → ¬ (IsLineOf line event)
 
@@ -129,13 +129,13 @@ abbrev pub BeginsWithCommand : List ℕ → Type 0
 BeginsWithCommand line =
     (command : EventWord) × (arguments : List (List ℕ)) × (words_of line ≡ command_text command ∷ arguments)
 
--- the text is the text of the events
+-- the text encodes the events
 abbrev pub IsScenario : {A : Type 0} → List ℕ → List (Event A) → Type 0
 IsScenario text [] = text ≡ []
 IsScenario text (event ∷ events) =
     (line rest : List ℕ) × (text ≡ line ++ 10 ∷ rest) × IsInLine line × IsLineOf line event × IsScenario rest events
 
--- the first line of the text is not the line of any event, or has no line feed
+-- the first line of the text does not encode any event, or has no line feed
 abbrev pub BeginsWrong : Type 0 → List ℕ → Type 0
 BeginsWrong A text =
     ((line rest : List ℕ) × (text ≡ line ++ 10 ∷ rest) × IsInLine line × IsNoLine A line)
@@ -151,7 +151,7 @@ pub record IsWrongLine (A : Type 0) (text : List ℕ) (number : ℕ) : Type 0 wh
   pub wrong : BeginsWrong A rest
   pub at : number ≡ length events + 1
 
--- after lines of events, the text has a line that begins with a command, so the event of that line may need memory
+-- after some valid lines, the text has a line that begins with a command, so the event of that line may need memory
 pub record TakesMemory (A : Type 0) (text : List ℕ) : Type 0 where
   pub front : List ℕ
   pub line : List ℕ

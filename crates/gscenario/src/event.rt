@@ -7,13 +7,13 @@ use std::alloc::{Allocator, Global};
 
 /// An event that happens to a server, or to a client that fetches from it.
 ///
-/// No event represents a lost message. A second delivery repeats a message, a late delivery delays
-/// it, and a short delivery truncates it.
+/// No event represents a lost message, because a message that is never delivered is lost. Messages
+/// can also be delivered twice, late or truncated.
 #[derive(Debug, Drop)]
 pub enum Event<A: Allocator + Copy = Global> {
     /// The client begins a session with these refspecs, at most 16, and reads the server's
-    /// advertisement. The session replaces any older session. It accepts packs up to the default
-    /// size limit, and expects no response-end packets.
+    /// advertisement. The new session replaces any older session. The session accepts packs up to
+    /// the default size limit, and expects no response-end packets.
     Begin(Vec<Spec<A>, A>),
     /// The client's session makes its next request, and appends it to the list of sent requests.
     Ask,
@@ -21,7 +21,7 @@ pub enum Event<A: Allocator + Copy = Global> {
     /// appended to the list of kept replies.
     Serve(usize),
     /// The client receives the first `count` bytes of the kept reply at index `reply` as the reply
-    /// to its open request. If the reply has fewer bytes, it arrives complete.
+    /// to its open request. A reply with fewer bytes arrives complete.
     Deliver { reply: usize, count: usize },
     /// The client receives these bytes as the reply to its open request, although the server did
     /// not send them.
@@ -29,18 +29,18 @@ pub enum Event<A: Allocator + Copy = Global> {
     /// An unknown client sends these bytes to the server on another connection. The server's
     /// replies have no response-end packets.
     StrangeRequest(Vec<u8, A>),
-    /// The client's session makes those of its requested ref updates that are allowed.
+    /// The client's session makes each requested ref update that is allowed.
     Settle,
-    /// The client restarts. It keeps its repository and loses its session.
+    /// The client restarts, keeps its repository and loses its session.
     RestartClient,
     /// The server restarts with the same repository.
     RestartServer,
     /// The server gains an object.
     ServerAdd(Entry<A>),
-    /// The server's ref of this name is set to this id.
+    /// The server's ref with this name is set to this id.
     ServerRef(RefName<A>, Oid),
     /// The client gains an object.
     ClientAdd(Entry<A>),
-    /// The client's ref of this name is set to this id.
+    /// The client's ref with this name is set to this id.
     ClientRef(RefName<A>, Oid),
 }

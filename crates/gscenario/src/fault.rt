@@ -12,7 +12,7 @@ use std::fmt;
 /// The reason to reject a text as a scenario.
 #[derive(Clone, Copy, Debug, PartialEq, Eq, Drop)]
 pub enum ScenarioFault {
-    /// The line with this number, counted from 1, is not the line of an event, or has no line feed.
+    /// The line with this number, counted from 1, does not encode an event, or has no line feed.
     Scenario { line: usize },
     /// There is not enough memory for the events.
     Memory,

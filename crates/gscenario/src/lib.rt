@@ -1,14 +1,14 @@
 //! Events that may happen to a server and a client that fetches from it ([`Event`]), and the text
-//! of a list of such events ([`Scenario`]).
+//! that encodes a list of events ([`Scenario`]).
 //!
 //! # Proved
 //!
 //! - [`Scenario::read`] accepts exactly the texts of scenarios, and returns their events. For any
-//!   other text it reports the first line that is not the line of an event, or that has no line
-//!   feed. `Scenario::read` runs out of memory only at a line that begins with a command. All lines
-//!   before that line are lines of events.
-//! - No text is the text of two different lists of events ([`laws`]). The number of a text's first
-//!   malformed line is unique. A text with a malformed line is not the text of any list of events.
+//!   other text it reports the first line that does not encode an event, or that has no line feed.
+//!   `Scenario::read` runs out of memory only at a line that begins with a command. All lines
+//!   before that line are valid.
+//! - No text encodes two different lists of events ([`laws`]). The number of a text's first
+//!   malformed line is unique. A text with a malformed line does not encode any list of events.
 //! - Each fault has the number, the name and the text of its row in `specs/Faults.antt`.
 //! - No call panics, overflows or reads out of bounds, and each call returns.
 //!
@@ -19,9 +19,9 @@
 //! # What the contracts do not rule out
 //!
 //! An implementation may report out of memory for any text whose first line begins with a command,
-//! even if memory is available. It may do so instead of reporting a later malformed line. An
-//! implementation may take any time, and more memory than it needs. Formatting a fault may return
-//! `fmt::Error` for no reason.
+//! even if memory is available. The report of out of memory may replace the report of a later
+//! malformed line. An implementation may take any time, and more memory than it needs. Formatting a
+//! fault may return `fmt::Error` for no reason.
 //!
 //! # Dependencies
 //!

@@ -12,7 +12,7 @@ use crate::words::first_word;
 use memchr::memchr;
 use std::alloc::{AllocError, Allocator};
 
-/// The text of a list of events.
+/// A text that encodes a list of events.
 ///
 /// Each event is one line. The line ends with a line feed. Single spaces separate the words of a
 /// line:
@@ -26,17 +26,17 @@ use std::alloc::{AllocError, Allocator};
 ///   `client-add` has the same arguments.
 /// - `server-ref ID NAME`, `client-ref ID NAME`
 ///
-/// Numbers are decimal, without leading zeros, and below 2^63. `BYTES` are two hexadecimal digits
+/// Numbers are decimal, without leading zeros, and below 2^63. `BYTES` has two hexadecimal digits
 /// for each byte, or `-` for an empty list. Ids have 40 or 64 hexadecimal digits. Hexadecimal
 /// digits may be in either case.
 pub struct Scenario;
 
 impl Scenario {
-    /// Reads the text of a list of events, and returns the events.
+    /// Reads a text that encodes a list of events, and returns the events.
     ///
-    /// Fails with `Scenario` at the first line that is not the line of an event, or has no line
-    /// feed. Fails with `Memory` if there is not enough memory for the event of a line. In that
-    /// case the line begins with a command, and all earlier lines are lines of events.
+    /// Fails with `Scenario` at the first line that does not encode an event, or has no line feed.
+    /// Fails with `Memory` if there is not enough memory for the event of a line. In that case the
+    /// line begins with a command, and all earlier lines are valid.
     pub fn read<A: Allocator + Copy>(
         alloc: A,
         text: &[u8],

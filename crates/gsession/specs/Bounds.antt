@@ -23,12 +23,12 @@ use Rattle.gsession.specs.declared.fault.ClientFault.{ClientFault}
 
 -- ---- the graph with which a session began
 
--- the session's tips are connected in the graph, and it offered only ids that the tips reach in the graph
+-- the session's tips are connected in the graph, and the session offered only ids that the tips reach in the graph
 pub record BeganOn {A : Type 0} (g : List (Entry A)) (s : SessionState A) : Type 0 where
   pub connected : All (IsConnected g) s.tips
   pub sent : All (λ a. Holds g a × SomeReaches g s.tips a) s.sent
 
--- `BeganOn` holds of a session that begins with a connected repository, and of the graph of that repository
+-- `BeganOn` holds of a new session on a connected repository, and of the repository's graph
 abbrev pub BeganBegins : Type 0 → Type 0
 BeganBegins A =
     (r : RepoState A) (refspecs : List Refspec) (limit : ℕ) (ends : Ends) (session : SessionState A)
@@ -78,7 +78,7 @@ OffersAreNew A =
 abbrev pub IsPast : {A : Type 0} → SessionState A → Type 0
 IsPast s = (s.pending ≡ None) × ((s.stage ≡ Settling) ⊎ (s.stage ≡ Over))
 
--- the last request was made: the open request has `done`, or the session makes no more requests
+-- the session made its last request: the open request has `done`, or the session makes no more requests
 abbrev pub HasAskedLast : {A : Type 0} → SessionState A → Type 0
 HasAskedLast s = ((asked : FetchAsked) × Awaits s asked × (fetch_has asked Done ≡ true)) ⊎ IsPast s
 

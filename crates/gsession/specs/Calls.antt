@@ -1,4 +1,4 @@
--- Common properties of the calls of a session.
+-- Properties that all calls of a session share.
 use Rattle.std.specs.Prelude.{◌≡◌, Bool, true, List, [], ◌++◌, All, Contains, None, Some, Result, Err}
 use Rattle.gname.specs.Ids.{Id}
 use Rattle.ggrammar.specs.Capabilities.{Capability}

@@ -9,8 +9,8 @@ use Rattle.gsession.specs.declared.fault.ClientFault.{ClientFault}
 use Rattle.gsession.specs.declared.fault.ClientFault.TheVariants.{Index, Message, NoOpenRequest, Repo, StrangeAck}
 use Rattle.gsession.specs.declared.fault.ClientFault.TheVariants.{TooManySpecs, TooManyWants}
 
--- the number and the name of each fault of a session; a fault of a message, an indexer or a repository keeps the row of
--- its own table
+-- the number and the name of each fault of a session; a fault of a message, an indexer or a repository keeps the number
+-- and the name of its own table
 abbrev pub client_fault_row : {A : Type 0} → ClientFault A → FaultRow
 client_fault_row (Message fault) = ((why_row fault.why).code, (why_row fault.why).name)
 client_fault_row (Index fault) = index_fault_row fault

@@ -47,9 +47,9 @@ abbrev pub OpenIsTheSessions : Type 0 → Type 0
 OpenIsTheSessions A =
     (s : SessionState A) (asked : FetchAsked) → IsSession s → Awaits s asked → IsOpenFetch s asked
 
--- ---- asks
+-- ---- requested updates
 
--- one of the refspecs makes this ask for one of the lines
+-- this requested update comes from applying one refspec to one line
 pub record IsAskOf {A : Type 0} (specs : List Refspec) (lines : List RefLine) (ask : Ask A) : Type 0 where
   pub spec : Refspec
   pub line : RefLine
@@ -58,7 +58,7 @@ pub record IsAskOf {A : Type 0} (specs : List Refspec) (lines : List RefLine) (a
   pub matched : matches spec line.name ≡ true
   pub is : ask ≡ ask_of spec line
 
--- each ask that a reply leads to is made by one of the refspecs for one of the lines
+-- each requested update comes from applying one refspec to one line of the reply
 abbrev pub AsksAreOfLines : Type 0 → Type 0
 AsksAreOfLines A =
     (specs : List Refspec) (lines : List RefLine) → All (IsAskOf {A = A} specs lines) (asked_of specs lines)
@@ -80,7 +80,8 @@ pub record IsFirstFor (specs : List Refspec) (lines : List RefLine) (spec : Refs
   pub no_spec : All (λ other. All (LeadsElsewhere (destination_of spec line.name) other) lines) before
   pub no_line : All (LeadsElsewhere (destination_of spec line.name) spec) above
 
--- each destination ref has exactly one ask, and the first refspec and line that lead to the ref determine the ask
+-- each destination ref has exactly one requested update, which the first refspec and line that lead to the ref
+-- determine
 pub record FirstIsAsked (A : Type 0) : Type 0 where
   pub each : (specs : List Refspec) (lines : List RefLine) (spec : Refspec) (line : RefLine) →
       Contains specs spec → Contains lines line → matches spec line.name ≡ true →
@@ -89,13 +90,13 @@ pub record FirstIsAsked (A : Type 0) : Type 0 where
   pub first : (specs : List Refspec) (lines : List RefLine) (spec : Refspec) (line : RefLine) →
       IsFirstFor specs lines spec line → Contains {X = Ask A} (asked_of specs lines) (ask_of spec line)
 
--- each want is an asked id that is not connected, and each asked id that is not wanted is connected
+-- each want is a requested id that is not connected, and each requested id that is not wanted is connected
 pub record AreExactWants {A : Type 0} (g : List (Entry A)) (asks : List (Ask A)) (wants : List Id) : Type 0 where
   pub asked : All (Contains (asked_ids asks)) wants
   pub missing : All (λ a. ¬ (IsConnected g a)) wants
   pub others : All (λ a. Contains wants a ⊎ IsConnected g a) (asked_ids asks)
 
--- the wants that follow from a reply are exact (`AreExactWants`)
+-- after a reply, the wants are exactly the requested ids that are not connected
 abbrev pub WantsAreExact : Type 0 → Type 0
 WantsAreExact A =
     (g : List (Entry A)) (asks : List (Ask A)) (wants : List Id) → AreWants g asks wants
@@ -114,7 +115,7 @@ OneNext A =
     (g : List (Entry A)) (old new other : SessionState A) (asked also : Asked) → MakesNext old g new asked
     → MakesNext old g other also → (asked ≡ also) × (new ≡ other)
 
--- the request has `ofs-delta` and `no-progress` exactly as the options of the session require
+-- the request has `ofs-delta` and `no-progress` exactly if the options of the session require it
 pub record AsksAsOptioned (options : PackOptions) (asked : FetchAsked) : Type 0 where
   pub ofs_delta : fetch_has asked OfsDelta ≡ options.ofs_delta
   pub progress : fetch_has asked NoProgress ≡ not options.progress

@@ -12,7 +12,7 @@ use Rattle.gsession.specs.Sessions.{SessionState, IsSession}
 use Rattle.gsession.specs.TakingReplies.{TakesRead}
 use Rattle.gsession.specs.declared.taken.Taken.TheVariants.{Round}
 
--- the walk began at the tips of the session, and knows a prefix of the session's common ids
+-- the walk began at the tips of the session, and has processed a prefix of the session's common ids
 pub record AreOffersOf {A : Type 0} (s : SessionState A) (g : List (Entry A)) (offers : Offers A) : Type 0 where
   pub heard : List Id
   pub rest : List Id

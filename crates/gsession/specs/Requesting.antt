@@ -1,6 +1,6 @@
 -- The next request of a session. The manual defines the form of a request (gitprotocol-v2(5), "ls-refs" and "fetch").
--- It does not say which haves a client sends, nor when the client sends `done`. This client offers batches of 16, 32,
--- 64, 128 and then 256 ids.
+-- The manual does not say which haves a client sends, nor when the client sends `done`. This client offers batches of
+-- 16, 32, 64, 128 and then 256 ids.
 use Rattle.std.specs.Prelude.{◌≡◌, ℕ, ◌+◌, Bool, true, false, List, [], ◌++◌, length, map, nat_le, ◌==◌}
 use Rattle.std.specs.Prelude.{if◌then◌else◌, not, Option, Some, None, Result, Ok, Err}
 use Rattle.gname.specs.Ids.{Id}
@@ -35,7 +35,7 @@ batch_size rounds =
     else if rounds == 3 then 128
     else 256
 
--- the batch: the offered ids, or an empty list if these ids and the common ids are too many for one request
+-- the batch: the new ids to offer, or an empty list if the new ids and the common ids do not fit into one request
 abbrev pub batch_of : List Id → List Id → List Id
 batch_of commons offer = if nat_le (length commons + length offer) max_haves then offer else []
 
@@ -69,7 +69,7 @@ IsNext s g (Ls asked) batch = (s.stage ≡ Listing) × (asked ≡ ls_request s.r
 IsNext s g (Fetches asked) batch =
     (s.stage ≡ Fetching) × (asked ≡ fetch_request s.options s.wants s.commons batch) × IsBatch s g batch
 
--- the session with this request as its open request; a request for objects counts as a round
+-- the session after it made this request, which is now open; a request for objects counts as a round
 abbrev pub waiting_for : {A : Type 0} → SessionState A → Asked → List Id → SessionState A
 waiting_for s (Fetches asked) batch =
     record s { pending = Some (Fetches asked); sent = s.sent ++ batch; rounds = s.rounds + 1 }

@@ -1,5 +1,6 @@
 -- A session: a client's conversation with one server, from the request for refs to the update of the local refs. The
--- requests have the order of gitprotocol-v2(5), "Command Request". The manual does not define the state of a session.
+-- order of the requests follows gitprotocol-v2(5), "Command Request". The manual does not define the state of a
+-- session.
 use Rattle.std.specs.Prelude.{◌≡◌, ◌≢◌, ℕ, ◌+◌, ◌≤◌, ◌<◌, Bool, true, false, List, [], length, All, Contains, codes}
 use Rattle.std.specs.Prelude.{if◌then◌else◌, Option, Some, None, Result, Ok, Err}
 use Rattle.std.specs.List.{IsDistinct}
@@ -57,7 +58,7 @@ pub record IsOpenFetch {A : Type 0} (s : SessionState A) (asked : FetchAsked) : 
   pub few : length asked.haves ≤ max_haves
   pub goes_on : is_direct asked ≡ false → s.rounds ≤ length s.sent
 
--- the open request fits the stage of the session, and no objects were requested while the session lists refs
+-- the open request fits the stage of the session, and no objects were requested before the session received the refs
 abbrev pub FitsStage : {A : Type 0} → SessionState A → Stage → Option Asked → Type 0
 FitsStage s Listing None = s.rounds ≡ 0
 FitsStage s Listing (Some (Ls asked)) = s.rounds ≡ 0
@@ -85,7 +86,7 @@ pub record IsSession {A : Type 0} (s : SessionState A) : Type 0 where
   pub some : s.stage ≡ Fetching → s.wants ≢ []
   pub stage : FitsStage s s.stage s.pending
 
--- the session after its end, which rejects every further call
+-- the ended session, which rejects every further call
 abbrev pub over : {A : Type 0} → SessionState A → SessionState A
 over s = record s { stage = Over; pending = None }
 
@@ -99,7 +100,7 @@ abbrev pub after_fault : {A : Type 0} → SessionState A → ClientFault A → S
 after_fault s fault = if ends_session fault then over s else s
 
 -- The state of the reader after a call that reads a reply. If no reply was awaited, the reader is unchanged. Otherwise
--- it has reached the end of the reply, or it remains where the reading stopped.
+-- the reader has reached the end of the reply, or remains where the reading stopped.
 abbrev pub LeavesReplies : {A S T : Type 0} → (S → Bool) → Reader S → Reader S → Result T (ClientFault A) → Type 0
 LeavesReplies is_down old new (Err NoOpenRequest) = new ≡ old
 LeavesReplies is_down old new (Err (Message fault)) = LeavesReader {M = Unit {0}} is_down old new (Err fault)
@@ -162,7 +163,7 @@ BeginsWith r refspecs limit ends options (Err fault) = Begins r refspecs limit e
 abbrev pub IsBegun : {A : Type 0} → SessionState A → Type 0
 IsBegun s = (s.stage ≡ Listing) × (s.pending ≡ None)
 
--- whether a server reports an unborn HEAD (gitprotocol-v2(5), "ls-refs": `unborn`)
+-- whether a server can report an unborn HEAD (gitprotocol-v2(5), "ls-refs": `unborn`)
 abbrev pub tells_unborn : List Capability → Bool
 tells_unborn capabilities = has_feature (codes "ls-refs") (codes "unborn") capabilities
 

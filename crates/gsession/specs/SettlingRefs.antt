@@ -9,8 +9,8 @@ use Rattle.gsession.specs.declared.stage.Stage.TheVariants.{Settling}
 use Rattle.gsession.specs.declared.fault.ClientFault.{ClientFault}
 use Rattle.gsession.specs.declared.fault.ClientFault.TheVariants.{NoOpenRequest, Repo}
 
--- the result of settling: the asks and their outcomes, a fault that ends the session, or `NoOpenRequest` if the session
--- is not ready to settle
+-- the result of settling: the requested updates and their outcomes, a fault that ends the session, or `NoOpenRequest`
+-- if the session can't settle yet
 abbrev pub SettlesSession : {A : Type 0} → SessionState A → RepoState A → SessionState A → RepoState A
     → Result (List (Ask A) × List RefUpdate) (ClientFault A) → Type 0
 SettlesSession old repo_old new repo_new (Ok settled) =

@@ -1,5 +1,5 @@
--- Reading ls-refs replies (gitprotocol-v2(5), "ls-refs"). The asks and the wants that follow from a reply are rules of
--- this project.
+-- Reading ls-refs replies (gitprotocol-v2(5), "ls-refs"). Git's manuals do not say which ref updates and which wants
+-- follow from a reply.
 use Rattle.std.specs.Prelude.{◌≡◌, ◌⊎◌, ◌<◌, ◌≤◌, List, [], ◌∷◌, length, Some, None, Result, Ok, Err}
 use Rattle.gname.specs.Ids.{Id}
 use Rattle.gpkt.specs.Change.{Change}
@@ -36,7 +36,7 @@ abbrev pub with_refs : {A : Type 0} → SessionState A → LsReply → List Id �
 with_refs s reply wants =
     record s { stage = stage_for wants; pending = None; asks = asked_of s.refspecs reply.lines; wants = wants }
 
--- the session accepts the refs of a reply, and determines its asks and its wants
+-- the session accepts the refs of a reply, and determines the requested updates and the wants
 pub record TakesLines {A : Type 0} (old : SessionState A) (g : List (Entry A)) (reply : LsReply) (new : SessionState A)
     (taken : LsTaken A) : Type 0 where
   pub named : AreNamed {A = A} (asks_by_all old.refspecs reply.lines)
@@ -48,7 +48,8 @@ pub record TakesLines {A : Type 0} (old : SessionState A) (g : List (Entry A)) (
   pub count : taken.wants ≡ length wants
   pub unborn : taken.unborn ≡ unborn_told old.refspecs reply.unborn
 
--- the destination of an ask is not a valid ref name; the fault gives the position of the reply's last packet
+-- the destination of a requested update is not a valid ref name; the fault gives the position of the reply's last
+-- packet
 pub record IsMisnamed {A : Type 0} (s : SessionState A) (reply : LsReply) (fault : MessageFault) : Type 0 where
   pub unnamed : ¬ (AreNamed {A = A} (asks_by_all s.refspecs reply.lines))
   pub frame : fault.frame ≡ last_frame s.ends reply
@@ -81,7 +82,7 @@ RefusesRefs s change fault =
 abbrev pub ReadsUntaken : {A : Type 0} → SessionState A → List (Entry A) → Change → ClientFault A → Type 0
 ReadsUntaken s g change fault = (reply : LsReply) × ReadsRefs s change reply × IsRefsFault s g reply fault
 
--- a reason why reading an ls-refs reply fails: no such reply is awaited, a packet is malformed, or the refs of a
+-- a reason why reading an ls-refs reply fails: no ls-refs reply is awaited, a packet is malformed, or the refs of a
 -- complete reply are rejected
 abbrev pub IsLsFault : {A : Type 0} → SessionState A → List (Entry A) → Change → ClientFault A → Type 0
 IsLsFault s g change NoOpenRequest = ¬ (AwaitsRefs s) × (change.new ≡ change.old)
@@ -91,7 +92,7 @@ IsLsFault s g change TooManyWants = AwaitsRefs s × ReadsUntaken s g change TooM
 IsLsFault s g change (Repo fault) = AwaitsRefs s × ReadsUntaken s g change (Repo fault)
 IsLsFault s g change _ = ⊥
 
--- the result of reading an ls-refs reply: its refs are accepted, or there is a fault
+-- the result of reading an ls-refs reply: the session accepts the refs, or fails
 abbrev pub TakesLs : {A : Type 0} → SessionState A → List (Entry A) → Change → SessionState A
     → Result (LsTaken A) (ClientFault A) → Type 0
 TakesLs old g change new (Ok taken) =

@@ -1,6 +1,6 @@
--- Reading fetch replies (gitprotocol-v2(5), "fetch"). The indexer reads the pack while the pack arrives. The graph
--- gains the pack's objects after the end of the reply. The manual does not define this order, nor which of several
--- faults is reported.
+-- Reading fetch replies (gitprotocol-v2(5), "fetch"). The indexer reads the pack as the pack arrives. The graph gains
+-- the pack's objects after the end of the reply. The manual does not define this order, nor which of several faults is
+-- reported.
 use Rattle.std.specs.Prelude.{◌≡◌, true, false, ℕ, List, ◌∷◌, ◌++◌, length, All, Contains, Some, None, Result, Ok, Err}
 use Rattle.gname.specs.Ids.{Id}
 use Rattle.gpkt.specs.Change.{Change}
@@ -35,8 +35,8 @@ HasPack (Acks ids) = ⊥
 HasPack (Ready ids pack) = Unit {0}
 HasPack (Pack pack) = Unit {0}
 
--- the first acknowledged id that is not a have of the request, although a server may only acknowledge haves
--- (gitprotocol-v2(5), "fetch": `ACK`)
+-- the first acknowledged id that is not a have of the request; a server may only acknowledge haves (gitprotocol-v2(5),
+-- "fetch": `ACK`)
 pub record IsFirstStrange (haves acks : List Id) (id : Id) : Type 0 where
   pub front : List Id
   pub rest : List Id
@@ -44,7 +44,7 @@ pub record IsFirstStrange (haves acks : List Id) (id : Id) : Type 0 where
   pub named : All (Contains haves) front
   pub strange : ¬ (Contains haves id)
 
--- the session after a reply: the acknowledged ids are common, each once, in the order of their first acknowledgment
+-- the session after a reply: each acknowledged id is listed once as common, in the order of the first acknowledgments
 abbrev pub after_acks : {A : Type 0} → SessionState A → Stage → List Id → SessionState A
 after_acks s stage acks = record s { stage = stage; pending = None; commons = distinct_of (s.commons ++ acks) }
 
@@ -106,8 +106,8 @@ reading_for s asked = record { format = s.format; direct = is_direct asked; limi
 abbrev pub ReadsFetch : Reading → Change → FetchReply → Type 0
 ReadsFetch reading change reply = ReadsMessage (judge reading) (Says reading) change reply
 
--- The session rejects a packet of the reply. The sink for the pack never fails (`false`), so only a packet that
--- acknowledges an id can be rejected for lack of memory.
+-- The session rejects a packet of the reply. The sink for the pack never fails, so memory can run out only for a packet
+-- that acknowledges an id.
 abbrev pub RefusesFetch : Reading → Change → MessageFault → Type 0
 RefusesFetch reading change fault =
     (front : List Packet) × ReadsRefused (judge reading) (brings_into false reading) front change fault
@@ -128,7 +128,7 @@ module _ {A : Type 0} (indexes : Indexes A) (index_fails : IndexFails) where
       × ((reply : FetchReply) × ReadsFetch (reading_for s asked) change reply
       × IsReplyFault indexes index_fails asked.haves repo reply fault)
 
-  -- a reason why reading a fetch reply fails: no such reply is awaited, a packet is malformed, or the content of a
+  -- a reason why reading a fetch reply fails: no fetch reply is awaited, a packet is malformed, or the content of a
   -- complete reply is rejected
   abbrev pub IsTakeFault : SessionState A → RepoState A → Change → ClientFault A → Type 0
   IsTakeFault s repo change NoOpenRequest = ¬ (AwaitsObjects s) × (change.new ≡ change.old)

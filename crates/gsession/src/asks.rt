@@ -1,4 +1,4 @@
-//! The asks of a session: the requested updates of local refs.
+//! The updates of local refs that a session requests.
 
 ghost use Rattle.std.specs.Prelude.{◌≡◌, ◌↔◌, ◌∷◌, [], true, All, IfErr, IfOk, IsTrue, Ok, OnOk};
 ghost use Rattle.gname.specs.Ids.{IsIdOf};
@@ -45,8 +45,8 @@ fn leads_to_names<A: Allocator + Copy>(spec: &Spec<A>, reply: &LsReply<A>) -> bo
     true
 }
 
-/// Returns the asks of the refspecs for the refs of a reply. Fails if out of memory, or if the name
-/// of a local ref would be invalid.
+/// Returns the ref updates that the refspecs request for the refs of a reply. Fails if out of
+/// memory, or if the name of a local ref would be invalid.
 pub(crate) fn asked_of<A: Allocator + Copy>(
     alloc: A,
     specs: &[Spec<A>],
@@ -63,7 +63,7 @@ pub(crate) fn asked_of<A: Allocator + Copy>(
     Ok(asks)
 }
 
-// Adds the asks of a refspec, in the order of the reply's lines.
+// Adds the ref updates that a refspec requests, in the order of the reply's lines.
 fn add_asks<A: Allocator + Copy>(
     spec: &Spec<A>,
     reply: &LsReply<A>,
@@ -79,7 +79,8 @@ fn add_asks<A: Allocator + Copy>(
     Ok(())
 }
 
-// Adds the ask of a refspec for one line, unless the local ref already has an ask.
+// Adds the update that a refspec requests for one line, unless an update of the same local ref is
+// already requested.
 fn ask_of_line<A: Allocator + Copy>(
     spec: &Spec<A>,
     line: &RefLine<A>,
@@ -114,8 +115,8 @@ fn destination_of<A: Allocator + Copy>(
     }
 }
 
-/// Returns each id that is asked for and not connected, once, in the order of the asks. Fails only
-/// with `Memory`.
+/// Returns each requested id that is not connected, once, in the order of the requested updates.
+/// Fails only with `Memory`.
 pub(crate) fn wants_of<A: Allocator + Copy>(
     repo: &Repo<A>,
     asks: &Asks<A>,
@@ -140,8 +141,8 @@ pub(crate) fn wants_of<A: Allocator + Copy>(
     Ok(wants)
 }
 
-// Returns whether the id is connected. Only an id that the repository holds, and that the local
-// refs do not reach, needs a walk.
+// Returns whether the id is connected. Walks the graph only if the repository holds the id and the
+// local refs do not reach it.
 fn is_connected<A: Allocator + Copy>(repo: &Repo<A>, id: &Oid) -> Result<bool, GraphFault>
     ensures connected { IfOk result (λ connected. IsTrue connected ↔ IsConnected repo.now.graph.entries id.now) }
     ensures fault { IfErr result (λ fault. fault ≡ Memory) }

@@ -1,4 +1,4 @@
-//! Alternative names for items of this library.
+//! Alternative names for items of this crate.
 
 ghost use Rattle.std.specs.Prelude.{◌≡◌, IfSome, option_map};
 ghost use Rattle.std.specs.Option.{option_copied};

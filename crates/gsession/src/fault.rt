@@ -18,8 +18,8 @@ use std::fmt;
 /// The reason why a call of a session failed.
 #[derive(Debug, Drop)]
 pub enum ClientFault<A: Allocator + Copy = Global> {
-    /// The session rejected a packet of the reply. The numbers of such faults are 20 to 25, 29, 30
-    /// and 41 to 54.
+    /// The session rejected a packet of the reply. The number of the fault is 20 to 25, 29, 30 or
+    /// 41 to 54.
     Message(MessageFault),
     /// Fault 66: the indexer rejected the pack.
     Index(IndexFault),
@@ -31,7 +31,8 @@ pub enum ClientFault<A: Allocator + Copy = Global> {
     StrangeAck { id: Oid },
     /// Fault 86: one request can't hold all wants.
     TooManyWants,
-    /// The repository rejected the change (60 to 63, 69, 75 and 85), or is out of memory (64).
+    /// The repository rejected the change (faults 60 to 63, 69, 75 and 85), or memory ran out
+    /// (fault 64).
     Repo(RepoFault<A>),
 }
 

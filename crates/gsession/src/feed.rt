@@ -10,8 +10,8 @@ use ggraph::{Entry, IndexFault, Indexer};
 use std::alloc::Allocator;
 use std::marker::PhantomData;
 
-/// Passes a pack to an indexer, piece by piece. After a fault of the indexer, ignores all later
-/// pieces and keeps the fault.
+/// A sink that passes a pack to an indexer, piece by piece. After a fault of the indexer, the sink
+/// ignores all later pieces and keeps the fault.
 #[derive(Drop)]
 pub(crate) struct PackFeed<'k, K: Indexer<A>, A: Allocator + Copy> {
     indexer: &'k K,

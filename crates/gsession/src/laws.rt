@@ -1,4 +1,4 @@
-//! The laws of sessions: functions without effect, which exist for their contracts.
+//! Laws of sessions. Each function does nothing, and its contract states a proved property.
 
 ghost use Rattle.std.specs.Prelude.{◌≡◌};
 ghost use Rattle.gsession.specs.Bounds.{BeganBegins, BeganStays, BeganStaysOn, BeginsCounted, BeginsOffered, CountedAreFew, CountedStays, DoneAsksLast, LastStays, NoneFollows, OfferedStays, OffersAreNew, RoundsAreFew};
@@ -16,23 +16,23 @@ use ggraph::graph_laws::{
 };
 use std::alloc::Allocator;
 
-/// The constant `MAX_SPECS` is the limit `max_specs` of the definitions.
+/// Proves that `MAX_SPECS` equals the limit `max_specs` of the specifications.
 pub fn limits_are_the_constants()
     ensures { MAX_SPECS ≡ max_specs }
 {}
 
 // ---- the number of a session's requests for objects
 
-/// `BeganOn` holds of a session that begins with a connected repository, and of the graph of that
-/// repository. The session's tips are connected in the graph.
+/// Proves that `BeganOn` holds of a new session on a connected repository, and of the repository's
+/// graph. The session's tips are then connected in the graph.
 pub fn began_begins<A: Allocator + Copy>()
     ensures { BeganBegins A }
 {
     distinct_are_once();
 }
 
-/// `BeganOn` still holds after a session's next request, if the graph only gained objects. The
-/// session offered only ids that its tips reach in the graph with which it began.
+/// Proves that `BeganOn` still holds after a session's next request, if the graph only gained
+/// objects. The session thus offers only ids that its tips reached when it began.
 pub fn began_stays<A: Allocator + Copy>()
     ensures { BeganStays A }
 {
@@ -41,15 +41,16 @@ pub fn began_stays<A: Allocator + Copy>()
     connected_stays_connected::<A>();
 }
 
-/// `BeganOn` still holds after every call, successful or not, if the graph only gained objects.
+/// Proves that `BeganOn` still holds after every call, successful or not, if the graph only gained
+/// objects.
 pub fn began_stays_on<A: Allocator + Copy, K: Indexer<A>>()
     ensures { (k : K) → BeganStaysOn (K.indexes k) (K.index_fails k) }
 {
     began_stays::<A>();
 }
 
-/// At the beginning and after every call, the session offered each common id and each have of the
-/// open request in some batch.
+/// Proves that at any time the session has offered each common id, and each have of the open
+/// request, in one of its batches.
 pub fn names_were_offered<A: Allocator + Copy, K: Indexer<A>>()
     ensures begins { BeginsOffered A }
     ensures stays { (k : K) → OfferedStays (K.indexes k) (K.index_fails k) }
@@ -57,21 +58,22 @@ pub fn names_were_offered<A: Allocator + Copy, K: Indexer<A>>()
     distinct_are_once();
 }
 
-/// Each request for objects without `done` has a have that the session did not offer before.
+/// Proves that each request for objects without `done` has a have that the session did not offer
+/// before.
 pub fn offers_are_new<A: Allocator + Copy>()
     ensures { OffersAreNew A }
 {
     offers_are_exact::<A>();
 }
 
-/// Once the session accepts the reply to a request with `done`, it can settle, and makes no more
-/// requests.
+/// Proves that a session that accepted the reply to a request with `done` can settle, and makes no
+/// more requests.
 #[tactic(auto, using(crate::proofs::LawLemmas::done_is_last))]
 pub fn done_is_last<A: Allocator + Copy, K: Indexer<A>>()
     ensures { (k : K) → DoneIsLast (K.indexes k) (K.index_fails k) }
 {}
 
-/// No request follows a request with `done`, whatever the later calls return.
+/// Proves that no request follows a request with `done`, whatever the later calls return.
 #[tactic(auto, using(crate::proofs::BoundLemmas::done_laws))]
 pub fn none_follows_done<A: Allocator + Copy, K: Indexer<A>>()
     ensures last { DoneAsksLast A }
@@ -79,8 +81,8 @@ pub fn none_follows_done<A: Allocator + Copy, K: Indexer<A>>()
     ensures none { NoneFollows A }
 {}
 
-/// Each request for objects except the last offered at least one new id. This holds at the
-/// beginning and after every call.
+/// Proves that at any time each request for objects except the last has offered at least one new
+/// id.
 pub fn requests_are_counted<A: Allocator + Copy, K: Indexer<A>>()
     ensures begins { BeginsCounted A }
     ensures stays { (k : K) → CountedStays (K.indexes k) (K.index_fails k) }
@@ -88,16 +90,16 @@ pub fn requests_are_counted<A: Allocator + Copy, K: Indexer<A>>()
     offers_are_exact::<A>();
 }
 
-/// A session makes at most N + 1 requests for objects, if its tips reach N ids in the graph with
-/// which it began.
+/// Proves that a session makes at most N + 1 requests for objects, if its tips reach N ids in the
+/// graph with which it began.
 pub fn rounds_are_few<A: Allocator + Copy>()
     ensures { RoundsAreFew A }
 {
     reached_are_counted::<A>();
 }
 
-/// A session makes at most N + 1 requests for objects, if each request except the last offered a
-/// new id, and its tips reach N ids.
+/// Proves that a session makes at most N + 1 requests for objects, if its tips reach N ids and each
+/// request except the last offered a new id.
 pub fn counted_are_few<A: Allocator + Copy>()
     ensures { CountedAreFew A }
 {
@@ -106,62 +108,64 @@ pub fn counted_are_few<A: Allocator + Copy>()
 
 // ---- the state that calls keep, and the replies that they accept
 
-/// No call changes the tips or the parameters of a session. Every call keeps all offered ids.
+/// Proves that no call changes the tips or the parameters of a session, and that every call keeps
+/// all offered ids.
 pub fn calls_go_on<A: Allocator + Copy, K: Indexer<A>>()
     ensures { (k : K) → EachGoesOn (K.indexes k) (K.index_fails k) }
 {}
 
-/// Every call has one of the effects that `Does` lists, for example a new request or the end of the
-/// session.
+/// Proves that every call has one of the effects that `Does` lists, for example a new request or
+/// the end of the session.
 pub fn calls_do<A: Allocator + Copy, K: Indexer<A>>()
     ensures { (k : K) → EachDoes (K.indexes k) (K.index_fails k) }
 {}
 
-/// An open request for objects has the session's wants, and its haves include each common id. If
-/// the request has haves and no `done`, the session has made at most as many requests for objects
-/// as it has offered ids.
+/// Proves that an open request for objects has the session's wants, and that its haves include each
+/// common id. If the request has haves and no `done`, the session has made at most as many requests
+/// for objects as it has offered ids.
 #[tactic(auto, using(crate::proofs::SessionLemmas::open_fetch))]
 pub fn open_is_the_sessions<A: Allocator + Copy>()
     ensures { OpenIsTheSessions A }
 {}
 
-/// Each local ref to which a refspec maps a line of the reply gets exactly one ask. The first
-/// refspec that maps a line to this ref determines the ask, with the first line that it maps to
-/// this ref.
+/// Proves that exactly one update is requested for each local ref to which a refspec maps a line of
+/// the reply. The first refspec that maps a line to this ref, and its first matching line,
+/// determine the update.
 #[tactic(auto, using(crate::proofs::AskLemmas::first_is_asked))]
 pub fn first_is_asked<A: Allocator + Copy>()
     ensures { FirstIsAsked A }
 {}
 
-/// Each ask comes from one of the refspecs and one of the lines of the reply.
+/// Proves that each requested update comes from applying one refspec to one line of the reply.
 #[tactic(auto, using(crate::proofs::AskLemmas::asks_are_of_lines))]
 pub fn asks_are_of_lines<A: Allocator + Copy>()
     ensures { AsksAreOfLines A }
 {}
 
-/// The wants are exactly the asked ids that are not connected.
+/// Proves that the wants are exactly the requested ids that are not connected.
 pub fn wants_are_exact<A: Allocator + Copy>()
     ensures { WantsAreExact A }
 {
     distinct_are_once();
 }
 
-/// The session and the graph determine the next request, and the state of the session after it.
+/// Proves that the session and the graph determine the next request, and the state of the session
+/// after the request.
 pub fn one_next<A: Allocator + Copy>()
     ensures { OneNext A }
 {
     offers_are_exact::<A>();
 }
 
-/// A request for objects has `ofs-delta` and `no-progress` exactly as the session's options
-/// require.
+/// Proves that a request for objects has `ofs-delta` and `no-progress` exactly if the session's
+/// options require it.
 #[tactic(auto, using(crate::proofs::NextLaws::options_are_asked))]
 pub fn options_are_asked<A: Allocator + Copy>()
     ensures { OptionsAreAsked A }
 {}
 
-/// The haves of a request are connected, if the tips and the common ids are connected. Each have is
-/// a common id, or was not offered before.
+/// Proves that the haves of a request are connected, if the tips and the common ids are connected.
+/// Each have is a common id, or was not offered before.
 pub fn haves_are_held<A: Allocator + Copy>()
     ensures connected { HavesAreConnected A }
     ensures fresh { HavesAreNew A }
@@ -170,15 +174,15 @@ pub fn haves_are_held<A: Allocator + Copy>()
     reaching_goes_on::<A>();
 }
 
-/// The walk that selects haves remains valid after a reply with only acknowledgments.
+/// Proves that the walk that selects haves remains valid after a reply with only acknowledgments.
 pub fn offers_stay<A: Allocator + Copy, K: Indexer<A>>()
     ensures { (k : K) → OffersStay (K.indexes k) (K.index_fails k) }
 {
     distinct_are_once();
 }
 
-/// The common ids after a reply are the old common ids and the acknowledged ids. After every call,
-/// each common id was common before the call, or was a have of the open request.
+/// Proves that the common ids after a reply are the old common ids and the acknowledged ids. After
+/// every call, each common id was common before the call, or was a have of the open request.
 pub fn commons_are_haves<A: Allocator + Copy, K: Indexer<A>>()
     ensures replies { (k : K) → RepliesAddCommons (K.indexes k) (K.index_fails k) }
     ensures calls { (k : K) → CommonsAreHaves (K.indexes k) (K.index_fails k) }
@@ -186,15 +190,15 @@ pub fn commons_are_haves<A: Allocator + Copy, K: Indexer<A>>()
     distinct_are_once();
 }
 
-/// After a reply, accepted or rejected, the graph only gained objects, and refs and marks are
-/// unchanged.
+/// Proves that a reply, accepted or rejected, only adds objects to the graph, and leaves refs and
+/// marks unchanged.
 #[tactic(auto, using(crate::proofs::LawLemmas::taking_only_grows))]
 pub fn taking_only_grows<A: Allocator + Copy, K: Indexer<A>>()
     ensures { (k : K) → TakingOnlyGrows (K.indexes k) (K.index_fails k) }
 {}
 
-/// The bytes of a fetch reply and the result of reading it determine the session afterwards,
-/// whatever objects the indexer returns.
+/// Proves that the bytes of a fetch reply, and the result of reading the reply, determine the
+/// session afterwards, whatever objects the indexer returns.
 #[tactic(auto, using(crate::proofs::LawLemmas::taking_is_decided))]
 pub fn taking_is_decided<A: Allocator + Copy, K: Indexer<A>>()
     ensures { (k : K) → TakingIsDecided (K.indexes k) (K.index_fails k) }
@@ -202,7 +206,8 @@ pub fn taking_is_decided<A: Allocator + Copy, K: Indexer<A>>()
     reads_exactly();
 }
 
-/// The bytes of an ls-refs reply and the result of reading it determine the session afterwards.
+/// Proves that the bytes of an ls-refs reply, and the result of reading the reply, determine the
+/// session afterwards.
 #[tactic(auto, using(crate::proofs::LawLemmas::listing_is_decided))]
 pub fn listing_is_decided<A: Allocator + Copy>()
     ensures { ListingIsDecided A }
@@ -210,8 +215,8 @@ pub fn listing_is_decided<A: Allocator + Copy>()
     glsreply::laws::reads_exactly();
 }
 
-/// Each call of a session that is over fails with `NoOpenRequest`, reads nothing and changes
-/// nothing.
+/// Proves that each call of a session that is over fails with `NoOpenRequest`, reads nothing and
+/// changes nothing.
 #[tactic(auto, using(crate::proofs::LawLemmas::over_laws))]
 pub fn over_refuses<A: Allocator + Copy, K: Indexer<A>>()
     ensures hear { OverHearsNone A }

@@ -5,43 +5,43 @@
 //! # Proved
 //!
 //! - [`Session::begin`] stores the refspecs and the distinct ids of the local refs, in the order of
-//!   their names. It fails for more than 16 refspecs. [`Session::hear`] stores whether the server
-//!   reports an unborn `HEAD`.
+//!   their names. The call fails for more than 16 refspecs. [`Session::hear`] stores whether the
+//!   server reports an unborn `HEAD`.
 //! - [`Session::request`] makes the next request. A request for refs has the source of each refspec
 //!   as a prefix, and has `unborn` exactly when the server offers to report an unborn `HEAD`. A
 //!   request for objects has the wants, and its haves are the common ids and a batch of new ids. A
 //!   request without a batch has `done`. The session's options determine whether a request has
 //!   `ofs-delta` and `no-progress` ([`Session::begin_with`]). The session and the graph determine
 //!   the request and the next session ([`laws`]). [`Session::request_on`] makes the same request,
-//!   but continues the walk of the previous request (`specs/Offering.antt`). It requires that the
-//!   graph has not changed since that request.
-//! - [`Session::take_ls`] reads one ls-refs reply to its end, and nothing after it. Each local ref
-//!   to which a refspec maps a line of the reply gets exactly one ask. The first refspec that maps
-//!   a line to this ref determines the ask, with the first line that it maps to this ref
-//!   ([`laws`]). The wants are the asked ids that are not connected. If the name of a local ref
-//!   would be invalid, the fault gives the position of the reply's last packet. This fault is
-//!   reported before too many wants and before out of memory.
+//!   but continues the walk of the previous request (`specs/Offering.antt`). This call requires
+//!   that the graph has not changed since the previous request.
+//! - [`Session::take_ls`] reads one ls-refs reply to its end, and nothing after it. Exactly one
+//!   update is requested for each local ref to which a refspec maps a line of the reply. The first
+//!   refspec that maps a line to the ref, and its first matching line, determine the update
+//!   ([`laws`]). The wants are the requested ids that are not connected. If the name of a local ref
+//!   would be invalid, the fault gives the position of the reply's last packet. The fault for an
+//!   invalid name takes precedence over too many wants and over out of memory.
 //! - [`Session::take_reply`] reads one fetch reply to its end, and nothing after it. Each id that
 //!   becomes common was a have of the request. The repository gains all objects that the indexer
-//!   returns for the pack, or none. If several faults occur, the first of the following is
+//!   returns for the pack, or no objects. If several faults occur, the first of the following is
 //!   reported: a malformed packet, an acknowledged id that is not a have, the indexer's fault, the
-//!   graph's fault. Only a packet that acknowledges an id can be rejected for lack of memory. A
-//!   fault of the indexer does not stop the reading of the reply. After the end of a reply, out of
-//!   memory is reported only if all acknowledged ids are haves and the indexer accepted the pack.
+//!   graph's fault. Memory for a packet can run out only if the packet acknowledges an id. A fault
+//!   of the indexer does not stop the reading of the reply. After the end of a reply, out of memory
+//!   is reported only if all acknowledged ids are haves and the indexer accepted the pack.
 //! - [`Session::settle`] updates the local refs like `Repo::settle`, once a pack has arrived or if
 //!   there are no wants.
-//! - [`Session::is_due`] returns whether the session has a next request to make.
+//! - [`Session::is_due`] returns whether the session can make a request now.
 //! - [`Session::open_request`] borrows the request that waits for its reply, so that the caller can
-//!   write it. The ids of the request have the session's format. [`Session::asks`] and
-//!   [`Session::wants`] borrow the asks and the wants.
-//! - A call that does not fit the stage of the session changes nothing, and reads nothing. Every
-//!   other fault ends the session, and leaves objects and refs unchanged. After the end of a
+//!   write it. The ids of the request have the session's format. [`Session::asks`] borrows the
+//!   requested ref updates, and [`Session::wants`] the wanted ids.
+//! - A call that does not fit the stage of the session fails, reads nothing and changes nothing.
+//!   Every other fault ends the session, and leaves objects and refs unchanged. After the end of a
 //!   session, every call fails.
 //! - After a complete reply, the reader can read the next message. After a malformed reply, the
-//!   reader remains at the position where the reading stopped.
+//!   reader stays at the position where the reading stopped.
 //! - The bytes of a fetch reply and the result of reading it determine the session afterwards. Each
-//!   request without `done` has a new have, and no request follows a request with `done`. So a
-//!   session makes at most N + 1 requests for objects, if its tips reach N ids ([`laws`]).
+//!   request without `done` has a new have, and no request follows a request with `done`. Therefore
+//!   a session makes at most N + 1 requests for objects, if its tips reach N ids ([`laws`]).
 //! - Each fault has the number, the name and the text of its row in `specs/Faults.antt`. No call
 //!   panics, overflows or reads out of bounds. A call returns if each call of its reader returns.
 //!
@@ -52,35 +52,36 @@
 //!
 //! # What the contracts do not rule out
 //!
-//! A call may report out of memory although memory is available, if no earlier fault occurs. Out of
-//! memory can hide the following faults, because the checks for them need memory:
+//! A call may report out of memory although memory is available, if no earlier fault occurs. A
+//! report of out of memory can hide the following faults, because the checks for them need memory:
 //!
 //! - A fault of a later packet of a reply. A session stores the refs or the acknowledged ids of a
 //!   reply until the end of the reply.
-//! - Too many wants. The session counts the wants after it stored the asks and their distinct ids.
-//!   It may need a walk to check whether an id is connected.
+//! - Too many wants. The session counts the wants only after it stored the requested updates and
+//!   their distinct ids. The check whether an id is connected may need a walk.
 //! - A fault of the graph for a pack. The graph detects this fault while it allocates memory for
 //!   the objects. The session allocates the list of common ids earlier, because the graph can't
 //!   remove inserted objects.
 //! - An unconnected id or a ref that can't be set, if [`Session::settle`] needs a walk in
 //!   `gclientrepo`.
 //!
-//! A session may store a complete pack before it passes the pack to the indexer. It may start the
-//! indexer more often than necessary, or pass it bytes after a fault. A call may take any time, and
-//! more memory than it needs. Formatting a fault may return `fmt::Error` for no reason.
+//! A session may store a complete pack before it passes the pack to the indexer. The session may
+//! start the indexer more often than necessary, or pass bytes to the indexer after a fault. A call
+//! may take any time, and more memory than it needs. Formatting a fault may return `fmt::Error` for
+//! no reason.
 //!
 //! No clause bounds the time of a call. The method [`Session::request`] starts each walk at the
 //! tips. [`Session::request_on`] continues the walk of the previous request, so all requests over
-//! the same graph cost as much as one walk. For an asked id that is absent, or that the local refs
-//! reach, a look-up decides whether it is connected. A look-up is also enough if the graph stores
-//! each object after its parents. Any other asked id needs a walk, which stops at objects that the
-//! local refs reach. A set speeds up the check of acknowledged ids.
+//! the same graph cost as much as one walk. If the graph lacks a requested id, or the local refs
+//! reach it, a look-up decides whether the id is connected. A look-up is also enough if the graph
+//! stores each object after its parents. For any other requested id, the session walks the graph,
+//! and stops at objects that the local refs reach. A set speeds up the check of acknowledged ids.
 //!
 //! # Dependencies
 //!
 //! The crate uses `grefs` for refspecs, `gclientrepo` for the repository, `ggraph` and `gwalk` for
-//! the walk that selects haves, `gobject` for indexers, and `indexmap` for sets of ids. It uses
-//! `grequest`, `glsreply`, `gfetchreply` and `ghello` for messages.
+//! the walk that selects haves, `gobject` for indexers, and `indexmap` for sets of ids. The crate
+//! uses `grequest`, `glsreply`, `gfetchreply` and `ghello` for messages.
 #![tactic(auto)]
 
 mod acks;

@@ -11,8 +11,8 @@ use std::alloc::{Allocator, Global};
 /// The options of a session's requests for packs (gitprotocol-v2(5), "fetch").
 #[derive(Clone, Copy, Debug, PartialEq, Eq)]
 pub struct PackOptions {
-    /// Whether each request for objects has `ofs-delta`, so that a delta may give its base as an
-    /// offset in the pack.
+    /// Whether each request for objects has `ofs-delta`, which allows a delta to give its base as
+    /// an offset in the pack.
     pub ofs_delta: bool,
     /// Whether the server may report progress. If false, each request for objects has
     /// `no-progress`.

@@ -50,7 +50,7 @@ pub struct Session<A: Allocator + Copy = Global> {
     wants: Vec<Oid, A>,
     // The ids that the server has acknowledged.
     commons: Vec<Oid, A>,
-    // The ids that the session offered, of all batches.
+    // The ids that the session has offered, in all batches.
     sent: Vec<Oid, A>,
     // The number of requests for objects.
     rounds: usize,
@@ -78,10 +78,10 @@ impl<A: Allocator + Copy> Session<A> {
     /// Begins a session that fetches the refs that match these refspecs. The client has sent
     /// nothing to the server yet. The session stores the distinct ids of the local refs, in the
     /// order of their names, and offers these ids and their ancestors as haves. A session without
-    /// refspecs has no asks.
+    /// refspecs requests no ref updates.
     ///
-    /// The session has the default pack options. Fails with `TooManySpecs` for more than 16
-    /// refspecs, and with `Repo` if out of memory.
+    /// Uses the default pack options. Fails with `TooManySpecs` for more than 16 refspecs, and with
+    /// `Repo` if out of memory.
     pub fn begin(
         alloc: A,
         repo: &Repo<A>,
@@ -135,7 +135,7 @@ impl<A: Allocator + Copy> Session<A> {
     }
 
     /// Reads from the advertisement whether the server reports an unborn `HEAD` (gitprotocol-v2(5),
-    /// "ls-refs"). After several calls, the last advertisement counts.
+    /// "ls-refs"). If called several times, the last advertisement counts.
     ///
     /// Fails with `NoOpenRequest` after the first request, and leaves the session unchanged.
     pub fn hear(&mut self, advert: &Advert<A>) -> Result<(), ClientFault<A>>
@@ -168,15 +168,15 @@ impl<A: Allocator + Copy> Session<A> {
         self.pending.as_ref()
     }
 
-    /// Returns the asks: the local refs to update, their new ids, and whether each update is
-    /// forced. [`Session::settle`] moves the asks to the caller.
+    /// Returns the requested updates: the local refs, their new ids, and whether each update is
+    /// forced. [`Session::settle`] moves the updates to the caller.
     pub fn asks(&self) -> &Asks<A>
         ensures { result.now ≡ self.now.asks }
     {
         &self.asks
     }
 
-    /// Returns the ids of the wanted objects, each once, in the order of the asks.
+    /// Returns the ids of the wanted objects, each once, in the order of the requested updates.
     pub fn wants(&self) -> &[Oid]
         ensures { result.now ≡ self.now.wants }
     {
@@ -191,8 +191,8 @@ impl<A: Allocator + Copy> Session<A> {
         self.commons.as_slice()
     }
 
-    /// Returns the number of requests for objects that the session made. Each such request is a
-    /// round.
+    /// Returns the number of requests for objects that the session made. Each request for objects
+    /// is a round.
     pub fn rounds(&self) -> usize
         ensures rounds { result ≡ self.now.rounds }
         ensures session { IsSession self.now }
@@ -200,7 +200,7 @@ impl<A: Allocator + Copy> Session<A> {
         self.rounds
     }
 
-    /// A law: the invariants of each session.
+    /// Proves that every session satisfies its invariants.
     pub fn laws(&self)
         ensures { IsSession self.now }
     {
@@ -231,12 +231,12 @@ impl<A: Allocator + Copy> Session<A> {
         set_pending(&mut self.pending, None);
     }
 
-    /// Updates the local refs, all at once, if each asked id is connected. Sets each ref to the
-    /// asked id if the ref is new, or if the update is forced or a fast-forward. Returns the
-    /// outcome of each ask. The call ends the session.
+    /// Updates the local refs, all at once, if each requested id is connected. Sets each ref to the
+    /// requested id if the ref is new, or if the update is forced or a fast-forward. Returns the
+    /// outcome of each requested update. The call ends the session.
     ///
-    /// Fails with `NoOpenRequest` before the pack has arrived, unless there are no wants, and
-    /// changes nothing. Otherwise fails with `Repo`, like `Repo::settle`. This fault ends the
+    /// Fails with `NoOpenRequest`, and changes nothing, if there are wants and the pack has not
+    /// arrived. Otherwise fails with `Repo`, like `Repo::settle`. The fault `Repo` ends the
     /// session, and leaves the repository unchanged.
     pub fn settle(&mut self, repo: &mut Repo<A>) -> Result<Settled<A>, ClientFault<A>>
         ensures { MatchResult result
@@ -263,7 +263,7 @@ impl<A: Allocator + Copy> Session<A> {
         }
     }
 
-    // Moves the asks out of a session that is over.
+    // Moves the requested updates out of a session that is over.
     fn take_asks(&mut self) -> Asks<A>
         requires stage { self.old.stage ≡ Stage.Over }
         requires pending { self.old.pending ≡ None }
@@ -275,7 +275,7 @@ impl<A: Allocator + Copy> Session<A> {
     }
 }
 
-// Sets or clears the open request. Only this function drops an open request.
+// Sets or clears the open request. No other function drops an open request.
 fn set_pending<A: Allocator + Copy>(pending: &mut Option<Request<A>>, next: Option<Request<A>>)
     ensures { pending.new ≡ next }
 {

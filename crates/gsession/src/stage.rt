@@ -1,6 +1,6 @@
 //! The stages of a session.
 
-/// The stage of a session: the subject of its open or next request.
+/// The stage of a session, which determines its next call.
 #[derive(Clone, Copy, Drop)]
 pub enum Stage {
     /// The session requests the refs of the server.

@@ -7,9 +7,9 @@ use std::alloc::{Allocator, Global};
 /// The content of an accepted ls-refs reply.
 #[derive(Debug, Drop)]
 pub struct LsTaken<A: Allocator + Copy = Global> {
-    /// The number of asks: local refs to update.
+    /// The number of requested updates of local refs.
     pub asks: usize,
-    /// The number of wants: objects that the asks need.
+    /// The number of wanted objects.
     pub wants: usize,
     /// The ref that the server's unborn `HEAD` points at, if a refspec fetches `HEAD`.
     pub unborn: Option<RefName<A>>,
@@ -24,11 +24,11 @@ pub enum Taken {
     PackTaken { added: usize },
 }
 
-/// The asks of a session, and their outcomes in the same order.
+/// The ref updates that a session requested, and their outcomes in the same order.
 #[derive(Debug, Drop)]
 pub struct Settled<A: Allocator + Copy = Global> {
-    /// The asks, in the order in which they were added.
+    /// The requested updates, in the order in which they were added.
     pub asks: Asks<A>,
-    /// The outcome of each ask.
+    /// The outcome of each requested update.
     pub updates: Vec<RefUpdate, A>,
 }

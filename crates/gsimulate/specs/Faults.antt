@@ -1,4 +1,4 @@
--- The table of a simulation's faults, with the printed line of each fault.
+-- The table of faults of a simulation, with the printed line of each fault.
 use Rattle.std.specs.Prelude.{ℕ, ◌++◌, codes}
 use Rattle.std.specs.Fmt.{decimal}
 use Rattle.gname.specs.Ids.{Id, id_text}
@@ -28,7 +28,7 @@ simulation_fault_row faults.Memory = scenario_fault_row scenario.Memory
 abbrev pub memory_line : Bytes
 memory_line = codes "gitv2: fault 91 Memory\n"
 
--- the line that reports a wrong line of the scenario
+-- the line that reports a malformed line of the scenario
 abbrev pub wrong_line : ℕ → Bytes
 wrong_line line = codes "gitv2: fault 92 Scenario line " ++ (decimal line ++ codes "\n")
 
@@ -36,7 +36,7 @@ abbrev pub scenario_line : ScenarioFault → Bytes
 scenario_line (scenario.Scenario line) = wrong_line line
 scenario_line scenario.Memory = memory_line
 
--- the line that reports two different objects with this id
+-- the line that reports different objects with this id at the server and at the client
 abbrev pub disagreement : Id → Bytes
 disagreement id = codes "gitv2: fault 90 Disagree " ++ (id_text id ++ codes "\n")
 

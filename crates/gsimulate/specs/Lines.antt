@@ -9,11 +9,11 @@ use Rattle.grefs.specs.RefLists.{RefList}
 use Rattle.gworld.specs.declared.outcome.Outcome.{Outcome}
 use Rattle.gworld.specs.declared.outcome.Outcome.TheVariants as outcomes
 
--- a word, and a decimal number
+-- the text of a word followed by a decimal number
 abbrev pub count_text : Bytes → ℕ → Bytes
 count_text word number = word ++ decimal number
 
--- the text for the outcome of an event
+-- the printed text for the outcome of an event
 abbrev pub outcome_text : Outcome → Bytes
 outcome_text outcomes.Done = codes "done"
 outcome_text (outcomes.Asked request) = count_text (codes "asked ") request

@@ -1,4 +1,4 @@
--- The effect of a simulation: the files are read in order, the events happen, and their outcomes are printed.
+-- The effect of a simulation: the program reads the files in order, executes the events, and prints their outcomes.
 use Rattle.std.specs.Prelude.{◌≡◌, ◌⊎◌, ℕ, List, Result, Ok, Err}
 use Rattle.gpkt.specs.Packets.{Bytes}
 use Rattle.ganswer.specs.Servers.{Server}
@@ -26,19 +26,19 @@ use Rattle.gsimulate.specs.declared.simulate.Simulation.{Simulation}
 abbrev pub Ending : Type 0 → Type 0
 Ending A = Result (Unit {0}) (SimulationFault A)
 
--- the packing and indexing of plain packs
+-- the packer and the indexer of plain packs
 abbrev pub plain_tools : (A : Type 0) → PackTools A
 plain_tools A = tools_of plain_packs plain_pack_fails plain_indexes (plain_index_fails A)
 
 -- ---- files
 
--- the server file describes a server with this property
+-- the server file describes a server that satisfies the predicate
 pub record HasServer {A : Type 0} (files : Simulation) (IsSo : Server A → Type 0) : Type 0 where
   pub server : Server A
   pub names : NamesServer files.server.now server
   pub so : IsSo server
 
--- the server file and the client file describe a server and a client's repository with this property
+-- the server file and the client file describe a server and a client's repository that satisfy the predicate
 pub record HasEnds {A : Type 0} (files : Simulation) (IsSo : Server A → RepoState A → Type 0) : Type 0 where
   pub server : Server A
   pub repo : RepoState A
@@ -46,7 +46,7 @@ pub record HasEnds {A : Type 0} (files : Simulation) (IsSo : Server A → RepoSt
   pub opens : NamesClient files.client.now repo
   pub so : IsSo server repo
 
--- the three files describe a server, a client's repository and events with this property
+-- the three files describe a server, a client's repository and events that satisfy the predicate
 pub record HasEvents {A : Type 0} (files : Simulation) (IsSo : Server A → RepoState A → List (Event A) → Type 0)
     : Type 0 where
   pub server : Server A
@@ -57,7 +57,7 @@ pub record HasEvents {A : Type 0} (files : Simulation) (IsSo : Server A → Repo
   pub reads : IsScenario files.scenario.now events
   pub so : IsSo server repo events
 
--- the server and the client can form a world, and the property holds for this world and the events
+-- the server and the client can form a world, and the predicate holds of this world and the events
 abbrev pub CanHappen : {A : Type 0} → (WorldState A → List (Event A) → Type 0)
     → Server A → RepoState A → List (Event A) → Type 0
 CanHappen IsSo server repo events = CanStart server repo × IsSo (new_world server repo) events
@@ -79,7 +79,7 @@ CannotBegin files faults.Memory = ⊥
 
 -- ---- output
 
--- the text is written and flushed; or the output fails, or memory for the text runs out
+-- the text is written and flushed, the output fails, or memory for the text runs out
 abbrev pub Shows : {A : Type 0} → Bytes → Output → Ending A → Type 0
 Shows text output (Ok done) = Sends output text
 Shows text output (Err (faults.Program program.WriteFailed)) = BreaksOff output text
@@ -102,7 +102,7 @@ pub record IsStopped {A : Type 0} (w : WorldState A) (events : List (Event A)) :
 
 -- ---- simulations
 
--- the fault of a simulation before it prints its outcomes: memory for an event runs out, or no event can happen
+-- the fault of a simulation that ends before it prints outcomes: memory for an event runs out, or no event can happen
 abbrev pub StopsBefore : {A : Type 0} → Simulation → SimulationFault A → Type 0
 StopsBefore {A} files faults.Memory = HasWorld {A = A} files IsStopped
 StopsBefore files fault = CannotBegin files fault
@@ -122,7 +122,7 @@ abbrev pub ExitsWith : {A : Type 0} → Ending A → Output → ℕ → Type 0
 ExitsWith (Ok done) errors status = IsUnwritten errors × (status ≡ 0)
 ExitsWith (Err fault) errors status = Prints errors (simulation_fault_line fault) × (status ≡ 1)
 
--- a simulation has an outcome, prints the line that reports this outcome, and exits with the outcome's status
+-- a simulation has an outcome, prints the line that reports a fault, if any, and exits with the status for the outcome
 pub record Runs (A : Type 0) (files : Simulation) (output errors : Output) (status : ℕ) : Type 0 where
   pub ending : Ending A
   pub simulates : Simulates files output ending

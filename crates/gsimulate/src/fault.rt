@@ -10,18 +10,18 @@ use std::alloc::{Allocator, Global};
 use std::error::Error;
 use std::fmt;
 
-/// The reason a simulation ends with status 1. The reason is printed as one line.
+/// The reason why a simulation ends with status 1. The program prints the reason as one line.
 #[derive(Debug, Drop)]
 pub enum SimulationFault<A: Allocator + Copy = Global> {
-    /// Faults 64, 67, 68, 71 and 80: a file does not describe a server or a client, or out of
-    /// memory for a file or for the output. Fault 27: the output failed.
+    /// Faults 64, 67, 68, 71 and 80: a file does not describe a server or a client, or there is not
+    /// enough memory for a file or for the output. Fault 27: the output failed.
     Program(ProgramFault<A>),
-    /// Fault 92: a line of the scenario is wrong. Fault 91: out of memory for the events of the
-    /// scenario.
+    /// Fault 92: a line of the scenario is malformed. Fault 91: there is not enough memory for the
+    /// events of the scenario.
     Scenario(ScenarioFault),
     /// Faults 90 and 97: the server and the client can't start a simulation together.
     World(WorldFault),
-    /// Fault 91: out of memory for the next event.
+    /// Fault 91: there is not enough memory for the next event.
     Memory,
 }
 

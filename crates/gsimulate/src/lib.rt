@@ -6,20 +6,21 @@
 //!
 //! - [`cmd_simulate`] runs the events of the scenario, one after the other, with plain packs. The
 //!   events happen in a world (see `gworld`) of the server and of the client's repository. Each
-//!   step is a step of `gworld`, with all of its promises. The output is exactly one line for each
-//!   outcome, and then one line for each ref of the client after the run. The whole output is
-//!   flushed, or a prefix is written if the output fails (`specs/Lines.antt`, `Simulating.antt`).
+//!   step keeps all promises that `gworld` states for a step. The output is exactly one line for
+//!   each outcome, and then one line for each ref of the client after the run. The program writes
+//!   and flushes all lines, or writes a prefix of the lines if the output fails
+//!   (`specs/Lines.antt`, `Simulating.antt`).
 //! - No event happens and nothing is written if a file does not describe a server or a client, or
-//!   the scenario has a wrong line. The same holds if the server and the client can't form a world.
-//!   The first fault in this order is reported. If memory for an event runs out, nothing is
-//!   written.
+//!   the scenario has a malformed line. Likewise, no event happens if the server and the client
+//!   can't form a world. The program reports the first fault in this order. If memory for an event
+//!   runs out, nothing is written.
 //! - The program exits with status 0 and prints no fault, or exits with status 1 and prints the
 //!   line that reports its fault. If the error sink fails, a prefix of the line is printed.
 //! - Each fault has the number, the name, the text and the printed line of `specs/Faults.antt`.
 //!
 //! # Only tested
 //!
-//! Only tests show that all available memory is used.
+//! Only tests check that a simulation uses all available memory.
 //!
 //! # What the contracts do not rule out
 //!

@@ -89,8 +89,8 @@ fn put_taken<A: Allocator + Copy>(
     put_count(text, b" wants=", wants)
 }
 
-// Appends the numbers of refs that moved, that had their ids already, and that did not move because
-// the move is not a fast-forward.
+// Appends the numbers of refs that moved, of refs that already had their ids, and of refs that did
+// not move because the move is not a fast-forward.
 fn put_settled<A: Allocator + Copy>(
     text: &mut Vec<u8, A>,
     moved: usize,

@@ -86,7 +86,7 @@ fn print_world<A: Allocator + Copy, E: Sink>(fault: &WorldFault, errors: &mut E)
     }
 }
 
-// Prints the fault of a scenario with the number of its wrong line.
+// Prints the fault of a scenario with the number of its malformed line.
 fn print_wrong_line<A: Allocator + Copy, E: Sink>(line: usize, errors: &mut E)
     ensures printed { Prints (output_of E.contents E.passed_on E.is_down errors.old errors.new)
         (wrong_line line) }

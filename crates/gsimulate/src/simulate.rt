@@ -35,8 +35,7 @@ pub struct Simulation<'a> {
 /// each event as a line on `output`. Then prints each ref of the client as a line `ref ID NAME`, in
 /// the byte order of the names. A fault is printed as one line on `errors`. Faults are checked in
 /// this order: the server's file, the client's file, the scenario, the two repositories together,
-/// and the events. If an event is refused, the refusal is the outcome of this event, and not a
-/// fault of the simulation.
+/// and the events. An event that fails has the fault as its outcome, and the simulation continues.
 ///
 /// Returns exit status 0 if the lines are written and flushed, and 1 after a fault. After a fault
 /// nothing is written to `output`, except a prefix of the lines if the output failed.

@@ -1,4 +1,4 @@
--- The maximum duration of a read from a peer.
+-- The limit on the duration of a read from a peer.
 use Rattle.std.specs.Prelude.{ℕ}
 
 -- the maximum duration of a read, in nanoseconds

@@ -6,11 +6,11 @@ use Rattle.gpkt.specs.Packets.{Bytes}
 use Rattle.glsreply.specs.LsReplies.{LsReply}
 use Rattle.glsreply.specs.RefTexts.{RefLine, ref_text}
 
--- the line of a ref
+-- the line for a ref
 abbrev pub ref_line : RefLine → Bytes
 ref_line line = ref_text line ++ codes "\n"
 
--- the line of an unborn HEAD, with the branch at which it points
+-- the line for an unborn HEAD, with the branch that the HEAD points at
 abbrev pub unborn_line : Option Name → Bytes
 unborn_line None = []
 unborn_line (Some target) = codes "unborn HEAD symref-target:" ++ (target ++ codes "\n")

@@ -42,8 +42,8 @@ StopsBefore {A} Cause output outcome =
 abbrev pub port_line : ℕ → Bytes
 port_line port = codes "listening " ++ decimal port ++ codes "\n"
 
--- the outcome of showing a port: the port's line is written and flushed; or there is no socket, memory for the line
--- runs out, or the output fails
+-- the outcome of showing a port: the line is written and flushed, there is no socket, memory for the line runs out, or
+-- the output fails
 abbrev pub Announces : {A : Type 0} → Output → ProgramOutcome A → Type 0
 Announces output (Ok done) = (port : ℕ) × (port < 65_536) × Sends output (port_line port)
 Announces output (Err program.Socket) = IsUnwritten output
@@ -51,7 +51,7 @@ Announces output (Err program.Memory) = IsUnwritten output
 Announces output (Err program.WriteFailed) = (port : ℕ) × (port < 65_536) × BreaksOff output (port_line port)
 Announces output (Err _) = ⊥
 
--- the reasons why no client is served: the file is rejected, or no port can be announced
+-- the reasons why no client is served: the file is rejected, or the port can't be shown
 abbrev pub ServesNobody : {A : Type 0} → Bytes → Output → ProgramFault A → Type 0
 ServesNobody {A} file output fault =
     (RefusesFile file fault × IsUnwritten output)
@@ -70,7 +70,7 @@ module _ {A : Type 0} (file path : Bytes) (ends : Ends) (connections : ℕ) (out
   ServesRemote errors outcome =
       IsServedToAll errors outcome ⊎ StopsBefore (ServesNobody file output) errors outcome
 
--- a server program runs, and then exits with the status of its outcome
+-- a server program runs, and then exits with the status for its outcome
 pub record RunsServing (A : Type 0) {E : Type 0} (errors : E → E → Output) (old new : E)
     (Serves : Output → ProgramOutcome A → Type 0) (status : ℕ) : Type 0 where
   pub middle : E
@@ -80,8 +80,8 @@ pub record RunsServing (A : Type 0) {E : Type 0} (errors : E → E → Output) (
 
 -- ---- listing
 
--- the result of a listing: the reply of a conversation over a socket; or a fault: too many prefixes, no socket, or a
--- failed conversation
+-- the result of a listing: the reply of a conversation over a socket, or a fault (too many prefixes, no socket, or a
+-- failed conversation)
 abbrev pub AsksRemote : {A : Type 0} → List Bytes → Hello → Result LsReply (ProgramFault A) → Type 0
 AsksRemote {A} prefixes hello (Ok reply) =
     FitPrefixes prefixes × ListsFrom {A = A} (asked_for prefixes) hello (Ok reply)
@@ -91,7 +91,7 @@ AsksRemote prefixes hello (Err (program.Fetch fault)) =
     ⊎ ((cause : MessageFault) × RefusesPrefixes prefixes cause × (fault ≡ fetch.Client (client.Message cause)))
 AsksRemote prefixes hello (Err _) = ⊥
 
--- the lines of a reply are written and flushed, or the output fails; or memory for the lines runs out
+-- the lines of a reply are written and flushed, the output fails, or memory for the lines runs out
 abbrev pub ShowsReply : {A : Type 0} → LsReply → Output → ProgramOutcome A → Type 0
 ShowsReply reply output outcome =
     SendsReport (reply_lines reply) output outcome ⊎ ((outcome ≡ Err program.Memory) × IsUnwritten output)
@@ -104,7 +104,7 @@ ListsRemote {A} prefixes hello output outcome =
 
 -- ---- fetching
 
--- a client's repository fetches over a socket; or there is no socket, and the repository is unchanged
+-- a fetch over a socket into a client's repository; if there is no socket, the repository is unchanged
 abbrev pub FetchesAt : {A : Type 0} → RepoState A → List Refspec → ℕ → Ends → Hello → RepoState A
     → Result (Fetched A) (ProgramFault A) → Type 0
 FetchesAt {A} old specs limit ends hello new (Ok fetched) =
@@ -134,7 +134,7 @@ module _ {A : Type 0} (specs : List Refspec) (limit : ℕ) (ends : Ends) (hello 
       pub kept : IsKept stored
       pub unreported : IsUnwritten report
 
-    -- the repository of the file fetches over a socket
+    -- a fetch over a socket into the repository of the file
     pub record IsFetchedRemote (outcome : ProgramOutcome A) : Type 0 where
       pub old : Bytes
       pub held : Holds stored.old old
@@ -145,7 +145,7 @@ module _ {A : Type 0} (specs : List Refspec) (limit : ℕ) (ends : Ends) (hello 
       pub fetches : FetchesAt repo specs limit ends hello new result
       pub ends_so : EndsRemote old repo new result stored report outcome
 
-    -- the effect of `fetch --tcp` on a stored file; at the end this run holds no lockfile
+    -- the effect of `fetch --tcp` on a stored file; at the end the program holds no lockfile
     abbrev pub FetchesRemote : ProgramOutcome A → Type 0
     FetchesRemote outcome = (stored.lockfile ≡ Absent) × (IsFetchedRemote outcome ⊎ IsNotOpened outcome)
 
@@ -156,7 +156,7 @@ abbrev pub pair_hello : Hello
 pair_hello = record { path = codes "/"; host = codes "127.0.0.1" }
 
 module _ {A : Type 0} (old : RepoState A) (specs : List Refspec) (new : RepoState A) where
-  -- the client's repository fetches from the server of the pair
+  -- a fetch from the server of the pair into the client's repository
   abbrev pub FetchesAsClient : Result (Fetched A) (FetchFault A) → Type 0
   FetchesAsClient result =
       FetchesOn plain_indexes (plain_index_fails A) (start_of old specs default_limit Plain) pair_hello new result
@@ -165,8 +165,8 @@ module _ {A : Type 0} (old : RepoState A) (specs : List Refspec) (new : RepoStat
   abbrev pub FailsAsClient : Type 0
   FailsAsClient = (cause : FetchFault A) × FetchesAsClient (Err cause)
 
-  -- The result of a fetch in a pair: the result of the client's conversation. The conversation failed if a message is
-  -- too long or memory for a message runs out. If no connection is made, or memory for its buffers runs out, the
+  -- The result of a fetch in a pair: the result of the client's conversation. The conversation failed if a message was
+  -- too long or memory for a message ran out. If no connection was made, or memory for its buffers ran out, the
   -- repository is unchanged.
   abbrev pub FetchesInPair : Result (Fetched A) (ProgramFault A) → Type 0
   FetchesInPair (Ok fetched) = FetchesAsClient (Ok fetched)
@@ -194,6 +194,6 @@ module _ {A : Type 0} (client : Bytes) (specs : List Refspec) where
       ⊎ ((repo : RepoState A) × (new : RepoState A) × NamesClient client repo
       × FetchesInPair repo specs new (Err fault))
 
-  -- the effect of `pair`: the fetch succeeds, or there is a fault and nothing is reported
+  -- the effect of `pair`: the fetch succeeds and is reported, or there is a fault and nothing is reported
   abbrev pub Meets : Output → ProgramOutcome A → Type 0
   Meets output outcome = IsMet output outcome ⊎ StopsBefore CannotMeet output outcome

@@ -1,5 +1,5 @@
--- Conversations over a socket. The contracts can't state which bytes pass through a socket. A call over a socket
--- therefore holds a conversation over some input and output with unknown bytes.
+-- Conversations over a socket. The contracts can't state which bytes pass through a socket. For a call over a socket,
+-- the contracts state only that the call holds a conversation over some input and some output.
 use Rattle.std.specs.Prelude.{◌≡◌, ◌⊎◌, ◌<◌, ◌≤◌, ℕ, Bool, true, false, List, length, All, Result, Ok, Err}
 use Rattle.gpkt.specs.Sending.{Input, Output}
 use Rattle.gpkt.specs.Packets.{Bytes}
@@ -32,17 +32,17 @@ use Rattle.gtcp.specs.Telling.{PrintsFaults, faults_of}
 -- ---- fetching
 
 module _ {A : Type 0} (indexes : Indexes A) (index_fails : IndexFails) (start : Start A) (hello : Hello) where
-  -- a fetch over a socket, from the first line on
+  -- a fetch over a socket, which begins with the first line
   pub record HoldsFetch (new : RepoState A) (result : Result (Fetched A) (FetchFault A)) : Type 0 where
     pub input : Input
     pub output : Output
     pub fetches : FetchesGit indexes index_fails start hello input output new result
 
-  -- a fetch over a socket; or memory for the buffers of the socket runs out, and the repository is unchanged
+  -- a fetch over a socket; if memory for the buffers of the socket runs out, the repository is unchanged
   abbrev pub FetchesFrom : RepoState A → Result (Fetched A) (FetchFault A) → Type 0
   FetchesFrom new result = HoldsFetch new result ⊎ ((result ≡ Err fetch.NoBuffer) × (new ≡ start.repo))
 
-  -- a fetch with this first line; or the first line is refused, and the repository is unchanged
+  -- a fetch with this first line; if the first line is refused, the repository is unchanged
   abbrev pub FetchesOn : RepoState A → Result (Fetched A) (FetchFault A) → Type 0
   FetchesOn new result =
       (IsHello hello × FetchesFrom new result)
@@ -51,7 +51,7 @@ module _ {A : Type 0} (indexes : Indexes A) (index_fails : IndexFails) (start : 
 
 -- ---- listing
 
--- the request for the refs with these prefixes, the targets of symbolic refs, and peeled tags
+-- the request for refs with these prefixes, which also asks for the targets of symbolic refs and for peeled tags
 abbrev pub asked_for : List Bytes → LsRefsAsked
 asked_for prefixes =
     let named = ls_with no_ls_refs Symrefs true in
@@ -68,17 +68,17 @@ abbrev pub FitPrefixes : List Bytes → Type 0
 FitPrefixes prefixes = length prefixes ≤ max_prefixes
 
 module _ {A : Type 0} (asked : LsRefsAsked) (hello : Hello) where
-  -- a listing over a socket, from the first line on
+  -- a listing over a socket, which begins with the first line
   pub record HoldsListing (result : Result LsReply (FetchFault A)) : Type 0 where
     pub input : Input
     pub output : Output
     pub lists : ListsGit asked hello input output result
 
-  -- a listing over a socket; or memory for the buffers of the socket runs out
+  -- a listing over a socket, which may fail because memory for the buffers of the socket runs out
   abbrev pub ListsFrom : Result LsReply (FetchFault A) → Type 0
   ListsFrom result = HoldsListing result ⊎ (result ≡ Err fetch.NoBuffer)
 
--- a listing with these prefixes; or the request or the first line is refused
+-- a listing with these prefixes, which may fail because the request or the first line is refused
 abbrev pub ListsOn : {A : Type 0} → List Bytes → Hello → Result LsReply (FetchFault A) → Type 0
 ListsOn prefixes hello result =
     (IsHello hello × FitPrefixes prefixes × ListsFrom (asked_for prefixes) hello result)
@@ -100,7 +100,7 @@ IsCount outcomes connections (Ok done) = length outcomes ≡ connections
 IsCount outcomes connections (Err fault) = (fault ≡ program.Socket) × (length outcomes < connections)
 
 module _ {A : Type 0} (server : Server A) (packs : Packs A) (fails : PackFails A) (path : Bytes) (ends : Ends) where
-  -- a connection is served over a socket, and ends in the given manner
+  -- a connection is served over a socket, and ends with this result
   pub record HoldsServing (ended : GitEnd) : Type 0 where
     pub input : Input
     pub output : Output

@@ -9,11 +9,11 @@ ghost use Rattle.gtcp.specs.steps.Deadlines.{LeavesOf, first_line_time, request_
 use std::marker::Model;
 use std::time::{Duration, Instant};
 
-/// The maximum time in seconds for a client's whole first line, counted from the accept.
+/// The maximum time in seconds from accepting a connection to the end of the client's first line.
 pub const MAX_FIRST_LINE: u64 = 10;
 
-/// The maximum time in seconds for a client's whole request, counted from the moment when the
-/// server starts to wait for the request.
+/// The maximum time in seconds from the moment when the server starts to wait for a request to the
+/// end of the request.
 pub const MAX_REQUEST: u64 = 60;
 
 /// The maximum time in seconds during which a peer accepts no byte, or a server sends no byte.
@@ -76,7 +76,7 @@ impl TimeLeft {
         Some(TimeLeft { left, at: now })
     }
 
-    /// Returns the maximum duration of a read that ends in time.
+    /// Returns the maximum duration of a read that ends before the deadline.
     pub(crate) fn wait(&self) -> Duration
         ensures wait { as_nanos result ≡ self.now.0 }
         ensures most { as_nanos result ≤ longest_wait }

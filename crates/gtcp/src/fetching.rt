@@ -1,4 +1,4 @@
-//! A client that talks over a stream to a server.
+//! The client's side of a conversation over a stream.
 
 ghost use Rattle.std.specs.Prelude.{◌≡◌, ◌≤◌, ◌+◌, ℕ, IfOk, OnErr};
 ghost use Rattle.gdag.specs.Reach.{Grows};
@@ -31,12 +31,13 @@ use std::net::OpenStream;
 /// of a `git://` connection (gitprotocol-pack(5), "Git Transport"), which names the host and the
 /// path, and then fetches like `gclient::fetch_over`.
 ///
-/// Fails with `BadText` (42) at packet 0 if the host or the path is not well-formed. Fails with
-/// `Memory` (53) if out of memory for the first line, and with `NoBuffer` (28) if out of memory for
-/// the buffers of the stream. After these three faults nothing was read or written. Otherwise fails
-/// with the faults of `fetch_over`. These faults leave the refs unchanged, and the graph only gains
-/// objects. A read fails if the server sends no byte for [`MAX_SILENCE`](crate::MAX_SILENCE)
-/// seconds, and a write fails if the server accepts no byte for the same time.
+/// Fails with `BadText` (42) if the host or the path is not well-formed. The fault reports packet
+/// position 0. Fails with `Memory` (53) if out of memory for the first line, and with `NoBuffer`
+/// (28) if out of memory for the buffers of the stream. After these three faults nothing was read
+/// or written. Otherwise fails with the faults of `fetch_over`. After a fault of `fetch_over` the
+/// refs are unchanged, and the graph has only gained objects. A read fails if the server sends no
+/// byte for [`MAX_SILENCE`](crate::MAX_SILENCE) seconds, and a write fails if the server accepts no
+/// byte for the same time.
 pub fn fetch_on<A, K, S>(
     stream: S,
     host: &[u8],
@@ -174,14 +175,14 @@ fn fetch_between<A: Allocator + Copy, K: Indexer<A>, R: Read, W: Write>(
 
 /// Lists the refs of the server at the other end of the stream (gitprotocol-v2(5), "ls-refs").
 /// Lists the refs that begin with one of the prefixes, or all refs if there are no prefixes. The
-/// list has the targets of symbolic refs, peeled tags, and an unborn `HEAD` if the server offers
-/// it.
+/// list includes the targets of symbolic refs, peeled tags, and an unborn `HEAD` if the server
+/// offers it.
 ///
-/// Fails with `Limit` (48) at packet 0 if there are more than 64 prefixes. Fails with `BadText`
-/// (42) at packet 0 if the host or the path is not well-formed. Fails with `Memory` (53) if out of
-/// memory for the request or the first line, and with `NoBuffer` (28) if out of memory for the
-/// buffers of the stream. After these faults nothing was read or written. Otherwise fails with the
-/// faults of `gclient::list_git`. A read fails if the server sends no byte for
+/// Fails with `Limit` (48) if there are more than 64 prefixes. Fails with `BadText` (42) if the
+/// host or the path is not well-formed. The fault reports packet position 0. Fails with `Memory`
+/// (53) if out of memory for the request or the first line, and with `NoBuffer` (28) if out of
+/// memory for the buffers of the stream. After these faults nothing was read or written. Otherwise
+/// fails with the faults of `gclient::list_git`. A read fails if the server sends no byte for
 /// [`MAX_SILENCE`](crate::MAX_SILENCE) seconds, and a write fails if the server accepts no byte for
 /// the same time.
 pub fn ls_on<A, S>(

@@ -3,15 +3,15 @@
 //! process.
 //!
 //! The caller provides the network, its streams and the clock. The contracts can't state which
-//! bytes a socket sends or receives. A call over a socket therefore holds the conversation that
-//! `gserve` or `gclient` specifies, over some input and output with unknown bytes
-//! (`specs/Sockets.antt`). Inside the crate, the contracts of a conversation over a reader and a
-//! writer state the bytes that were read and written.
+//! bytes a socket sends or receives. For a call over a socket, the contracts state only that the
+//! call holds the conversation that `gserve` or `gclient` specifies, over some input and some
+//! output (`specs/Sockets.antt`). Inside the crate, the contracts of a conversation over a reader
+//! and a writer state the bytes that were read and written.
 //!
 //! # Proved
 //!
 //! - [`serve_listener`] serves `connections` connections, one after the other. The function prints
-//!   and flushes the faults of all connections, one line per fault and in order. If the error sink
+//!   and flushes the faults of all connections, in order and one line per fault. If the error sink
 //!   fails, a prefix of these lines is printed (`specs/Sockets.antt`, `Telling.antt`). A request
 //!   for another path is not a fault. The call fails only with `Socket`, after fewer than
 //!   `connections` connections.
@@ -21,13 +21,13 @@
 //!   out, the repository is unchanged.
 //! - [`fetch_git_on`] fetches like [`fetch_on`], with a given first line and with options for
 //!   packs.
-//! - [`ls_on`] lists the refs with the given prefixes over the same kind of connection. A listing
-//!   refuses more than 64 prefixes. A listing and a fetch refuse a host or a path that is not
+//! - [`ls_on`] lists the refs with the given prefixes over a `git://` connection. A listing fails
+//!   if there are more than 64 prefixes. A listing and a fetch fail if the host or the path is not
 //!   well-formed.
 //! - [`cmd_ls_remote`] lists refs like [`ls_on`], writes the lines of the reply, and flushes them.
 //!   After any fault except a failed output, the program has written nothing (`specs/Listing.antt`,
-//!   `Remote.antt`). With more than 64 prefixes the program reports this limit or out of memory,
-//!   but never a missing socket.
+//!   `Remote.antt`). If there are more than 64 prefixes, the program reports `Limit` or out of
+//!   memory, and never `Socket`.
 //! - [`cmd_fetch_remote`] fetches into a stored file. At any time the file has the old text or the
 //!   whole new text. The new text is written only if the conversation succeeds. The new text
 //!   describes the repository after the fetch. The fetch only adds objects. The report, with the
@@ -35,29 +35,30 @@
 //!   lockfile (`specs/Remote.antt`, and `Stored.antt` of `gcmd`).
 //! - [`cmd_pair`] fetches inside one process and writes the same report, but stores nothing.
 //! - [`cmd_serve`] shows the number of its port, and then serves the repository of its file like
-//!   [`serve_listener`]. If the file is refused, no socket opens or the port can't be shown,
-//!   [`cmd_serve`] serves no client.
-//! - Each program exits with status 0 or 1. With status 0 it prints no fault line. With status 1 it
-//!   prints the line that reports its fault, or a prefix of this line. The fault is a refused file,
-//!   a failed conversation, a missing socket, out of memory, or a failed output. Before this line
-//!   [`cmd_serve`] prints only the faults of connections, and the other programs print nothing.
+//!   [`serve_listener`]. [`cmd_serve`] serves no client if the file is refused, the socket can't be
+//!   opened or the port can't be shown.
+//! - Each program exits with status 0 or 1. With status 0 the program prints no fault line. With
+//!   status 1 the program prints the line that reports its fault, or a prefix of this line. The
+//!   fault is a refused file, a failed conversation, a missing socket, out of memory, or a failed
+//!   output. Before the line of its own fault, [`cmd_serve`] prints only the faults of connections.
+//!   The other programs print nothing before this line.
 //! - A [`Timer`] limits each read to a time of more than zero and at most 60 seconds
 //!   (`specs/Deadlines.antt`).
 //! - A [`Turns`] timer subtracts the elapsed time of the clock from a client's remaining time. If
 //!   the clock goes backwards, the client has no time left. The client gets the full time again
 //!   only when the server starts to wait for a request (`specs/steps/Deadlines.antt` and
 //!   `Turns.antt`, which specify private functions).
-//! - A [`Location`] has the given address and path. Its host is the text of the address before the
-//!   port, and the port is a decimal number up to 65,535 (`specs/Places.antt`).
+//! - A [`Location`] has the given address and path. The host of a location is the text of the
+//!   address before the port, and the port is a decimal number up to 65,535 (`specs/Places.antt`).
 //! - A [`MessageSink`] has written or still holds each byte that its caller wrote.
-//!   `MessageSink::hold` stores bytes without writing them, and refuses bytes that make a message
-//!   too long (`specs/Messages.antt`). The inner sink receives nothing before a flush. A flush
-//!   writes all held bytes, at most 32,768, to the inner sink. From then on these bytes count as
-//!   flushed. Only a pair whose fetch failed reports `PairLimit` (94).
+//!   `MessageSink::hold` stores bytes without writing them, and fails if the bytes would make a
+//!   message too long (`specs/Messages.antt`). The inner sink receives nothing before a flush. A
+//!   flush writes all held bytes, at most 32,768, to the inner sink. After the flush the written
+//!   bytes count as flushed. Only a pair whose fetch failed reports `PairLimit` (94).
 //!
 //! # Only tested
 //!
-//! The program `conformance` holds connections and pairs over sockets of its own process. The
+//! The program `conformance` runs connections and pairs over sockets inside its own process. The
 //! program tests the deadlines [`MAX_FIRST_LINE`], [`MAX_REQUEST`] and [`MAX_SILENCE`] with its own
 //! clock. The script `examples/over-tcp.sh`, which is run by hand, holds conversations with git and
 //! its daemon. The script tests deadlines in real time, and tests that unread input does not hide
@@ -66,23 +67,24 @@
 //!
 //! # What the contracts do not rule out
 //!
-//! The contracts allow any conversation whose bytes fit the result, and do not state that the peer
-//! sent these bytes. The contracts do not state that a connection is opened, accepted, read or
-//! written, nor what the server of a pair does. An implementation may therefore return any result
-//! to which the bytes of some peer would lead: any reply, any added objects, or any served
-//! connection. An implementation may send any bytes. An implementation may fail with `Socket`
-//! although a connection can be accepted or opened. It may also report out of memory. In a pair, an
-//! implementation may report any failed fetch as a message that is too long, and vice versa. The
-//! program of [`cmd_fetch_remote`] may connect before it locks the file. The program may also
-//! report that the file can't be locked, read or replaced although it could be.
+//! The contracts allow any conversation whose bytes fit the result, even if the peer did not send
+//! the bytes. The contracts do not state that a connection is opened, accepted, read or written,
+//! nor what the server of a pair does. An implementation may therefore return any result that some
+//! peer could cause: any reply, any added objects, or any served connection. An implementation may
+//! send any bytes. An implementation may fail with `Socket` although a connection can be accepted
+//! or opened. An implementation may also report out of memory. In a pair, an implementation may
+//! report any failed fetch as a message that is too long, or a message that is too long as any
+//! other failure. The program of [`cmd_fetch_remote`] may connect before it locks the file. The
+//! program may also report that the file can't be locked, read or replaced, even if each of these
+//! steps would succeed.
 //!
 //! [`serve_listener`] may accept further connections between the served connections. The program of
-//! [`cmd_serve`] may listen at another address than the given one, and may show another port or
-//! show it later. An implementation may ignore a deadline or the clock. [`Location::new`] may
-//! return `None`. [`connect_to`] may connect to another address, or fail. A [`Peer`] may read and
-//! write other bytes than those of its stream.
+//! [`cmd_serve`] may listen at a different address, and may show a different port or show the port
+//! later. An implementation may ignore a deadline or the clock. [`Location::new`] may return
+//! `None`. [`connect_to`] may connect to another address, or fail. A [`Peer`] may read and write
+//! bytes that differ from the bytes of its stream.
 //!
-//! A [`MessageSink`] need not flush the inner sink, and a flush that fails may write a part of the
+//! A [`MessageSink`] need not flush the inner sink, and a flush that fails may write some of the
 //! held bytes. If the inner sink does not record its bytes, the contracts do not state when the
 //! inner sink receives bytes. `is_too_long` and `bytes_written` may ignore the effect of a `write`
 //! or a flush.

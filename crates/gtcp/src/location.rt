@@ -18,7 +18,7 @@ impl<A: Allocator + Copy> Location<A> {
     /// Makes a location from an address and a path. The host is the text of the address before its
     /// last `:`, and the port is a decimal number up to 65,535.
     ///
-    /// Returns `None` if the address has no such port, if the host or the path is not well-formed
+    /// Returns `None` if the address has no valid port, if the host or the path is not well-formed
     /// (gitprotocol-pack(5), "Git Transport"), or if out of memory.
     pub fn new(alloc: A, address: &str, path: &str) -> Option<Location<A>>
         ensures { IfSome result (λ place. (string_bytes place.address ≡ address.now)

@@ -84,7 +84,7 @@ impl<W, A: Allocator + Copy> MessageSink<W, A> {
         self.is_too_long
     }
 
-    /// Returns whether memory to hold a message ran out.
+    /// Returns whether memory for a message ran out.
     pub fn lacks_memory(&self) -> bool
         ensures { result ≡ self.now.lacks_memory }
     {
@@ -185,7 +185,8 @@ fn remove_front<A: Allocator>(held: &mut Vec<u8, A>, count: usize)
     held.truncate(len - count);
 }
 
-// Bytes in the inner sink count as flushed, so nothing is written to the inner sink before a flush.
+// Every byte in the inner sink counts as flushed, so the sink writes to the inner sink only during
+// a flush.
 impl<W: Sink, A: Allocator + Copy> Sink for MessageSink<W, A> {
     ghost contents = { λ h. append_known (W.contents h.inner) h.held };
 

@@ -1,4 +1,4 @@
-//! A client and a server in one process, which take turns.
+//! A client and a server in one process, which run alternately.
 
 ghost use Rattle.std.specs.Prelude.{◌≡◌, ◌||◌, [], None, true, IfOk, IsErr};
 ghost use Rattle.gdag.specs.Reach.{Grows};
@@ -24,7 +24,8 @@ use std::alloc::Allocator;
 use std::io::{BufReader, Read, Write};
 use std::net::{Net, OpenListener, OpenStream, SocketAddr, TcpListener, TcpStream};
 
-// The input of the client. When the client has read all that the server flushed, the server runs.
+// The input of the client. When the client has read all bytes that the server flushed, the server
+// runs.
 #[derive(Drop)]
 struct ClientInput<'a, N, F, W, A: Allocator + Copy> {
     server: &'a Server<A>,
@@ -40,7 +41,7 @@ struct ClientInput<'a, N, F, W, A: Allocator + Copy> {
 }
 
 impl<'a, N: Source, F: Source, W: Sink, A: Allocator + Copy> ClientInput<'a, N, F, W, A> {
-    // Returns the input of a client whose server has not run yet.
+    // Returns the client's input, before the server has run.
     fn new(server: &'a Server<A>, near: N, far_end: (F, W)) -> Self {
         let (far, far_sink) = far_end;
         ClientInput {
@@ -131,7 +132,7 @@ fn greet<A: Allocator + Copy, F: Source, W: Sink>(server: &Server<A>, far: &mut 
     }
 }
 
-// Writes only the advertisement, by serving a client that sends no request.
+// Writes only the advertisement, as to a client that sends no request.
 fn advertise<A: Allocator + Copy, W: Sink>(server: &Server<A>, sink: &mut W) {
     let mut nothing = SliceSource::new(b"");
     let mut packer = OnePack::new(&PlainPack);
@@ -155,11 +156,12 @@ struct Joined<S> {
     far: S,
 }
 
-// The maximum number of other connections that are accepted before the client's own connection.
+// The maximum number of connections from other processes to accept before the client's own
+// connection arrives.
 const MAX_STRANGERS: usize = 16;
 
-// The address at which client and server connect, with any free port. In its first line, the client
-// sends the host and the path of the two following constants.
+// The address at which client and server connect, with any free port. The first line of the client
+// has the host and the path of the next two constants.
 const MEETING: &str = "127.0.0.1:0";
 
 const HOST: &[u8] = b"127.0.0.1";
@@ -171,7 +173,7 @@ fn connect<N: Net>(net: &N) -> Option<Joined<N::Stream>> {
     join(net, &listener)
 }
 
-// Connects to the listener, and accepts the same connection.
+// Opens a connection to the listener, and accepts this connection as the server.
 fn join<N: Net>(net: &N, listener: &N::Listener) -> Option<Joined<N::Stream>> {
     let address = listener.local_addr().ok()?;
     let near = TcpStream::connect(net, address).ok()?;
@@ -179,7 +181,7 @@ fn join<N: Net>(net: &N, listener: &N::Listener) -> Option<Joined<N::Stream>> {
     Some(Joined { near, far })
 }
 
-// Accepts the connection of this client.
+// Accepts connections until the connection of this client arrives.
 fn accept_from<L: OpenListener>(listener: &L, client: SocketAddr) -> Option<L::Stream> {
     for _ in 0..MAX_STRANGERS {
         let (stream, peer) = listener.accept().ok()?;
@@ -246,7 +248,7 @@ where
     }
 }
 
-// Fetches over this source and this sink of the client's end.
+// Fetches over the source and the sink of the client's end.
 fn fetch_from_far<A, N, V, S>(
     server: &Server<A>,
     repo: &mut Repo<A>,
@@ -300,8 +302,8 @@ where
     exchange(repo, specs, &mut answers, &mut requests)
 }
 
-// Fetches through `requests` and `answers`. At the end the client sends a flush packet, and the
-// server runs once more to read this packet.
+// Fetches with `requests` as the sink and `answers` as the source. At the end the client sends a
+// flush packet, and the server runs once more to read the flush packet.
 fn exchange<A, N, V, F, W>(
     repo: &mut Repo<A>,
     specs: &[Spec<A>],
@@ -329,7 +331,7 @@ where
 }
 
 // Returns the reason why client and server stopped: a message was too long, memory for a message
-// ran out, or the client's own fault.
+// ran out, or the client failed for another reason.
 fn fault_of<V: Sink, W: Sink, A: Allocator + Copy>(
     fault: FetchFault<A>,
     requests: &MessageSink<V, A>,

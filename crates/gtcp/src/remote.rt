@@ -51,8 +51,8 @@ pub struct Service<'a, A: Allocator + Copy> {
 
 /// `gitv2 serve --listen ADDR --path PATH --connections N [--response-end] FILE`: shows the port of
 /// the listener as the line `listening PORT` on `output`. Then the program serves `connections`
-/// connections, one after the other, like [`serve_listener`]. Each fault of a connection is printed
-/// as one line on `errors`, and so is the fault that ends the program.
+/// connections, one after the other, like [`serve_listener`]. Each fault of a connection, and the
+/// fault that ends the program, is printed as one line on `errors`.
 ///
 /// Returns exit status 0 if all connections were served, whatever their faults. Returns 1 if the
 /// file is refused, the socket can't be opened, the port can't be shown, or a connection can't be
@@ -177,10 +177,11 @@ pub struct Listing<'a, A: Allocator + Copy> {
 }
 
 /// `gitv2 ls --tcp ADDR --path PATH [PREFIX]...`: lists the refs of a server on `output`, one per
-/// line, in the text form of a reply (gitprotocol-v2(5), "ls-refs"). An unborn `HEAD` is the first
-/// line, if the server has one. A fault is printed as one line on `errors`. The fault is `Socket`
-/// if no address of the location accepts a connection within [`MAX_CONNECT`](crate::MAX_CONNECT)
-/// seconds. Otherwise the faults are those of [`ls_on`](crate::ls_on).
+/// line, in the text form of a reply (gitprotocol-v2(5), "ls-refs"). If the server has an unborn
+/// `HEAD`, the first line shows the unborn `HEAD`. A fault is printed as one line on `errors`. The
+/// fault is `Socket` if no address of the location accepts a connection within
+/// [`MAX_CONNECT`](crate::MAX_CONNECT) seconds. Otherwise the faults are the same as for
+/// [`ls_on`](crate::ls_on).
 ///
 /// Returns exit status 0 if the lines are written and flushed, and 1 after a fault.
 pub fn cmd_ls_remote<A: Allocator + Copy, N, W: Sink, E: Sink>(
@@ -279,8 +280,8 @@ pub struct RemoteFetch<'a, A: Allocator + Copy> {
 /// `File` or `Memory` if the file can't be locked, read or replaced. The program opens no
 /// connection before the file is locked and read. The fault is `Socket` if no address of the
 /// location accepts a connection within [`MAX_CONNECT`](crate::MAX_CONNECT) seconds. Otherwise the
-/// faults are those of [`fetch_on`](crate::fetch_on). After every fault the file has the old text
-/// or the whole new text, and at the end this run holds no lockfile.
+/// faults are the same as for [`fetch_on`](crate::fetch_on). After every fault the file has the old
+/// text or the whole new text, and at the end the program holds no lockfile.
 pub fn cmd_fetch_remote<A, N, T, R, E>(
     net: &N,
     alloc: A,

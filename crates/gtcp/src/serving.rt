@@ -21,16 +21,17 @@ use std::io::{BufReader, BufWriter, Read, Write};
 use std::net::{OpenListener, OpenStream};
 use std::time::Clock;
 
-/// Serves `connections` connections, one after the other, each from its first line on
+/// Serves `connections` connections, one after the other, including the first line of each
 /// (gitprotocol-pack(5), "Git Transport"). The fault of a connection is printed as one line on
 /// `errors`, and the next connection is still served. If memory for a buffer runs out, a connection
 /// is served without the buffer.
 ///
 /// A client has [`MAX_FIRST_LINE`](crate::MAX_FIRST_LINE) seconds for its first line, counted from
-/// the accept. The client has [`MAX_REQUEST`](crate::MAX_REQUEST) seconds for each request, counted
-/// from the moment when the server starts to wait for the request. When this time is over, the
-/// current read fails. Every read fails if the clock fails or goes backwards. A write fails if the
-/// client accepts no byte for [`MAX_SILENCE`](crate::MAX_SILENCE) seconds.
+/// the moment when the server accepts the connection. The client has
+/// [`MAX_REQUEST`](crate::MAX_REQUEST) seconds for each request, counted from the moment when the
+/// server starts to wait for the request. When this time is over, the current read fails. Every
+/// read fails if the clock fails or goes backwards. A write fails if the client accepts no byte for
+/// [`MAX_SILENCE`](crate::MAX_SILENCE) seconds.
 ///
 /// Fails with `Socket` if a connection can't be accepted, and serves no further connection.
 pub fn serve_listener<C, A, K, L, S, E>(
@@ -104,8 +105,8 @@ where
     Ok(())
 }
 
-// Prints the fault of a connection, if there is one and all earlier faults could be printed.
-// Returns whether later faults can still be printed.
+// Prints the fault of a connection, if there is a fault and the error sink still works. Returns
+// whether the error sink still works.
 fn tell<A: Allocator + Copy, E: Sink>(
     outcome: Result<(), ProgramFault<A>>,
     can_tell: bool,
@@ -142,7 +143,8 @@ where
     outcome_of(ended)
 }
 
-// Serves a peer through buffers. Leaves out a buffer for which memory runs out.
+// Serves a peer through buffers. If memory for a buffer runs out, serves the peer without that
+// buffer.
 fn serve_peer<A, K, S, T>(export: &Export<'_, A>, packer: &K, peer: &Peer<S, T>) -> GitEnd
 where
     A: Allocator + Copy,
@@ -161,7 +163,7 @@ where
     }
 }
 
-// Serves a peer, with the requests from a reader.
+// Serves a peer, reading the requests from the given reader.
 fn serve_from<A, K, R, S, T>(
     export: &Export<'_, A>,
     packer: &K,

@@ -12,25 +12,25 @@ use std::time::Duration;
 /// The maximum number of bytes of a message in a single write.
 pub(crate) const MESSAGE_BUFFER: usize = 65_536;
 
-// The number of bytes in each read of input that is discarded. The next constant limits the number
-// of these reads.
+// The maximum number of bytes in one read of input to discard. The next constant limits the number
+// of reads.
 const DROPPED_BYTES: usize = 4_096;
 
 const MAX_DROPS: usize = 1_024;
 
-// The maximum number of interrupts of a read, for example while the process is stopped.
+// The maximum number of times that a signal may interrupt a read.
 const MAX_INTERRUPTS: u32 = 1_024;
 
-// The number of seconds that a single write waits. Only waits in which the peer accepts no byte
-// count as silence. A peer that stops in the middle of a wait therefore times out up to five
-// seconds late.
+// The number of seconds that a single write waits. A wait counts as silence only if the peer
+// accepts no byte during the whole wait. A peer that stops in the middle of a wait therefore times
+// out up to five seconds late.
 const TAKING_WAIT: u64 = 5;
 
 /// Connects to an address given as HOST:PORT. Tries the addresses of the host in order, and uses
 /// the first address that accepts a connection within [`MAX_CONNECT`] seconds.
 ///
-/// Fails with the error of the host look-up. If no address accepts a connection, fails with the
-/// error of the last address.
+/// Fails with the error of the host look-up if the look-up fails. If no address accepts a
+/// connection, fails with the error of the last address.
 pub fn connect_to<N: Net>(net: &N, address: &str) -> io::Result<N::Stream> {
     let limit = Duration::from_secs(MAX_CONNECT);
     let mut last = io::Error::from(ErrorKind::AddrNotAvailable);
@@ -45,7 +45,7 @@ pub fn connect_to<N: Net>(net: &N, address: &str) -> io::Result<N::Stream> {
 
 /// The stream to a peer, shared by a reader and a writer: `&Peer` reads and writes. A read fails if
 /// the peer sends nothing within the time limit of the timer. A write fails if the peer accepts
-/// nothing for [`MAX_SILENCE`] seconds. Both calls fail if the system refuses such a limit, or if
+/// nothing for [`MAX_SILENCE`] seconds. Both calls fail if the system refuses a time limit, or if
 /// another call on the peer is active.
 #[derive(Drop)]
 pub struct Peer<S, T> {
@@ -130,8 +130,8 @@ impl<S: Write + OpenStream, T: Timer> Write for &Peer<S, T> {
     }
 }
 
-// Returns whether a write that failed with this error may be tried again. Such an error means that
-// the peer accepted no byte.
+// Returns whether a write that failed with this error may be tried again. In that case the peer
+// accepted no byte.
 fn is_waiting(kind: ErrorKind) -> bool {
     matches!(
         kind,

@@ -40,7 +40,7 @@ impl Timer for Silence {
 enum Turn {
     // The first line or a request that has started, with the remaining time.
     Given(TimeLeft),
-    // A request whose time starts at the next read.
+    // A request that the server awaits. The time for the request starts at the next read.
     Awaited,
     // No message: the time is over, or the clock failed.
     Over,
@@ -60,7 +60,7 @@ impl Turn {
     }
 }
 
-/// A server's timer for its client. The client has [`MAX_FIRST_LINE`](crate::MAX_FIRST_LINE)
+/// A server's timer for one client. The client has [`MAX_FIRST_LINE`](crate::MAX_FIRST_LINE)
 /// seconds for its first line, and [`MAX_REQUEST`](crate::MAX_REQUEST) seconds for each later
 /// request, regardless of the number of reads.
 #[derive(Drop)]
@@ -70,7 +70,7 @@ pub struct Turns<'c, C> {
 }
 
 impl<'c, C: Clock> Turns<'c, C> {
-    /// Returns the timer of a connection that is accepted now.
+    /// Returns the timer for a connection that is accepted now.
     pub fn from_accept(clock: &'c C) -> Turns<'c, C> {
         let turn = match Instant::now(clock) {
             Ok(now) => Turn::Given(TimeLeft::for_first_line(now)),

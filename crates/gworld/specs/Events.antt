@@ -1,4 +1,4 @@
--- The effect of each event on a world, and its outcome. A step leaves every field of the world unchanged unless its
+-- The effect and the outcome of each event on a world. A step leaves every field of the world unchanged unless its
 -- definition says otherwise.
 use Rattle.std.specs.Prelude.{◌≡◌, ◌≢◌, ◌⊎◌, ◌↔◌, ℕ, Bool, true, false, List, [], ◌∷◌, ◌++◌, length, take, count_by}
 use Rattle.std.specs.Prelude.{slice_get, if◌then◌else◌, IsTrue, Option, None, Some, Ok, Err}
@@ -57,13 +57,13 @@ abbrev pub is_not_forward : RefUpdate → Bool
 is_not_forward update.NotForward = true
 is_not_forward _ = false
 
--- the numbers of refs that moved, that already had their ids, and whose update was not a fast-forward
+-- the numbers of refs that moved, of refs that already had their ids, and of refs whose update was not a fast-forward
 abbrev pub settled_outcome : List RefUpdate → Outcome
 settled_outcome updates =
     outcomes.Settled (count_by is_moved updates) (count_by is_same updates) (count_by is_not_forward updates)
 
 module _ {A : Type 0} where
-  -- the event fails with the fault of this number, and the world is unchanged
+  -- the event fails with the fault that has this number, and the world is unchanged
   abbrev pub IsRefused : ℕ → WorldState A → Outcome → WorldState A → Type 0
   IsRefused number w outcome new = (outcome ≡ outcomes.Fault number) × (new ≡ w)
 
@@ -78,7 +78,7 @@ module _ {A : Type 0} where
       × (number ≡ code_of fault) × (new ≡ w)
   BeginsSession w specs _ new = ⊥
 
-  -- the mark `answered` after a fault: a fault that ends the session clears the mark
+  -- the flag `answered` after a fault: a fault that ends the session clears the flag
   abbrev pub mark_after : ClientFault A → Bool → Bool
   mark_after fault mark = if ends_session fault then false else mark
 
@@ -94,7 +94,7 @@ module _ {A : Type 0} where
       × (new ≡ record w { session = Some after; answered = mark_after fault w.answered })
   AsksNext w (Some s) _ new = ⊥
 
-  -- `Settle`: the session updates the local refs and is over, or the update fails
+  -- `Settle`: the session updates the local refs and ends, or the update fails
   abbrev pub SettlesRefs : WorldState A → Option (SessionState A) → Outcome → WorldState A → Type 0
   SettlesRefs w None outcome new = IsRefused out_of_turn w outcome new
   SettlesRefs w (Some s) (outcomes.Settled moved same not_forward) new =
@@ -114,14 +114,14 @@ module _ {A : Type 0} where
 
   -- ---- changes of the two repositories
 
-  -- the graph holds a different object under the entry's id
+  -- the graph holds a different object under the id of this object
   pub record Disagrees (g : List (Entry A)) (entry : Entry A) : Type 0 where
     pub node : Node A
     pub held : IsNode g entry.id node
     pub differs : node ≢ entry.node
 
-  -- `ServerAdd`: the server gains an object, unless the client holds a different object under its id or the server
-  -- rejects it
+  -- `ServerAdd`: the server gains an object, unless the client holds a different object under the same id or the server
+  -- rejects the object
   abbrev pub AddsAtServer : WorldState A → Entry A → Outcome → WorldState A → Type 0
   AddsAtServer w entry outcomes.Done new =
       AgreesWith w.repo.graph.entries entry
@@ -142,8 +142,8 @@ module _ {A : Type 0} where
       × (new ≡ w)
   SetsAtServer w name id _ new = ⊥
 
-  -- `ClientAdd`: the client gains an object, unless the server holds a different object under its id or the client
-  -- rejects it
+  -- `ClientAdd`: the client gains an object, unless the server holds a different object under the same id or the client
+  -- rejects the object
   abbrev pub AddsAtClient : WorldState A → Entry A → Outcome → WorldState A → Type 0
   AddsAtClient w entry outcomes.Done new =
       AgreesWith w.server.graph.entries entry
@@ -208,7 +208,7 @@ waiting_session None = None
 waiting_session (Some s) = waits_for s s.pending
 
 module _ {A : Type 0} (indexes : Indexes A) (index_fails : IndexFails) where
-  -- The bytes arrive as the reply to the open request, and change the session and the repository. The marks `forged`
+  -- The bytes arrive as the reply to the open request, and change the session and the repository. The flags `forged`
   -- and `answered` are set to the given values. A session with an open request is not yet marked as answered.
   pub record BytesCome (w : WorldState A) (s : SessionState A) (asked : Asked) (bytes : Bytes) (forged answered : Bool)
       (outcome : Outcome) (new : WorldState A) : Type 0 where
@@ -218,8 +218,8 @@ module _ {A : Type 0} (indexes : Indexes A) (index_fails : IndexFails) where
     pub is : new ≡ record w { session = Some after; repo = repo; forged = forged; answered = answered }
 
   -- `Deliver`: the first `count` bytes of a kept reply arrive, unless no request is open or no kept reply has this
-  -- index. A session is marked as answered if the reply arrives complete, answers a request equal to the open one, and
-  -- its pack is accepted.
+  -- index. A session is marked as answered if the reply arrives complete, its request equals the open request, and its
+  -- pack is accepted.
   abbrev pub Delivers : WorldState A → Option Kept → ℕ → Option (SessionState A × Asked) → Outcome → WorldState A
       → Type 0
   Delivers w None count waits outcome new = IsRefused no_such w outcome new

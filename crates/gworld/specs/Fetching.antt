@@ -54,7 +54,7 @@ module _ {A : Type 0} (tools : PackTools A) where
       (outcome : Outcome) (new : WorldState A) → Promises tools w event.Settle outcome new
       → IsSettledOrRefused w.repo w.session outcome new.repo
 
-  -- the state of a fetch after a number of rounds: the session has a next request to make, or it can settle
+  -- the state of a fetch after a number of rounds: the session can make another request, or can settle
   pub record HasFetched (rounds reached : ℕ) (w : WorldState A) : Type 0 where
     pub session : SessionState A
     pub goes_on : w.session ≡ Some session
@@ -62,8 +62,8 @@ module _ {A : Type 0} (tools : PackTools A) where
         ((is_due session.stage session.pending ≡ true) × (rounds ≤ reached + 1))
         ⊎ (CanSettle w × (rounds ≤ reached + 2))
 
-  -- A fetch completes: a new session can settle after at most `reached + 2` rounds, if its tips reach `reached` ids. In
-  -- this world no bytes were forged, and the packer and the indexer are faithful.
+  -- If its tips reach `reached` ids, a new session can settle after at most `reached + 2` rounds. The premises are that
+  -- no bytes were forged, and that the packer and the indexer are faithful.
   abbrev pub FetchesComplete : Type 0
   FetchesComplete =
       (w new : WorldState A) (begun : SessionState A) (rounds reached parents : ℕ)
@@ -79,8 +79,8 @@ module _ {A : Type 0} (tools : PackTools A) where
   IsReplyTakenOrDeclined w s (Refs reply) outcome = IsListedOrDeclined w s reply outcome
   IsReplyTakenOrDeclined w s (Fetch reply) outcome = IsTakenOrDeclined tools w.repo reply outcome
 
-  -- The three events of a round are the client's request, the server's reply, and the delivery of the reply. Each fails
-  -- only because of a limit, or for lack of memory.
+  -- The three events of a round are the client's request, the server's reply, and the delivery of the reply. Each event
+  -- fails only because of a limit, or for lack of memory.
   pub record StopsByLimits {w new : WorldState A} (tried : IsTried w new) : Type 0 where
     pub asks : IsDone tried.asked ⊎ (tried.asked ≡ outcomes.Fault memory_refused)
     pub serves : IsDone tried.asked →

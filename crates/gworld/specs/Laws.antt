@@ -25,7 +25,7 @@ StepsKeep {A} tools =
     → IsSound tools new × Promises tools w event outcome new
 
 -- Invariants that the types of server, repository and session guarantee: refs are sorted by name, and the session is
--- valid. The definition of a step does not imply them.
+-- valid. The definition of a step does not imply these invariants.
 pub record AreListed {A : Type 0} (w : WorldState A) : Type 0 where
   pub server : IsRefs w.server.refs
   pub client : IsRefs w.repo.refs
@@ -76,7 +76,7 @@ RequestsStayFew {A} tools =
 
 -- ---- all worlds of a run
 
--- a run passes through the world `v`, between the events `front` and the events `rest`
+-- a run passes through the world `v` after the events `front` and before the events `rest`
 pub record LeadsThrough {A : Type 0} (P : WorldState A → Event A → Outcome → WorldState A → Type 0) (w : WorldState A)
     (front rest : List (Event A)) (outcomes : List Outcome) (new v : WorldState A) : Type 0 where
   pub early : List Outcome
@@ -153,14 +153,14 @@ abbrev pub IsNoForge : {A : Type 0} → Event A → Type 0
 IsNoForge (event.Forge bytes) = ⊥
 IsNoForge _ = ⊤
 
--- if no bytes were forged and both ends hold each common id, both facts remain true over events that forge no bytes
+-- if no bytes were forged and both ends hold each common id, both facts remain true after events that forge no bytes
 abbrev pub CommonsStayShared : {A : Type 0} → PackTools A → Type 0
 CommonsStayShared {A} tools =
     (w new : WorldState A) (events : List (Event A)) (outcomes : List Outcome) → w.forged ≡ false
     → AreCommonsShared w → All IsNoForge events → RunWith (Promises tools) w events outcomes new
     → (new.forged ≡ false) × AreCommonsShared new
 
--- all promises of a step and of the world after it, without the premises of `HonestPromises`
+-- all promises of a step and of the world after it; the promises of `HonestPromises` hold unconditionally
 pub record KeepsAll {A : Type 0} (tools : PackTools A) (w : WorldState A) (event : Event A) (outcome : Outcome)
     (new : WorldState A) : Type 0 where
   pub step : Step tools w event outcome new
@@ -170,7 +170,7 @@ pub record KeepsAll {A : Type 0} (tools : PackTools A) (w : WorldState A) (event
   pub few : AreRequestsFew new
   pub honest : HonestPromises tools w event outcome new
 
--- if no bytes are forged before or during a run, each step keeps all promises
+-- if no bytes are forged before or during a run, each step of the run keeps all promises
 abbrev pub HonestRunsKeepAll : {A : Type 0} → PackTools A → Type 0
 HonestRunsKeepAll {A} tools =
     (w new : WorldState A) (events : List (Event A)) (outcomes : List Outcome) → w.forged ≡ false

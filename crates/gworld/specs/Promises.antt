@@ -1,9 +1,9 @@
 -- The promises of each step of a world.
 --
 -- After any events, each ref of the client is connected: the client holds the whole ancestry of the ref. If no bytes
--- were forged, both ends hold each common id. If, in addition, the packer and the indexer are faithful, an accepted
--- pack adds all missing ancestors of its request's wants. Once the complete pack for the open request is accepted,
--- `Settle` makes every allowed update of refs.
+-- were forged, both ends hold each common id. If the packer and the indexer are also faithful, an accepted pack adds
+-- all missing ancestors of its request's wants. Once the complete pack for the open request is accepted, `Settle` makes
+-- every allowed update of refs.
 use Rattle.std.specs.Prelude.{◌≡◌, ◌⊎◌, ⊤, ℕ, ◌+◌, ◌<◌, ◌≤◌, true, false, List, [], length, All, IfSome, Option, None}
 use Rattle.std.specs.Prelude.{Some, slice_get}
 use Rattle.gname.specs.Ids.{Id}
@@ -43,7 +43,7 @@ use Rattle.gscenario.specs.declared.event.Event.TheVariants as event
 use Rattle.gworld.specs.declared.outcome.Outcome.{Outcome}
 use Rattle.gworld.specs.declared.outcome.Outcome.TheVariants as outcomes
 
--- the outcome of an accepted reply: `Round` for acknowledgments alone, and `PackTaken` for any other reply
+-- the outcome of an accepted reply: `Round` if the reply has only acknowledgments, and `PackTaken` if it has a pack
 pub data IsTaken : FetchReply → Outcome → Type 0 where
   round : {ids : List Id} {common : ℕ} → IsTaken (Acks ids) (outcomes.Round common)
   after_acks : {ids : List Id} {bytes : Bytes} {added : ℕ} → IsTaken (Ready ids bytes) (outcomes.PackTaken added)
@@ -204,17 +204,17 @@ module _ {A : Type 0} (tools : PackTools A) where
 module _ {A : Type 0} where
   -- ---- 6. a session settles: it updates the refs
 
-  -- the ref of the ask has the asked id, if the update is allowed
+  -- the ref has the requested id, if the update is allowed
   abbrev pub MovesAsked : RepoState A → RepoState A → Ask A → Type 0
   MovesAsked old new ask = MayMove old.graph.entries old.refs ask → ref_at new.refs ask.name ≡ Some ask.id
 
-  -- each asked id is connected, and each allowed update of a ref was made
+  -- each requested id is connected, and each allowed update of a ref was made
   pub record HasSettled (old : RepoState A) (asks : List (Ask A)) (new : RepoState A) : Type 0 where
     pub connected : All (IsConnected new.graph.entries) (asked_ids asks)
     pub moved : All (MovesAsked old new) asks
 
   -- The client has a session. The session makes all allowed updates of refs, or fails because there would be too many
-  -- refs or for lack of memory. The other case of `CannotSettle`, an ask for HEAD, is impossible.
+  -- refs or for lack of memory. The other case of `CannotSettle`, a requested update of HEAD, is impossible.
   abbrev pub IsSettledOrRefused : RepoState A → Option (SessionState A) → Outcome → RepoState A → Type 0
   IsSettledOrRefused old None outcome new = ⊥
   IsSettledOrRefused old (Some s) (outcomes.Settled moved same not_forward) new = HasSettled old s.asks new
@@ -228,7 +228,7 @@ module _ {A : Type 0} where
       w.answered ≡ true → IsSettledOrRefused w.repo w.session outcome new.repo
   SettlesAnswered w event outcome new = ⊤
 
-  -- the session is ready to settle and has no wants, since the client already holds all asked ids
+  -- the session is ready to settle and has no wants, since the client already holds all requested ids
   pub record IsUpToDate (s : SessionState A) : Type 0 where
     pub stage : s.stage ≡ Settling
     pub none : s.wants ≡ []

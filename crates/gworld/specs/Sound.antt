@@ -45,8 +45,7 @@ module _ {A : Type 0} where
   IsSoundRequest w (Ls asked) = ⊤
   IsSoundRequest w (Fetches asked) = IsSoundFetch w asked
 
-  -- a kept reply answers its request as of an earlier state of the server, and the server's graph has only grown since
-  -- then
+  -- a kept reply is the answer of an earlier state of the server, and the server's graph has only grown since then
   pub record IsSoundKept (packs : Packs A) (w : WorldState A) (kept : Kept) : Type 0 where
     pub server : Server A
     pub is : IsServer server
@@ -57,7 +56,7 @@ module _ {A : Type 0} where
 
   -- ---- the session
 
-  -- the asked id is a want of the session, or the client holds its whole history
+  -- the requested id is a want of the session, or the client holds the whole history of the id
   abbrev pub IsWantedOrConnected : List (Entry A) → SessionState A → Id → Type 0
   IsWantedOrConnected g s a = Contains s.wants a ⊎ IsConnected g a
 
@@ -81,8 +80,8 @@ module _ {A : Type 0} (tools : PackTools A) where
     pub faithful : LosesNothing tools.packs tools.pack_fails tools.indexes tools.index_fails image
     pub unforged : w.forged ≡ false
 
-  -- A session that is marked as answered can settle. The ids that it asks for are connected, if no bytes were forged
-  -- and the packer and the indexer are faithful.
+  -- A session that is marked as answered can settle. The requested ids of the session are connected, if no bytes were
+  -- forged and the packer and the indexer are faithful.
   pub record IsAnswered (w : WorldState A) (s : SessionState A) : Type 0 where
     pub stage : s.stage ≡ Settling
     pub connected : IsUnforgedAndFaithful w → All (IsConnected w.repo.graph.entries) (asked_ids s.asks)

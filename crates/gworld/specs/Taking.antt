@@ -22,12 +22,12 @@ use Rattle.gworld.specs.declared.outcome.Outcome.TheVariants as outcomes
 abbrev pub code_of : {A : Type 0} → ClientFault A → ℕ
 code_of fault = (client_fault_row fault).0
 
--- the fault can occur when the client reads from memory, where the source never fails
+-- the fault is possible when the client reads from memory, because a source in memory never fails
 abbrev pub IsAtHand : {A : Type 0} → ClientFault A → Type 0
 IsAtHand (client.Message fault) = IsReadFailure false false fault.why
 IsAtHand _ = ⊤
 
--- the bytes arrive as the ls-refs reply, and the outcome has the numbers of asks and wants, or a fault
+-- the bytes arrive as the ls-refs reply, and the outcome has the numbers of requested updates and wants, or a fault
 abbrev pub TakesRefs : {A : Type 0} → SessionState A → RepoState A → Bytes → Outcome → SessionState A → RepoState A
     → Type 0
 TakesRefs {A} s repo bytes (outcomes.LsTaken asks wants) after new =

@@ -16,8 +16,8 @@ pub record Kept : Type 0 where
   pub reply : Reply
 
 -- The state of a world: the server, the client's repository and session, all sent requests and all replies. `forged`
--- says whether bytes were ever forged. `answered` says whether the client accepted the pack of a complete reply to its
--- open request.
+-- states whether bytes were ever forged. `answered` states whether the client accepted the pack of a complete reply to
+-- its open request.
 pub record WorldState (A : Type 0) : Type 0 where
   pub server : Server A
   pub repo : RepoState A

@@ -137,7 +137,7 @@ fn line_buffer<A: Allocator + Copy>(alloc: A) -> Result<PacketBuffer<A>, AllocEr
     }
 }
 
-/// Returns the first `count` bytes, or all bytes if there are fewer.
+/// Returns the first `count` bytes, or all bytes if there are fewer than `count`.
 pub(crate) fn front(bytes: &[u8], count: usize) -> &[u8]
     ensures { result.now ≡ take count bytes.now }
 {

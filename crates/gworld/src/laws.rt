@@ -1,4 +1,4 @@
-//! The laws of worlds: functions without effect, which exist for their contracts.
+//! Laws of worlds. Each function does nothing, and its contract states a proved property.
 
 ghost use Rattle.std.specs.Prelude.{◌≡◌, false};
 ghost use Rattle.gworld.specs.Fetching.{FetchesComplete, OnlyLimitsRefuse};
@@ -28,9 +28,9 @@ use gsession::laws::{
 };
 use std::alloc::Allocator;
 
-/// From a sound world each step leads to a sound world, and keeps its promises. The premise is that
-/// both ends are connected before and after the step. [`ends_stay_connected`] proves that a step
-/// keeps both ends connected.
+/// Proves that each step from a sound world leads to a sound world, and keeps its promises. The
+/// premise is that both ends are connected before and after the step. [`ends_stay_connected`]
+/// proves that a step keeps both ends connected.
 pub fn steps_keep<A: Allocator + Copy, K: Packer<A> + Indexer<A>>()
     ensures { (k : K) → StepsKeep (tools_of (K.packs k) (K.pack_fails k) (K.indexes k)
         (K.index_fails k)) }
@@ -74,8 +74,8 @@ pub fn steps_keep<A: Allocator + Copy, K: Packer<A> + Indexer<A>>()
     taking_only_grows::<A, K>();
 }
 
-/// A world without forged bytes, whose packer and indexer implement `Faithful`, satisfies
-/// `IsUnforgedAndFaithful`, the premise of `HonestPromises`.
+/// Proves that a world without forged bytes satisfies `IsUnforgedAndFaithful`, the premise of
+/// `HonestPromises`, if its packer and indexer implement `Faithful`.
 pub fn faithful_lose_nothing<A: Allocator + Copy, K: Faithful<A>>(tools: &K)
     ensures { ((w : WorldState A) → w.forged ≡ false
         → IsUnforgedAndFaithful (tools_of (K.packs tools.now) (K.pack_fails tools.now)
@@ -84,35 +84,36 @@ pub fn faithful_lose_nothing<A: Allocator + Copy, K: Faithful<A>>(tools: &K)
     tools.loses_nothing();
 }
 
-/// If each step keeps its promises, the events and their outcomes form a run (`Run`).
+/// Proves that the events and their outcomes form a run (`Run`) if each step keeps its promises.
 pub fn promises_are_runs<A: Allocator + Copy, K: Packer<A> + Indexer<A>>()
     ensures { (k : K) → PromisesAreRuns (tools_of (K.packs k) (K.pack_fails k) (K.indexes k)
         (K.index_fails k)) }
 {}
 
-/// If each ref of the client is connected before a run, each ref is connected afterwards.
+/// Proves that each ref of the client is connected after a run, if each ref was connected before
+/// the run.
 pub fn refs_stay_connected<A: Allocator + Copy, K: Packer<A> + Indexer<A>>()
     ensures { (k : K) → RefsStayConnected (tools_of (K.packs k) (K.pack_fails k) (K.indexes k)
         (K.index_fails k)) }
 {}
 
-/// After any run the client's session has made at most N + 1 requests for objects, if its tips
-/// reach N ids and this bound held before the run. The tips are the ids of the client's refs when
-/// the session began.
+/// Proves that after any run the client's session has made at most N + 1 requests for objects, if
+/// its tips reach N ids and this bound held before the run. The tips are the ids of the client's
+/// refs when the session began.
 pub fn requests_stay_few<A: Allocator + Copy, K: Packer<A> + Indexer<A>>()
     ensures { (k : K) → RequestsStayFew (tools_of (K.packs k) (K.pack_fails k) (K.indexes k)
         (K.index_fails k)) }
 {}
 
-/// If no bytes were forged, and both ends hold each common id, then the same is true after any run
-/// without forged bytes.
+/// Proves that both ends hold each common id after any run without forged bytes, if both ends held
+/// each common id before the run and no bytes had been forged.
 pub fn commons_stay_shared<A: Allocator + Copy, K: Packer<A> + Indexer<A>>()
     ensures { (k : K) → CommonsStayShared (tools_of (K.packs k) (K.pack_fails k) (K.indexes k)
         (K.index_fails k)) }
 {}
 
-/// A prefix of a run is a run. The steps of the prefix keep their promises if all steps of the run
-/// do.
+/// Proves that a prefix of a run is a run. The steps of the prefix keep their promises if all steps
+/// of the run keep their promises.
 pub fn fronts_are_runs<A: Allocator + Copy, K: Packer<A> + Indexer<A>>()
     ensures runs { (k : K) → FrontsAreRuns (tools_of (K.packs k) (K.pack_fails k) (K.indexes k)
         (K.index_fails k)) }
@@ -120,14 +121,14 @@ pub fn fronts_are_runs<A: Allocator + Copy, K: Packer<A> + Indexer<A>>()
         (K.index_fails k)) }
 {}
 
-/// The client's refs are connected at all times. If they are connected at the start of a run, they
-/// are connected in each world of the run.
+/// Proves that the client's refs are connected in each world of a run, if the refs are connected at
+/// the start of the run.
 pub fn refs_are_always_connected<A: Allocator + Copy, K: Packer<A> + Indexer<A>>()
     ensures { (k : K) → RefsAreAlwaysConnected (tools_of (K.packs k) (K.pack_fails k) (K.indexes k)
         (K.index_fails k)) }
 {}
 
-/// Over any run the graphs of both ends only grow: no object is lost or changed.
+/// Proves that over any run the graphs of both ends only grow: no object is lost or changed.
 pub fn graphs_only_grow<A: Allocator + Copy, K: Packer<A> + Indexer<A>>()
     ensures { (k : K) → GraphsOnlyGrow (tools_of (K.packs k) (K.pack_fails k) (K.indexes k)
         (K.index_fails k)) }
@@ -137,9 +138,9 @@ pub fn graphs_only_grow<A: Allocator + Copy, K: Packer<A> + Indexer<A>>()
     servers_grow::<A>();
 }
 
-/// Only [`Event::Settle`](crate::Event::Settle) or [`Event::ClientRef`](crate::Event::ClientRef)
-/// moves refs of the client. Only `ServerRef` moves refs of the server, and only `ServerAdd` and
-/// `ServerRef` change the server at all.
+/// Proves that only [`Event::Settle`](crate::Event::Settle) or
+/// [`Event::ClientRef`](crate::Event::ClientRef) moves refs of the client. Only `ServerRef` moves
+/// refs of the server, and only `ServerAdd` and `ServerRef` change the server at all.
 pub fn others_leave_refs<A: Allocator + Copy, K: Packer<A> + Indexer<A>>()
     ensures { (k : K) → OthersLeaveRefs (tools_of (K.packs k) (K.pack_fails k) (K.indexes k)
         (K.index_fails k)) }
@@ -149,7 +150,7 @@ pub fn others_leave_refs<A: Allocator + Copy, K: Packer<A> + Indexer<A>>()
     servers_grow::<A>();
 }
 
-/// An event that fails leaves the server and the client's repository unchanged.
+/// Proves that an event that fails leaves the server and the client's repository unchanged.
 pub fn refusals_leave_both_ends<A: Allocator + Copy, K: Packer<A> + Indexer<A>>()
     ensures { (k : K) → RefusalsLeaveBothEnds (tools_of (K.packs k) (K.pack_fails k) (K.indexes k)
         (K.index_fails k)) }
@@ -159,8 +160,8 @@ pub fn refusals_leave_both_ends<A: Allocator + Copy, K: Packer<A> + Indexer<A>>(
     servers_grow::<A>();
 }
 
-/// An honest run keeps all promises without further premises. In an honest run no bytes are forged
-/// before or during the run, and the packer and the indexer are faithful.
+/// Proves that an honest run keeps all promises without further premises. In an honest run no bytes
+/// are forged before or during the run, and the packer and the indexer are faithful.
 pub fn honest_runs_keep_all<A: Allocator + Copy, K: Faithful<A>>(tools: &K)
     ensures { HonestRunsKeepAll {A = A} (tools_of (K.packs tools.now) (K.pack_fails tools.now)
         (K.indexes tools.now) (K.index_fails tools.now)) }
@@ -168,9 +169,9 @@ pub fn honest_runs_keep_all<A: Allocator + Copy, K: Faithful<A>>(tools: &K)
     faithful_lose_nothing::<A, K>(tools);
 }
 
-/// Each step leaves both ends connected: all refs of the server and of the client are connected.
-/// The only premise is that refs are sorted and the session is valid, which does not follow from
-/// the definition of a step.
+/// Proves that each step leaves all refs of the server and of the client connected. The only
+/// premise is that refs are sorted and the session is valid. The premise does not follow from the
+/// definition of a step.
 pub fn ends_stay_connected<A: Allocator + Copy, K: Packer<A> + Indexer<A>>()
     ensures { (k : K) → EndsStayConnected (tools_of (K.packs k) (K.pack_fails k) (K.indexes k)
         (K.index_fails k)) }
@@ -184,8 +185,8 @@ pub fn ends_stay_connected<A: Allocator + Copy, K: Packer<A> + Indexer<A>>()
     setting_stays_connected::<A>();
 }
 
-/// A new world is sound. Each run from a sound world with connected ends keeps its promises, and
-/// leads to a sound world with connected ends.
+/// Proves that a new world is sound. Each run from a sound world with connected ends keeps its
+/// promises, and leads to a sound world with connected ends.
 pub fn runs_keep_promises<A: Allocator + Copy, K: Packer<A> + Indexer<A>>()
     ensures begins { (k : K) → NewWorldsAreSound (tools_of (K.packs k) (K.pack_fails k) (K.indexes k)
         (K.index_fails k)) }
@@ -196,9 +197,9 @@ pub fn runs_keep_promises<A: Allocator + Copy, K: Packer<A> + Indexer<A>>()
     ends_stay_connected::<A, K>();
 }
 
-/// A fetch completes: a new session can settle after at most N + 2 rounds, if its tips reach N ids.
-/// The `Settle` event then makes every allowed update of refs. In a round each reply arrives
-/// complete, and no event fails.
+/// Proves that a new session can settle after at most N + 2 rounds, if its tips reach N ids. The
+/// `Settle` event then makes every allowed update of refs. In a round each reply arrives complete,
+/// and no event fails.
 pub fn fetches_complete<A: Allocator + Copy, K: Packer<A> + Indexer<A>>()
     ensures { (k : K) → FetchesComplete (tools_of (K.packs k) (K.pack_fails k) (K.indexes k)
         (K.index_fails k)) }
@@ -210,9 +211,9 @@ pub fn fetches_complete<A: Allocator + Copy, K: Packer<A> + Indexer<A>>()
     reached_are_counted::<A>();
 }
 
-/// An event of a round fails only because of a limit or for lack of memory, if no bytes were forged
-/// and the packer and the indexer are faithful. So a fetch fails to complete only because of a
-/// limit or for lack of memory.
+/// Proves that an event of a round fails only because of a limit or for lack of memory, if no bytes
+/// were forged and the packer and the indexer are faithful. A fetch therefore fails to complete
+/// only because of a limit or for lack of memory.
 pub fn only_limits_refuse<A: Allocator + Copy, K: Packer<A> + Indexer<A>>()
     ensures { (k : K) → OnlyLimitsRefuse (tools_of (K.packs k) (K.pack_fails k) (K.indexes k)
         (K.index_fails k)) }

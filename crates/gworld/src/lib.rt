@@ -1,27 +1,29 @@
 //! A simulation of a Git server and a client that fetches from it, under any list of events
 //! (gitprotocol-v2(5)). Messages may be lost, repeated, late, truncated or forged. Objects and refs
-//! may change at either end, and either end may restart. A [`World`] has both ends, and stores each
-//! sent request and each reply. An [`Event`] happens to a world, and an [`Outcome`] is the result
-//! of an event.
+//! may change at either end, and either end may restart. A [`World`] has a server and a client, and
+//! stores each sent request and each reply. An [`Event`] happens to a world, and an [`Outcome`] is
+//! the result of an event.
 //!
 //! # Proved
 //!
 //! - [`World::new`] returns a world of exactly the given server, client's repository, packer and
 //!   indexer. A new world has no session, no messages and no forged bytes. `World::new` fails with
-//!   `TwoFormats` exactly when the two repositories have different object formats. Otherwise it
-//!   fails with `Disagree` exactly when both repositories hold different objects under the same id.
-//!   The fault gives the first such id in the order of the server's objects.
-//! - [`World::run`] executes the events in order, and returns the outcome of each. `Step`
+//!   `TwoFormats` exactly when the two repositories have different object formats. Otherwise
+//!   `World::new` fails with `Disagree` exactly when both repositories hold different objects under
+//!   the same id. The fault gives the first id with different objects, in the order of the server's
+//!   objects.
+//! - [`World::run`] executes the events in order, and returns the outcome of each event. `Step`
 //!   (specs/Events.antt) defines the effect and the outcome of an event. If the world's own lists
-//!   or buffers can't grow, the run stops before an event, and returns the earlier outcomes. It
-//!   stops only before an event that needs memory (`NeedsMemory`, specs/Runs.antt). An event that
-//!   fails at once with fault 83, 90 or 93 needs no memory.
+//!   or buffers can't grow, the run stops before an event, and returns the earlier outcomes. The
+//!   run stops only before an event that needs memory (`NeedsMemory`, specs/Runs.antt). An event
+//!   that fails at once with fault 83 (`NoOpenRequest`), 90 (`Disagree`) or 93 (no such index)
+//!   needs no memory.
 //! - **Each ref of the client is connected, for any outcomes, any forged bytes, and any packer and
 //!   indexer.** The session always makes at most N + 1 requests for objects, where N is the number
 //!   of ids that its tips reach. If no bytes were forged, server and client hold each common id.
 //! - The following promises hold if no bytes were forged, and if the packer and the indexer are
-//!   faithful: the indexer reads back exactly the objects that the packer packed. After the client
-//!   accepts a pack, the wants of the request that the pack answers are connected, even if that is
+//!   faithful. The indexer then reads back exactly the objects that the packer packed. After the
+//!   client accepts a pack, the wants of the pack's request are connected, even if the pack answers
 //!   an older request. The client accepts a complete reply to the open fetch request, unless the
 //!   reply exceeds a limit or the client is out of memory. The server serves each sent request,
 //!   unless the pack is too large or the server is out of memory. A session that accepted the pack
@@ -29,9 +31,9 @@
 //!   unless there would be too many refs or the client is out of memory. `Promises`
 //!   (specs/Promises.antt) has a definition for each promise. A reply to an older request ends the
 //!   session, or adds only the objects of that request.
-//! - The client accepts a complete reply to the open ls-refs request, even after forged bytes. It
-//!   rejects such a reply only for an invalid name of a local ref, for too many wants, or if it is
-//!   out of memory. A session without wants settles.
+//! - The client accepts a complete reply to the open ls-refs request, even after forged bytes. The
+//!   client rejects a complete reply only for an invalid name of a local ref, for too many wants,
+//!   or if out of memory. A session without wants settles.
 //! - **At all times** ([`laws::fronts_are_runs`], [`laws::refs_are_always_connected`]): a prefix of
 //!   a run is a run, and the client's refs are connected in each world of a run.
 //! - **Nothing is lost** ([`laws::graphs_only_grow`], [`laws::others_leave_refs`],
@@ -41,8 +43,8 @@
 //! - **Honest runs** ([`laws::honest_runs_keep_all`]): each step keeps all promises if no event
 //!   forges bytes and the packer and the indexer are faithful.
 //! - **A fetch completes** ([`laws::fetches_complete`]): a session makes at most N + 2 requests, if
-//!   its tips reach N ids, and can then settle. Settling makes every allowed update of refs. This
-//!   holds if each reply arrives complete and no event fails. An event of a fetch fails only
+//!   its tips reach N ids, and can then settle. Settling makes every allowed update of refs. The
+//!   premise is that each reply arrives complete and no event fails. An event of a fetch fails only
 //!   because of a limit or for lack of memory ([`laws::only_limits_refuse`]).
 //! - The promises follow from the definition of a step ([`laws::runs_keep_promises`]). The only
 //!   premise about the worlds of a run is an invariant of their types: refs are sorted by name, and
@@ -57,16 +59,17 @@
 //! # What the contracts do not rule out
 //!
 //! Even if memory is available, a run may stop with `Memory` before its first event, or before any
-//! event that needs memory. Likewise, an event that allocates may report out of memory. The lists
-//! of requests and replies may use the allocator of either end. A call may take any time, and more
-//! memory than it needs. Formatting a fault may return `fmt::Error` for no reason.
+//! event that needs memory. An event that allocates may also report out of memory although memory
+//! is available. The lists of requests and replies may use the allocator of either end. A call may
+//! take any time, and more memory than it needs. Formatting a fault may return `fmt::Error` for no
+//! reason.
 //!
 //! # Dependencies
 //!
 //! The crate uses `gscenario` for events, `gsession` and `gclientrepo` for the client, and `gserve`
-//! and `ganswer` for the server. It uses `gmsg` and the crates below `gmsg` for messages, `gpkt`
-//! for packets, and `ggraph` and `gdag` for graphs. It uses `gobject` for objects, packers and
-//! indexers, `grefs` for refspecs and refs, and `gname` for ids and ref names.
+//! and `ganswer` for the server. The crate uses `gmsg` and the crates below `gmsg` for messages,
+//! `gpkt` for packets, and `ggraph` and `gdag` for graphs. The crate uses `gobject` for objects,
+//! packers and indexers, `grefs` for refspecs and refs, and `gname` for ids and ref names.
 #![tactic(auto)]
 
 mod fault;

@@ -17,8 +17,8 @@ pub enum Outcome {
     StrangerServed {
         written: u128,
     },
-    /// The client accepted an ls-refs reply, which led to this many asks for refs and this many
-    /// wants.
+    /// The client accepted an ls-refs reply, which led to this many requested ref updates and this
+    /// many wants.
     LsTaken {
         asks: usize,
         wants: usize,
@@ -31,15 +31,15 @@ pub enum Outcome {
     PackTaken {
         added: usize,
     },
-    /// The session settled: the numbers of refs that moved, that already had their ids, and whose
-    /// update was not a fast-forward.
+    /// The session settled, with the numbers of refs that moved, of refs that already had their
+    /// ids, and of refs whose update was not a fast-forward.
     Settled {
         moved: usize,
         same: usize,
         not_forward: usize,
     },
-    /// The event failed with the fault of this number. [`World::run`](crate::World::run) lists the
-    /// numbers for each event.
+    /// The event failed with the fault that has this number. [`World::run`](crate::World::run)
+    /// lists the numbers for each event.
     Fault {
         code: u32,
     },

@@ -81,14 +81,14 @@ impl<A: Allocator + Copy> Model for Parts<A> {
     } };
 }
 
-// Returns the mark `answered` after a fault. A fault that ends the session clears the mark.
+// Returns the flag `answered` after a fault. A fault that ends the session clears the flag.
 fn mark_after<A: Allocator + Copy>(fault: &ClientFault<A>, mark: bool) -> bool
     ensures { result ≡ mark_after fault.now mark }
 {
     if fault.ends_session() { false } else { mark }
 }
 
-// Returns the outcome of a fault. A fault that ends the session clears the mark `answered`.
+// Returns the outcome of a fault. A fault that ends the session clears the flag `answered`.
 fn refuse<A: Allocator + Copy>(fault: ClientFault<A>, mark: &mut bool) -> Outcome
     ensures outcome { result ≡ outcome.Fault (code_of fault) }
     ensures mark { mark.new ≡ mark_after fault mark.old }

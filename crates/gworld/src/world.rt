@@ -40,9 +40,9 @@ impl<K: Packer<A> + Indexer<A> + Drop, A: Allocator + Copy> World<K, A> {
     /// Makes a world of this server, this client's repository, and this packer and indexer.
     ///
     /// A new world has no session, no messages and no forged bytes. Fails with `TwoFormats` if the
-    /// two repositories have different object formats. Otherwise fails with `Disagree` if both hold
-    /// different objects under the same id, and gives the first such id in the order of the
-    /// server's objects. Allocates nothing.
+    /// two repositories have different object formats. Otherwise fails with `Disagree` if both
+    /// repositories hold different objects under the same id. The fault gives the first id with
+    /// different objects, in the order of the server's objects. Allocates nothing.
     pub fn new(server: Server<A>, repo: Repo<A>, tools: K) -> Result<World<K, A>, WorldFault>
         ensures { Starts server repo tools result }
     {
@@ -71,33 +71,35 @@ impl<K: Packer<A> + Indexer<A> + Drop, A: Allocator + Copy> World<K, A> {
     ///
     /// - `Begin`: 82 (`TooManySpecs`) for more than 16 refspecs, or 64 (`Memory`). The old session
     ///   remains.
-    /// - `Ask`: 83 (`NoOpenRequest`) if there is no session or no request to make, or 64
-    ///   (`Memory`). Fault 64 ends the session.
-    /// - `Serve`: 93 if no sent request has this index, or 74 (`NotOurs`) if the server does not
-    ///   hold a want. Otherwise 64 (`Memory`) if out of memory, or 65 (`Pack`) if the packer fails.
-    ///   Fault 74 occurs only after forged bytes. The world is unchanged.
-    /// - `Deliver`: 93 if no kept reply has this index. The other faults are the faults of `Forge`.
+    /// - `Ask`: 83 (`NoOpenRequest`) if there is no session or the session can't make a request, or
+    ///   64 (`Memory`). Fault 64 ends the session.
+    /// - `Serve`: 93 (no such index) if no sent request has this index, or 74 (`NotOurs`) if the
+    ///   server does not hold a want. Otherwise 64 (`Memory`) if out of memory, or 65 (`Pack`) if
+    ///   the packer fails. Fault 74 occurs only after forged bytes. The world is unchanged.
+    /// - `Deliver`: 93 (no such index) if no kept reply has this index. The other faults are the
+    ///   same as for `Forge`.
     /// - `Forge`: 83 (`NoOpenRequest`) if no request is open. Otherwise the fault of reading or
     ///   accepting the reply, which ends the session and leaves the refs unchanged. In all cases
-    ///   the world is marked as forged.
-    /// - `StrangeRequest`: 28, 53, 64 or 65 if the server ran out of memory. The world is
-    ///   unchanged.
+    ///   the flag `forged` of the world is set.
+    /// - `StrangeRequest`: 28 (`NoBuffer`), 53 (`Memory`), 64 (`Memory`) or 65 (`Pack`) if the
+    ///   server ran out of memory. The world is unchanged.
     /// - `Settle`: 83 (`NoOpenRequest`) if the session can't settle yet. The faults 85
     ///   (`NotConnected`), 69 (`Refs`) and 64 (`Memory`) end the session and leave the refs
     ///   unchanged.
     /// - `ServerAdd`, `ClientAdd`: 90 (`Disagree`) if the other end holds a different object under
-    ///   the id. Otherwise 72 (`MissingParent`) if a parent is missing, and otherwise 75, 62, 63,
-    ///   60, 61 or 64. The world is unchanged.
+    ///   the id. Otherwise 72 (`MissingParent`) if a parent is missing, and otherwise 75
+    ///   (`OtherFormat`), 62 (`TooManyParents`), 63 (`TagShape`), 60 (`Conflict`), 61 (`TooMany`)
+    ///   or 64 (`Memory`). The world is unchanged.
     /// - `ServerRef`: 71 (`RefMissing`) if the server does not hold the id. `ClientRef`: 81
     ///   (`NotHeld`) if the id is not connected. Otherwise both fail with 69 (`Refs`) or 64
     ///   (`Memory`). The world is unchanged.
     ///
     /// If there is not enough memory for a list of the world or for a buffer, the run stops with
-    /// `Memory`. This fault holds the outcomes of the completed events. The completed events keep
-    /// their effects, and the next event has not begun. The run stops only before an event that
-    /// needs memory: an event that would fail at once with 83, 90 or 93 needs no memory. The list
-    /// of outcomes is allocated before the first event. If that allocation fails, the run executes
-    /// no event.
+    /// `Memory`. The fault `Memory` contains the outcomes of the completed events. The completed
+    /// events keep their effects, and the next event has not begun. The run stops only before an
+    /// event that needs memory. An event that would fail at once with fault 83, 90 or 93 needs no
+    /// memory. The list of outcomes is allocated before the first event. If that allocation fails,
+    /// the run executes no event.
     ///
     /// `Promises` (specs/Promises.antt) defines the promises of each step. After any run each ref
     /// of the client is connected.

@@ -25,7 +25,7 @@ use Rattle.gclient.specs.Turns.{AsksNext, ClientState, IsTurn, Refuses, Turn}
 use Rattle.gclient.specs.declared.fault.FetchFault.{FetchFault}
 use Rattle.gclient.specs.declared.fault.FetchFault.TheVariants as fetch
 
--- the result of reading the advertisement: the session stores its content, or the client rejects it
+-- the result of reading the advertisement: the session stores the content, or the client rejects the advertisement
 abbrev pub HearsServer : {A : Type 0} → Format → SessionState A → Input → SessionState A
     → Result (Unit {0}) (FetchFault A) → Type 0
 HearsServer format old input new (Ok done) =
@@ -34,8 +34,8 @@ HearsServer format old input new (Ok done) =
 HearsServer format old input new (Err (fetch.Client (client.Message cause))) = RefusesAdvert format input cause
 HearsServer format old input new (Err _) = ⊥
 
--- the result of sending a request: the request is flushed and waits for its reply, nothing is written because memory
--- ran out, or the sink failed
+-- the result of sending a request: the client flushed the request, wrote nothing for lack of memory, or wrote a prefix
+-- because the sink failed
 abbrev pub AsksServer : {A : Type 0} → SessionState A → RepoState A → Output → SessionState A
     → Result (Unit {0}) (FetchFault A) → Type 0
 AsksServer old repo output new (Ok done) =
@@ -60,7 +60,7 @@ Closes session old output new (Err fetch.WriteFailed) =
     FailsToSend output (request_bytes old.graph.format Empty) × (new ≡ old)
 Closes session old output new (Err _) = ⊥
 
--- the client with this session, this repository and this target of an unborn HEAD
+-- the state of the client with this session, this repository and this target of an unborn HEAD
 abbrev pub client_of : {A : Type 0} → SessionState A → RepoState A → Option Name → ClientState A
 client_of session repo unborn = record { session = session; repo = repo; unborn = unborn }
 
@@ -107,12 +107,12 @@ module _ {A : Type 0} (indexes : Indexes A) (index_fails : IndexFails) (start : 
   Talks input output session repo (Ok unborn) = HasTalked input output (client_of session repo unborn)
   Talks input output session repo (Err failed) = Fails indexes index_fails start input output repo failed
 
-  -- the result of some of the turns
+  -- the result of the turns up to some point
   abbrev pub TalksTo : {T : Type 0} → Input → Output → ClientState A → Result T (FetchFault A) → Type 0
   TalksTo input output now (Ok done) = HasTalked input output now
   TalksTo input output now (Err failed) = Fails indexes index_fails start input output now.repo failed
 
--- the inputs of the conversation of this session
+-- the inputs of the conversation that this session belongs to
 abbrev pub start_with : {A : Type 0} → SessionState A → RepoState A → Start A
 start_with session repo =
     start_for repo session.refspecs session.limit session.ends session.options

@@ -16,7 +16,7 @@ chunk = 512
 
 -- ---- steps
 
--- the packets are shown without a flush
+-- the packets are shown, but not flushed
 abbrev pub ShowsEach : Input → Output → Result (Result (Unit {0}) PacketFault) Down → Type 0
 ShowsEach input output (Ok ended) =
     (lines : List Packet) × ReadsEach input lines ended × IsPut output (Ok tt) (shown_lines lines)

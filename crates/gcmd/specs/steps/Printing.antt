@@ -6,7 +6,7 @@ use Rattle.gpkt.specs.Packets.{Bytes}
 use Rattle.gcmd.specs.Faults.{Printed}
 use Rattle.gcmd.specs.declared.print.FaultLine.{FaultLine}
 
--- the printed parts of a fault, as a value of the definitions
+-- the printed parts of a fault, converted to the type `Printed`
 abbrev pub row_view : FaultLine → Printed
 row_view row = record {
   number = row.number;

@@ -11,7 +11,7 @@ use Rattle.gcmd.specs.Programs.{ProgramOutcome, Prints}
 use Rattle.gcmd.specs.Stored.{IsReplaced, Stored, storage_fault}
 use Rattle.gcmd.specs.declared.fault.ProgramFault.TheVariants as program
 
--- the file is replaced and then the report is written; or the replacement fails, and nothing is reported
+-- the file is replaced and then the report is written, or the replacement fails and nothing is reported
 abbrev pub StoresAndReports : {A : Type 0} → Bytes → Bytes → Fetched A → Stored → Output → ProgramOutcome A → Type 0
 StoresAndReports {A} old text fetched stored report outcome =
     (IsReplaced old text stored (Ok tt) × Holds stored.new text × Reports fetched report outcome)

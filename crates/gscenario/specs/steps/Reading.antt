@@ -4,7 +4,7 @@ use Rattle.gscenario.specs.ScenarioText.{AreArguments, command_of, words_of}
 use Rattle.gscenario.specs.declared.command.EventWord.{EventWord}
 use Rattle.gscenario.specs.declared.event.Event.{Event}
 
--- the words that follow a word on its line: no words at the end of the line, or the words after a space
+-- the words that follow a word on its line: no words if the line ends, or the words after a space
 abbrev pub words_after : List ℕ → List (List ℕ)
 words_after [] = []
 words_after (space ∷ text) = words_of text
@@ -17,7 +17,7 @@ NoArguments A command words = (event : Event A) → command ≡ command_of event
 abbrev pub HasArguments : {A : Type 0} → EventWord → List (List ℕ) → Event A → Type 0
 HasArguments command words event = (command ≡ command_of event) × AreArguments event words
 
--- the result of reading the arguments of a command: an event, `None` for malformed arguments, or out of memory
+-- the result of reading the arguments of a command: an event, `None` if the arguments are malformed, or out of memory
 abbrev pub ReadsArguments : {A E : Type 0} → EventWord → List (List ℕ) → Result (Option (Event A)) E → Type 0
 ReadsArguments {A} command words result =
     MatchResult result

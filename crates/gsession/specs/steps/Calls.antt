@@ -29,14 +29,14 @@ use Rattle.gsession.specs.declared.fault.ClientFault.TheVariants.{StrangeAck, Re
 use Rattle.gsession.specs.declared.taken.LsTaken.{LsTaken}
 use Rattle.gsession.specs.declared.taken.Taken.{Taken}
 
--- ---- asking
+-- ---- requested updates
 
--- the new list is the old list followed by the added asks for refs without an ask, and each added ask is for a valid
--- ref name
+-- the new list is the old list followed by each added update for a ref that has no update yet, and each added update is
+-- for a valid ref name
 abbrev pub AddsAsks : {A : Type 0} → List (Ask A) → List (Ask A) → List (Ask A) → Type 0
 AddsAsks old more new = (new ≡ with_asks old more) × AreNamed more
 
--- the asks are the asks of the refspecs for the lines, and each ask is for a valid ref name
+-- the list has the ref updates that the refspecs request for the lines, and each update is for a valid ref name
 abbrev pub FindsAsks : {A : Type 0} → List Refspec → List RefLine → List (Ask A) → Type 0
 FindsAsks {A} specs lines asks = (asks ≡ asked_of specs lines) × AreNamed {A = A} (asks_by_all specs lines)
 
@@ -68,12 +68,12 @@ AnswersLs old g change new (Err fault) = IsLsFault old g change fault × (new �
 
 -- ---- the fetch reply
 
--- the indexer read these bytes of a pack, or it failed with a fault that is possible for every pack with this prefix
+-- the indexer read these bytes of a pack, or failed with a fault that is possible for every pack with this prefix
 abbrev pub MayHaveFed : {F : Type 0} → (F → Bytes → Type 0) → IndexFails → Result F IndexFault → Bytes → Type 0
 MayHaveFed fed index_fails (Ok feed) bytes = fed feed bytes
 MayHaveFed fed index_fails (Err fault) bytes = (more : Bytes) → index_fails (bytes ++ more) fault
 
--- the fault is an acknowledged id that is not a have of the request
+-- the fault reports an acknowledged id that is not a have of the request
 abbrev pub IsStrangeAck : {A : Type 0} → List Id → List Id → ClientFault A → Type 0
 IsStrangeAck haves acks (StrangeAck id) = IsFirstStrange haves acks id
 IsStrangeAck haves acks _ = ⊥
@@ -84,7 +84,8 @@ IsAcksFault haves acks (StrangeAck id) = IsFirstStrange haves acks id
 IsAcksFault haves acks (Repo (repo.Graph graph.Memory)) = All (Contains haves) acks
 IsAcksFault haves acks _ = ⊥
 
--- the reply fits its request: a direct request, which has `done` or no haves, never gets acknowledgments alone
+-- the reply fits its request: the reply to a request with `done` or without haves never consists only of
+-- acknowledgments
 abbrev pub FitsHead : FetchAsked → FetchHead → Type 0
 FitsHead asked (head.Acks ids) = is_direct asked ≡ false
 FitsHead asked _ = Unit {0}

@@ -26,8 +26,8 @@ impl<A: Allocator + Copy> Session<A> {
     ghost use Rattle.gsession.specs.Sessions.{after_fault, no_memory};
     ghost use Rattle.gsession.specs.steps.Calls.{FitsBatch};
 
-    /// Returns whether the session has a next request to make. In that case no request waits for
-    /// its reply, and refs or objects are still needed.
+    /// Returns whether the session can make a request now: no request waits for its reply, and refs
+    /// or objects are still needed.
     pub fn is_due(&self) -> bool
         ensures { result ≡ is_due self.now.stage self.now.pending }
     {
@@ -58,8 +58,8 @@ impl<A: Allocator + Copy> Session<A> {
     }
 
     /// Makes the next request like [`Session::request`], but continues the walk of the previous
-    /// requests. `offers` holds the state of that walk, and `None` starts a new walk. So all
-    /// requests of a session over the same graph share one walk.
+    /// requests. `offers` holds the state of that walk, and `None` starts a new walk. All requests
+    /// of a session over the same graph thus share one walk.
     ///
     /// Fails like `request`.
     pub fn request_on(
@@ -82,7 +82,7 @@ impl<A: Allocator + Copy> Session<A> {
         }
     }
 
-    // Makes the next request, if there is a request to make. A fault does not end the session yet.
+    // Makes the next request, if the session can make one. A fault does not end the session here.
     fn make_request(
         &mut self,
         repo: &Repo<A>,

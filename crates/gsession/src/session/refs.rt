@@ -27,10 +27,11 @@ impl<A: Allocator + Copy> Session<A> {
     ghost use Rattle.gsession.specs.steps.Calls.{AnswersLs, AnswersRefs, FindsAsks};
     ghost use Rattle.gsession.specs.TakingRefs.{AwaitsRefs, IsRefsFault, TakesLines, TakesLs, with_refs};
 
-    /// Reads the ls-refs reply, and nothing after it. Stores the asks and the wants, and returns
-    /// the target of an unborn `HEAD`. For each ref that matches a refspec, there is an ask for the
-    /// local ref to which the refspec maps that ref. If several asks are for the same local ref,
-    /// the first one counts. The wants are the asked ids that are not connected.
+    /// Reads the ls-refs reply, and nothing after it. Stores the requested updates and the wants,
+    /// and returns the target of an unborn `HEAD`. For each ref that matches a refspec, the session
+    /// requests an update of the local ref to which the refspec maps that ref. If several updates
+    /// are for the same local ref, the first one counts. The wants are the requested ids that are
+    /// not connected.
     ///
     /// Fails with `NoOpenRequest` if no request for refs is open, and reads nothing. Any other
     /// fault ends the session. Fails with `Message` if a packet of the reply is unreadable or
@@ -54,7 +55,7 @@ impl<A: Allocator + Copy> Session<A> {
     }
 
     // Reads the ls-refs reply, if the open request is for refs. A fault does not end the session
-    // yet.
+    // here.
     fn read_refs<S: Source, B: Allocator + Copy>(
         &mut self,
         repo: &Repo<A>,
@@ -101,7 +102,7 @@ impl<A: Allocator + Copy> Session<A> {
         self.take_asked(repo, reply, asks)
     }
 
-    // Stores the asks for the refs of a reply, and the wants.
+    // Stores the updates that the refs of a reply lead to, and the wants.
     fn take_asked(
         &mut self,
         repo: &Repo<A>,
@@ -122,7 +123,7 @@ impl<A: Allocator + Copy> Session<A> {
         }
     }
 
-    // Returns the wants of the asks, and the result of accepting the reply.
+    // Returns the wants that the requested updates need, and the result of accepting the reply.
     fn find_wants(
         &self,
         repo: &Repo<A>,
@@ -150,7 +151,7 @@ impl<A: Allocator + Copy> Session<A> {
         Ok((wants, taken))
     }
 
-    // Stores the asks and the wants.
+    // Stores the requested updates and the wants.
     fn keep_wants(&mut self, asks: Asks<A>, wants: Vec<Oid, A>)
         requires waits { AwaitsRefs self.old }
         requires ids { All (IsIdOf self.old.format) wants.items }

@@ -13,8 +13,8 @@ request_time = 60_000_000_000
 
 -- ---- remainders
 
--- The remaining time now: the remaining time at an earlier moment, minus the time that has elapsed since then. No time
--- remains if all remaining time has elapsed or the clock went backwards.
+-- The remaining time at a moment: the remaining time at an earlier moment, minus the time that has elapsed since the
+-- earlier moment. No time remains if all remaining time has elapsed or the clock went backwards.
 abbrev pub LeavesOf : ℕ × ℕ → ℕ → Option (ℕ × ℕ) → Type 0
 LeavesOf (left, at) now (Some (rest, moment)) =
     (moment ≡ now) × (at ≤ now) × (rest + (now - at) ≡ left) × (0 < rest)

@@ -5,7 +5,7 @@ use Rattle.gpkt.specs.steps.Devices.{bytes_code}
 use Rattle.gpkt.specs.Packets.{Bytes}
 use Rattle.gtcp.specs.Messages.{Holding}
 
--- the encoding of a message sink as its six parts, for executable contracts
+-- the encoding of a message sink as a tuple of its six parts, for executable contracts
 abbrev pub holding_code : {W : Type 0} → Coded W → Coded (Holding W)
 holding_code {W} code =
     code_by (W × (Bytes × (ℕ × (Bool × (Bool × Bool)))))

@@ -48,8 +48,8 @@ module _ {A : Type 0} (server : Server A) (packs : Packs A) (fails : PackFails A
 
 -- ---- pairs
 
--- the reason why client and server stopped: a message was too long, memory for a message ran out, or the client's own
--- fault
+-- the reason why client and server stopped: a message was too long, memory for a message ran out, or the client failed
+-- for another reason
 abbrev pub IsPairFault : {A : Type 0} → FetchFault A → Bool → Bool → ProgramFault A → Type 0
 IsPairFault cause true lacks_memory fault = fault ≡ program.PairLimit
 IsPairFault cause false true fault = fault ≡ program.Memory

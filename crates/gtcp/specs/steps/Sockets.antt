@@ -18,7 +18,7 @@ use Rattle.gclient.specs.declared.fetched.Fetched.{Fetched}
 use Rattle.gclient.specs.GitFetches.{FetchesGit}
 use Rattle.gclient.specs.Listings.{ListsGit}
 
--- ---- devices
+-- ---- sources and sinks
 
 -- a source over a reader that has not failed before, with the reader's remaining bytes before and after
 abbrev pub input_by : Change → Bool → Input

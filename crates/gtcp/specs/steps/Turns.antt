@@ -4,8 +4,8 @@ use Rattle.gtcp.specs.declared.timer.Turn.{Turn}
 use Rattle.gtcp.specs.declared.timer.Turn.TheVariants as turn
 use Rattle.gtcp.specs.steps.Deadlines.{LeavesOf, request_time}
 
--- the client's remaining time: the rest of the time for a first line or request that has started, the full time for a
--- request that is awaited, and otherwise no time
+-- the client's remaining time: the rest of the time for a message that has started, the full time for a request whose
+-- time has not started, and otherwise no time
 abbrev pub LeavesTurn : Turn → ℕ → Option (ℕ × ℕ) → Type 0
 LeavesTurn (turn.Given time) now rest = LeavesOf time now rest
 LeavesTurn turn.Awaited now rest = rest ≡ Some (request_time, now)

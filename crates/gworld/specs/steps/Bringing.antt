@@ -69,12 +69,12 @@ pub record RunsSoundly {A : Type 0} (tools : PackTools A) (w : WorldState A) (ev
 
 -- ---- making a world
 
--- the client does not hold a different object for the id at this position of the server's graph
+-- the client does not hold a different object under the id at this position of the server's graph
 abbrev pub AgreesAt : {A : Type 0} → List (Entry A) → List (Entry A) → ℕ → Type 0
 AgreesAt {A} server client place =
     (entry : Entry A) → slice_get server place ≡ Some entry → AgreesWith client entry
 
--- the client holds a different object for this id, which is at this position of the server's graph
+-- the client holds a different object under this id, which is at this position of the server's graph
 abbrev pub DisagreesAt : {A : Type 0} → List (Entry A) → List (Entry A) → ℕ → Id → Type 0
 DisagreesAt {A} server client place id =
     (entry : Entry A) × (slice_get server place ≡ Some entry) × Disagrees client entry × (id ≡ entry.id)

@@ -34,7 +34,7 @@ impl<A: Allocator + Copy> Parts<A> {
     }
 
     // Adds an object to the server. Requires that the client does not hold a different object under
-    // this id.
+    // the same id.
     fn add_agreed(&mut self, entry: Entry<A>) -> Outcome
         requires { AgreesWith self.old.repo.graph.entries entry }
         ensures { AddsAtServer self.old entry result self.new }
@@ -76,7 +76,7 @@ impl<A: Allocator + Copy> Parts<A> {
     }
 
     // Adds an object to the client. Requires that the server does not hold a different object under
-    // this id.
+    // the same id.
     fn add_agreed_locally(&mut self, entry: Entry<A>) -> Outcome
         requires { AgreesWith self.old.server.graph.entries entry }
         ensures { AddsAtClient self.old entry result self.new }
@@ -107,7 +107,7 @@ impl<A: Allocator + Copy> Parts<A> {
     }
 }
 
-/// Returns false exactly if the graph holds a different object under the id.
+/// Returns `false` exactly if the graph holds a different object under the id.
 pub(super) fn agrees<A: Allocator + Copy>(graph: &Graph<A>, id: &Oid, node: &Node<A>) -> bool
     ensures { MatchBool result (AgreesWith graph.now.entries (entry_of id.now node.now))
         (Disagrees graph.now.entries (entry_of id.now node.now)) }

@@ -115,7 +115,7 @@ struct Delivery<'a, A: Allocator + Copy> {
     count: usize,
 }
 
-// Delivers a kept reply to the session, and updates the mark `answered`.
+// Delivers a kept reply to the session, and updates the flag `answered`.
 fn bring<A: Allocator + Copy, K: Indexer<A>>(
     coming: Delivery<'_, A>,
     session: &mut Session<A>,

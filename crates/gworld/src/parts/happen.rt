@@ -45,7 +45,7 @@ impl<A: Allocator + Copy> Parts<A> {
         }
     }
 
-    /// A law: the invariants of the server, of the client's repository and of the session.
+    /// Proves that the server, the client's repository and the session satisfy their invariants.
     pub(crate) fn laws(&self)
         ensures { AreEndsConnected self.now }
     {
@@ -56,8 +56,8 @@ impl<A: Allocator + Copy> Parts<A> {
         }
     }
 
-    /// Executes one event. The step leads from a sound world to a sound world, and keeps its
-    /// promises.
+    /// Executes one event. If the world is sound before the event, it is sound afterwards, and the
+    /// step keeps its promises.
     pub(crate) fn step<K: Packer<A> + Indexer<A>>(
         &mut self,
         event: &Event<A>,
@@ -83,7 +83,7 @@ impl<A: Allocator + Copy> Parts<A> {
         Ok(outcome)
     }
 
-    // Returns an empty list of outcomes, with room for one outcome for each event.
+    // Returns an empty list with room for the outcome of each event.
     fn no_outcomes(&self, events: &[Event<A>]) -> Result<Vec<Outcome, A>, RunFault<A>>
         ensures { MatchResult result
             (λ outcomes. (outcomes.items ≡ []) × (vec_len outcomes ≡ 0)

@@ -74,7 +74,7 @@ impl<A: Allocator + Copy> Parts<A> {
     }
 
     /// Makes the session's next request, and appends it to the sent requests. First checks whether
-    /// the session has a request to make, and then allocates memory for it.
+    /// the session can make a request, and then allocates memory for the request.
     pub(crate) fn ask(&mut self) -> Result<Outcome, AllocError>
         ensures { MatchResult result
             (λ outcome. AsksNext self.old self.old.session outcome self.new)
@@ -103,7 +103,7 @@ impl<A: Allocator + Copy> Parts<A> {
         }
     }
 
-    /// Updates the local refs as the session asks.
+    /// Makes the ref updates that the session requested.
     pub(crate) fn settle(&mut self) -> Outcome
         ensures { SettlesRefs self.old self.old.session result self.new }
     {
@@ -138,7 +138,8 @@ fn settled_outcome<A: Allocator + Copy>(settled: Settled<A>) -> Outcome
     count_updates(&settled)
 }
 
-// Counts the refs that moved, that already had their ids, and whose update was not a fast-forward.
+// Counts the refs that moved, the refs that already had their ids, and the refs whose update was
+// not a fast-forward.
 fn count_updates<A: Allocator + Copy>(settled: &Settled<A>) -> Outcome
     ensures { result ≡ settled_outcome settled.now.updates.items }
 {
