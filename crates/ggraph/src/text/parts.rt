@@ -92,7 +92,7 @@ fn take_parent<'t>(format: Format, recent: &Recent<'_>, text: &'t [u8]) -> Optio
     take_id(format, text)
 }
 
-/// The data that all lines of a text share: an array for a node's parents, the expected number of
+/// The data shared by all lines of a text: an array for a node's parents, the expected number of
 /// nodes, and the recent ids.
 #[derive(Drop)]
 pub(crate) struct Room<'a> {
