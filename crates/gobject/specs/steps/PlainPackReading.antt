@@ -21,7 +21,7 @@ abbrev pub separator_byte : Separator → ℕ
 separator_byte Space = 32
 separator_byte LineFeed = 10
 
--- the text is this part, then the byte of the separator, and then the rest
+-- the text consists of this part, the byte of the separator, and the rest
 pub record SplitsPart (text part : List ℕ) (separator : Separator) (rest : List ℕ) : Type 0 where
   pub whole : text ≡ part ++ separator_byte separator ∷ rest
   pub unbroken : IsPart part
