@@ -1,7 +1,7 @@
-//! The objects that a client knows to be connected, because its refs reach them. `known` returns
-//! the ids that the client has marked. `unheld` and `counted-past` return an ancestor of the given
-//! ids that the graph lacks. `counted-past` also counts the visited objects. ` / ` separates lists
-//! of ids, and the last list holds the ids of the refs.
+//! The objects that a client knows to be connected, because its refs reach them. A `known` fact
+//! states the ids that the client has marked. An `unheld` or `counted-past` fact states an ancestor
+//! of the given ids that the graph lacks. A `counted-past` fact also counts the visited objects. `
+//! / ` separates lists of ids, and the last list holds the ids of the refs.
 
 use crate::history::{Asked, asked_of, text_of_count, text_of_id, text_of_ids};
 use crate::looking::RefusedAllocation;

@@ -59,7 +59,7 @@ pub struct Row<'b> {
 /// The changes that are made to each byte of the input.
 #[derive(Clone, Copy, PartialEq, Eq)]
 pub enum Reach {
-    /// Each byte is changed to each other value.
+    /// Each byte is changed to every other value.
     Deep,
     /// Each bit of each byte is flipped.
     Bits,
@@ -227,7 +227,7 @@ fn is_refusal_of_memory(line: &[u8]) -> bool {
 }
 
 /// Returns whether memory ran out while the server loaded the repository, before the server wrote
-/// anything.
+/// any output.
 pub(crate) fn is_unserved(row: &Row<'_>, played: &Played) -> bool {
     row.command.program.serves()
         && is_out_of_memory(played)

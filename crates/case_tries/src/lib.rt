@@ -26,8 +26,9 @@
 //! # Dependencies
 //!
 //! `case_text` defines rows, their messages, and an allocator that fails. `case_runs` runs programs
-//! over devices, and `case_worlds` runs simulations. `gsimulate` is the program for simulations,
-//! and `gcmd` checks a repository. `glockfile` defines stored files, and `gpkt` devices.
+//! on sources and sinks in memory, and `case_worlds` runs simulations. `gsimulate` is the program
+//! for simulations, and `gcmd` checks a repository. `glockfile` defines stored files, and `gpkt`
+//! defines sources and sinks.
 #![tactic(auto)]
 
 mod judge;

@@ -189,7 +189,7 @@ KeepingHasAll A =
 
 -- ---- counts
 
--- the result of counting is at least the number of distinct ids in the graph that the tips reach
+-- the count of reachable ids is at least the number of distinct ids in the graph that the tips reach
 abbrev pub ReachedAreCounted : Type 0 → Type 0
 ReachedAreCounted A =
     (g : List (Entry A)) (tips ids : List Id) (held parents : ℕ)

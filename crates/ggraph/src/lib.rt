@@ -13,8 +13,8 @@
 //!   all earlier lines are valid. A line that breaks a rule or exceeds a limit is refused for that
 //!   reason.
 //! - [`save`] writes the unique text of a repository, which `load` reads back with `Order::Any`. If
-//!   the id of a ref or of `HEAD` does not have the graph's format, `save` fails with the first
-//!   such id. Otherwise `save` fails only if memory runs out.
+//!   the id of a ref or of `HEAD` does not have the graph's format, `save` fails with the first id
+//!   of a different format. Otherwise `save` fails only if memory runs out.
 //! - [`has_connected_refs`] returns whether each ref is connected. Connected refs stay connected
 //!   when the graph grows, and when a ref is set to a connected id.
 //! - Each fault has the number, the name and the text of its row in the table
@@ -29,8 +29,8 @@
 //! (`fmt::Error`) for no reason.
 //!
 //! This crate has no tests of its own. The program `conformance` loads and saves texts up to the
-//! maximum size. The program also runs a server and a client on such texts, and makes each
-//! allocation fail in turn.
+//! maximum size. The program also runs a server and a client that load repository texts, and makes
+//! each allocation fail in turn.
 //!
 //! # Dependencies
 //!
