@@ -77,8 +77,8 @@ impl<'a, 'b> Bench<'a, 'b> {
         }
     }
 
-    /// Tests the row in this way, and returns the number of the first run that failed. Does not
-    /// cover sockets, launches of the program and late peers.
+    /// Tests the row in this way, and returns the number of the first run that failed. Ways that
+    /// use sockets, launches of the program or late peers are not tested here.
     pub fn try_way(&mut self, way: Way) -> Result<Option<usize>, Trouble> {
         match way {
             Way::Whole => self.whole(),

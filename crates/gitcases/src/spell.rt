@@ -1,9 +1,9 @@
 //! Escapes in the lines of a test file.
 //!
-//! `\n` is a line feed, `\0` the byte 0, `\x1f` the byte 31. A backslash before any other character
-//! yields that character. `{NAME}` is the text with this name, or the forty digits of the id of the
-//! object with this name. `{@NAME}` is the twenty bytes of the object's id. `{BYTES*3}` is `BYTES`
-//! three times.
+//! `\n` is a line feed, `\0` is the byte 0, and `\x1f` is the byte 31. A backslash before any other
+//! character yields that character. `{NAME}` is the text with this name, or the forty digits of the
+//! id of the object with this name. `{@NAME}` is the twenty bytes of the object's id. `{BYTES*3}`
+//! is `BYTES` three times.
 
 use crate::names::Names;
 use crate::trouble::Trouble;
