@@ -22,8 +22,7 @@ pub struct Finding {
     pub was_refused: bool,
 }
 
-/// An allocation that fails. The failing allocation is the one with this number after the call of
-/// `begin`.
+/// The allocation that fails: the one with this `number`, counted from the call of `begin` on.
 #[derive(Clone, Copy)]
 pub(crate) struct RefusedAllocation<'m> {
     scarce: &'m Scarce<Global>,
