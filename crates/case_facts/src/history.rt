@@ -175,7 +175,7 @@ fn find_offer<A: Allocator + Copy>(
     Ok(Found::Ids(haves(graph, tips, commons, &[], count)?))
 }
 
-// Finds whether the first of the ids reaches the second.
+// Returns whether the first of the ids reaches the second.
 fn all_reach<A: Allocator + Copy>(graph: &Graph<A>, ids: &[Oid]) -> Result<Found<A>, GraphFault> {
     match ids {
         [from, to] => Ok(Found::Whether(reaches(graph, from, to)?)),

@@ -1,7 +1,7 @@
-//! The objects that a client with certain refs knows to be connected. `known` returns the ids that
-//! the client has marked. `unheld` and `counted-past` return an ancestor of the given ids that the
-//! graph lacks. `counted-past` also counts the visited objects. ` / ` separates lists of ids, and
-//! the last list holds the ids of the refs.
+//! The objects that a client knows to be connected, because its refs reach them. A `known` fact
+//! states the ids that the client has marked. An `unheld` or `counted-past` fact states an ancestor
+//! of the given ids that the graph lacks. A `counted-past` fact also counts the visited objects. `
+//! / ` separates lists of ids, and the last list holds the ids of the refs.
 
 use crate::history::{Asked, asked_of, text_of_count, text_of_id, text_of_ids};
 use crate::looking::RefusedAllocation;
@@ -13,7 +13,7 @@ use ggraph::{Count, Graph, GraphFault, Order, Refs, missing_known};
 use gname::{Oid, RefName};
 use std::alloc::{Allocator, Global};
 
-/// Returns the result of a fact about a client with the repository text `file`. One allocation of
+/// Returns the result of a fact about a client with the repository text `file`. One allocation by
 /// the client may fail.
 pub(crate) fn answer<A: Allocator + Copy>(
     alloc: Global,

@@ -1,5 +1,5 @@
-//! Checks of facts. A fact is the expected result of parsing a text, of searching a history, of
-//! asking a client about its objects, or of printing a fault.
+//! Checks of facts. A fact is the expected result of parsing a text, of searching a history, of a
+//! query about a client's objects, or of printing a fault.
 //!
 //! [`answer`] returns the actual result for one fact, in the same form as the expected result in a
 //! test file.

@@ -4,10 +4,10 @@ use crate::{history, known, large, made, shown};
 use case_text::{Fact, FactKind, Scarce, Trouble};
 use std::alloc::{Allocator, Global};
 
-/// The limits of a check: the maximum size of a read, and the allocation that fails.
+/// The limits of a check: the maximum number of bytes in a call, and the allocation that fails.
 #[derive(Clone, Copy)]
 pub struct Limits {
-    /// The maximum number of bytes in one read or write of a device.
+    /// The maximum number of bytes in one read or write.
     pub most: usize,
     /// The number of the allocation that fails, counted from 1. No allocation fails for 0.
     pub refused: u64,
@@ -22,7 +22,7 @@ pub struct Finding {
     pub was_refused: bool,
 }
 
-/// An allocation that fails. `number` counts the allocations from the call of `begin` on.
+/// The allocation that fails: the one with this `number`, counted from the call of `begin` on.
 #[derive(Clone, Copy)]
 pub(crate) struct RefusedAllocation<'m> {
     scarce: &'m Scarce<Global>,

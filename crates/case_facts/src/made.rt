@@ -18,8 +18,8 @@ use grefs::{Spec, SpecFault};
 use gscenario::{Scenario, ScenarioFault};
 use std::alloc::{Allocator, Global};
 
-/// Returns the result of parsing the fact's text. A device delivers the text in pieces of at most
-/// `most` bytes.
+/// Returns the result of parsing the fact's text. The text is read in pieces of at most `most`
+/// bytes.
 pub(crate) fn answer<A: Allocator + Copy>(
     alloc: Global,
     memory: A,

@@ -11,7 +11,7 @@ use gpkt::memory::VecSink;
 use gpkt::{BandFault, PacketFault};
 use std::alloc::Global;
 
-/// The digits of the ids in the tested faults: `ID` for SHA-1, `LONG_ID` for SHA-256.
+/// The hexadecimal digits of the ids in the tested faults: `ID` for SHA-1, `LONG_ID` for SHA-256.
 const ID: &[u8] = b"00112233445566778899aabbccddeeff00112233";
 
 const LONG_ID: &[u8] = b"00112233445566778899aabbccddeeff00112233445566778899aabbccddeeff";
@@ -27,7 +27,7 @@ struct Printed<'a> {
 }
 
 /// Returns the expected line if some fault prints this line and has this `Display` text, otherwise
-/// `of no fault`.
+/// the text `of no fault`.
 pub(crate) fn answer(alloc: Global, fact: &Fact<'_>) -> Result<String, Trouble> {
     let printed = Printed {
         line: fact.due.as_slice(),
@@ -40,8 +40,8 @@ pub(crate) fn answer(alloc: Global, fact: &Fact<'_>) -> Result<String, Trouble> 
     }
 }
 
-// Returns whether some fault has this line and this text. The tested faults in messages are at
-// packet 7.
+// Returns whether some fault has this line and this text. Each tested fault of a message reports
+// packet position 7.
 fn is_known(alloc: Global, printed: Printed<'_>) -> Result<bool, Trouble> {
     Ok(
         is_line_fault(alloc, printed)?

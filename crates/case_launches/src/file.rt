@@ -1,5 +1,5 @@
-//! The files that a launched program uses. Each file records its calls, and passes them on to a
-//! file of the system.
+//! The files that a launched program uses. Each file records its calls, and forwards them to a real
+//! file.
 
 use crate::journal::Journal;
 use std::fs::{Metadata, OpenFile, Permissions};
@@ -9,7 +9,7 @@ use std::io::{Read, Seek, SeekFrom, Write};
 // The maximum number of bytes that one write accepts.
 const MOST_TAKEN: usize = 16;
 
-/// A file of the system, with the name under which it was opened.
+/// A real file, with the path under which it was opened.
 #[derive(Drop)]
 pub(crate) struct NotedFile<'a, F> {
     pub(crate) file: F,

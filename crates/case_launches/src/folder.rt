@@ -9,17 +9,17 @@ use std::{env, fs};
 /// The name of the folder in which the launched program runs.
 pub(crate) const FOLDER: &str = "launch";
 
-/// The permissions that allow the owner to read and remove an item.
+/// The permissions with which the owner can read and remove an item.
 const ALL: u32 = 0o700;
 
-/// Makes an empty folder, and enters it.
+/// Creates an empty folder, and makes it the current directory.
 pub(crate) fn enter<R: System>(rt: &R) -> Result<(), Trouble> {
     let _ = fs::remove_dir_all(rt, FOLDER);
     fs::create_dir(rt, FOLDER)?;
     Ok(env::set_current_dir(rt, FOLDER)?)
 }
 
-/// Leaves the folder, and removes the folder with all its contents.
+/// Returns to the parent directory, and removes the folder with all its contents.
 pub(crate) fn leave<R: System>(rt: &R) -> Result<(), Trouble> {
     env::set_current_dir(rt, "..")?;
     Ok(fs::remove_dir_all(rt, FOLDER)?)
@@ -42,7 +42,7 @@ pub(crate) fn fill<R: System>(
     Ok(())
 }
 
-/// Restores the permissions to read and remove every item.
+/// Restores the permissions that the owner needs to read and remove each item.
 pub(crate) fn unlock<R: System>(rt: &R, found: &[Found<'_>]) -> Result<(), Trouble> {
     for one in found {
         if let Found::Mode { name, mode: _ } = one {

@@ -1,5 +1,5 @@
 //! The runtime of a launch. The arguments, the standard streams and the clock are simulated, and
-//! the files are those of the system.
+//! the files are real.
 
 use crate::file::NotedFile;
 use crate::journal::Journal;
@@ -28,7 +28,7 @@ pub(crate) struct Host<'a, R> {
 }
 
 impl<'a, R: System> Host<'a, R> {
-    /// Returns the runtime for a program that is launched by this plan.
+    /// Returns the runtime for a program that is launched according to this plan.
     pub(crate) fn new(
         rt: &'a R,
         plan: &'a Plan<'a>,
@@ -59,7 +59,7 @@ impl<'a, R: System> Host<'a, R> {
         }
     }
 
-    // Connects the clients if the program's whole output is the line with its port.
+    // Connects the clients if the program's output so far is exactly the line that states its port.
     fn greet(&self) -> io::Result<()> {
         let written = self.written_bytes()?;
         match listening_port(written.as_slice()) {

@@ -1,11 +1,11 @@
-//! Launches of the program `gitv2` for tests. A launched program has arguments and standard streams
-//! in memory, real files in a separate folder, and sockets at 127.0.0.1.
+//! Launches of the program `gitv2` for tests. A launched program has its arguments and standard
+//! streams in memory, real files in a separate folder, and sockets at 127.0.0.1.
 //!
 //! A [`Plan`] holds the arguments, files and peers of the program, and all expected results. A plan
 //! is made from a row, a pair of repositories, a command line, or a case that describes a launch.
 //! The function [`launch`] creates the folder `launch`, runs the program in this folder, and
 //! removes the folder. The test itself acts as the peers. The simulated clients connect when the
-//! program prints its port. A simulated server accepts when the program connects.
+//! program prints its port. A simulated server accepts a connection when the program connects.
 //!
 //! # Proved
 //!
@@ -13,8 +13,8 @@
 //!
 //! # What the contracts do not rule out
 //!
-//! No contract states the results of this crate. Deliberately wrong cases and programs were run, to
-//! check that the tests reject them.
+//! No contract states the results of this crate. The tests were run on deliberately wrong cases and
+//! programs, to check that the tests reject them.
 //!
 //! # Dependencies
 //!

@@ -46,7 +46,7 @@ fn number_of<R: System>(rt: &R, name: &str) -> u64 {
     }
 }
 
-/// Returns the name of the first file with unexpected permissions, if any.
+/// Returns the name of the first file that has unexpected permissions, if any.
 pub(crate) fn first_wrong_mode<'b, R: System>(rt: &R, plan: &Plan<'b>) -> Option<&'b str> {
     for left in plan.left.as_slice() {
         if let Left::Mode { name, mode } = left {
@@ -65,8 +65,8 @@ fn has_mode<R: System>(rt: &R, name: &str, mode: u32) -> bool {
     }
 }
 
-/// Returns the name of the first file with unexpected contents or with a new lockfile, if any.
-/// Files that the plan does not list must be unchanged.
+/// Returns the name of the first file that has unexpected contents or a new lockfile, if any. Files
+/// that the plan does not list must be unchanged.
 pub(crate) fn first_wrong_file<'b, R: System>(
     rt: &R,
     plan: &Plan<'b>,

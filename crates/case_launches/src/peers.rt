@@ -68,8 +68,8 @@ impl<'a> Peers<'a> {
         Ok(())
     }
 
-    /// Returns a stream to the address. If the program listens there, the stream leads to the
-    /// program itself, otherwise to the next simulated server.
+    /// Returns a stream to the address. The stream leads to the program itself if the program
+    /// listens at that address, and otherwise to the next simulated server.
     pub(crate) fn connect<R: System>(&self, rt: &R, address: SocketAddr) -> io::Result<TcpStream> {
         if address.port() == self.port() {
             let stream = TcpStream::connect(rt, address)?;
@@ -106,7 +106,7 @@ impl<'a> Peers<'a> {
         }
     }
 
-    // Sends the bytes of a peer, shuts down writing, and keeps the stream.
+    // Sends the bytes of a peer, shuts down writing, and stores the stream.
     fn keep(&self, stream: TcpStream, exchange: &Exchange) -> io::Result<()> {
         let mut stream = stream;
         stream.write_all(exchange.says.as_slice())?;

@@ -10,7 +10,7 @@ use std::alloc::Global;
 /// The line that a listening server prints.
 const LISTENING: &[u8] = b"listening PORT\n";
 
-/// The exit status for arguments that do not match the usage. For such arguments the program prints
+/// The exit status of the program if its arguments do not match the usage, in which case it prints
 /// the line `USAGE`.
 pub(crate) const WRONG_USAGE: u8 = 2;
 
@@ -58,8 +58,8 @@ impl<'b> Plan<'b> {
         }
     }
 
-    /// Returns a plan that tests whether the arguments match the usage. The arguments start with
-    /// the program's name, and the folder is empty.
+    /// Returns a plan, with an empty folder, that tests whether the arguments match the usage. The
+    /// first argument is the program's name.
     pub fn of_words(
         alloc: Global,
         script: &'b Script<'b>,
@@ -105,7 +105,8 @@ impl<'b> Plan<'b> {
         Ok(())
     }
 
-    // If a text is named, expects the file to contain that text after the launch.
+    // Adds to the plan that the file contains the named text after the launch, if `text` names a
+    // text.
     fn expect_file(&mut self, file: &'b str, text: Option<&'b str>) -> Result<(), Trouble> {
         if let Some(text) = text {
             let name = name_of_file(file);

@@ -43,7 +43,7 @@ fn launch_here<R: System>(rt: &R, plan: &Plan<'_>) -> Result<Option<String>, Tro
     wrong_file(rt, plan, &numbers)
 }
 
-// Returns whether the permissions of some item deny its owner reading or writing.
+// Returns whether the permissions of an item prevent its owner from reading or writing it.
 fn is_barred(found: &[Found<'_>]) -> bool {
     for one in found {
         match one {
@@ -95,7 +95,7 @@ fn is_status(plan: &Plan<'_>, status: u8) -> bool {
     }
 }
 
-// Returns whether this is the expected standard output of a program that listens at the port.
+// Returns whether `output` is the expected standard output of a program that listens at the port.
 fn is_output(alloc: Global, plan: &Plan<'_>, port: u16, output: &[u8]) -> Result<bool, Trouble> {
     let due = plan.output.as_slice();
     let text = match std::str::from_utf8(due) {

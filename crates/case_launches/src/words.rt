@@ -7,11 +7,11 @@ use gname::MAX_PACK;
 use gtcp::Location;
 use std::alloc::Global;
 
-/// The maximum number of bytes that a test writes to a socket before anyone reads them.
+/// The maximum number of bytes that a test writes to a socket before the other end reads them.
 const MOST_BYTES: usize = 16_384;
 
-/// Returns whether the program can run the row. The packer and the indexer must be `PlainPack`. For
-/// a row over a socket, the socket must be able to buffer all bytes, and the location must be
+/// Returns whether the program can run the row. The packer and the indexer must be `PlainPack`. If
+/// the row uses a socket, the socket must be able to buffer all bytes, and the location must be
 /// valid.
 pub fn is_launched(alloc: Global, row: &Row<'_>) -> Result<bool, Trouble> {
     let command = row.command;
@@ -56,7 +56,7 @@ pub(crate) fn words_of_command(
     Ok(words)
 }
 
-// Returns the command line up to its options.
+// Returns the part of the command line before the options.
 fn start_of(command: Invocation<'_>) -> &'static str {
     match command.program {
         Program::Ls => "gitv2 ls --stdio-server",

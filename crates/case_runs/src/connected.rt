@@ -1,5 +1,5 @@
-//! The network commands of `gitv2` over devices in memory. One serves a connection, including its
-//! first line, and the other lists a server's refs.
+//! The network commands of `gitv2` on sources and sinks in memory. One command serves a connection,
+//! including its first line. The other lists a server's refs.
 
 use crate::files::server_of;
 use crate::program::{Devices, Job};
@@ -91,7 +91,7 @@ fn run_listing<A: Allocator + Copy, I: Source, O: Sink, R: Sink, E: Sink>(
     end_listing(job, listed, &mut devices.report)
 }
 
-/// Ends a listing as the program does: writes the lines of the reply to the report, or returns the
+/// Ends a listing as the program does. Writes the lines of the reply to the report, or returns the
 /// fault.
 pub fn end_listing<A: Allocator + Copy, R: Sink>(
     job: &Job<'_, '_, '_, A>,

@@ -1,5 +1,5 @@
-//! In-memory devices that move a limited number of bytes in each call and fail at a chosen call.
-//! `AsStd` turns a device into a std reader or writer.
+//! In-memory sources and sinks that transfer a limited number of bytes in each call, and fail at a
+//! chosen call. `AsStd` turns a source into a std reader, and a sink into a std writer.
 
 ghost use Rattle.std.specs.Prelude.{◌≡◌, is_err, None, []};
 ghost use Rattle.gpkt.specs.Devices.{AnswersDown};
@@ -10,8 +10,8 @@ use std::alloc::{AllocError, Global};
 use std::io;
 use std::io::{ErrorKind, Read, Write};
 
-/// The limits of a device: the maximum number of bytes in a call, and the number of the call that
-/// fails, counted from 1.
+/// The limits of a source or sink: the maximum number of bytes in a call, and the number of the
+/// call that fails, counted from 1.
 #[derive(Clone, Copy)]
 pub struct Hindrance {
     most: usize,
@@ -25,12 +25,12 @@ impl Hindrance {
         fails_at: 0,
     };
 
-    /// Returns limits of `most` bytes a call, without a failure.
+    /// Returns limits of `most` bytes per call, without a failure.
     pub fn pieces(most: usize) -> Hindrance {
         Hindrance { most, fails_at: 0 }
     }
 
-    /// Returns limits of one byte a call, with a failure at the call with this number.
+    /// Returns limits of one byte per call, with a failure at the call with this number.
     pub fn fail_call(call: usize) -> Hindrance {
         Hindrance {
             most: 1,
@@ -45,7 +45,7 @@ struct Turns {
     hindrance: Hindrance,
     calls: usize,
     down: bool,
-    // Whether another call followed the failed call, or a read had an empty buffer.
+    // Whether a call followed a failed call, or a read had an empty buffer.
     again: bool,
 }
 
@@ -98,7 +98,7 @@ impl<'a, 'w> Reader<'a, 'w> {
         self.turns.down
     }
 
-    /// Returns whether another read followed the failed read, or a read had an empty buffer.
+    /// Returns whether a read followed a failed read, or a read had an empty buffer.
     pub fn was_called_again(&self) -> bool {
         self.turns.again
     }
@@ -177,7 +177,7 @@ impl Writer {
         self.turns.down
     }
 
-    /// Returns whether another call followed the failed call.
+    /// Returns whether a call followed a failed call.
     pub fn was_called_again(&self) -> bool {
         self.turns.again
     }
@@ -214,7 +214,7 @@ impl Sink for Writer {
 // The error or result with which a std reader or writer fails.
 #[derive(Clone, Copy)]
 enum Failure {
-    // Errors after which std callers often retry, or which they mistake for the end of the input.
+    // Errors after which callers of std often retry, or that they mistake for the end of the input.
     Interrupted,
     WouldBlock,
     UnexpectedEof,
@@ -243,7 +243,8 @@ impl Failure {
     }
 }
 
-/// A std reader or writer over a device that reports failures in one of four forms.
+/// A std reader over a source, or a std writer over a sink, that reports failures in one of four
+/// forms.
 #[derive(Drop)]
 pub struct AsStd<D> {
     device: D,
@@ -251,7 +252,7 @@ pub struct AsStd<D> {
 }
 
 impl<D> AsStd<D> {
-    /// Wraps a device that has these limits.
+    /// Wraps a source or sink that has these limits.
     pub fn new(device: D, hindrance: Hindrance) -> AsStd<D> {
         AsStd {
             device,
@@ -259,7 +260,7 @@ impl<D> AsStd<D> {
         }
     }
 
-    /// Returns the wrapped device.
+    /// Returns the wrapped source or sink.
     pub fn into_inner(self) -> D {
         let AsStd { device, failure: _ } = self;
         device

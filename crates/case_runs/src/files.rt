@@ -1,5 +1,5 @@
-//! The inputs of programs: a server, a client's repository, and refspecs. The wrapper functions
-//! have no contracts, which keeps the proofs of their callers short.
+//! The inputs of programs: a server, a client's repository, and refspecs. The functions of this
+//! module have no contracts, which keeps the proofs of their callers short.
 
 use gclient::Repo;
 use gcmd::{ProgramFault, Spec, load_server, open_client, read_specs};

@@ -1,27 +1,28 @@
-//! Runs of the commands in `gcmd` and of their network calls, for tests. The devices limit the
-//! bytes of a call and fail at a chosen call. An allocation may fail. Packers and indexers may
-//! break their contracts, and the calls of each indexer are checked.
+//! Runs of the commands in `gcmd` and of their network calls, for tests. The sources and sinks
+//! limit the bytes of each call, and fail at a chosen call. An allocation may fail. Packers and
+//! indexers may break their contracts, and the calls of each indexer are checked.
 //!
-//! [`run_command`] runs the command of a [`Job`] over [`Devices`]. The function can also serve a
-//! connection with its first line, or list refs, as `gitv2` does over the network. If the packer or
-//! the indexer is not `PlainPack`, code of this crate replaces the command of `gcmd`.
+//! [`run_command`] runs the command of a [`Job`] on the sources and sinks in [`Devices`]. The
+//! function can also serve a connection with its first line, or list refs, as `gitv2` does over the
+//! network. If the packer or the indexer is not `PlainPack`, code of this crate replaces the
+//! command of `gcmd`.
 //!
 //! # Proved
 //!
-//! Every call returns, with no index out of range, overflow or use after free. A device that has
-//! failed stays failed.
+//! Every call returns, with no index out of range, overflow or use after free. A source or sink
+//! that has failed stays failed.
 //!
 //! # What the contracts do not rule out
 //!
-//! No contract states the behavior of a device before its failure. The tests count the calls to
-//! each device and the bytes that it transfers.
+//! No contract states the behavior of a source or sink before its failure. The tests count the
+//! calls to each source and sink and the bytes that it transfers.
 //!
 //! # Dependencies
 //!
 //! `case_text` defines commands, packers, indexers and an allocator that fails. `gcmd` defines the
-//! programs, `gserve` and `gclient` the network calls of the programs. `gpkt` defines devices,
-//! `ggraph` packs and the texts of repositories. `ghello`, `grequest`, `glsreply` and `gname`
-//! define the messages of a connection.
+//! programs, and `gserve` and `gclient` define their network calls. `gpkt` defines sources and
+//! sinks, and `ggraph` defines packs and the texts of repositories. `ghello`, `grequest`,
+//! `glsreply` and `gname` define the messages of a connection.
 #![tactic(auto)]
 
 mod connected;

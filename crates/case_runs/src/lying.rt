@@ -118,7 +118,7 @@ where
     )
 }
 
-/// Ends a fetch as the program does: returns the new text of the file and writes the report, or
+/// Ends a fetch as the program does. Returns the new text of the file and writes the report, or
 /// prints the fault.
 pub fn end_fetch<A: Allocator + Copy, R: Sink, E: Sink>(
     job: &Job<'_, '_, '_, A>,
@@ -133,8 +133,8 @@ pub fn end_fetch<A: Allocator + Copy, R: Sink, E: Sink>(
     }
 }
 
-// Fetches over the devices. If the command names a connection's first line, the client sends that
-// line first.
+// Fetches over a source and a sink. If the command names a connection's first line, the client
+// sends that line first.
 fn converse<A: Allocator + Copy, K: Indexer<A>, I: Source, O: Sink>(
     job: &Job<'_, '_, '_, A>,
     repo: &mut Repo<A>,
@@ -219,7 +219,7 @@ fn text_of<A: Allocator + Copy>(memory: A, repo: &Repo<A>) -> Result<Vec<u8, A>,
     save(memory, repo.graph(), repo.refs(), &Head::None)
 }
 
-// Returns the text of the current repository. From this call on, no allocation is refused.
+// Returns the text of the current repository. From this call on, no allocation fails.
 fn state_of<A: Allocator + Copy>(
     job: &Job<'_, '_, '_, A>,
     repo: &Repo<A>,

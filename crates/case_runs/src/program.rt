@@ -40,7 +40,7 @@ pub struct Ran {
     pub was_refused: bool,
 }
 
-/// The devices of a program.
+/// The source and the sinks of a program.
 #[derive(Drop)]
 pub struct Devices<I, O, R, E> {
     pub input: I,
@@ -211,7 +211,7 @@ fn fetch_file<A: Allocator + Copy, I: Source, O: Sink, R: Sink, E: Sink>(
     )
 }
 
-/// Returns this limit on the size of a pack, or the default limit if `limit` is too large.
+/// Returns a pack size limit of `limit` bytes, or the default limit if `limit` is too large.
 pub fn limit_of(limit: usize) -> PackLimit {
     match PackLimit::new(limit) {
         Some(limit) => limit,
@@ -219,7 +219,7 @@ pub fn limit_of(limit: usize) -> PackLimit {
     }
 }
 
-// Returns a copy of a text that is allocated by the global allocator.
+// Returns a copy of the text, which is allocated by the global allocator.
 fn copy_text<A: Allocator + Copy>(
     alloc: Global,
     text: &Option<Vec<u8, A>>,

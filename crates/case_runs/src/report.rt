@@ -5,8 +5,8 @@ use gclient::{Fetched, RefUpdate};
 use gname::{MAX_ID_TEXT, Oid, RefName};
 use std::alloc::{Allocator, Global};
 
-/// Returns one line for each requested ref, and a line for the target of the server's `HEAD` if
-/// that `HEAD` is unborn.
+/// Returns one line for each requested ref update. If the server's `HEAD` is unborn, adds a line
+/// for its target.
 pub(crate) fn report_of<A: Allocator + Copy>(
     alloc: Global,
     fetched: &Fetched<A>,

@@ -3,7 +3,7 @@
 
 use std::cell::Cell;
 
-/// The numbers of bytes that a reader has returned and that an indexer has received.
+/// The number of bytes that a reader has returned, and the number that an indexer has received.
 #[derive(Drop)]
 pub struct Watch {
     given: Cell<usize>,
@@ -49,7 +49,7 @@ impl Watch {
         self.ask();
     }
 
-    /// Records that the pack ends, so that the indexer must return the pack's entries.
+    /// Records that the pack ends, and that the indexer is called to return the entries.
     pub(crate) fn finish(&self) {
         self.ask();
     }

@@ -22,7 +22,7 @@ pub enum Who {
 }
 
 impl Who {
-    /// Returns whether the speaker is the client or the server.
+    /// Returns whether this is the client or the server.
     pub fn is_peer(self) -> bool {
         match self {
             Who::Client | Who::Server => true,
@@ -38,7 +38,7 @@ pub struct Said {
     pub bytes: Vec<u8>,
 }
 
-/// A case.
+/// A case of a test file.
 #[derive(Drop)]
 pub struct Case<'a> {
     pub source: &'a str,
@@ -65,7 +65,7 @@ pub struct Case<'a> {
 }
 
 impl<'a> Case<'a> {
-    /// Returns a case without lines.
+    /// Returns a case before any of its lines is read.
     pub(crate) fn new(alloc: Global, source: &'a str, line: usize, name: &'a str) -> Case<'a> {
         Case {
             source,
@@ -86,7 +86,7 @@ impl<'a> Case<'a> {
         }
     }
 
-    /// Reads a line of the file. Returns whether the line belongs to a case.
+    /// Reads a line of the file, and returns whether the line belongs to a case.
     pub(crate) fn take_word(
         &mut self,
         alloc: Global,
@@ -118,7 +118,7 @@ impl<'a> Case<'a> {
     }
 }
 
-/// A call on a text or on ids of a graph, with its expected result.
+/// A fact: a call on a text or on ids of a graph, with the expected result of the call.
 #[derive(Drop)]
 pub struct Fact<'a> {
     pub source: &'a str,

@@ -83,11 +83,11 @@ pub struct Invocation<'a> {
     /// The name of the text block that holds the repository, or an empty string.
     pub repository: &'a str,
     /// The host and the path in the first line of a client's connection, or the path that a server
-    /// serves. The host and the path are empty if connections have no first line.
+    /// serves. Host and path are empty if the connection has no first line.
     pub host: &'a str,
     pub path: &'a str,
-    /// The refspecs of a fetch, or the ref prefixes of a listing. A simulation stores the names of
-    /// its client's text and of its scenario here.
+    /// The refspecs of a fetch, or the ref prefixes of a listing. For a simulation, the names of
+    /// the client's text and of the scenario.
     pub specs: &'a str,
     /// The maximum size of a pack in bytes.
     pub limit: usize,
@@ -172,7 +172,7 @@ pub fn first_of(words: &str) -> (&str, &str) {
     }
 }
 
-/// Returns the words of a text, each in a separate allocation.
+/// Returns the words of a text, each as a separate string.
 pub fn words_of<A: Allocator + Copy>(memory: A, text: &str) -> Result<Vec<String<A>, A>, Trouble> {
     let mut words = Vec::new(memory);
     for word in text.split(' ') {

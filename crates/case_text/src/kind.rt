@@ -1,19 +1,19 @@
 //! The kinds of facts in a test file.
 
-/// The kind of a fact: the calls whose result it states.
+/// The kind of a fact, which determines the calls whose result the fact states.
 #[derive(Clone, Copy, PartialEq, Eq)]
 pub enum FactKind {
     /// The result of parsing a text: a value or a fault.
     Text,
     /// The results of searches in a history of commits.
     History,
-    /// The objects of a history that a client knows.
+    /// The objects of a history that a client knows to be connected.
     Client,
     /// The line printed for a fault.
     Shown,
     /// The results of calls with inputs near the size limits.
     Large,
-    /// The result of parsing a command line: a request.
+    /// The request to which a command line parses.
     Asked,
     /// The results of random simulations.
     Random,

@@ -23,7 +23,7 @@ pub enum Found<'a> {
 pub enum Left<'a> {
     /// A file that holds the named text of the test file.
     File { name: &'a str, text: &'a str },
-    /// The absence of any file with this name.
+    /// The absence of an item with this name.
     Nothing { name: &'a str },
     /// A file or a folder with these permissions.
     Mode { name: &'a str, mode: u32 },
@@ -46,7 +46,7 @@ pub struct Launch<'a> {
     /// The expected operations on files, sockets and standard streams, in order, if the case lists
     /// them.
     pub steps: Option<&'a str>,
-    /// The index of each message that begins a new connection.
+    /// The index of each message that starts a new connection.
     pub breaks: Vec<usize>,
     /// The operation that fails whenever the program performs it, if any.
     pub failing: Option<&'a str>,

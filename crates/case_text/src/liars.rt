@@ -154,7 +154,7 @@ impl<A: Allocator + Copy> Pieces<A> {
     }
 }
 
-// Returns the one entry that the indexer reports for every pack.
+// Returns the single entry that this indexer reports for every pack.
 fn made_up<A: Allocator + Copy>(
     liar: Liar,
     format: Format,

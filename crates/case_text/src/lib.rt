@@ -1,5 +1,5 @@
-//! The parser of test files: rows with their messages, facts, texts, and the programs, packers and
-//! indexers that rows name.
+//! The parser of test files. A file contains facts, texts, and rows with their messages. Rows name
+//! programs, packers and indexers.
 //!
 //! A [`Script`] parses files in sequence, for ids of one format. A [`Case`] is a row of a file. A
 //! [`Fact`] is the expected result of one call. An [`Invocation`] is the command line of a row. A
@@ -18,8 +18,8 @@
 //!
 //! # Dependencies
 //!
-//! `gname` defines ids and their formats, `ggrammar` the ends of replies, `ggraph` objects, packers
-//! and indexers.
+//! `gname` defines ids and their formats, `ggrammar` defines the ends of replies, and `ggraph`
+//! defines objects, packers and indexers.
 #![tactic(auto)]
 
 mod case;

@@ -1,4 +1,5 @@
-//! An allocator that fails one chosen allocation and passes every other call to an inner allocator.
+//! An allocator that fails one chosen allocation, and forwards every other call to an inner
+//! allocator.
 //!
 //! The type is proved to be an allocator: each block is allocated and freed by the inner allocator.
 //! Only tests check which allocation fails.
@@ -29,7 +30,7 @@ impl<A: Allocator> Scarce<A> {
         self.countdown.set(number);
     }
 
-    /// Returns whether the allocation to refuse has not been reached yet.
+    /// Returns whether the allocation to refuse is still to come.
     pub fn is_due(&self) -> bool {
         self.countdown.get() != 0
     }
@@ -44,7 +45,7 @@ impl<A: Allocator> Drop for Scarce<A> {
     }
 }
 
-// Counts an allocation, and returns whether it is the one to refuse.
+// Counts an allocation, and returns whether to refuse it.
 fn ends_now(countdown: &Cell<u64>) -> bool {
     let left = countdown.get();
     countdown.set(left.saturating_sub(1));

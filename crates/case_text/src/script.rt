@@ -26,11 +26,11 @@ pub struct Script<'a> {
     talks: Vec<Shared<'a>>,
     open: Open,
     times: usize,
-    // The name of the text block that holds the graph of the next facts.
+    // The name of the text block that holds the graph for the facts after this line.
     graph: &'a str,
-    // Whether the next cases run with ids of both formats.
+    // Whether the cases after this line run with ids of both formats.
     is_both: bool,
-    // Whether the next lines are skipped, because their case runs only with SHA-1 ids.
+    // Whether the following lines are skipped because their case runs only with SHA-1 ids.
     is_skipped: bool,
 }
 
@@ -140,7 +140,7 @@ impl<'a> Script<'a> {
         Ok(())
     }
 
-    // Returns whether the next rows are only for ids of the other format.
+    // Returns whether the rows after this line run only with ids of the other format.
     fn is_for_others(&self) -> bool {
         self.format == Format::Sha256 && !self.is_both
     }
@@ -222,7 +222,7 @@ impl<'a> Script<'a> {
         Ok(())
     }
 
-    // Returns how often the next line is repeated, and resets the count to 1.
+    // Returns how many times the next line is repeated, and resets that number to 1.
     fn take_times(&mut self) -> usize {
         let times = self.times;
         self.times = 1;
@@ -318,7 +318,7 @@ impl<'a> Script<'a> {
         }
     }
 
-    // Appends a message as often as its line is repeated.
+    // Appends the message of a line once for each repetition of the line.
     fn say_times(&mut self, alloc: Global, word: &'a str, rest: &'a str) -> Result<(), Trouble> {
         let times = self.take_times();
         let Some(case) = self.cases.last_mut() else {

@@ -13,7 +13,7 @@ use std::alloc::Global;
 pub(crate) struct Speech<'b, 'a> {
     pub(crate) texts: &'b [Text<'a>],
     pub(crate) format: Format,
-    /// The number of this repetition of the line, from 1.
+    /// The number of the current repetition of the line, counted from 1.
     pub(crate) time: usize,
 }
 

@@ -1,14 +1,15 @@
 //! Escapes in the lines of a test file.
 //!
-//! `\n` is a line feed, `\0` the byte 0, `\x1f` the byte 31. A backslash before any other character
-//! stands for that character. `{a}` is an id of forty `a`, or of sixty-four for SHA-256. `{a+1}` is
-//! one digit longer than an id, `{a-4}` four digits shorter. `{a*64}` is sixty-four `a`, `{ab*3}`
-//! is `ababab`. `{NAME}` is the text with this name, which has at least two characters. In a
-//! repeated line, `{#4}` is the number of the repetition, from 1, with four digits. `{#4+16}` adds
-//! sixteen to this number, and `{#4*2+16}` adds sixteen to twice this number. `{#}` and `{#+16}`
-//! are these numbers with as many digits as an id has. `{#=17}` is the number 17 with as many
-//! digits. `{@2}` is the index of a packet: 2, or 3 for SHA-256, whose requests have an extra
-//! `object-format` line.
+//! `\n` is a line feed, `\0` is the byte 0, and `\x1f` is the byte 31. A backslash before any other
+//! character yields that character. `{a}` is an id of forty `a`, or of sixty-four for SHA-256.
+//! `{a+1}` is one digit longer than an id, and `{a-4}` is four digits shorter. `{a*64}` is
+//! sixty-four `a`, and `{ab*3}` is `ababab`. `{NAME}` is the text with this name, which has at
+//! least two characters. In a repeated line, `{#4}` is the number of the repetition, counted from
+//! 1, in four digits. `{#4+16}` is the sum of this number and 16, and `{#4*2+16}` is the sum of
+//! twice this number and
+//! 16. Without the digit count, as in `{#}` and `{#+16}`, the number has as many digits as an id.
+//!     `{#=17}` is the number 17 in as many digits as an id. `{@2}` is the index of a packet: 2, or
+//!     3 with SHA-256, because a SHA-256 request has an extra `object-format` line.
 
 use crate::trouble::Trouble;
 use gname::{Format, MAX_ID_TEXT, Oid};
@@ -18,7 +19,7 @@ use std::alloc::Global;
 #[derive(Clone, Copy)]
 pub(crate) struct Form {
     pub(crate) format: Format,
-    /// The number of this repetition of the line, from 1.
+    /// The number of the current repetition of the line, counted from 1.
     pub(crate) time: usize,
 }
 
@@ -57,7 +58,8 @@ pub(crate) fn spell_line(
     Ok(bytes)
 }
 
-// Appends the bytes of the first character, escape or brace, and returns the remaining text.
+// Appends the bytes of the first character, escape or pair of braces, and returns the remaining
+// text.
 fn add_next<'a>(
     alloc: Global,
     texts: &[Text<'_>],
@@ -166,8 +168,8 @@ fn add_text(texts: &[Text<'_>], name: &[u8], bytes: &mut Vec<u8>) -> Result<(), 
     }
 }
 
-// Appends the number of the repetition, scaled and shifted, or a fixed number. The number gets the
-// given count of digits, or as many digits as an id has.
+// Appends a fixed number, or the number of the repetition after scaling and shifting. The number
+// has the given count of digits, or as many digits as an id.
 fn add_counted(
     alloc: Global,
     inside: &[u8],

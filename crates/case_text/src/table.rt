@@ -47,7 +47,7 @@ pub struct Due<'a> {
 }
 
 impl<'a> Due<'a> {
-    /// Returns the expectation of the same result as for the unchanged row.
+    /// Returns the expectation that the result is the same as for the unchanged row.
     pub(crate) fn as_it_stands(alloc: Global) -> Due<'a> {
         Due {
             ending: Ending::AsItStands,
@@ -57,7 +57,7 @@ impl<'a> Due<'a> {
         }
     }
 
-    /// Returns the expectation of these bytes as output.
+    /// Returns the expectation that the output consists of these bytes.
     pub(crate) fn due_bytes(bytes: Vec<u8>) -> Due<'a> {
         Due {
             ending: Ending::Said,
@@ -67,7 +67,7 @@ impl<'a> Due<'a> {
         }
     }
 
-    /// Returns the expectation of an error to the client and a printed fault.
+    /// Returns the expectation of an error for the client and a printed fault.
     pub(crate) fn due_fault(alloc: Global, text: &'a str, fault: &'a str) -> Due<'a> {
         Due {
             ending: Ending::Refused,
@@ -84,7 +84,7 @@ pub struct TableLine<'a> {
     is_cut: bool,
     first: usize,
     last: usize,
-    // The new values of the changed byte that the line covers, or `other`.
+    // The new values of the byte that the line covers, or `other`.
     bytes: &'a str,
     pub due: Due<'a>,
 }

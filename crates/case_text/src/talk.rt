@@ -10,7 +10,7 @@ const FLUSH: &[u8] = b"0000";
 
 const RESPONSE_END: &[u8] = b"0002";
 
-/// Returns whether the case has replies, none of which ends with an explicit response-end packet.
+/// Returns whether the case has replies, and none of the replies ends with a response-end packet.
 pub fn has_open_replies(case: &Case<'_>, has_hello: bool) -> bool {
     let mut awaits_hello = has_hello;
     let mut has_asked = false;
@@ -54,10 +54,10 @@ pub struct Talk {
     frame: usize,
     before: usize,
     program: Program,
-    // How each reply ends, and whether this talk adds the response-end packets.
+    // The packets that end each reply, and whether this talk adds the response-end packets.
     reply_ends: Ends,
     adds_ends: bool,
-    // Whether the client has sent a message, so that the server's next message is a reply.
+    // Whether the client has sent a message. If so, the server's next message is a reply.
     has_asked: bool,
     // Whether the first line of the client's connection is still missing.
     awaits_hello: bool,
@@ -199,7 +199,8 @@ impl Talk {
         Ok(())
     }
 
-    // Records where a packet begins. A response-end packet belongs to the previous message.
+    // Records the position of the next packet. A response-end packet belongs to the previous
+    // message.
     fn begin_packet(&mut self, is_of_last: bool) -> Result<(), Trouble> {
         if is_of_last {
             self.frame = match self.places.last() {
@@ -236,7 +237,7 @@ impl Talk {
     }
 }
 
-/// Returns the printed fault without `gitv2: fault ` before it, or `None` if no fault is printed.
+/// Returns the printed fault without the prefix `gitv2: fault `, or `None` if no fault is printed.
 pub fn fault_text(errors: &[u8]) -> Option<&[u8]> {
     errors.strip_prefix(b"gitv2: fault ")?.strip_suffix(b"\n")
 }

@@ -1,4 +1,4 @@
-//! Reasons why the cases can't be run.
+//! The reasons why the cases can't run.
 
 use std::alloc::{AllocError, AllocFailed};
 use std::io;
@@ -16,7 +16,7 @@ pub enum Trouble {
     NoRow,
     /// A row names no program.
     NoRun,
-    /// A line does not have any known form.
+    /// A line has no known form.
     UnknownLine,
     /// A `run` line names an unknown program.
     UnknownProgram,
@@ -28,7 +28,7 @@ pub enum Trouble {
     NoGraph,
     /// The text is not an id.
     NoId,
-    /// The two texts are not a server and a client of one simulated world.
+    /// The two texts do not describe a server and a client of one simulated world.
     NoWorld,
     /// The text is not a scenario.
     NoScenario,

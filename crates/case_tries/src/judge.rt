@@ -21,8 +21,8 @@ const PACK_FAILED: &[u8] = b"0021ERR upload-pack: pack failed\n";
 
 const WRITE_FAILED: &[u8] = b"gitv2: fault 27 Io\n";
 
-/// The numbers of two out-of-memory faults: `NO_MEMORY_FAULT` before a connection is served, and
-/// `PACK_FAULT` while a pack is created.
+/// The numbers of two out-of-memory faults. `NO_MEMORY_FAULT` may occur before a connection is
+/// served, and `PACK_FAULT` while a pack is created.
 const NO_MEMORY_FAULT: usize = 64;
 
 const PACK_FAULT: usize = 65;
@@ -49,7 +49,8 @@ pub struct Row<'b> {
     /// table.
     pub table: &'b [TableLine<'b>],
     pub reach: Reach,
-    /// Whether the row is also tested with a late peer, and over a socket with allocations refused.
+    /// Whether the row is also tested with a late peer, and over a socket while each allocation is
+    /// refused in turn.
     pub is_late: bool,
     /// Whether the row is tested only with the whole input and with the input in pieces.
     pub is_long: bool,
@@ -58,15 +59,15 @@ pub struct Row<'b> {
 /// The changes that are made to each byte of the input.
 #[derive(Clone, Copy, PartialEq, Eq)]
 pub enum Reach {
-    /// Each byte is changed to each other value.
+    /// Each byte is changed to every other value.
     Deep,
     /// Each bit of each byte is flipped.
     Bits,
-    /// One bit of each byte is flipped, at a position that moves by one from byte to byte.
+    /// One bit of each byte is flipped. From byte to byte, the position of the bit moves by one.
     OneBit,
 }
 
-/// The two ways in which an input stops early.
+/// The two ways in which an input can stop early.
 #[derive(Clone, Copy, PartialEq, Eq)]
 pub enum Stop {
     /// The input ends.
@@ -122,8 +123,8 @@ pub fn is_stopped(
     Ok(is_refused(played, before, told, line.as_bytes()))
 }
 
-// Returns the expected fault, and the expected error for the client, of an input that stops. The
-// input stops between packets if `is_between` is set, otherwise within a packet.
+// Returns the expected fault and the expected error for the client if the input stops. The input
+// stops between packets if `is_between` is set, otherwise within a packet.
 fn fault_at(stop: Stop, is_between: bool) -> (&'static str, &'static [u8]) {
     match stop {
         Stop::Failed => ("24 Io", READ_FAILED),
@@ -172,8 +173,8 @@ pub fn is_write_failed(row: &Row<'_>, played: &Played) -> bool {
         && played.file.is_none()
 }
 
-/// Returns whether the run had all expected results, except that only a prefix of the report was
-/// written.
+/// Returns whether the run had all expected results, except that it wrote only a prefix of the
+/// report.
 pub(crate) fn is_report_failed(row: &Row<'_>, played: &Played) -> bool {
     played.status == 1
         && has_written(&played.output, row.talk.output.as_slice(), NOTHING)
@@ -182,8 +183,8 @@ pub(crate) fn is_report_failed(row: &Row<'_>, played: &Played) -> bool {
         && has_file(played, row.new_file)
 }
 
-/// Returns whether the run had all expected results, except that only a prefix of the fault line
-/// was printed.
+/// Returns whether the run had all expected results, except that it printed only a prefix of the
+/// fault line.
 pub(crate) fn is_errors_failed(row: &Row<'_>, played: &Played) -> bool {
     played.status == 1
         && has_written(&played.output, row.talk.output.as_slice(), NOTHING)
@@ -202,8 +203,8 @@ pub fn is_scarce(row: &Row<'_>, played: &Played) -> bool {
         || (is_out_of_memory(played) && has_stopped(row, played))
 }
 
-// Returns whether the run is a simulation whose outcomes match the row up to an out-of-memory
-// fault.
+// Returns whether the run is a simulation whose outcomes match those of the row up to an
+// out-of-memory fault.
 fn has_event_without_memory(row: &Row<'_>, played: &Played) -> bool {
     if row.command.program != Program::Simulate || played.status != 0 {
         return false;
@@ -226,7 +227,7 @@ fn is_refusal_of_memory(line: &[u8]) -> bool {
 }
 
 /// Returns whether memory ran out while the server loaded the repository, before the server wrote
-/// anything.
+/// any output.
 pub(crate) fn is_unserved(row: &Row<'_>, played: &Played) -> bool {
     row.command.program.serves()
         && is_out_of_memory(played)
@@ -245,9 +246,9 @@ fn is_out_of_memory(played: &Played) -> bool {
         && has_written(&played.report, NOTHING, NOTHING)
 }
 
-// Returns whether the run wrote complete messages of the expected output, and then, for a server,
-// the error for the client. If the run has written a new file, the output must be complete, because
-// then only the report can have failed.
+// Returns whether the run wrote complete messages of the expected output, followed by the error for
+// the client if the program is a server. If the run wrote a new file, the output must be complete,
+// because only the report can have failed.
 fn has_stopped(row: &Row<'_>, played: &Played) -> bool {
     let told = if row.command.program.serves() {
         refusal_of(fault_of(played.errors.written_bytes()))
@@ -350,8 +351,8 @@ pub(crate) fn is_sound(row: &Row<'_>, played: &Played) -> bool {
     is_told && advertises(row, played)
 }
 
-// Returns whether the output of a server begins with the advertisement, if the row has one. A
-// connection with a first line may have an error packet instead.
+// Returns whether the output of a server begins with the row's advertisement, if any. A connection
+// with a first line may have an error packet instead.
 fn advertises(row: &Row<'_>, played: &Played) -> bool {
     match row.command.program {
         Program::Upload => has_advert(row, played),
@@ -424,7 +425,7 @@ fn parts_of(file: &[u8]) -> (&[u8], &[u8]) {
     file.split_at(len.min(file.len()))
 }
 
-// Returns whether the output is exactly `first` and then `last`, completely flushed.
+// Returns whether the output consists of `first` and `last`, and is completely flushed.
 fn has_written(output: &Writer, first: &[u8], last: &[u8]) -> bool {
     output.is_passed_on() && output.written_bytes().strip_prefix(first) == Some(last)
 }

@@ -1,13 +1,13 @@
-//! Tests of one row over devices in memory, with checks of the results.
+//! Tests of one row on sources and sinks in memory, with checks of the results.
 //!
 //! A [`Row`] is a program with its input and its expected results. A [`Bench`] tests the row in
 //! each [`Way`].
 //!
-//! - The input is unchanged, and is read whole or in pieces, also through readers and writers of
-//!   std.
-//! - The calls of the indexer are checked.
+//! - The input is unchanged, and is read whole or in pieces. The row also runs on std readers and
+//!   writers.
+//! - The calls to the indexer are checked.
 //! - The request is changed as the row's table lists.
-//! - Each call of each device fails in turn.
+//! - Each call to each source and sink fails in turn.
 //! - The input is truncated after each byte, or one of its bytes is changed.
 //! - Each allocation is refused in turn.
 //! - A stored file fails or stops at each of its calls.
@@ -26,8 +26,9 @@
 //! # Dependencies
 //!
 //! `case_text` defines rows, their messages, and an allocator that fails. `case_runs` runs programs
-//! over devices, and `case_worlds` runs simulations. `gsimulate` is the program for simulations,
-//! and `gcmd` checks a repository. `glockfile` defines stored files, and `gpkt` devices.
+//! on sources and sinks in memory, and `case_worlds` runs simulations. `gsimulate` is the program
+//! for simulations, and `gcmd` checks a repository. `glockfile` defines stored files, and `gpkt`
+//! defines sources and sinks.
 #![tactic(auto)]
 
 mod judge;

@@ -1,4 +1,4 @@
-//! A run over devices in memory, and the result of the run.
+//! A run on sources and sinks in memory, and the result of the run.
 
 use case_runs::{AsStd, Devices, Hindrance, Job, Ran, Reader, Watch, Writer, ran_without_file};
 use case_text::{Invocation, Program, Scarce, Trouble};
@@ -7,8 +7,8 @@ use gpkt::{FromRead, Sink, Source, ToWrite};
 use gsimulate::{Simulation, cmd_simulate};
 use std::alloc::{Allocator, Global};
 
-/// The parameters of a run: the limits of the devices, and the number of the allocation to refuse,
-/// if any.
+/// The parameters of a run: the limits of the sources and sinks, and the number of the allocation
+/// to refuse, if any.
 #[derive(Clone, Copy)]
 pub(crate) struct Trial {
     pub(crate) read: Hindrance,
@@ -16,7 +16,7 @@ pub(crate) struct Trial {
     pub(crate) report: Hindrance,
     pub(crate) errors: Hindrance,
     pub(crate) refused: u64,
-    /// Whether the devices are wrapped in readers and writers of std.
+    /// Whether the sources and sinks are wrapped in std readers and writers.
     pub(crate) is_std: bool,
 }
 
@@ -30,8 +30,8 @@ impl Trial {
         is_std: false,
     };
 
-    /// Returns the parameters of a run that reads at most `most` bytes a call, and writes one byte
-    /// a call.
+    /// Returns the parameters of a run that reads at most `most` bytes per call, and writes one
+    /// byte per call.
     pub(crate) fn in_pieces(most: usize) -> Trial {
         let mut trial = Trial::FREE;
         trial.read = Hindrance::pieces(most);
@@ -39,7 +39,7 @@ impl Trial {
         trial
     }
 
-    /// Returns the parameters of a run in which this call of the device fails.
+    /// Returns the parameters of a run in which the given call to the source or sink fails.
     pub(crate) fn fail_call(device: Device, call: usize) -> Trial {
         let mut trial = Trial::FREE;
         let hindrance = Hindrance::fail_call(call);
@@ -60,7 +60,7 @@ impl Trial {
     }
 }
 
-/// A device that may fail during a run.
+/// The source or sink that fails during a run.
 #[derive(Clone, Copy)]
 pub(crate) enum Device {
     Input,
@@ -83,7 +83,7 @@ pub struct Played {
     /// The number of input bytes that were not read.
     pub(crate) left: usize,
     pub(crate) read_failed: bool,
-    /// Whether a device was called after its failure, or an indexer was called incorrectly.
+    /// Whether a source or sink was called after its failure, or an indexer was called incorrectly.
     pub(crate) was_misused: bool,
     /// Whether the run reached the allocation to refuse.
     pub(crate) was_refused: bool,
@@ -117,7 +117,7 @@ impl Played {
         self.errors.written_bytes()
     }
 
-    /// Returns whether a call of the device failed.
+    /// Returns whether a call to the source or sink failed.
     pub(crate) fn has_failed(&self, device: Device) -> bool {
         match device {
             Device::Input => self.read_failed,
@@ -194,7 +194,7 @@ fn play_over_std<A: Allocator + Copy>(
     Ok(left_by(job, ran, devices))
 }
 
-// Returns the result of a run and the final state of its devices.
+// Returns the result of a run, including the final state of its source and sinks.
 fn left_by<A: Allocator + Copy>(
     job: &Job<'_, '_, '_, A>,
     ran: Ran,

@@ -9,7 +9,8 @@ use std::alloc::Global;
 
 const FILE_FAILED: &[u8] = b"gitv2: fault 95 File\n";
 
-/// The number of file calls before the fetch sends anything: one to lock and one to read the file.
+/// The number of file calls before the fetch sends any bytes: one call locks the file, and one
+/// reads it.
 const OPENING_CALLS: usize = 2;
 
 /// The failures to simulate during a fetch into a stored file.
@@ -33,7 +34,7 @@ impl Hindered {
 pub(crate) struct Fetched {
     stored: Stored,
     output: Writer,
-    // Standard error, with the report or the line that reports a fault.
+    // The standard error, which receives the report or the line that reports a fault.
     errors: Writer,
     // Whether no byte of the input was read.
     is_unread: bool,
@@ -130,14 +131,14 @@ pub(crate) fn is_stored(row: &Row<'_>, fetched: &Fetched) -> bool {
 }
 
 /// Returns whether a fetch had the expected results for a file that fails or stops at a call. A
-/// fetch without a failure makes `calls` calls.
+/// fetch without a failure makes `calls` calls to the file.
 pub(crate) fn is_failed(row: &Row<'_>, fetched: &Fetched, mishap: Mishap, calls: usize) -> bool {
     let (call, stops) = match mishap {
         Mishap::Fails(call) => (call, false),
         Mishap::Stops(call) | Mishap::StopsAfter(call) => (call, true),
         Mishap::None | Mishap::Locked => (1, false),
     };
-    // The last call of an unchanged file removes the lockfile. A failure of this call is not
+    // If the file is not changed, the last call removes the lockfile. A failure of this call is not
     // reported.
     let is_unlock = call == calls && !has_change(row);
     let is_ended = if is_unlock {
@@ -189,8 +190,8 @@ fn has_change(row: &Row<'_>) -> bool {
     }
 }
 
-// Returns whether the file held only the old text, or first the old text and then the complete new
-// text.
+// Returns whether the file only ever held the old text, or held the old text and then the complete
+// new text.
 fn is_whole(row: &Row<'_>, fetched: &Fetched) -> bool {
     match fetched.stored.file.states() {
         [old] => old.as_slice() == row.file,

@@ -14,8 +14,8 @@ use case_text::{Change, Liar, Program, Trouble, fault_text};
 use case_worlds::{Files, Happened, run_one_by_one, run_scarcely};
 use std::alloc::Global;
 
-/// An upper bound on the number of calls to a device, and on the number of allocations, in a run of
-/// any row.
+/// An upper bound on the number of calls to a source or sink, and on the number of allocations, in
+/// a run of any row.
 const MOST_TRIES: usize = 1_000_000;
 
 /// The eight bits of a byte.
@@ -46,7 +46,7 @@ impl Tried {
 // The state of a series of runs, each of which refuses the next allocation.
 #[derive(Clone, Copy)]
 struct Refusals {
-    // The number of out-of-memory faults in the row's list that runs have printed so far.
+    // The number of faults in the row's list that runs have printed so far.
     met: usize,
     // Whether a server has reported a fault to the client in an earlier run.
     has_served: bool,
@@ -77,8 +77,8 @@ impl<'a, 'b> Bench<'a, 'b> {
         }
     }
 
-    /// Tests the row in this way, and returns the number of the first run that failed. The ways
-    /// over a socket, by the program and with a late peer are not tested here.
+    /// Tests the row in this way, and returns the number of the first run that failed. Ways that
+    /// use sockets, launches of the program or late peers are not tested here.
     pub fn try_way(&mut self, way: Way) -> Result<Option<usize>, Trouble> {
         match way {
             Way::Whole => self.whole(),
@@ -113,8 +113,8 @@ impl<'a, 'b> Bench<'a, 'b> {
         self.play(row.talk.input.as_slice(), trial)
     }
 
-    // Returns whether a run was correct and left the repository as expected. Otherwise stores the
-    // bytes that the run printed.
+    // Returns whether a run was correct and left the repository in the expected state. Otherwise
+    // stores the bytes that the run printed.
     fn is_well(&mut self, is_right: bool, played: &Played) -> Result<bool, Trouble> {
         if is_right && !played.was_misused && is_kept(self.alloc, self.row, played) {
             return Ok(true);
@@ -138,8 +138,8 @@ impl<'a, 'b> Bench<'a, 'b> {
         Ok(wrong_at(is_right, 0))
     }
 
-    // Tests the row with the input in pieces of one byte and of three bytes, and with one byte
-    // written in each call. The events of a simulation also run one by one.
+    // Tests the row with the input read in pieces of one byte and of three bytes. Each call writes
+    // one byte. The events of a simulation also run one by one.
     fn in_pieces(&mut self) -> Result<Option<usize>, Trouble> {
         for most in [1usize, 3] {
             if !self.has_expected_results(Trial::in_pieces(most))? {
@@ -166,8 +166,8 @@ impl<'a, 'b> Bench<'a, 'b> {
         Ok(happened.has_connected_refs && happened.text.as_bytes() == row.talk.output.as_slice())
     }
 
-    // Tests the row over readers and writers of std, with its input whole, and also in pieces if
-    // the row is not long. For thorough rows, each read and each write also fails in turn.
+    // Tests the row on std readers and writers. The input is read whole, and also in pieces if the
+    // row is not long. For thorough rows, each read and each write also fails in turn.
     fn over_std(&mut self) -> Result<Option<usize>, Trouble> {
         self.is_std = true;
         let wrong = self.with_devices()?;
@@ -187,7 +187,7 @@ impl<'a, 'b> Bench<'a, 'b> {
         Ok(wrong)
     }
 
-    // Tests the row with its input whole, and also in pieces if the row is not long.
+    // Tests the row with the input read whole, and also in pieces if the row is not long.
     fn whole_and_in_pieces(&mut self) -> Result<Option<usize>, Trouble> {
         let wrong = self.whole()?;
         if wrong.is_some() || self.row.is_long {
@@ -196,8 +196,8 @@ impl<'a, 'b> Bench<'a, 'b> {
         self.in_pieces()
     }
 
-    // Returns whether the row is tested completely. Long rows, and variants with added response-end
-    // packets, are tested only in part.
+    // Returns whether the row is tested completely. Some tests are skipped for long rows, and for
+    // variants with added response-end packets.
     fn is_thorough(&self) -> bool {
         let row = self.row;
         !row.is_long && row.reach != Reach::OneBit
@@ -230,7 +230,8 @@ impl<'a, 'b> Bench<'a, 'b> {
         Ok(wrong)
     }
 
-    // Tests the row with each call of a device failing in turn. Each call moves at most one byte.
+    // Tests the row with each call to a source or sink failing in turn. Each call transfers at most
+    // one byte.
     fn try_failures(&mut self, device: Device) -> Result<Option<usize>, Trouble> {
         for call in 1..MOST_TRIES {
             match self.fail_at(device, call)? {
@@ -254,7 +255,7 @@ impl<'a, 'b> Bench<'a, 'b> {
         Ok(Tried::of(is_right, !has_failed))
     }
 
-    // Returns whether the run had the expected results after the failure of a device.
+    // Returns whether the run had the expected results after the source or sink failed.
     fn is_failed(&mut self, device: Device, played: &Played) -> Result<bool, Trouble> {
         let row = self.row;
         match device {
@@ -551,8 +552,8 @@ impl<'a, 'b> Bench<'a, 'b> {
         is_right
     }
 
-    // Returns whether the row lists all possible out-of-memory faults of this run. An indexer that
-    // the row does not name may cause other faults.
+    // Returns whether the row lists all possible out-of-memory faults of this run. With an indexer
+    // that the row does not name, other faults are possible.
     fn names_faults(&self) -> bool {
         !self.row.memory.is_empty() && self.liar == self.row.command.liar
     }
@@ -561,8 +562,8 @@ impl<'a, 'b> Bench<'a, 'b> {
         !self.names_faults() || met == self.row.memory.len()
     }
 
-    // Returns whether the fault is the most recently met fault or the next fault in the row's list.
-    // Also returns true if the row lists no faults.
+    // Returns whether the fault is the most recently printed fault of the row's list, or the next
+    // one in the list. Returns `true` if the row lists no faults.
     fn is_named(&self, played: &Played, met: &mut usize) -> bool {
         let named = self.row.memory;
         if !self.names_faults() || is_as_due(self.row, played) {
@@ -584,8 +585,8 @@ fn wrong_at(is_right: bool, number: usize) -> Option<usize> {
     if is_right { None } else { Some(number) }
 }
 
-// Returns whether a simulation with an allocation refused has outcomes consistent with `ample`, the
-// result with enough memory.
+// Returns whether the outcomes of a simulation with a refused allocation are consistent with
+// `ample`, the result with enough memory.
 fn happens_scarcely(
     alloc: Global,
     files: Files<'_>,
@@ -597,7 +598,7 @@ fn happens_scarcely(
     Ok(Tried::of(is_right, !happened.was_refused))
 }
 
-// Returns whether the list has this text at the index `place`.
+// Returns whether the text at index `place` of the list is `text`.
 fn is_at(named: &[Vec<u8>], place: usize, text: &[u8]) -> bool {
     match named.get(place) {
         Some(name) => name.as_slice() == text,
@@ -605,7 +606,7 @@ fn is_at(named: &[Vec<u8>], place: usize, text: &[u8]) -> bool {
     }
 }
 
-// Returns whether this change of the byte at an offset is tested.
+// Returns whether the tests include this change of the byte at the offset `at`.
 fn is_tried(reach: Reach, at: usize, change: u8) -> bool {
     match reach {
         Reach::Deep => true,

@@ -1,6 +1,6 @@
 //! Random events, each as a line of a scenario. Most events are the next step of an honest session.
-//! The other events are late, repeated, truncated or forged messages, and changes or restarts of
-//! the server or the client.
+//! The other events deliver late, repeated, truncated or forged messages, or change or restart the
+//! server or the client.
 
 use crate::dice::Dice;
 use crate::forgery::Forger;
@@ -206,8 +206,8 @@ impl Chance {
         };
     }
 
-    // Ends the session if the fault with this number ends a session. Other faults do not change the
-    // session.
+    // Ends the session if the fault with this number ends a session. Any other fault leaves the
+    // session unchanged.
     fn give_up(&mut self, code: u32) {
         if self.was_step || matches!(code, 20..=54 | 84..=86) {
             self.step = SessionStep::Begin;
@@ -223,7 +223,8 @@ fn pick(words: &[&'static str], dice: &mut Dice) -> &'static str {
     }
 }
 
-// Appends a line with a word, and with the bytes in hexadecimal or `-` if there are none.
+// Appends a line with a word and the bytes in hexadecimal, or with a word and `-` if there are no
+// bytes.
 fn add_bytes(word: &str, bytes: &[u8], line: &mut String) -> Result<(), AllocError> {
     line.push_str(word)?;
     if bytes.is_empty() {
@@ -254,7 +255,7 @@ fn add_ids(alloc: Global, text: &[u8], ids: &mut Vec<String>) -> Result<(), Allo
     Ok(())
 }
 
-// Returns the id in the line of a repository's text if the line describes an object.
+// If the line of a repository's text describes an object, returns the id of that object.
 fn id_of(line: &[u8]) -> Option<&str> {
     let line = std::str::from_utf8(line).ok()?;
     let mut words = line.split(' ');

@@ -39,7 +39,7 @@ impl Forger {
         Ok(())
     }
 
-    /// Appends a random reply, which mostly has the form that the client expects.
+    /// Appends a random reply, which usually has the form that the client expects.
     pub(crate) fn add_reply(&mut self, bytes: &mut Vec<u8>) -> Result<(), AllocError> {
         if self.dice.is_one_of(8) {
             self.add_noise(bytes)?;
@@ -155,7 +155,8 @@ impl Forger {
         self.add_lines(&[line.as_str()], bytes)
     }
 
-    // Appends a packet for each line; `0000` and `0001` are a flush and a delimiter.
+    // Appends a packet for each line. `0000` stands for a flush packet, and `0001` for a delimiter
+    // packet.
     fn add_lines(&self, lines: &[&str], bytes: &mut Vec<u8>) -> Result<(), AllocError> {
         for line in lines {
             self.add_packet(line, bytes)?;
@@ -188,7 +189,7 @@ impl Forger {
         byte
     }
 
-    // Changes a byte of the message or removes its end, for one in six messages on average.
+    // Changes a byte of the message or truncates the message, in one of six calls on average.
     fn spoil(&mut self, bytes: &mut Vec<u8>) {
         let place = self.dice.roll(bytes.len());
         match self.dice.roll(12) {

@@ -1,4 +1,4 @@
-//! Simulations of a server and a client. The events of a simulation are random, or come from a
+//! Simulations of a server and a client. The events of a simulation are random, or listed in a
 //! scenario.
 //!
 //! - [`simulate_with`] runs a simulation with a packer or an indexer that may fail.
@@ -12,8 +12,8 @@
 //!
 //! # What the contracts do not rule out
 //!
-//! No contract states the results of this crate. Deliberately wrong programs were run, to check
-//! that the tests detect a client whose refs are not connected.
+//! No contract states the results of this crate. The tests were run against deliberately wrong
+//! programs, to check that they detect a client whose refs are not connected.
 //!
 //! # Dependencies
 //!

@@ -1,9 +1,9 @@
 //! Simulations with random events: `random whole: SEED COUNT / CLIENT`. CLIENT is the text of the
 //! client's repository. The graph of the fact is the server's repository. COUNT events run with
-//! `PlainPack`, and again with allocations refused. A quarter of COUNT events run with each faulty
-//! packer and each faulty indexer. The client's refs must be connected after each event. With
-//! `PlainPack`, each kind of outcome must occur. Rounds of acknowledgments are required only if
-//! `rounds` follows COUNT.
+//! `PlainPack`, and run again with allocations refused. With each faulty packer and each faulty
+//! indexer, a quarter of COUNT events run. The client's refs must be connected after each event.
+//! With `PlainPack`, each kind of outcome must occur. Rounds of acknowledgments are required only
+//! if `rounds` follows COUNT.
 
 use crate::chance::Chance;
 use crate::simulated::run_scarcely;
@@ -45,7 +45,7 @@ struct Setting<'b> {
     files: Files<'b>,
     seed: usize,
     count: usize,
-    // Whether some events run with a refused allocation.
+    // Whether an allocation is refused in some events.
     is_scarce: bool,
     // Whether rounds of acknowledgments must occur.
     has_rounds: bool,
@@ -178,8 +178,7 @@ impl<A: Allocator + Copy> ByChance<'_, A> {
         }
     }
 
-    // Runs the events until the client has a ref that is not connected. Returns `false` if that
-    // happens.
+    // Runs the events, but stops and returns `false` if the client has a ref that is not connected.
     fn keeps_connected_refs(
         &self,
         chance: &mut Chance,
@@ -248,7 +247,7 @@ impl<A: Allocator + Copy> ByChance<'_, A> {
         }
     }
 
-    // Returns the result of a second run of all events if it differs from `text`.
+    // Runs all events a second time, and returns the result if it differs from `text`.
     fn other_text(&self, text: &str, log: &str) -> Result<Option<String>, Trouble> {
         let files = Files {
             server: self.setting.files.server,
@@ -291,7 +290,7 @@ fn refused_number(chance: &mut Chance, is_scarce: bool) -> u64 {
     }
 }
 
-// Runs the events with an allocation refused. If that run stops, runs the events again with enough
+// Runs the events with an allocation refused. If memory runs out, runs the events again with enough
 // memory.
 fn do_events<A: Allocator + Copy>(
     refusal: &RefusedAllocation<'_>,
@@ -308,8 +307,8 @@ fn do_events<A: Allocator + Copy>(
     Ok(())
 }
 
-// Returns the first kind that no outcome has. Rounds of acknowledgments are required only if
-// `has_rounds` is set.
+// Returns the first kind of outcome that does not occur in `outcomes`. Rounds of acknowledgments
+// are required only if `has_rounds` is set.
 fn first_missing(outcomes: &[Outcome], has_rounds: bool) -> Option<&'static str> {
     for kind in KINDS {
         let is_due = has_rounds || kind != ROUND;

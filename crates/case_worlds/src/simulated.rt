@@ -16,8 +16,8 @@ const NO_MEMORY: &[u8] = b"gitv2: fault 91 Memory\n";
 
 const WRITE_FAILED: &[u8] = b"gitv2: fault 27 Io\n";
 
-/// Runs a simulation as the program does, but with the packer and indexer in `files`. Returns the
-/// exit status.
+/// Runs a simulation like the program, but with the packer and indexer in `files`. Returns the exit
+/// status.
 pub fn simulate_with<A: Allocator + Copy, O: Sink, E: Sink>(
     alloc: Global,
     memory: A,
@@ -36,7 +36,7 @@ pub fn simulate_with<A: Allocator + Copy, O: Sink, E: Sink>(
     }
 }
 
-// A run of a scenario. The result of the run is the printed text, or `None` if memory runs out.
+// A run of a scenario. The result of the run is the text to print, or `None` if memory runs out.
 #[derive(Drop)]
 struct ScenarioPlay<'b, A: Allocator + Copy> {
     alloc: Global,
@@ -134,7 +134,7 @@ fn agree(outcomes: &[Outcome], others: &[Outcome]) -> bool {
     true
 }
 
-/// Runs the events in a world with the allocation of this number refused. If memory runs out, the
+/// Runs the events in a world, and refuses the allocation with this number. If memory runs out, the
 /// remaining events run with enough memory in the same world.
 pub fn run_scarcely(alloc: Global, files: Files<'_>, refused: u64) -> Result<Happened, Trouble> {
     let memory = Scarce::new(alloc);

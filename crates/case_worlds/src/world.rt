@@ -19,7 +19,8 @@ pub struct Files<'b> {
 }
 
 impl<'b> Files<'b> {
-    /// Returns the texts and tools of a simulation for this text of the server's repository.
+    /// Returns the texts and tools of a simulation, with `server` as the text of the server's
+    /// repository.
     pub fn of(command: Invocation<'b>, server: &'b [u8]) -> Files<'b> {
         Files {
             server,
@@ -86,7 +87,7 @@ pub(crate) fn play_or_fault<A: Allocator + Copy, P: Play<A>>(
     }
 }
 
-// Runs the action and drops the world. Only this function drops a world, because the proof for the
+// Runs the action and drops the world. Only this function drops a world, because the proof of the
 // drop is long.
 fn play_and_drop<A: Allocator + Copy, P: Play<A>>(
     world: World<Tools, A>,
@@ -106,7 +107,7 @@ fn world_of<A: Allocator + Copy>(
     }
 }
 
-// Returns the world of this server and of the client in `files`.
+// Returns a world with this server and with the client in `files`.
 fn meet<A: Allocator + Copy>(
     memory: A,
     server: Server<A>,

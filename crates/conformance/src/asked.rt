@@ -3,8 +3,8 @@
 //! The text of an `asked` fact holds the arguments, separated by spaces; `""` is the empty
 //! argument. The result is `none` for arguments that do not match the usage. Otherwise the result
 //! lists the command, the source or the address, the limit of a pack, and the number of
-//! connections. The next word is `plain` or `response-end`, which states how replies end. The
-//! files, refspecs or prefixes come last, in order.
+//! connections. The next word is `plain` or `response-end`, which states how replies end. At the
+//! end are the files, refspecs or prefixes, in order.
 
 use case_launches::add_split;
 use case_text::Trouble;
@@ -13,7 +13,7 @@ use gcmd::Ends;
 use gtcp::Location;
 use std::alloc::Global;
 
-// The empty argument in a test file.
+// The notation for an empty argument in a test file.
 const EMPTY: &str = "\"\"";
 
 /// Returns the request to which the arguments parse, as text.
@@ -99,7 +99,7 @@ fn simulate_shown(alloc: Global, asked: &Simulate) -> Result<String, Trouble> {
     command_text(alloc, "simulate", &files, &[])
 }
 
-// Returns the address and the path as text. The path is ASCII.
+// Returns the address and the path as text. The path must be ASCII.
 fn place_shown(alloc: Global, place: &Location) -> Result<String, Trouble> {
     let address = place.address();
     let path = match std::str::from_utf8(place.hello().path()) {

@@ -1,4 +1,4 @@
-//! Calls to `gtcp` over any type of stream, with the results of the calls.
+//! Calls to `gtcp` on streams of any type, with the results of the calls.
 
 use case_runs::{
     Hindrance, Job, Ran, Watch, Writer, client_of, end_fetch, end_listing, end_with_fault,
@@ -41,8 +41,8 @@ pub struct Door<'c, C, L> {
     pub connections: u32,
 }
 
-/// Runs a row on connections. The allocation with number `refused`, counted from the first call to
-/// `gtcp`, fails.
+/// Runs a row on connections. Allocations are counted from the first call to `gtcp` on, and the
+/// allocation with the number `refused` fails.
 pub fn hold_row<C, L, S>(
     alloc: Global,
     row: &Row<'_>,
@@ -69,8 +69,8 @@ where
     hold(&job, door)
 }
 
-// Runs a command on connections. One allocation fails: the job's `refused` is its number, counted
-// from the first call to `gtcp`.
+// Runs a command on connections. Allocations are counted from the first call to `gtcp` on, and the
+// allocation with the job's number `refused` fails.
 fn hold<A, C, L, S>(job: &Job<'_, '_, '_, A>, door: Door<'_, C, L>) -> Result<Held, Trouble>
 where
     A: Allocator + Copy,

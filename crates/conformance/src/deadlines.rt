@@ -1,6 +1,6 @@
 //! Tests of deadlines: connections with a late peer and a simulated clock.
 //!
-//! These tests restate the deadlines of `gtcp`. A server waits 10 seconds for the first line of a
+//! These tests repeat the deadlines of `gtcp`. A server waits 10 seconds for the first line of a
 //! client, and 60 seconds for each request. A client waits 60 seconds for the next bytes of a
 //! server. A server waits 60 seconds for a client to accept bytes.
 
@@ -12,7 +12,7 @@ use case_tries::{Played, Row, Stop, is_as_due, is_kept, is_stopped, is_write_fai
 use std::alloc::Global;
 use std::time::Duration;
 
-/// The limits in seconds on the time for a first line, on the time for a request, and on silence.
+/// The time limits in seconds for a first line, for a request, and for silence.
 const FIRST_LINE: u64 = 10;
 
 const REQUEST: u64 = 60;
@@ -22,9 +22,9 @@ const SILENCE: u64 = 60;
 /// The seconds within which a server answers an honest client after two silent clients.
 const PATIENCE: u64 = 25;
 
-/// The milliseconds that a slow peer waits before each byte. With some gaps a first line or a
-/// request meets its deadline, and with others it is late. The last gap equals the limit on
-/// silence, and the gap before it is just below that limit.
+/// The delays in milliseconds of a slow peer before each byte. With some of these delays a first
+/// line or a request meets its deadline, and with others it is late. The last delay equals the
+/// limit on silence, and the delay before it is just below that limit.
 const GAPS: [u64; 8] = [100, 240, 250, 400, 900, 6_000, 59_999, 60_000];
 
 // The expected result of a connection.
@@ -36,9 +36,9 @@ struct Due {
     time: Duration,
 }
 
-/// Tests a `late` row with peers that become silent at some byte, or slow at some message. A client
-/// may also stop accepting bytes. After a late client, a server must serve the next client. Counts
-/// the runs in `runs`. If a run fails, returns the index of the byte that the first failed run
+/// Tests a `late` row with peers that become silent at some byte, become slow at some message, or,
+/// if the peer is a client, stop accepting bytes. After a late client, a server must serve the next
+/// client. Counts the runs in `runs`. If a run fails, returns the index of the byte that this run
 /// tested.
 pub fn first_wrong(alloc: Global, row: &Row<'_>, runs: &mut u64) -> Result<Option<usize>, Trouble> {
     if !row.is_late || !row.command.has_hello() {
@@ -152,8 +152,8 @@ fn wrong_server(alloc: Global, row: &Row<'_>, runs: &mut u64) -> Result<Option<u
     Ok(if is_right { None } else { Some(0) })
 }
 
-// Returns whether a connection with this late peer has the expected results. After a late client, a
-// server must serve the next client.
+// Returns whether a connection with a peer of this manner has the expected results. After a late
+// client, a server must serve the next client.
 fn is_late_as_due(
     alloc: Global,
     row: &Row<'_>,
@@ -218,7 +218,7 @@ fn is_left_as_due(alloc: Global, row: &Row<'_>, takes: usize) -> Result<bool, Tr
     Ok(is_write_failed(row, &met.first) && met.is_last_served && is_in_time)
 }
 
-// Returns whether a server reads nothing from its client if its clock fails or goes back.
+// Returns whether a server reads no bytes from its client if its clock fails or goes back.
 fn is_refused_by_clock(alloc: Global, row: &Row<'_>, pulse: Pulse) -> Result<bool, Trouble> {
     let met = run_on_connections(alloc, row, &[Manner::PROMPT], pulse)?;
     is_stopped(alloc, row, &met.first, 0, Stop::Failed)
@@ -232,7 +232,7 @@ fn is_answered_after_two(alloc: Global, row: &Row<'_>) -> Result<bool, Trouble> 
     Ok(met.is_last_served && met.time <= Duration::from_secs(PATIENCE))
 }
 
-// The results of running a row on some connections.
+// The results of running a row on one or more connections.
 #[derive(Drop)]
 struct ConnectionResults {
     // The output of the first connection, and the printed lines of all connections.
@@ -242,8 +242,8 @@ struct ConnectionResults {
     time: Duration,
 }
 
-// Runs the row on one connection for each of the manners, to a peer that behaves in that manner. A
-// client uses only the first connection.
+// Runs the row on one connection for each manner. The peer of the connection behaves in that
+// manner. A client uses only the first connection.
 fn run_on_connections(
     alloc: Global,
     row: &Row<'_>,

@@ -43,7 +43,7 @@ impl OwnClock {
         }
     }
 
-    /// Returns the time that calls have waited.
+    /// Returns the total time that calls have waited.
     pub fn time_passed(&self) -> Duration {
         self.now.get()
     }
@@ -86,7 +86,7 @@ pub struct Manner {
 }
 
 impl Manner {
-    /// A prompt peer, which sends everything at once and accepts everything.
+    /// The manner of a prompt peer, which sends all bytes at once and accepts all bytes.
     pub const PROMPT: Manner = Manner {
         from: usize::MAX,
         gap: Duration::ZERO,
@@ -125,7 +125,7 @@ pub struct Line<'r> {
     read_limit: Cell<Option<Duration>>,
     write_limit: Cell<Option<Duration>>,
     is_nonblocking: Cell<bool>,
-    // Whether some call would have waited forever, because no timeout was set.
+    // Whether a call would have waited forever, because no timeout was set.
     is_stuck: Cell<bool>,
 }
 
@@ -153,8 +153,8 @@ impl<'r> Line<'r> {
         }
     }
 
-    // Lets the simulated clock advance by this delay, but by at most the limit. A delay of `None`
-    // never ends.
+    // Advances the simulated clock by this delay, but by at most the limit. A delay of `None` never
+    // ends.
     fn wait(
         &self,
         clock: &OwnClock,

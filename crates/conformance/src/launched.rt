@@ -39,7 +39,7 @@ pub fn wrong_pair<R: System>(
     launch(rt, &Plan::of_pair(rt.alloc(), script, case, words)?)
 }
 
-/// Launches the program as described by a case. Returns a text with the unexpected results, if any.
+/// Launches the program as a case describes. Returns a text with the unexpected results, if any.
 pub fn wrong_launch<R: System>(
     rt: &R,
     script: &Script<'_>,

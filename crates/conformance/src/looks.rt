@@ -54,7 +54,7 @@ fn tell_wrong_fact<R: Print>(
     println!(rt; "{source}:{line}: {kind} {answer}")
 }
 
-// The maximum size of a text for runs with refused allocations. The text of a graph longer than
+// The maximum size of a text for runs with refused allocations. A graph whose text is longer than
 // `LONG_GRAPH` is searched only once.
 const LONG_TEXT: usize = 10_000;
 
@@ -87,8 +87,8 @@ fn wrong_answer(
     wrong_without_memory(alloc, fact, graph, tally)
 }
 
-// Returns the first result that is neither the expected result nor a memory fault. Each run refuses
-// the next allocation.
+// Returns the first result that is neither the expected result nor a memory fault. The runs refuse
+// one allocation after another.
 fn wrong_without_memory(
     alloc: Global,
     fact: &Fact<'_>,
@@ -127,7 +127,7 @@ fn answer(
     }
 }
 
-// Returns a finding with this text, in which no allocation was refused.
+// Returns a finding with this text for a run without a refused allocation.
 fn plain(text: Result<String, Trouble>) -> Result<Finding, Trouble> {
     Ok(Finding {
         text: text?,

@@ -1,5 +1,5 @@
-//! Tests of Git's fetch protocol from files. The tests run the programs of `gcmd`, call the
-//! functions that those programs use, and check the parsing of command lines.
+//! Tests of Git's fetch protocol, described by files. The tests run the programs of `gcmd`, call
+//! the functions that those programs use, and check the parsing of command lines.
 //!
 //! The arguments of the command line name test files. `case_text` parses these files. The first
 //! argument may be an option. `--quick` omits the tests that change bytes, and `--once` runs each
@@ -9,22 +9,22 @@
 //! Each case runs with each of its programs, and with ids of both formats. Cases with replies also
 //! run with response-end packets added. A case may exclude one format or the added packets.
 //!
-//! - The input is unchanged, and is read whole or in pieces, also through readers and writers of
-//!   std.
-//! - The calls of the indexer are checked.
+//! - The input is unchanged, and is read whole or in pieces. The case also runs on std readers and
+//!   writers.
+//! - The calls to the indexer are checked.
 //! - The program `gitv2` itself runs over files, standard streams and sockets.
 //! - A connection with a first line runs over a socket in this process, and both ends take turns.
-//! - A peer is late, according to a simulated clock.
-//! - Each call of each device fails in turn.
+//! - A peer is late by a simulated clock.
+//! - Each call to each source and sink fails in turn.
 //! - A stored file fails or stops at each of its calls.
 //! - The input is truncated after each byte, or one of its bytes is changed.
 //! - The request is changed as the case's table lists.
 //! - Each allocation is refused in turn.
 //!
-//! Facts about texts are also checked in pieces, and with each allocation refused. Simulations also
-//! run in separate worlds, and in worlds with random events. Pairs of a server and a client, and
-//! cases that describe a launch, run only by launching the program. The tests print a line for each
-//! failure. The last lines that they print count the runs.
+//! Facts about texts are also checked with the text read in pieces, and with each allocation
+//! refused in turn. Simulations also run in separate worlds. Further worlds run random events.
+//! Pairs of a server and a client, and cases that describe a launch, run only by launching the
+//! program. The tests print a line for each failure. The last lines that they print count the runs.
 //!
 //! # Proved
 //!
@@ -32,16 +32,16 @@
 //!
 //! # What the contracts do not rule out
 //!
-//! No contract states the results of this crate. Deliberately wrong cases and programs were run, to
-//! check that the tests reject them.
+//! No contract states the results of this crate. The tests were run on deliberately wrong cases and
+//! programs, to check that the tests reject them.
 //!
 //! # Dependencies
 //!
 //! `case_text` parses the files and defines an allocator that fails. `case_tries` tests rows,
 //! `case_launches` launches the program, and `case_facts` checks facts. `case_runs` runs programs
-//! over devices, and `case_worlds` runs simulations. `gtcp` serves and opens connections, `gargs`
-//! parses command lines, and `gcmd` defines the shared parts of programs. `gclient`, `glsreply`,
-//! `ggraph`, `ggrammar`, `gpkt` and `gname` define the other types.
+//! on sources and sinks in memory, and `case_worlds` runs simulations. `gtcp` serves and opens
+//! connections, `gargs` parses command lines, and `gcmd` defines the shared parts of programs.
+//! `gclient`, `glsreply`, `ggraph`, `ggrammar`, `gpkt` and `gname` define the other types.
 #![tactic(auto)]
 
 mod asked;

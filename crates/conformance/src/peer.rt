@@ -11,11 +11,11 @@ use std::time::Duration;
 /// The pace at which the peer and the tested program take turns.
 #[derive(Clone, Copy, PartialEq, Eq)]
 pub enum Pace {
-    /// The peer sends everything at once, before it reads anything.
+    /// The peer sends all messages at once, before it reads any bytes.
     AtOnce,
-    /// The peer sends a message after it has read the whole reply to the previous message.
+    /// The peer sends each message after it has read the whole reply to the previous message.
     Turns,
-    /// The peer and the program take turns, and each of their calls moves one byte.
+    /// The peer and the program take turns, and each call transfers one byte.
     Bytes,
 }
 
@@ -31,8 +31,8 @@ impl Pace {
     }
 }
 
-// The seconds that the peer waits for bytes that should already have arrived. The peer has to wait
-// only if the program is faulty.
+// The seconds that the peer waits for bytes that should already have arrived. The peer waits only
+// if the program is faulty.
 const PATIENCE: u64 = 5;
 
 // The maximum number of bytes that the peer reads in one call.
@@ -53,7 +53,7 @@ pub struct Peer<'r> {
     // Whether the peer has shut down writing.
     has_ended: Cell<bool>,
     // Whether the program waited for a message before it had sent the whole reply to the previous
-    // one.
+    // message.
     was_awaited_early: Cell<bool>,
 }
 

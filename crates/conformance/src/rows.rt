@@ -23,8 +23,8 @@ struct Attempt<'b> {
     adds_ends: bool,
 }
 
-/// Tests a case with each of its programs. Replies that may end with a response-end packet are
-/// tested with and without that packet.
+/// Tests a case with each of its programs. Replies that may end with response-end packets are
+/// tested with and without these packets.
 pub fn try_case<'b, R: System>(
     rt: &R,
     script: &'b Script<'b>,
@@ -82,7 +82,7 @@ fn try_run<R: System>(rt: &R, run: Attempt<'_>, tally: &mut Tally) -> io::Result
     }
 }
 
-// Returns the row of a run, or `None` if response-end packets can't be added.
+// Returns the row of a run, or `None` if the run is to add response-end packets but can't.
 fn row_of<'b>(
     alloc: Global,
     script: &'b Script<'b>,
@@ -94,7 +94,7 @@ fn row_of<'b>(
     }
 }
 
-// Returns the command of a run, or `None` if response-end packets can't be added.
+// Returns the command of a run, or `None` if the run is to add response-end packets but can't.
 fn command_in<'b>(
     script: &'b Script<'b>,
     run: Attempt<'b>,
@@ -160,7 +160,7 @@ fn add_texts<'b>(script: &'b Script<'b>, command: &mut Invocation<'b>) -> Result
 }
 
 // Returns whether response-end packets may be added to the replies of a case. A case may forbid
-// such packets, or already contain them.
+// response-end packets, or already contain them.
 fn may_add_ends(command: Invocation<'_>, case: &Case<'_>) -> bool {
     command.program.has_ends()
         && command.ends == Ends::Plain
@@ -180,7 +180,7 @@ fn reach_of(case: &Case<'_>, adds_ends: bool) -> Reach {
     }
 }
 
-// Tests a row in each `Way`, up to the first one in which the row fails.
+// Tests a row in each `Way`, and stops at the first failure.
 fn try_row<R: System>(
     rt: &R,
     run: Attempt<'_>,

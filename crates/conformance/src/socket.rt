@@ -10,13 +10,13 @@ use std::alloc::Global;
 use std::net::{Net, TcpListener, TcpStream};
 use std::time::Clock;
 
-/// The maximum number of bytes that a test writes to a socket before anyone reads them.
+/// The maximum number of bytes that a test writes to a socket before the other end reads them.
 const MOST_BYTES: usize = 16_384;
 
 /// An upper bound on the number of allocations in a run of any row.
 const MOST_TRIES: u64 = 1_000_000;
 
-// The parameters of a run over a socket: how the ends take turns, and the allocation to refuse.
+// The parameters of a run over a socket: the pace of the two ends, and the allocation to refuse.
 #[derive(Clone, Copy)]
 struct Trial {
     pace: Pace,
@@ -56,8 +56,8 @@ where
 }
 
 // Returns whether the row is tested at this pace. The row must be a short connection with a first
-// line, and may not use a faulty packer or indexer. `AtOnce` skips clients that fail, because the
-// input that they do not read resets the connection.
+// line, and may not use a faulty packer or indexer. `AtOnce` skips clients that fail, because their
+// unread input would reset the connection.
 fn is_tried(row: &Row<'_>, pace: Pace) -> bool {
     let command = row.command;
     let fits = row.talk.input.len() <= MOST_BYTES && row.talk.output.len() <= MOST_BYTES;

@@ -49,7 +49,7 @@ IsCause {A} format g entry (Conflict id) =
 IsCause format g entry TooMany = IsFit format entry × (node_at g entry.id ≡ None) × (length g ≡ max_nodes)
 IsCause format g entry Memory = IsFit format entry × (node_at g entry.id ≡ None) × (length g < max_nodes)
 
--- a list of entries is refused: one of its entries is refused, and all entries before that entry fit
+-- a list of entries is refused: one of its entries is refused, and each entry before that entry fits
 pub record IsRefused {A : Type 0} (format : Format) (old entries : List (Entry A)) (fault : GraphFault) : Type 0 where
   pub front : List (Entry A)
   pub entry : Entry A
@@ -73,8 +73,8 @@ AddsOne old entry new (Ok is_new) =
     × (IsTrue is_new ↔ (node_at old.entries entry.id ≡ None))
 AddsOne old entry new (Err fault) = (new ≡ old) × IsCause old.format old.entries entry fault
 
--- The outcome of adding a list. On success all its entries are inserted, and the result is the number of new ids. After
--- a fault the graph is unchanged.
+-- The outcome of adding a list. On success all entries of the list are inserted, and the result is the number of new
+-- ids. After a fault the graph is unchanged.
 abbrev pub Adds : {A : Type 0} → History A → List (Entry A) → History A → Result ℕ GraphFault → Type 0
 Adds old entries new (Ok added) =
     (new.format ≡ old.format) × Inserts old.format old.entries entries new.entries

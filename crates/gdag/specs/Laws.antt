@@ -126,11 +126,11 @@ PeelsAlongTags A =
     (g : List (Entry A)) (a c : Id) → PeelsTo g a c
     → ((a ≡ c) ⊎ ((b : Id) × IsTagOf g a b × PeelsTo g b c)) × Reaches g a c
 
--- a graph in which each entry comes after its parents is closed
+-- a graph is closed if each entry comes after its parents
 abbrev pub OrderedIsClosed : Type 0 → Type 0
 OrderedIsClosed A = (g : List (Entry A)) → IdsDiffer g → IsOrdered g → IsClosed g
 
--- in a graph in which each entry comes after its parents, an id reaches no id at a higher position
+-- if each entry of a graph comes after its parents, no id reaches an id at a higher position
 abbrev pub ReachingGoesDown : Type 0 → Type 0
 ReachingGoesDown A =
     (g : List (Entry A)) (a b : Id) (p : ℕ)
@@ -153,7 +153,7 @@ PositionsAreNodes A =
     → ((a : Id) (node : Node A) → IsNode g a node ↔ ((position : ℕ) × IsAt g position a node))
     × ((a : Id) (position : ℕ) → (position_of g a ≡ Some position) ↔ ((node : Node A) × IsAt g position a node))
 
--- the list to send is unique for given wants, common ids and tips
+-- the wants, the common ids and the tips determine the list to send
 abbrev pub OneListToSend : Type 0 → Type 0
 OneListToSend A =
     (g list other : List (Entry A)) (wants commons tips : List Id)
@@ -180,8 +180,8 @@ SendingIsEnough A =
     → IdsDiffer s → IsClosed s → Agree s c → All (Holds s) wants → All (IsConnected c) commons
     → IsListToSend s wants commons tips list → Inserts format c list new → HasAll s wants new
 
--- if `h` contains all that the wants reach in a closed graph `s`, the same holds for any graph `t` that keeps the nodes
--- of `s`
+-- if `h` contains all that the wants reach in a closed graph `s`, `h` also contains all that the wants reach in any
+-- graph `t` that keeps the nodes of `s`
 abbrev pub KeepingHasAll : Type 0 → Type 0
 KeepingHasAll A =
     (s t h : List (Entry A)) (wants : List Id)
@@ -189,7 +189,7 @@ KeepingHasAll A =
 
 -- ---- counts
 
--- the counted number of ids is at least the number of distinct ids in the graph that the tips reach
+-- the count of reachable ids is at least the number of distinct ids in the graph that the tips reach
 abbrev pub ReachedAreCounted : Type 0 → Type 0
 ReachedAreCounted A =
     (g : List (Entry A)) (tips ids : List Id) (held parents : ℕ)
@@ -226,8 +226,7 @@ CommonsAreHeld A =
     → IsDistinct bytes_eq (common_of g haves)
     × ((a : Id) → Contains (common_of g haves) a ↔ (Contains haves a × Holds g a))
 
--- the distinct ids of a list are the ids of the list, each once, and begin with the distinct ids of any prefix of the
--- list
+-- the distinct ids of a list are its ids, each once; they begin with the distinct ids of each prefix of the list
 pub record AreDistinct (ids : List Id) : Type 0 where
   pub once : IsDistinct bytes_eq (distinct_of ids)
   pub same : (a : Id) → Contains (distinct_of ids) a ↔ Contains ids a

@@ -1,5 +1,4 @@
--- The ids that some tips reach, level by level: first the tips, then their parents, then the parents of those parents,
--- and so on.
+-- The ids that the given tips reach, level by level: first the tips, then the parents of the tips, and so on.
 use Rattle.std.specs.Prelude.{◌≡◌, ◌↔◌, ℕ, ◌+◌, ◌<◌, ◌≤◌, zero, suc, Bool, cond, List, [], ◌∷◌, ◌++◌, length}
 use Rattle.std.specs.Prelude.{Contains, unwrap_or}
 use Rattle.std.specs.List.{flat_map, list_any, IsDistinct}
@@ -40,7 +39,7 @@ pub record Depth : Type 0 where
 abbrev pub down_to : Depth → List Id
 down_to depth = depth.before ++ depth.ids
 
--- the next level: the parents of this level's ids, each once, without ids of earlier levels
+-- the next level: the parents of this level's ids, each once, without the ids of earlier levels
 abbrev pub next_depth : {A : Type 0} → List (Entry A) → Depth → Depth
 next_depth g depth = record { before = down_to depth; ids = new_ids (down_to depth) (parents_of_each g depth.ids) }
 
@@ -57,7 +56,7 @@ level g tips k = (depth_at g tips k).ids
 abbrev pub levels_below : {A : Type 0} → List (Entry A) → List Id → ℕ → List Id
 levels_below g tips k = (depth_at g tips k).before
 
--- `ids` are the ids of all nonempty levels, in order
+-- `ids` is the list of the ids of all nonempty levels, in order
 pub record AreLevels {A : Type 0} (g : List (Entry A)) (tips ids : List Id) : Type 0 where
   pub count : ℕ
   pub joined : ids ≡ levels_below g tips count

@@ -26,8 +26,8 @@ pub record IsOffer {A : Type 0} (g : List (Entry A)) (tips commons sent : List I
 
 -- ---- the properties of an offer
 
--- The offer is unique. The offer has at most n distinct ids, which may be offered and which a tip reaches. An offer of
--- fewer than n ids contains every id that may be offered and that a tip reaches.
+-- The offer is unique. The offer has at most n distinct ids. Each of these ids may be offered, and some tip reaches it.
+-- An offer of fewer than n ids contains every id that may be offered and that a tip reaches.
 pub record IsExact {A : Type 0} (g : List (Entry A)) (tips commons sent : List Id) (n : ℕ) : Type 0 where
   pub one : (xs ys : List Id) → IsOffer g tips commons sent n xs → IsOffer g tips commons sent n ys → xs ≡ ys
   pub few : (xs : List Id) → IsOffer g tips commons sent n xs → length xs ≤ n

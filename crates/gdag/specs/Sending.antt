@@ -1,4 +1,4 @@
--- The objects that a server sends for some wants, to a client that already has the common ids and all their ancestors
+-- The objects that a server sends for the wants, to a client that already has the common ids and all their ancestors
 -- (gitprotocol-v2(5), "fetch": `want`, `have`, `include-tag`).
 use Rattle.std.specs.Prelude.{◌⊎◌, ℕ, List, Contains}
 use Rattle.gname.specs.Ids.{Id}

@@ -14,7 +14,7 @@ abbrev pub Misses : {A : Type 0} → List (Entry A) → List Id → Option Id �
 Misses g ids None = All (IsConnected g) ids
 Misses g ids (Some b) = SomeReaches g ids b × (node_at g b ≡ None)
 
--- the number of ids in the graph that the given ids reach, and the total number of parents of these ids
+-- the number of ids in the graph that the given ids reach, and the total number of parents of the reached ids
 pub record CountsReached {A : Type 0} (g : List (Entry A)) (ids : List Id) (held parents : ℕ) : Type 0 where
   pub list : List (Entry A)
   pub reached : Selects (λ entry. SomeReaches g ids entry.id) g list

@@ -1,4 +1,4 @@
-//! The test that a graph is closed.
+//! The check that a graph is closed.
 
 ghost use Rattle.std.specs.Prelude.{◌↔◌, All, IsTrue};
 ghost use Rattle.gdag.specs.Graphs.{HoldsParents, IsGraph};

@@ -90,8 +90,8 @@ impl<A: Allocator + Copy> Graph<A> {
         self.nodes.len()
     }
 
-    /// A law: a graph has distinct ids of its format and at most [`MAX_NODES`] nodes, which are
-    /// well-shaped.
+    /// Proves that a graph has distinct ids of its format and at most [`MAX_NODES`] nodes, which
+    /// are well-shaped.
     pub fn laws(&self)
         ensures { IsGraph self.now }
     {
@@ -214,8 +214,8 @@ impl<A: Allocator + Copy> Graph<A> {
         Ok(Entry { id: *id, node })
     }
 
-    // Returns whether each node, including the next one, is inserted after all its parents.
-    // `parents_held` states whether the graph contains the parents of the next node.
+    // Returns whether each node is inserted after all its parents, also after the next node is
+    // appended. `parents_held` states whether the graph contains the parents of the next node.
     fn stays_ordered(&self, parents_held: bool) -> bool
         ensures { IsTrue result ↔ (IsOrdered self.now.entries × IsTrue parents_held) }
     {

@@ -18,8 +18,8 @@ impl<A: Allocator + Copy> Graph<A> {
     /// Appends an entry, and returns whether its id is new. If the graph already maps the id to the
     /// same node, nothing changes.
     ///
-    /// Fails as `insert_all` does for a list with only this entry. A failed call leaves the graph
-    /// unchanged.
+    /// Fails with the faults of `insert_all` for a list with only this entry. A failed call leaves
+    /// the graph unchanged.
     pub fn insert(&mut self, entry: Entry<A>) -> Result<bool, GraphFault>
         ensures adds { AddsOne self.old entry self.new result }
         ensures only { AddsOnly self.old.entries (entry ∷ []) self.new.entries }
@@ -39,10 +39,11 @@ impl<A: Allocator + Copy> Graph<A> {
         Ok(is_new)
     }
 
-    /// Appends the entries, all or none, and returns the number of new ids. A repeated id with the
-    /// same node adds nothing. New entries keep the order of the list, and no entry is copied.
+    /// Appends all entries or none of them, and returns the number of new ids. An id that already
+    /// has the same node is skipped. New entries keep the order of the list, and no entry is
+    /// copied.
     ///
-    /// The call checks the entries in order, and fails at the first one that can't be added. A
+    /// The call checks the entries in order, and fails at the first entry that can't be added. A
     /// failed call leaves the graph unchanged. The fault is the first of the following that applies
     /// to the entry:
     ///

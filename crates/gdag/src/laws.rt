@@ -7,208 +7,212 @@ ghost use Rattle.gdag.specs.Graphs.{max_nodes};
 use crate::MAX_NODES;
 use std::alloc::Allocator;
 
-/// [`MAX_NODES`] equals the limit of the specs, `max_nodes`.
+/// Proves that [`MAX_NODES`] equals the limit of the specs, `max_nodes`.
 pub fn limits_are_the_constants()
     ensures { MAX_NODES ≡ max_nodes }
 {}
 
-/// Each entry of a graph could have been added after the entries before it.
+/// Proves that each entry of a graph could be appended to the entries before it.
 pub fn entries_come_in_order<A: Allocator + Copy>()
     ensures { EntriesComeInOrder A }
 {}
 
-/// A refused entry has only one possible fault: the first in the order of `Graph::insert_all`.
+/// Proves that a refused entry has only one possible fault: the first in the order of
+/// `Graph::insert_all`.
 #[tactic(auto, using(crate::proofs::Refusing::one_cause))]
 pub fn one_cause<A: Allocator + Copy>()
     ensures { OneCause A }
 {}
 
-/// Apart from out of memory, a refused list of entries has only one possible fault.
+/// Proves that a refused list of entries has only one possible fault, apart from out of memory.
 pub fn one_refusal<A: Allocator + Copy>()
     ensures { OneRefusal A }
 {}
 
-/// A list whose entries all fit is refused only if out of memory, and its insertion has only one
-/// result.
+/// Proves that a list whose entries all fit is refused only if memory runs out. The graph after the
+/// insertion is unique.
 pub fn whole_lists_come_in<A: Allocator + Copy>()
     ensures { WholeListsComeIn A }
 {}
 
-/// A graph is closed exactly when each id that it contains is connected.
+/// Proves that a graph is closed exactly when each id that it contains is connected.
 pub fn closed_is_connected<A: Allocator + Copy>()
     ensures { ClosedIsConnected A }
 {}
 
-/// Reachability is transitive.
+/// Proves that reachability is transitive.
 #[tactic(auto, using(crate::proofs::Reaching::reaches_on))]
 pub fn reaching_goes_on<A: Allocator + Copy>()
     ensures { ReachingGoesOn A }
 {}
 
-/// If a graph keeps its nodes, a connected id stays connected and reaches nothing new.
+/// Proves that if a graph keeps its nodes, a connected id stays connected and reaches nothing new.
 pub fn connected_stays_connected<A: Allocator + Copy>()
     ensures { ConnectedStaysConnected A }
 {}
 
-/// If two graphs agree and an id is connected in the second, each path from that id in the first
-/// graph is also a path in the second.
+/// Proves that if two graphs agree and an id is connected in the second, each path from that id in
+/// the first graph is also a path in the second.
 #[tactic(auto, using(crate::proofs::Sharing::path_shared))]
 pub fn paths_are_shared<A: Allocator + Copy>()
     ensures { PathsAreShared A }
 {}
 
-/// A graph keeps its nodes when objects are appended.
+/// Proves that a graph keeps its nodes when entries are appended.
 #[tactic(auto, using(crate::proofs::Growing::grows_keeps))]
 pub fn growing_keeps<A: Allocator + Copy>()
     ensures { GrowingKeeps A }
 {}
 
-/// Growth is transitive: if `f` grows to `g`, and `g` grows to `h`, then `f` grows to `h`.
+/// Proves that growth is transitive: if `f` grows to `g` and `g` grows to `h`, then `f` grows to
+/// `h`.
 #[tactic(auto, using(crate::proofs::Growing::grows_on))]
 pub fn growing_goes_on<A: Allocator + Copy>()
     ensures { GrowingGoesOn A }
 {}
 
-/// A graph grows when an entry is added.
+/// Proves that a graph grows when an entry is added.
 #[tactic(auto, using(crate::proofs::Growing::comes_grows))]
 pub fn coming_grows<A: Allocator + Copy>()
     ensures { ComingGrows A }
 {}
 
-/// Each id that a graph contains has a node.
+/// Proves that each id that a graph contains has a node.
 #[tactic(auto, using(crate::proofs::Holding::held_node))]
 pub fn holding_is_a_node<A: Allocator + Copy>()
     ensures { HoldingIsANode A }
 {}
 
-/// If a graph keeps its nodes, it contains each id that it contained before.
+/// Proves that if a graph keeps its nodes, it contains each id that it contained before.
 #[tactic(auto, using(crate::proofs::Growing::keeps_held))]
 pub fn keeping_holds<A: Allocator + Copy>()
     ensures { KeepingHolds A }
 {}
 
-/// If a graph keeps its nodes, an id still reaches every id that it reached before.
+/// Proves that if a graph keeps its nodes, an id still reaches every id that it reached before.
 #[tactic(auto, using(crate::proofs::Growing::keeps_reaching))]
 pub fn keeping_reaches<A: Allocator + Copy>()
     ensures { KeepingReaches A }
 {}
 
-/// Two graphs that agree still agree after entries that agree with the first graph are inserted
-/// into the second.
+/// Proves that two graphs that agree still agree after entries are inserted into the second, if the
+/// first graph agrees with each of these entries.
 #[tactic(auto, using(crate::proofs::Sharing::agree_inserted))]
 pub fn agreeing_stays<A: Allocator + Copy>()
     ensures { AgreeingStays A }
 {}
 
-/// If two graphs agree, each refuses entries of the other only with `TooMany` or `Memory`.
+/// Proves that if two graphs agree, each refuses entries of the other only with `TooMany` or
+/// `Memory`.
 pub fn agreeing_entries_fit<A: Allocator + Copy>()
     ensures { AgreeingEntriesFit A }
 {}
 
-/// An id peels to at most one commit.
+/// Proves that an id peels to at most one commit.
 pub fn peels_to_one<A: Allocator + Copy>()
     ensures { PeelsToOne A }
 {}
 
-/// Peeling follows only tags, and an id reaches the commit to which it peels.
+/// Proves that peeling follows only tags, and an id reaches the commit to which it peels.
 #[tactic(auto, using(crate::proofs::Sharing::peels_along_tags))]
 pub fn peels_along_tags<A: Allocator + Copy>()
     ensures { PeelsAlongTags A }
 {}
 
-/// A graph in which each entry comes after its parents is closed.
+/// Proves that a graph is closed if each entry comes after its parents.
 pub fn ordered_is_closed<A: Allocator + Copy>()
     ensures { OrderedIsClosed A }
 {}
 
-/// In a graph in which each entry comes after its parents, an id reaches no id at a higher
+/// Proves that if each entry of a graph comes after its parents, no id reaches an id at a higher
 /// position.
 #[tactic(auto, using(crate::proofs::Ordering::reaching_down))]
 pub fn reaching_goes_down<A: Allocator + Copy>()
     ensures { ReachingGoesDown A }
 {}
 
-/// A closed graph stays closed when an entry is added and the graph contains all parents of that
-/// entry.
+/// Proves that a closed graph stays closed when an entry is added and the graph contains all
+/// parents of that entry.
 pub fn closed_stays<A: Allocator + Copy>()
     ensures { ClosedStays A }
 {}
 
-/// `Graph::node`, `Graph::position` and `Graph::at` agree. Each id of the graph has exactly one
-/// position, and the entry at that position has the id's node.
+/// Proves that `Graph::node`, `Graph::position` and `Graph::at` agree. Each id of the graph has
+/// exactly one position, and the entry at that position has the id's node.
 pub fn positions_are_nodes<A: Allocator + Copy>()
     ensures { PositionsAreNodes A }
 {}
 
-/// The list to send is unique for given wants, common ids and tips.
+/// Proves that the wants, the common ids and the tips determine the list to send.
 #[tactic(auto, using(crate::proofs::Choosing::one_choice))]
 pub fn one_list_to_send<A: Allocator + Copy>()
     ensures { OneListToSend A }
 {}
 
-/// The entries of a list to send form a valid graph in the sender's format, and a packer accepts
-/// them. The sender's graph maps the id of each entry to the entry's node.
+/// Proves that the entries of a list to send form a valid graph in the sender's format, and a
+/// packer accepts them. The sender's graph maps the id of each entry to the entry's node.
 pub fn sent_are_entries<A: Allocator + Copy>()
     ensures { SentAreEntries A }
 {
     gname::laws::ids_have_one_format();
 }
 
-/// After a client inserts the list that a server sends, the wants are connected in the client's
-/// graph. The client's graph then contains every id that the wants reach in the server's graph. The
-/// server's graph must be closed and contain the wants. The two graphs must agree, and the common
-/// ids must be connected in the client's graph.
+/// Proves that the wants are connected in a client's graph after the client inserts the list that a
+/// server sends. The client's graph then contains every id that the wants reach in the server's
+/// graph. The server's graph must be closed and contain the wants. The two graphs must agree, and
+/// the common ids must be connected in the client's graph.
 pub fn sending_is_enough<A: Allocator + Copy>()
     ensures { SendingIsEnough A }
 {}
 
-/// If a client's graph contains every id that the wants reach in a server's graph, it still does
-/// when the server's graph grows. The server's graph must be closed and contain the wants, so
-/// growth adds no id that the wants reach.
+/// Proves that a client's graph that contains every id that the wants reach in a server's graph
+/// still does so when the server's graph grows. The server's graph must be closed and contain the
+/// wants.
 pub fn keeping_has_all<A: Allocator + Copy>()
     ensures { KeepingHasAll A }
 {}
 
-/// The counted number of ids is at least the number of distinct ids in the graph that the tips
-/// reach.
+/// Proves that counting the reachable ids never yields less than the number of distinct ids in the
+/// graph that the tips reach.
 pub fn reached_are_counted<A: Allocator + Copy>()
     ensures { ReachedAreCounted A }
 {}
 
-/// If the tips are connected, adding objects to the graph does not change how many ids and parents
-/// the tips reach.
+/// Proves that if the tips are connected, adding objects to the graph does not change how many ids
+/// and parents the tips reach.
 #[tactic(auto, using(crate::proofs::Counting::counts_stay))]
 pub fn counts_stay<A: Allocator + Copy>()
     ensures { CountsStay A }
 {}
 
-/// Level k has exactly the ids at distance k from the tips, which is the length of the shortest
-/// path from a tip. Each step of a path leads from an object to a parent. No id occurs twice,
-/// either in one level or in two levels. All levels together have at most as many ids as there are
-/// tips and parents, so only finitely many levels have ids.
+/// Proves that level k has exactly the ids at distance k from the tips. The distance of an id is
+/// the length of the shortest path from a tip to that id. Each step of a path leads from an object
+/// to a parent. No id occurs twice, either in one level or in two levels. All levels together have
+/// at most as many ids as there are tips and parents, so only finitely many levels have ids.
 pub fn levels_are_distances<A: Allocator + Copy>()
     ensures { LevelsAreDistances A }
 {}
 
-/// An id is in some level exactly when one of the tips reaches that id.
+/// Proves that an id is in some level exactly when one of the tips reaches that id.
 pub fn levels_are_reached<A: Allocator + Copy>()
     ensures { LevelsAreReached A }
 {}
 
-/// The offer of at most `n` ids is unique. The ids of the offer are distinct, may be offered, and
-/// are reachable from a tip. An offer of fewer than `n` ids contains every id that may be offered
-/// and is reachable from a tip.
+/// Proves that the offer of at most `n` ids is unique. The ids of the offer are distinct, may be
+/// offered, and are reachable from a tip. An offer of fewer than `n` ids contains every id that may
+/// be offered and is reachable from a tip.
 #[tactic(auto, using(crate::proofs::OfferLaws::offers_are_exact))]
 pub fn offers_are_exact<A: Allocator + Copy>()
     ensures { OffersAreExact A }
 {}
 
-/// The common ids are the haves that the graph contains, each once.
+/// Proves that the common ids are the haves that the graph contains, each once.
 pub fn commons_are_held<A: Allocator + Copy>()
     ensures { CommonsAreHeld A }
 {}
 
-/// The distinct ids of a list are its ids, each once, in the order of their first occurrences.
+/// Proves that the distinct ids of a list are its ids, each once, in the order of their first
+/// occurrences.
 pub fn distinct_are_once()
     ensures { DistinctAreOnce }
 {}

@@ -8,19 +8,20 @@
 //!   return the contents of the graph, and do not allocate. `make_room` leaves the contents of the
 //!   graph unchanged.
 //! - `is_ordered` returns whether each object was inserted after all its parents.
-//! - `insert` and `insert_all` append only the new objects. Both calls report the first fault of an
-//!   entry in a fixed order, and then leave the graph unchanged. Both calls report out of memory
-//!   only if an object is new and the graph has room for it. Apart from out of memory, a refused
-//!   list has only one possible fault: that of its first entry that can't be added. A list whose
-//!   entries all fit is refused only if out of memory.
+//! - `insert` and `insert_all` append only the new objects. If a call fails, the graph is
+//!   unchanged. The faults of an entry are checked in a fixed order. Both calls report out of
+//!   memory only if an object is new and the graph has room for it. Apart from out of memory, a
+//!   refused list has only one possible fault: that of its first entry that can't be added. A list
+//!   whose entries all fit is refused only if out of memory.
 //! - `is_closed` returns whether the graph is closed. `peel` returns the commit at the end of a
-//!   chain of tags, exactly if the chain ends with a commit. Neither of these two calls allocates.
-//! - `first_absent` returns the first of some ids that the graph does not contain.
+//!   chain of tags, exactly if the chain ends with a commit. Neither `is_closed` nor `peel`
+//!   allocates.
+//! - `first_absent` returns the first of the given ids that the graph does not contain.
 //! - `distinct_ids` returns the distinct ids of a list, in the order of their first occurrences.
-//! - `laws` states facts about all graphs and lists: reachability, connected ids, graphs that grow,
-//!   and graphs that agree. Further laws cover positions, peeling, the number of reachable ids, the
-//!   levels of some tips, the ids to offer, and distinct ids. After a client inserts the list that
-//!   a server sends, the wants are connected in the client's graph.
+//! - `laws` proves facts about reachability, connected ids, graphs that grow, and graphs that
+//!   agree. Further laws cover positions, peeling, the number of reachable ids, levels, the ids to
+//!   offer, and distinct ids. After a client inserts the list that a server sends, the wants are
+//!   connected in the client's graph.
 //!
 //! # What the contracts do not rule out
 //!
@@ -30,7 +31,7 @@
 //! reserve nothing. Formatting a fault may return an error (`fmt::Error`) for no reason. Formatting
 //! with options, such as a width, may write a different text.
 //!
-//! This crate has no tests of its own. The program `conformance` loads, fetches and walks
+//! This crate has no tests of its own. The program `conformance` loads, fetches and searches
 //! histories, and makes each allocation fail in turn.
 //!
 //! # Dependencies

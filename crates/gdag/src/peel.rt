@@ -17,7 +17,7 @@ impl<A: Allocator + Copy> Graph<A> {
         ensures found { IfSome result (PeelsTo self.now.entries id.now) }
         ensures only { (c : Id) → PeelsTo self.now.entries id.now c → result ≡ Some c }
     {
-        // `kept` is an id of the chain. The code replaces `kept` after 1, 2, 4, 8 and so on steps.
+        // `kept` is an id of the chain. The loop replaces `kept` after 1, 2, 4, 8 and so on steps.
         // If the chain returns to `kept`, the chain is a cycle.
         let mut at = *id;
         let mut kept = *id;

@@ -1,4 +1,4 @@
--- Loading of a repository text: the line at which the text is refused, and the reason.
+-- Loading of a repository text: the line at which loading fails, and the reason.
 use Rattle.std.specs.Prelude.{◌≡◌, ◌≢◌, ◌⊎◌, ℕ, ◌+◌, List, [], ◌∷◌, ◌++◌, length, Result, MatchResult}
 use Rattle.gname.specs.Ids.{Id}
 use Rattle.gname.specs.Names.{Name}
@@ -32,7 +32,8 @@ pub record IsWholeText (A : Type 0) (order : Order) (lines : List (List ℕ)) : 
   pub loadable : IsLoadable order graph refs head
   pub parts : lines_of graph refs head ≡ lines
 
--- the line after these lines is wrong: no repository text, with its nodes in any order, begins with all of them
+-- the line after these lines is wrong: no repository text, with its nodes in any order, begins with `lines` and that
+-- line
 abbrev pub IsWrongLine : (A : Type 0) → List ℕ → List (List ℕ) → Type 0
 IsWrongLine A text lines = (line : List ℕ) × GoesOn text lines line × ¬ (BeginsText A Any (lines ++ line ∷ []))
 
@@ -58,7 +59,7 @@ abbrev pub TakesMemory : (A : Type 0) → Order → List ℕ → List (List ℕ)
 TakesMemory A order text lines =
     (line : List ℕ) × GoesOn text lines line × BeginsText A order (lines ++ line ∷ []) × IsKeptLine A line
 
--- The reason to refuse a text. All lines before the reported line are valid, and the reported line is wrong or missing.
+-- The fault of a refused text. All lines before the reported line are valid, and the reported line is wrong or missing.
 -- Out of memory is reported only at a valid line with contents to store.
 abbrev pub StopsAt : (A : Type 0) → Order → List ℕ → LoadFault → Type 0
 StopsAt A order text Memory = (lines : List (List ℕ)) × TakesMemory A order text lines
@@ -82,7 +83,7 @@ ParentsFirstIsOrdered A =
     (graph : History A) (refs : RefList) (head : Head A) → IsLoadable ParentsFirst graph refs head
     → IsOrdered graph.entries
 
--- apart from out of memory, there is only one line at which a text may be refused, and only one reason
+-- apart from out of memory, a text has only one possible fault and only one line at which it is refused
 abbrev pub TextsStopOnce : Type 0 → Type 0
 TextsStopOnce A =
     (order : Order) (text : List ℕ) (a b : LoadFault) → StopsAt A order text a → StopsAt A order text b

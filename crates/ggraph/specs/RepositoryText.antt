@@ -58,8 +58,8 @@ abbrev pub ComesAfter : {A : Type 0} → Order → List (Entry A) → Entry A �
 ComesAfter Any g entry = ⊤
 ComesAfter ParentsFirst g entry = HoldsParents g entry
 
--- the entry may follow these entries: the entry could be appended to their graph, and comes after its parents if the
--- order demands this
+-- the entry may follow these entries: the entry could be appended to their graph, and follows its parents if the order
+-- demands that
 pub record MayFollow {A : Type 0} (order : Order) (format : Format) (g : List (Entry A))
     (entry : Entry A) : Type 0 where
   pub comes : MayComeNext format g entry
@@ -70,7 +70,7 @@ pub record RefMayFollow (format : Format) (refs : RefList) (ref : Name × Id) : 
   pub comes : NameMayComeNext refs ref.0
   pub id : IsIdOf format ref.1
 
--- P holds of each element of the list and the elements before that element
+-- P holds for each element of the list, together with the elements before it
 abbrev pub EachFollows : {X : Type 0} → (List X → X → Type 0) → List X → Type 0
 EachFollows {X} P xs = (front : List X) (x : X) (rest : List X) → xs ≡ front ++ x ∷ rest → P front x
 

@@ -29,8 +29,7 @@ pub record IsFirstOther (format : Format) (ids : List Id) (id : Id) : Type 0 whe
   pub before : All (IsIdOf format) front
   pub other : ¬ (IsIdOf format id)
 
--- the reason why refs and HEAD are not saved with a graph: the first id of another format, or out of memory if all ids
--- have the graph's format
+-- the fault of saving: the first id that does not have the graph's format, or out of memory if all ids have that format
 abbrev pub SaveRefuses : {A : Type 0} → Format → RefList → Head A → SaveFault → Type 0
 SaveRefuses format refs head (OtherFormat id) = IsFirstOther format (named_ids refs head) id
 SaveRefuses format refs head Memory = All (IsIdOf format) (named_ids refs head)

@@ -1,4 +1,4 @@
-//! The test that all refs are connected in a graph.
+//! The check that all refs are connected in a graph.
 
 ghost use Rattle.std.specs.Prelude.{◌≡◌, ◌↔◌, IfErr, IfOk, IsTrue};
 ghost use Rattle.gdag.specs.declared.fault.GraphFault.TheVariants.{Memory};

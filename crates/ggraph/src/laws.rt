@@ -8,25 +8,26 @@ use crate::text::text_laws;
 use gdag::laws::connected_stays_connected;
 use std::alloc::Allocator;
 
-/// Connected refs stay connected when the graph keeps all its nodes.
+/// Proves that connected refs stay connected when the graph keeps all its nodes.
 pub fn connected_refs_stay<A: Allocator + Copy>()
     ensures { ConnectedRefsStay A }
 {
     connected_stays_connected::<A>();
 }
 
-/// Connected refs stay connected when one of them is set to a connected id.
+/// Proves that connected refs stay connected when one of them is set to a connected id.
 pub fn setting_keeps_connected_refs<A: Allocator + Copy>()
     ensures { SettingKeepsConnectedRefs A }
 {}
 
-/// In a repository that is loaded with `Order::ParentsFirst`, each node comes after its parents.
+/// Proves that in a repository that is loaded with `Order::ParentsFirst`, each node comes after its
+/// parents.
 pub fn parents_first_is_ordered<A: Allocator + Copy>()
     ensures { ParentsFirstIsOrdered A }
 {}
 
-/// Apart from out of memory, [`load`](crate::load) has only one possible fault for a text. This
-/// fault states the first wrong line.
+/// Proves that [`load`](crate::load) has only one possible fault for a text, apart from out of
+/// memory. The fault reports the first wrong line.
 #[tactic(auto, using(crate::proofs::StoppingOnce::stop_once))]
 pub fn texts_stop_once<A: Allocator + Copy>()
     ensures { TextsStopOnce A }

@@ -5,14 +5,16 @@
 //!
 //! - [`load`] accepts exactly the texts of valid repositories, and returns their graph, refs and
 //!   `HEAD`, unless memory runs out. The first line of a text names the format of all ids. Any
-//!   other text is refused at its first invalid line, or where it ends too early. A parent on a
-//!   later line is reported only if the line that names the parent is otherwise valid. A refused
-//!   text has only one possible fault, apart from out of memory: [`laws::texts_stop_once`].
-//! - [`load`] reports out of memory only at a valid line of a node, a ref or a symbolic `HEAD`,
-//!   after valid lines. A line that breaks a rule or exceeds a limit is refused for that reason.
+//!   other text is refused at its first invalid line, or at its end if the text ends too early. A
+//!   parent on a later line is reported only if the line that names the parent is otherwise valid.
+//!   A refused text has only one possible fault, apart from out of memory:
+//!   [`laws::texts_stop_once`].
+//! - [`load`] reports out of memory only at a valid line of a node, a ref or a symbolic `HEAD`, if
+//!   all earlier lines are valid. A line that breaks a rule or exceeds a limit is refused for that
+//!   reason.
 //! - [`save`] writes the unique text of a repository, which `load` reads back with `Order::Any`. If
-//!   the id of a ref or of `HEAD` does not have the graph's format, `save` fails with the first
-//!   such id. Otherwise `save` fails only if memory runs out.
+//!   the id of a ref or of `HEAD` does not have the graph's format, `save` fails with the first id
+//!   of a different format. Otherwise `save` fails only if memory runs out.
 //! - [`has_connected_refs`] returns whether each ref is connected. Connected refs stay connected
 //!   when the graph grows, and when a ref is set to a connected id.
 //! - Each fault has the number, the name and the text of its row in the table
@@ -22,18 +24,18 @@
 //! # What the contracts do not rule out
 //!
 //! `load` may report out of memory at any valid line with contents to store. `save` may report out
-//! of memory for any valid repository, and `has_connected_refs` for any refs. A call may take any
-//! amount of time, and more memory than it needs. Formatting a fault may return an error
+//! of memory for any valid repository, and `has_connected_refs` may do so for any refs. A call may
+//! take any amount of time, and more memory than it needs. Formatting a fault may return an error
 //! (`fmt::Error`) for no reason.
 //!
 //! This crate has no tests of its own. The program `conformance` loads and saves texts up to the
-//! maximum size. The program also runs a server and a client on such texts, and makes each
-//! allocation fail in turn.
+//! maximum size. The program also runs a server and a client that load repository texts, and makes
+//! each allocation fail in turn.
 //!
 //! # Dependencies
 //!
 //! The crate uses `gobject`, `gdag` and `grefs` for the contents of a repository, `gname` for ids
-//! and names, `memchr` for the ends of lines, and `gwalk` for the missing ancestors of refs.
+//! and names, `memchr` for the ends of lines, and `gwalk` to search for missing ancestors of refs.
 #![tactic(auto)]
 
 mod connected_refs;

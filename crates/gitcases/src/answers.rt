@@ -21,7 +21,7 @@ pub(crate) const OK: &str = "ok";
 pub(crate) const MEMORY: &str = "out of memory";
 
 /// The inputs of one test run: the subject, the pack, the files of the store, and the files that
-/// replace those of the store after `calls` calls.
+/// replace the store's files after `calls` calls.
 #[derive(Clone, Copy)]
 pub(crate) struct Trial<'t, 'a> {
     pub(crate) row: &'t Row<'a>,
@@ -75,7 +75,8 @@ fn of_index<A: Allocator + Copy>(
     }
 }
 
-// Returns the number of objects in an index as text, if the index holds all the ids.
+// Returns `ok` and the number of objects in the index if the index holds all the ids, otherwise an
+// error text.
 fn told_index<A: Allocator + Copy>(
     alloc: Global,
     index: &IndexedPack<A>,

@@ -4,7 +4,7 @@ use gitobjects::{Cause, FolderTime, MemoryFiles, MemoryPack, ObjectFiles};
 use std::alloc::Allocator;
 use std::cell::Cell;
 
-/// Files that are replaced by other files after a number of calls.
+/// Files that are replaced by other files after a given number of calls.
 #[derive(Drop)]
 pub(crate) struct Changing<'f, A: Allocator + Copy> {
     before: &'f MemoryFiles<A>,
@@ -13,7 +13,7 @@ pub(crate) struct Changing<'f, A: Allocator + Copy> {
 }
 
 impl<'f, A: Allocator + Copy> Changing<'f, A> {
-    /// Returns files that are replaced by those in `after` after this number of calls.
+    /// Returns the files `before`, which the files in `after` replace after `calls` calls.
     pub(crate) fn new(
         before: &'f MemoryFiles<A>,
         after: &'f MemoryFiles<A>,
@@ -75,7 +75,7 @@ impl<'f, A: Allocator + Copy> ObjectFiles for Changing<'f, A> {
         self.files().open_pack(path)
     }
 
-    // A folder's time of change differs before and after the replacement.
+    // The time at which a folder changed differs before and after the replacement.
     fn change_time(&self, path: &str) -> Result<Option<FolderTime>, Cause> {
         let is_after = self.calls.get() == 0;
         match self.files().change_time(path)? {

@@ -47,8 +47,8 @@ pub(crate) fn copy_of(alloc: Global, offset: usize, size: usize) -> Result<Vec<u
     Ok(instruction)
 }
 
-// Appends a byte unless the byte is 0. Sets the bit in the instruction's first byte that marks the
-// byte as present.
+// Appends the byte and sets its bit in the instruction's first byte, which marks the byte as
+// present. Does nothing if the byte is 0.
 fn put_byte(instruction: &mut Vec<u8>, bit: u8, byte: u8) -> Result<(), Trouble> {
     if byte != 0 {
         instruction.push(byte)?;

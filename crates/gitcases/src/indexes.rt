@@ -102,7 +102,7 @@ fn put_crcs(text: &mut Vec<u8>, lines: &[Line]) -> Result<(), Trouble> {
     Ok(())
 }
 
-// The bit that marks an offset as an index into the table of 64-bit offsets.
+// The bit that marks a 32-bit offset as an index into the table of 64-bit offsets.
 const IS_LONG: u32 = 0x8000_0000;
 
 fn put_offsets(text: &mut Vec<u8>, lines: &[Line]) -> Result<(), Trouble> {

@@ -3,10 +3,11 @@
 //!
 //! The arguments of the program name test files. FORMAT.md describes the lines of these files. A
 //! row states the expected result for a pack, a store or a text. A row is tested with its input
-//! unchanged, truncated after each byte, and changed in one bit. A row is also tested with files
-//! that change during the run, and with each allocation refused in turn. Packs and stores are in
-//! memory. Refs are files in a folder. Each run creates this folder anew. The program prints a line
-//! for each wrong result. The last lines that it prints count the runs.
+//! unchanged, with the input truncated after each byte, and with each bit of the input flipped. A
+//! row is also tested with files that change during the run, and with each allocation refused in
+//! turn. Packs and stores are in memory. Refs are files in a folder. Each run creates this folder
+//! anew. The program prints a line for each wrong result. The last lines that it prints count the
+//! runs.
 //!
 //! # Proved
 //!
@@ -14,14 +15,14 @@
 //!
 //! # What the contracts do not rule out
 //!
-//! No contract states the results of this program. Deliberately wrong rows and crates were run, to
-//! check that the tests reject them.
+//! No contract states the results of this program. The tests were run on deliberately wrong rows
+//! and crates, to check that the tests reject them.
 //!
 //! # Dependencies
 //!
 //! The program tests `gitpack`, `gitobjects`, `gitrefs`, `gitrepository` and `gitwords`.
 //! `gitobject`, `gname`, `gzlib` and `sha1` create packs and stores. `ggraph` defines graphs, refs
-//! and indexers, and `case_text` an allocator that fails.
+//! and indexers, and `case_text` defines an allocator that fails.
 #![tactic(auto)]
 
 mod answers;
@@ -56,7 +57,8 @@ fn main(rt: HostRuntime) -> ExitCode {
     }
 }
 
-// Runs the tests of the files that the arguments name. Returns whether all results were right.
+// Runs the tests of the files that the arguments name. Returns whether all results were as
+// expected.
 fn run_cases<R: AllocGlobal + Env + Files + Print>(rt: &R) -> io::Result<bool> {
     let names: Vec<String> = env::args(rt)?.skip(1).collect(rt.alloc())?;
     let mut files = Vec::new(rt.alloc());

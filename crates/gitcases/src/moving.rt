@@ -84,8 +84,8 @@ fn names_of<R: AllocGlobal, A: Allocator + Copy>(
     Ok(text)
 }
 
-/// Returns the result of updating refs: `ok` or the fault. After a fault, no ref may have moved and
-/// no lockfile may remain.
+/// Returns the result of updating refs: `ok` or the fault. After a fault, every ref must have its
+/// old id, and no lockfile may remain.
 pub(crate) fn of_moving<R: Files + AllocGlobal, A: Allocator + Copy>(
     rt: &R,
     memory: A,

@@ -21,7 +21,7 @@ pub(crate) struct Object<'a> {
     pub(crate) id: Oid,
 }
 
-/// All texts and objects. If several entries have the same name, only the first of them is used.
+/// All texts and objects. If several entries have the same name, only the first entry is used.
 #[derive(Drop)]
 pub(crate) struct Names<'a> {
     texts: Vec<Text<'a>>,
@@ -43,7 +43,7 @@ impl<'a> Names<'a> {
         Ok(())
     }
 
-    /// Appends bytes to the text that was added last.
+    /// Appends bytes to the most recently added text.
     pub(crate) fn add_to_text(&mut self, bytes: &[u8]) -> Result<(), Trouble> {
         match self.texts.last_mut() {
             Some(text) => Ok(text.bytes.extend_from_slice(bytes)?),

@@ -100,7 +100,7 @@ impl<'a> Pack<'a> {
         self.put_stream(deflater, object.body.as_slice())
     }
 
-    /// Appends an offset delta, compressed as stored zlib blocks. The base entry begins `distance`
+    /// Appends an offset delta as a zlib stream of stored blocks. The base entry begins `distance`
     /// bytes before the delta entry.
     pub(crate) fn put_offset_delta(
         &mut self,
@@ -141,7 +141,7 @@ impl<'a> Pack<'a> {
         Ok(())
     }
 
-    /// Appends a delta that names its base by id, compressed as stored zlib blocks.
+    /// Appends a delta that names its base by id, as a zlib stream of stored blocks.
     pub(crate) fn put_ref_delta(&mut self, base: &Object<'_>, delta: &[u8]) -> Result<(), Trouble> {
         self.put_head(REF_DELTA, delta.len())?;
         self.put_bytes(base.id.as_bytes())?;
@@ -186,7 +186,7 @@ impl<'a> Pack<'a> {
     }
 }
 
-/// Returns the number of the type that `word` names or states as a digit.
+/// Returns the type number for `word`, which is the name of a type or a digit.
 pub(crate) fn number_of_kind(word: &str) -> Result<u8, Trouble> {
     if let Some(kind) = ObjectType::from_name(word.as_bytes()) {
         return Ok(kind.pack_number());

@@ -38,7 +38,7 @@ pub(crate) struct Update {
     pub(crate) new: Oid,
 }
 
-/// The subject of a test, its object id or its text, and the expected result.
+/// The subject of a test, the object id or text that the test uses, and the expected result.
 #[derive(Drop)]
 pub(crate) struct Aim {
     pub(crate) subject: Subject,
@@ -68,12 +68,13 @@ pub(crate) struct Row<'a> {
     /// The text for the next subject of the row.
     pub(crate) asked: Vec<u8>,
     pub(crate) aims: Vec<Aim>,
-    /// Further results that are allowed if an allocation is refused, if a bit is flipped, or if the
-    /// store is replaced.
+    /// Further results that are allowed if an allocation is refused, a bit is flipped, or the store
+    /// is replaced.
     pub(crate) others: Vec<Vec<u8>>,
     /// Whether the row is tested only with its input unchanged.
     pub(crate) is_large: bool,
-    /// Whether the row is also tested with each bit flipped, and with its pack truncated.
+    /// Whether the row is also tested with each bit of the input flipped, and with the pack
+    /// truncated.
     pub(crate) is_swept: bool,
 }
 

@@ -88,7 +88,7 @@ impl<'a> Script<'a> {
         Err(Trouble::NoName)
     }
 
-    // Parses a line as often as it is repeated.
+    // Parses a line once for each of its repetitions.
     fn take_line(&mut self, line: &'a str) -> Result<(), Trouble> {
         if line.is_empty() || line.starts_with('#') {
             return Ok(());
@@ -276,7 +276,7 @@ impl<'a> Script<'a> {
         }
     }
 
-    // Adds a loose object, or a file with the path of that object but a different text.
+    // Adds a loose object, or a file that has the object's path but a different text.
     fn add_loose(&mut self, rest: &str) -> Result<(), Trouble> {
         let (name, line) = first_of(rest);
         let object = self.names.object(name)?;

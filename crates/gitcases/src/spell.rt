@@ -1,9 +1,9 @@
 //! Escapes in the lines of a test file.
 //!
-//! `\n` is a line feed, `\0` the byte 0, `\x1f` the byte 31. A backslash before any other character
-//! stands for that character. `{NAME}` is the text with this name, or the forty digits of the id of
-//! the object with this name. `{@NAME}` is the twenty bytes of that id. `{BYTES*3}` is `BYTES`
-//! three times.
+//! `\n` is a line feed, `\0` is the byte 0, and `\x1f` is the byte 31. A backslash before any other
+//! character yields that character. `{NAME}` is the text with this name, or the forty digits of the
+//! id of the object with this name. `{@NAME}` is the twenty bytes of the object's id. `{BYTES*3}`
+//! is `BYTES` three times.
 
 use crate::names::Names;
 use crate::trouble::Trouble;
@@ -46,8 +46,8 @@ fn add_next<'a>(
     Ok(rest.get(length..).unwrap_or(""))
 }
 
-// Returns the bytes before the first unescaped brace, and the bytes after it. The bytes after the
-// brace are `None` if there is no such brace.
+// Returns the bytes before the first unescaped brace, and the bytes after that brace, or `None` for
+// the latter if the text has no unescaped brace.
 fn before_brace(text: &[u8]) -> (&[u8], Option<&[u8]>) {
     let mut is_escaped = false;
     for place in 0..text.len() {

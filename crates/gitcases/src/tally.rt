@@ -9,7 +9,7 @@ pub(crate) enum Treatment {
     Plain,
     /// A pack is truncated after each byte, or has each bit flipped but keeps its old trailer.
     Broken,
-    /// Each bit is flipped. A pack then gets a correct trailer.
+    /// Each bit is flipped, and a pack then gets a correct trailer.
     Changed,
     /// The files change during the run.
     Turned,

@@ -76,7 +76,7 @@ fn try_one<R: Files + Print + AllocGlobal>(
     judge(rt, trial, (way, place), answer.as_str(), tally)
 }
 
-// Counts a result, and prints the result if it is wrong.
+// Counts a result, and prints it if it is wrong.
 fn judge<R: Print>(
     rt: &R,
     trial: Trial<'_, '_>,
@@ -94,7 +94,7 @@ fn judge<R: Print>(
     Ok(())
 }
 
-// Returns whether a result is allowed for this way of testing.
+// Returns whether this result is allowed for this way of testing.
 fn is_right(trial: Trial<'_, '_>, way: Treatment, answer: &str) -> bool {
     match way {
         Treatment::Plain => answer.as_bytes() == trial.aim.due.as_slice(),
@@ -133,7 +133,8 @@ fn try_scarce<R: Files + Print + AllocGlobal>(
     Ok(())
 }
 
-// Tests a subject whose files are replaced during the run, after each number of calls in turn.
+// Tests a subject whose files are replaced during the run, once for each number of calls before the
+// replacement.
 fn try_turns<R: Files + Print + AllocGlobal>(
     rt: &R,
     trial: Trial<'_, '_>,

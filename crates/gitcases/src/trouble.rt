@@ -14,15 +14,15 @@ pub(crate) enum Trouble {
     NoName,
     /// A word is not a number.
     NoNumber,
-    /// A line does not continue the current item.
+    /// A line belongs to an item that has not begun.
     NotBegun,
-    /// A line does not have any known form.
+    /// A line has no known form.
     UnknownLine,
     /// A text is not UTF-8.
     NoText,
     /// A folder or a file can't be created.
     NoFiles,
-    /// Standard output failed.
+    /// A write to standard output failed.
     NoOutput,
 }
 

@@ -34,13 +34,13 @@ pub record IsFirstBadComponent (text : List ℕ) (place : ℕ) : Type 0 where
   pub bad : is_bad_component part ≡ true
   pub earlier : (at : ℕ) (other : List ℕ) → IsComponent text at other → at < place → is_bad_component other ≡ false
 
--- the rules that are checked before the rule of components find no fault in the text
+-- no rule before the rule of components finds a fault in the text
 abbrev pub PassesEarlierRules : List ℕ → Type 0
 PassesEarlierRules text = first_fault (empty ∷ too_long ∷ not_ref ∷ bad_byte ∷ []) text ≡ None
 
 -- Facts about components. A component begins at the start of a text and after each slash. The rule of components finds
--- the first forbidden component. The fault of a text is this component exactly if no earlier rule finds a fault. A ref
--- name has no forbidden component.
+-- the first forbidden component. The first forbidden component is the fault of the text exactly if no earlier rule
+-- finds a fault. A ref name has no forbidden component.
 pub record ComponentFacts (text : List ℕ) : Type 0 where
   pub each : (front back : List ℕ) → text ≡ front ++ back → ComesBefore front →
       (part : List ℕ) × IsComponent text (length front) part

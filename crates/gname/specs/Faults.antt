@@ -10,7 +10,7 @@ use Rattle.gname.specs.declared.ids.OidFault.TheVariants as id
 abbrev pub FaultRow : Type 0
 FaultRow = ℕ × List ℕ
 
--- the number and the name of the fault "out of memory", which several crates share
+-- the number and the name of the out-of-memory fault, which several crates share
 abbrev pub out_of_memory : FaultRow
 out_of_memory = (64, codes "Memory")
 

@@ -53,7 +53,7 @@ id_text id = encode_lower id
 abbrev pub upper_id_text : Id → List ℕ
 upper_id_text id = encode_upper id
 
--- the first byte of the text that is not a hexadecimal digit is at position `at`
+-- the byte at position `at` is the first in the text that is not a hexadecimal digit
 pub record IsFirstBadDigit (text : List ℕ) (at : ℕ) : Type 0 where
   pub inside : at < length text
   pub before : AllPass is_hex_digit (take at text)

@@ -13,11 +13,11 @@ use Rattle.gname.specs.declared.faults.NameFault.TheVariants.{Memory}
 abbrev pub IdsHaveTexts : Type 0
 IdsHaveTexts = (id : Id) → IsId id → IsIdText (id_text id) id × IsIdText (upper_id_text id) id
 
--- a text without control characters and spaces
+-- a text without control characters or spaces
 abbrev pub IsClean : List ℕ → Type 0
 IsClean text = All (λ b. 32 < b) text
 
--- the text of an id has only hexadecimal digits, so no control characters and no spaces; the encoded id is valid
+-- the text of an id has only hexadecimal digits, and so neither control characters nor spaces; the encoded id is valid
 pub record IdTextFacts (text : List ℕ) (id : Id) : Type 0 where
   pub spelt : IsId id
   pub digits : AllPass is_hex_digit text

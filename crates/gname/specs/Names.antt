@@ -14,7 +14,7 @@ use Rattle.gname.specs.declared.faults.NameFault.TheVariants.{AtBrace, End, Memo
 abbrev pub Name : Type 0
 Name = List ℕ
 
--- a rule for texts: a function that maps a text to the fault that the rule finds, or to `None`
+-- a rule: a function that maps a text to the fault found in the text, or to `None`
 abbrev pub Rule : Type 0
 Rule = List ℕ → Option NameFault
 
@@ -25,7 +25,7 @@ first_fault (rule ∷ rules) text = option_or (rule text) (first_fault rules tex
 
 -- ---- positions in a text
 
--- the first position that passes the test, among the `more` positions from `at` on
+-- the first of the `more` positions from `at` on that passes the test
 unfoldable pub first_place_from : (ℕ → Bool) → ℕ → ℕ → Option ℕ
 first_place_from test at zero = None
 first_place_from test at (suc more) = if test at then Some at else first_place_from test (at + 1) more
@@ -60,7 +60,7 @@ head_name = codes "HEAD"
 unfoldable pub not_ref : Rule
 not_ref text = if pointwise nat_eq text head_name || starts_with nat_eq text (codes "refs/") then None else Some NotRef
 
--- whether a byte is forbidden: a control character, DEL, a space, or a character with a special meaning in revisions or
+-- whether a byte is forbidden: a control character, DEL, a space, or a character that is special in revisions or
 -- patterns
 unfoldable pub is_bad_byte : ℕ → Bool
 is_bad_byte b = nat_lt b 32 || b == 127 || list_any (λ c. c == b) (codes " ~^:?*[\\")
@@ -111,7 +111,7 @@ end text = if ends_with nat_eq text (codes ".") then Some End else None
 abbrev pub name_rules : List Rule
 name_rules = empty ∷ too_long ∷ not_ref ∷ bad_byte ∷ component ∷ double_dot ∷ at_brace ∷ end ∷ []
 
--- the first fault of a text as a ref name
+-- the first fault of a text that is checked as a ref name
 unfoldable pub name_fault : Rule
 name_fault text = first_fault name_rules text
 
@@ -123,7 +123,7 @@ IsRefName text = name_fault text ≡ None
 abbrev pub prefix_rules : List Rule
 prefix_rules = too_long ∷ bad_byte ∷ []
 
--- the first fault of a text as a prefix
+-- the first fault of a text that is checked as a prefix
 unfoldable pub prefix_fault : Rule
 prefix_fault text = first_fault prefix_rules text
 

@@ -39,7 +39,8 @@ pub(crate) fn write_digits(bytes: &[u8], out: &mut [u8])
 }
 
 // The value of each hexadecimal digit, in upper or lower case, and 255 for every byte that is not a
-// digit. A table is faster than a branch, which would be mispredicted at about every third digit.
+// digit. A look-up in the table is faster than a branch that is mispredicted at about every third
+// digit.
 static DIGIT_VALUES: [u8; 256] = [
     255, 255, 255, 255, 255, 255, 255, 255, 255, 255, 255, 255, 255, 255, 255, 255, 255, 255, 255,
     255, 255, 255, 255, 255, 255, 255, 255, 255, 255, 255, 255, 255, 255, 255, 255, 255, 255, 255,

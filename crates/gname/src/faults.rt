@@ -8,14 +8,14 @@ use std::alloc::{AllocError, AllocFailed};
 use std::error::Error;
 use std::fmt;
 
-/// The number and the name of the fault "out of memory", which several crates share.
+/// The number and the name of the out-of-memory fault, which several crates share.
 pub const OUT_OF_MEMORY: (u32, &str) = (64, "Memory");
 
-/// The text of every out-of-memory fault, whatever the number of the fault.
+/// The text of every out-of-memory fault, regardless of the fault's number.
 pub const OUT_OF_MEMORY_TEXT: &str = "out of memory";
 
-/// The number and the name of the fault "an object to be added has a missing parent", which several
-/// crates share.
+/// The number and the name of the fault that a new object has a missing parent. Several crates
+/// share this fault.
 pub const MISSING_PARENT: (u32, &str) = (72, "MissingParent");
 
 /// The reason why a text is not a ref name or not a prefix. If a text has several faults, the one

@@ -138,7 +138,7 @@ impl Oid {
         }
     }
 
-    /// A law: an id has the length of its format.
+    /// Proves that an id has the length of its format.
     pub fn laws(&self)
         ensures { IsId self.now }
     {

@@ -11,76 +11,77 @@ ghost use Rattle.gname.specs.Laws.{FirstPlacesAreFirst, IdsHaveOneFormat, IdsHav
 
 use crate::{MAX_ID_TEXT, MAX_NAME, MAX_PACK};
 
-/// The text of an id, in lower case or in upper case, encodes that id.
+/// Proves that the text of an id, in lower case or in upper case, encodes that id.
 pub fn ids_have_texts()
     ensures { IdsHaveTexts }
 {}
 
-/// The text of an id has only hexadecimal digits, so it has no control characters and no spaces.
-/// Every value that such a text encodes is a valid id.
+/// Proves that the text of an id has only hexadecimal digits, so it has no control characters and
+/// no spaces. Every value that the text encodes is a valid id.
 #[tactic(auto, using(crate::proofs::IdLemmas::id_texts_are_digits))]
 pub fn id_texts_are_digits()
     ensures { IdTextsAreDigits }
 {}
 
-/// A text encodes at most one id.
+/// Proves that a text encodes at most one id.
 #[tactic(auto, using(crate::proofs::IdLemmas::texts_spell_one_id))]
 pub fn texts_spell_one_id()
     ensures { TextsSpellOneId }
 {}
 
-/// An id of a format is a valid id, and has only that format.
+/// Proves that an id of a format is a valid id, and has only that format.
 #[tactic(auto, using(crate::proofs::IdLemmas::ids_have_one_format))]
 pub fn ids_have_one_format()
     ensures { IdsHaveOneFormat }
 {}
 
-/// In each format the result of parsing a text is unique. A text that encodes an id parses to that
-/// id.
+/// Proves that the result of parsing a text is unique in each format. A text that encodes an id
+/// parses to that id.
 pub fn texts_have_one_reading()
     ensures { TextsHaveOneReading }
 {}
 
-/// A ref name has from 1 to 1,000 bytes, and no control character, DEL, space or any of `~ ^ : ? *
-/// [ \`. A ref name is `HEAD` or begins with `refs/`. Every ref name is also a valid prefix.
+/// Proves that a ref name has 1 to 1,000 bytes, and no control character, DEL, space or any of `~ ^
+/// : ? * [ \`. A ref name is `HEAD` or begins with `refs/`. Every ref name is also a valid prefix.
 pub fn names_are_clean()
     ensures { NamesAreClean }
 {}
 
-/// `HEAD` is a ref name.
+/// Proves that `HEAD` is a ref name.
 #[tactic(auto, using(crate::proofs::NameLemmas::head_is_a_name))]
 pub fn head_is_a_name()
     ensures { IsRefName head_name }
 {}
 
-/// A prefix has at most 1,000 bytes, and no byte that is forbidden in names.
+/// Proves that a prefix has at most 1,000 bytes, and no byte that is forbidden in names.
 #[tactic(auto, using(crate::proofs::NameLemmas::prefixes_are_clean))]
 pub fn prefixes_are_clean()
     ensures { PrefixesAreClean }
 {}
 
-/// The constants for limits equal the limits of the specs.
+/// Proves that the constants for limits equal the limits of the specs.
 pub fn limits_are_the_constants()
     ensures id_text { MAX_ID_TEXT ≡ id_text_length Sha256 }
     ensures name { MAX_NAME ≡ max_name }
     ensures pack { MAX_PACK ≡ max_pack }
 {}
 
-/// The rules of names and prefixes never report out of memory.
+/// Proves that the rules of names and prefixes never report out of memory.
 pub fn rules_never_report_memory()
     ensures { RulesNeverReportMemory }
 {}
 
-/// The reported position of a fault is the first position at which the fault occurs.
+/// Proves that the reported position of a fault is the first position at which the fault occurs.
 #[tactic(auto, using(crate::proofs::PlaceLemmas::first_places_are_first))]
 pub fn first_places_are_first()
     ensures { FirstPlacesAreFirst }
 {}
 
-/// The components of a text are its parts between slashes, and every text has at least one. A ref
-/// name has no component that is empty, begins with a dot or ends with `.lock`. The fault
-/// `Component` is reported exactly when the text has such a component and no earlier rule finds a
-/// fault. The reported position is the start of the first such component.
+/// Proves that the components of a text are its parts between slashes, and that every text has at
+/// least one component. A ref name has no component that is empty, begins with a dot or ends with
+/// `.lock`. The fault `Component` is reported exactly when the text has a component that breaks
+/// this rule and no earlier rule finds a fault. The reported position is the start of the first
+/// component that breaks the rule.
 pub fn components_are_parts()
     ensures { ComponentsAreParts }
 {}

@@ -13,7 +13,7 @@
 //!   first fault in a fixed order, with its first position. Out of memory is reported only for a
 //!   well-formed text, and never by `check`, which does not allocate. [`RefName::head`] returns the
 //!   name `HEAD`. [`RefName::copy_in`] returns a copy of the name, unless memory runs out.
-//! - One of the rules applies to the components of a text, which are its parts between slashes
+//! - One rule applies to the components of a text, which are the parts between slashes
 //!   ([`laws::components_are_parts`]).
 //! - Ids, names and prefixes are equal exactly if their bytes are equal. Names are ordered by their
 //!   bytes, and ids by their formats and then by their bytes. The orders of names and of ids are
@@ -25,7 +25,7 @@
 //!   [`MISSING_PARENT`].
 //! - No call panics, overflows or reads out of bounds, and every call returns.
 //!
-//! [`laws`] states further facts about ids, names and prefixes, for the proofs of other crates.
+//! [`laws`] proves further facts about ids, names and prefixes, for the proofs of other crates.
 //!
 //! # Only tested
 //!
@@ -36,9 +36,9 @@
 //!
 //! # What the contracts do not rule out
 //!
-//! A call may report out of memory for any well-formed name or prefix, for `HEAD` and for any copy.
-//! Formatting a fault may fail for no reason. A call may take any amount of time, and more memory
-//! than it needs.
+//! A call that stores a well-formed name, a prefix, `HEAD` or a copy may report out of memory at
+//! any time. Formatting a fault may fail for no reason. A call may take any amount of time, and
+//! more memory than it needs.
 //!
 //! # Dependencies
 //!

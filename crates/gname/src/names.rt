@@ -23,7 +23,7 @@ use std::marker::Model;
 /// The name of the ref `HEAD` (gitglossary(7), "HEAD").
 pub const HEAD: &[u8; 4] = b"HEAD";
 
-/// A ref name: `HEAD`, or a name below `refs/`. The order of names is that of their bytes.
+/// A ref name: `HEAD`, or a name below `refs/`. Names are ordered by their bytes.
 #[derive(Drop)]
 pub struct RefName<A: Allocator + Copy = Global> {
     text: Vec<u8, A>,
@@ -109,8 +109,8 @@ impl<A: Allocator + Copy> RefName<A> {
         self.text.as_slice()
     }
 
-    /// A law: a ref name obeys the rules, has at most 1,000 bytes, and has no control characters or
-    /// spaces.
+    /// Proves that a ref name obeys the rules, has at most 1,000 bytes, and has no control
+    /// characters or spaces.
     pub fn laws(&self)
         ensures name { IsRefName self.now }
         ensures within { length self.now ≤ max_name }

@@ -7,11 +7,11 @@ use Rattle.gobject.specs.declared.fault.PackFault.TheVariants as pack
 use Rattle.gobject.specs.declared.fault.IndexFault.{IndexFault}
 use Rattle.gobject.specs.declared.fault.IndexFault.TheVariants as index
 
--- the number and the name of every fault of packing, the same for each cause
+-- the number and the name of a fault of packing, which are the same for all faults of packing
 abbrev pub pack_fault_row : PackFault → FaultRow
 pack_fault_row _ = (65, codes "Pack")
 
--- the number and the name of every fault of indexing, the same for each cause
+-- the number and the name of a fault of indexing, which are the same for all faults of indexing
 abbrev pub index_fault_row : IndexFault → FaultRow
 index_fault_row _ = (66, codes "Index")
 

@@ -58,7 +58,7 @@ pack_lines list = header ∷ (map node_text list ++ end_text (length list) ∷ [
 unfoldable pub pack_text : {A : Type 0} → List (Entry A) → List ℕ
 pack_text list = text_of (pack_lines list)
 
--- the reason to refuse packing: `TooLarge` if the pack has too many bytes, and otherwise `Memory`
+-- the fault of packing: `TooLarge` if the pack has too many bytes, and otherwise `Memory`
 abbrev pub PackRefuses : List ℕ → PackFault → Type 0
 PackRefuses text pack_faults.Memory = length text ≤ max_pack
 PackRefuses text pack_faults.TooLarge = max_pack < length text
@@ -111,11 +111,11 @@ pub record BeginsPack (A : Type 0) (lines : List (List ℕ)) : Type 0 where
 abbrev pub IsWholePack : (A : Type 0) → List (List ℕ) → Type 0
 IsWholePack A lines = (list : List (Entry A)) × ArePackLines lines list
 
--- the bytes are the lines, then the line `next`, and then the rest
+-- the bytes consist of the lines, the line `next`, and any rest
 abbrev pub GoesOn : List ℕ → List (List ℕ) → List ℕ → Type 0
 GoesOn bytes lines next = (rest : List ℕ) × (bytes ≡ text_of (lines ++ next ∷ []) ++ rest) × IsInLine next
 
--- the line after these lines is wrong: no plain pack begins with all of them
+-- the line after these lines is wrong: no plain pack begins with `lines` and that line
 abbrev pub IsWrongLine : (A : Type 0) → List ℕ → List (List ℕ) → Type 0
 IsWrongLine A bytes lines = (next : List ℕ) × GoesOn bytes lines next × ¬ (BeginsPack A (lines ++ next ∷ []))
 
@@ -145,7 +145,7 @@ pub record TakesMemory (A : Type 0) (bytes : List ℕ) : Type 0 where
   pub node : IsNodeText text entry
   pub ends : ((end ≡ 32) × (entry.node.parents ≢ [])) ⊎ (end ≡ 10)
 
--- the reason to refuse bytes: a bad line, or out of memory for an entry
+-- the fault of refused bytes: a bad line, or out of memory for an entry
 abbrev pub IndexRefuses : (A : Type 0) → List ℕ → IndexFault → Type 0
 IndexRefuses A bytes index_faults.Memory = TakesMemory A bytes
 IndexRefuses A bytes (index_faults.Bad at) = IsBadLine A bytes at

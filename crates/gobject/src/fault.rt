@@ -36,7 +36,7 @@ impl PackFault {
         self.fault_row().1
     }
 
-    // Returns the number and the name of the fault, which are the same for each cause.
+    // Returns the number and the name of the fault, which are the same for all variants.
     fn fault_row(&self) -> (u32, &'static str)
         ensures { (result.0, result.1.now) ≡ pack_fault_row self.now }
     {
@@ -84,7 +84,7 @@ impl IndexFault {
         self.fault_row().1
     }
 
-    /// Returns the number and the name of the fault, which are the same for each cause.
+    /// Returns the number and the name of the fault, which are the same for all variants.
     pub fn fault_row(&self) -> (u32, &'static str)
         ensures { (result.0, result.1.now) ≡ index_fault_row self.now }
     {

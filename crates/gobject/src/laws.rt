@@ -9,12 +9,12 @@ use crate::MAX_PARENTS;
 use gname::laws::{id_texts_are_digits, texts_spell_one_id};
 use std::alloc::Allocator;
 
-/// [`MAX_PARENTS`] equals the limit of the specs, `max_parents`.
+/// Proves that [`MAX_PARENTS`] equals the limit of the specs, `max_parents`.
 pub fn limits_are_the_constants()
     ensures { MAX_PARENTS ≡ max_parents }
 {}
 
-/// The same bytes are the plain pack of at most one list of entries.
+/// Proves that a sequence of bytes is the plain pack of at most one list of entries.
 pub fn packs_have_one_reading<A: Allocator + Copy>()
     ensures { PacksHaveOneReading A }
 {
@@ -22,7 +22,7 @@ pub fn packs_have_one_reading<A: Allocator + Copy>()
     texts_spell_one_id();
 }
 
-/// A plain pack has no bad line.
+/// Proves that a plain pack has no bad line.
 pub fn packs_have_no_bad_line<A: Allocator + Copy>()
     ensures { PacksHaveNoBadLine A }
 {
@@ -30,8 +30,8 @@ pub fn packs_have_no_bad_line<A: Allocator + Copy>()
     texts_spell_one_id();
 }
 
-/// The same bytes have at most one bad line. An indexer reports that line however the bytes are
-/// split into pieces.
+/// Proves that a sequence of bytes has at most one bad line. An indexer reports that line however
+/// the bytes are split into pieces.
 pub fn bad_lines_have_one_place<A: Allocator + Copy>()
     ensures { BadLinesHaveOnePlace A }
 {

@@ -11,12 +11,12 @@
 //!   text has more than `gname::MAX_PACK` bytes. [`PlainPack`] reads exactly the texts of lists,
 //!   with ids in upper or lower case. For any other bytes it reports the first wrong line. The
 //!   result does not depend on how the bytes are split into pieces. Writing reports out of memory
-//!   only for a list that is not too large. Reading reports out of memory only after valid lines
-//!   and the id of one more entry.
+//!   only for a list that is not too large. Reading reports out of memory only if every line so far
+//!   was valid, and the id of one more entry was read.
 //! - The contracts of [`Indexer`] specify how an indexer reads a pack in pieces. The contract of
-//!   `index`, for a whole pack, follows from these contracts.
-//! - The same bytes have at most one bad line, and a plain pack has no bad line ([`laws`]).
-//! - [`Faithful`] specifies a packer and an indexer that lose nothing. A plain pack of a list with
+//!   `index`, which reads a whole pack, follows from the contracts of the other calls.
+//! - A sequence of bytes has at most one bad line, and a plain pack has none ([`laws`]).
+//! - [`Faithful`] specifies a lossless pair of packer and indexer. A plain pack of a list with
 //!   distinct ids reads back as that list.
 //! - Each fault has the number, the name and the text of its row in the table
 //!   (`specs/Faults.antt`).
@@ -24,12 +24,12 @@
 //!
 //! # What the contracts do not rule out
 //!
-//! A call may report out of memory for any list whose text is not too long, for any bytes with an
-//! entry to store, and for any copy. Reading may thus report out of memory instead of a bad line if
-//! there is an entry before that line. A copy may be allocated from a different allocator of the
-//! same type. A call may take any amount of time, and more memory than it needs. Formatting a fault
-//! may return an error (`fmt::Error`) for no reason. Formatting with options, such as a width, may
-//! write a different text.
+//! A call that makes a copy may report out of memory at any time. So may writing of a list whose
+//! text is not too long, and reading of bytes with an entry. Reading may report out of memory
+//! instead of a bad line if an entry precedes that line. A copy may be allocated from a different
+//! allocator of the same type. A call may take any amount of time, and more memory than it needs.
+//! Formatting a fault may return an error (`fmt::Error`) for no reason. Formatting with options,
+//! such as a width, may write a different text.
 //!
 //! This crate has no tests of its own. The program `conformance` reads and writes packs, whole and
 //! in pieces, and makes each allocation fail in turn.

@@ -9,8 +9,7 @@ use std::marker::Model;
 /// The maximum number of parents of a node.
 pub const MAX_PARENTS: usize = 64;
 
-/// The type of an object (gitglossary(7), "object type"): a commit or a tag. The only parent of a
-/// tag is the tagged object.
+/// The type of an object (gitglossary(7), "object type"): a commit or a tag.
 #[derive(Clone, Copy, Debug, PartialEq, Eq)]
 pub enum Kind {
     Commit,

@@ -59,8 +59,8 @@ pub trait Indexer<A: Allocator + Copy> {
             (λ fault. ((given more : List ℕ) → fed self.now feed.old given
             → index_fails self.now ((given ++ piece.now) ++ more) fault)) };
 
-    /// Returns the entries of the pack whose pieces were fed, in order. A fault of this call is a
-    /// possible fault for the pack that consists of exactly these pieces.
+    /// Returns the entries of the pack whose pieces were fed, in order. The contract allows a fault
+    /// of this call only if the pack of exactly these pieces may be refused with that fault.
     fn finish(&self, feed: Self::Feed) -> Result<Vec<Entry<A>, A>, IndexFault>
         ensures { MatchResult result
             (λ entries. ((given : List ℕ) → fed self.now feed given
@@ -87,8 +87,8 @@ pub trait Indexer<A: Allocator + Copy> {
 pub trait Faithful<A: Allocator + Copy>: Packer<A> + Indexer<A> {
     ghost image: { Self → List (Entry A) → List ℕ };
 
-    /// A law for generic callers: `index` reads back the entries that `pack` writes. The function
-    /// does nothing at run time.
+    /// Proves to generic callers that `index` reads back the entries that `pack` writes. The
+    /// function does nothing at run time.
     fn loses_nothing(&self)
         ensures { LosesNothing (Self.packs self.now) (Self.pack_fails self.now)
             (Self.indexes self.now) (Self.index_fails self.now) (image self.now) };

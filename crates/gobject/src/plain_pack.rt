@@ -31,8 +31,8 @@ use std::alloc::Allocator;
 /// the input ends: the number of line feeds plus one.
 ///
 /// `pack` and `index` fail with `Memory` if memory runs out. `pack` never fails with `Memory` for a
-/// list whose pack is too large. `index` fails with `Memory` only after valid lines and the id of
-/// one more entry.
+/// list whose pack is too large. `index` fails with `Memory` only if every line so far was valid,
+/// and the id of one more entry was read.
 #[derive(Clone, Copy, Debug, PartialEq, Eq, Drop)]
 pub struct PlainPack;
 

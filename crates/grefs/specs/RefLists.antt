@@ -17,7 +17,7 @@ use Rattle.gname.specs.Names.{Name, IsRefName, head_name}
 abbrev pub RefList : Type 0
 RefList = List (Name × Id)
 
--- whether the name of a ref is `name`
+-- whether the ref has this name
 abbrev pub has_name : Name → Name × Id → Bool
 has_name name ref = bytes_eq ref.0 name
 
@@ -30,7 +30,7 @@ pub record IsBelowRefs (name : Name) : Type 0 where
   pub well_formed : IsRefName name
   pub below : starts_with nat_eq name (codes "refs/") ≡ true
 
--- every ref has a name that sorts before `name`
+-- the name of every ref sorts before `name`
 abbrev pub AreBelow : RefList → Name → Type 0
 AreBelow refs name = AllByRecursion (λ other. slice_cmp nat_cmp other name ≡ Less) (keys_of refs)
 

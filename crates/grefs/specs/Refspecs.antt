@@ -10,8 +10,8 @@ use Rattle.grefs.specs.RefLists.{IsBelowRefs}
 use Rattle.grefs.specs.declared.refspec.fault.SpecFault.{SpecFault}
 use Rattle.grefs.specs.declared.refspec.fault.SpecFault.TheVariants.{BadSpec, Memory}
 
--- a refspec: whether it forces updates, whether it is a pattern, its source and its destination; those of a pattern are
--- stored without their `*`
+-- a refspec: whether it forces updates, whether it is a pattern, its source and its destination; a pattern's source and
+-- destination are stored without `*`
 pub record Refspec : Type 0 where
   pub forced : Bool
   pub pattern : Bool
@@ -39,7 +39,7 @@ abbrev pub spec_text : Refspec → List ℕ
 spec_text spec =
     force_text spec.forced ++ sides_text spec
 
--- the part of a pattern before its `*`: it ends with a slash, and with `x` in place of the `*` it is a ref name below
+-- the part of a pattern before its `*`: the part ends with a slash, and the part followed by `x` is a ref name below
 -- refs/
 pub record IsStem (stem : List ℕ) : Type 0 where
   pub slash : ends_with nat_eq stem (codes "/") ≡ true
@@ -55,7 +55,7 @@ AreSides true source destination = IsStem source × IsStem destination
 abbrev pub IsRefspec : Refspec → Type 0
 IsRefspec spec = AreSides spec.pattern spec.source spec.destination
 
--- the text is that of this valid refspec
+-- the text encodes this valid refspec
 pub record IsSpec (text : List ℕ) (spec : Refspec) : Type 0 where
   pub written : text ≡ spec_text spec
   pub sides : IsRefspec spec
@@ -66,7 +66,7 @@ Reads P (Ok spec) = P spec
 Reads P (Err BadSpec) = (spec : Refspec) → ¬ (P spec)
 Reads P (Err Memory) = (spec : Refspec) × P spec
 
--- a text is the text of at most one refspec
+-- a text encodes at most one refspec
 abbrev pub OneReading : Type 0
 OneReading = (text : List ℕ) (a b : Refspec) → IsSpec text a → IsSpec text b → a ≡ b
 
@@ -79,13 +79,12 @@ matches spec name =
     if spec.pattern then starts_with nat_eq name spec.source && nat_lt (length spec.source) (length name)
     else bytes_eq name spec.source
 
--- the destination of a name that the source matches: in a pattern, the rest of the name takes the place of the
--- destination's `*`
+-- the destination of a name that the source matches: in a pattern, the rest of the name replaces the destination's `*`
 abbrev pub destination_of : Refspec → Name → List ℕ
 destination_of spec name = spec.destination ++ drop (length spec.source) name
 
 -- the result of mapping a name to its destination: `None` if the source does not match the name, otherwise the
--- destination or the reason why it is not a ref name
+-- destination, or the reason why the destination is not a ref name
 abbrev pub FindsDestination : Refspec → Name → Result (Option Name) NameFault → Type 0
 FindsDestination spec name (Ok None) = matches spec name ≡ false
 FindsDestination spec name (Ok (Some destination)) =

@@ -82,7 +82,7 @@ impl<A: Allocator + Copy> Head<A> {
         }
     }
 
-    /// A law: the target of a symbolic `HEAD` is below `refs/`.
+    /// Proves that the target of a symbolic `HEAD` is below `refs/`.
     pub fn laws(&self)
         ensures { PointsBelowRefs self.now }
     {

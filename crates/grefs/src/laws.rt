@@ -6,18 +6,18 @@ ghost use Rattle.grefs.specs.RefLists.{max_refs};
 
 use crate::MAX_REFS;
 
-/// [`MAX_REFS`] equals the limit of the specs, `max_refs`.
+/// Proves that [`MAX_REFS`] equals the limit of the specs, `max_refs`.
 pub fn limits_are_the_constants()
     ensures { MAX_REFS ≡ max_refs }
 {}
 
-/// Each ref of a list could have been appended to the refs before it.
+/// Proves that each ref of a list could be appended to the refs before it.
 #[tactic(auto, using(crate::proofs::RefLemmas::refs_come_in_order))]
 pub fn refs_come_in_order()
     ensures { RefsComeInOrder }
 {}
 
-/// Two lists of refs are equal if every name has the same id in both.
+/// Proves that two lists of refs are equal if every name has the same id in both.
 #[tactic(auto, using(crate::proofs::RefLemmas::alike_same))]
 pub fn refs_are_their_look_ups()
     ensures { RefsAreTheirLookUps }

@@ -14,8 +14,8 @@
 //!   (`specs/Faults.antt`).
 //! - No call panics, overflows or reads out of bounds, and every call returns.
 //!
-//! [`laws`] proves that each ref could have been appended to the refs before it. The module also
-//! proves that two lists of refs are equal if every name has the same id in both.
+//! [`laws`] proves that each ref could be appended to the refs before it. The module also proves
+//! that two lists of refs are equal if every name has the same id in both.
 //!
 //! # Only tested
 //!

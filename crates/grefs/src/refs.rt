@@ -48,8 +48,8 @@ impl<A: Allocator + Copy> Refs<A> {
         self.refs.len()
     }
 
-    /// A law: the list has at most [`MAX_REFS`] refs, whose names are below `refs/` and in strictly
-    /// ascending byte order.
+    /// Proves that the list has at most [`MAX_REFS`] refs, and that their names are below `refs/`
+    /// and in strictly ascending byte order.
     pub fn laws(&self)
         ensures { IsRefs self.now }
     {
@@ -139,7 +139,7 @@ impl<A: Allocator + Copy> Refs<A> {
         Ok(())
     }
 
-    /// Sets the ref with this name to this id, or adds such a ref.
+    /// Sets the ref with this name to this id, or adds the ref if the name is new.
     ///
     /// Fails with `Refs` if the name is `HEAD`, or if the name is new and there are already
     /// `MAX_REFS` refs. Fails with `Memory` if out of memory. A failed call leaves the refs
@@ -208,8 +208,8 @@ fn are_below<A: Allocator + Copy>(refs: &[(RefName<A>, Oid)], name: &[u8]) -> bo
     }
 }
 
-// Returns the position of the ref with this name, or in `Err` the position at which such a ref
-// would be inserted.
+// Returns the position of the ref with this name, or in `Err` the position at which a ref with this
+// name would be inserted.
 fn place_of<A: Allocator + Copy>(
     refs: &[(RefName<A>, Oid)],
     name: &RefName<A>,
@@ -217,7 +217,7 @@ fn place_of<A: Allocator + Copy>(
     requires { IsRefs refs.now }
     ensures { MatchResult result (IsFound refs.now name.now) (IsGap refs.now name.now) }
 {
-    // Refs are usually set in the order of their names.
+    // Callers usually set refs in the order of their names.
     if are_below(refs, name.as_bytes()) {
         return Err(refs.len());
     }

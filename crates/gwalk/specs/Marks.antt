@@ -15,7 +15,7 @@ AreConnected {A} g marks =
     (position : ℕ) → slice_index_or marks position false ≡ true →
     (entry : Entry A) × (slice_get g position ≡ Some entry) × IsConnected g entry.id
 
--- the graph after removal of the parents of marked objects
+-- the graph in which marked objects have no parents
 abbrev pub stop_at : {A : Type 0} → List Bool → List (Entry A) → List (Entry A)
 stop_at [] g = g
 stop_at (mark ∷ marks) [] = []
@@ -37,8 +37,8 @@ pub data ReachesPast {A : Type 0} (g : List (Entry A)) (marks : List Bool) : Id 
 abbrev pub SomeReachesPast : {A : Type 0} → List (Entry A) → List Bool → List Id → Id → Type 0
 SomeReachesPast g marks ids b = (a : Id) × Contains ids a × ReachesPast g marks a b
 
--- the number of ids that the given ids reach without continuing past marked ids, and the number of parents of those ids
--- that are unmarked
+-- the number of ids that the given ids reach without continuing past marked ids, and the number of parents of the
+-- unmarked ids among them
 pub record CountsPast {A : Type 0} (g : List (Entry A)) (marks : List Bool) (ids : List Id)
     (held parents : ℕ) : Type 0 where
   pub list : List (Entry A)
@@ -48,8 +48,8 @@ pub record CountsPast {A : Type 0} (g : List (Entry A)) (marks : List Bool) (ids
   pub unmarked : Selects (λ entry. IsUnmarked g marks entry.id) list left
   pub parents_are : parents ≡ sum_by (λ entry. length entry.node.parents) left
 
--- a walk that does not continue past marked objects has the same reachable ids and counts as a walk after removal of
--- the parents of marked objects
+-- a walk that does not continue past marked objects is equivalent to a walk in the graph in which marked objects have
+-- no parents
 abbrev pub StopsAtMarks : Type 0 → Type 0
 StopsAtMarks A =
     (g : List (Entry A)) (marks : List Bool)
@@ -63,7 +63,7 @@ pub record MarksReached {A : Type 0} (g : List (Entry A)) (ids : List Id) (old n
       (slice_index_or new position false ≡ true) ↔ ((slice_index_or old position false ≡ true) ⊎ SomeReaches g ids entry.id)
   pub others : (position : ℕ) → length g ≤ position → slice_index_or new position false ≡ slice_index_or old position false
 
--- marks of connected ids stay marks of connected ids when the graph grows
+-- connected marked ids stay connected when the graph grows
 abbrev pub MarksStayConnected : Type 0 → Type 0
 MarksStayConnected A = (g h : List (Entry A)) (marks : List Bool) → Grows g h → AreConnected g marks → AreConnected h marks
 

@@ -1,4 +1,4 @@
--- Offering of ids in batches, by a walk from a client's tips that each batch resumes (gitprotocol-v2(5), "fetch":
+-- Offering of ids in batches. Each batch resumes the same walk from the client's tips (gitprotocol-v2(5), "fetch":
 -- `have`). Positions are in insertion order.
 use Rattle.std.specs.Prelude.{◌≡◌, ◌↔◌, ℕ, suc, Bool, true, false, List, [], ◌++◌, length, slice_index_or, All, Option}
 use Rattle.std.specs.Prelude.{Some}
@@ -11,8 +11,8 @@ use Rattle.gdag.specs.Reach.{SomeReaches}
 use Rattle.gwalk.specs.Walks.{HasMet, places}
 use Rattle.gwalk.specs.declared.offer.Offers.{Offers}
 
--- A walk from the tips has met the ids in `ids`, and has visited the first `at` of these ids. The walk has met all ids
--- of levels 0 to k and some ids of level k + 1. The parents of the unvisited ids of level k complete level k + 1.
+-- A walk from the tips has met the ids in `ids`, and has visited the first `at` of them. The walk has met all ids of
+-- levels 0 to k and some ids of level k + 1. The parents of the unvisited ids of level k complete level k + 1.
 pub record IsWalked {A : Type 0} (g : List (Entry A)) (tips ids : List Id) (at : ℕ) : Type 0 where
   pub k : ℕ
   pub done : List Id
@@ -36,8 +36,8 @@ AreReached g ids marks =
     (a : Id) (position : ℕ) → position_of g a ≡ Some position
     → (slice_index_or marks position false ≡ true) ↔ SomeReaches g ids a
 
--- The state after some batches were offered. No visited id of the walk from the tips may be offered any more. The sent
--- ids and the ids that common ids reach are marked.
+-- The state after zero or more batches. The walk from the tips has not visited any id that may still be offered. The
+-- sent ids and the ids that common ids reach are marked.
 pub record AreOffers {A : Type 0} (g : List (Entry A)) (tips commons sent : List Id) (offers : Offers A) : Type 0 where
   pub front : List Id
   pub back : List Id

@@ -12,7 +12,7 @@ use Rattle.gdag.specs.Levels.{AreLevels}
 abbrev pub places : {A : Type 0} → List (Entry A) → List Id → List ℕ
 places g ids = filter_map (position_of g) ids
 
--- the total number of parents of some entries
+-- the total number of parents of the entries
 abbrev pub parents_in : {A : Type 0} → List (Entry A) → ℕ
 parents_in list = sum_by (λ entry. length entry.node.parents) list
 
@@ -29,12 +29,12 @@ pub record AreMarked {A : Type 0} (P : Id → Type 0) (g : List (Entry A)) (mark
   pub each : (position : ℕ) (entry : Entry A) → slice_get g position ≡ Some entry →
       (slice_index_or marks position false ≡ true) ↔ P entry.id
 
--- one of the ids that the graph does not contain, or `None` if the graph contains all of them
+-- one of the ids that is not in the graph, or `None` if the graph contains all of the ids
 abbrev pub IsLost : {A : Type 0} → List (Entry A) → List Id → Option Id → Type 0
 IsLost g ids None = (a : Id) → Contains ids a → Holds g a
 IsLost g ids (Some b) = Contains ids b × (node_at g b ≡ None)
 
--- the state of a walk that has met some ids: marks and distinct positions of the ids in the graph, an id that is not in
+-- the state of a walk that has met these ids: marks and distinct positions of those in the graph, an id that is not in
 -- the graph, and the total number of parents
 pub record HasMet {A : Type 0} (g : List (Entry A)) (ids : List Id) (marks : List Bool) (met : List ℕ)
     (lost : Option Id) (parents : ℕ) : Type 0 where
@@ -47,7 +47,7 @@ pub record HasMet {A : Type 0} (g : List (Entry A)) (ids : List Id) (marks : Lis
   pub parents_are : parents ≡ parents_in (marked_entries g marks)
   pub marked : (a : Id) (p : ℕ) → position_of g a ≡ Some p → (slice_index_or marks p false ≡ true) ↔ Contains ids a
 
--- the final state of a walk from some ids: the walk has met all ids that the starting ids reach
+-- the final state of a walk: the walk has met all ids that the starting ids reach
 pub record IsWalk {A : Type 0} (g : List (Entry A)) (starts : List Id) (marks : List Bool) (met : List ℕ)
     (lost : Option Id) (parents : ℕ) : Type 0 where
   pub ids : List Id

@@ -1,4 +1,4 @@
-//! The search for missing ancestors of some ids.
+//! The search for missing ancestors of the given ids.
 
 ghost use Rattle.std.specs.Prelude.{◌≡◌, IfOk, IfErr, IsTrue, is_ok};
 ghost use Rattle.gdag.specs.Graphs.{IsOrdered};
@@ -12,7 +12,7 @@ use gdag::{Graph, GraphFault};
 use gname::Oid;
 use std::alloc::Allocator;
 
-/// The numbers of ids and of parents that a walk visited.
+/// The number of ids that a walk visited, and the number of their parents.
 #[derive(Clone, Copy, Debug, PartialEq, Eq)]
 pub struct Count {
     /// The number of visited ids of the graph. No id is visited twice.
@@ -44,8 +44,8 @@ pub fn missing<A: Allocator + Copy>(
     Ok(missing)
 }
 
-/// Returns the result of `missing`, with the number of ids in the graph that the given ids reach
-/// and the number of their parents.
+/// Returns the result of `missing`, the number of ids in the graph that the given ids reach, and
+/// the total number of parents of those reached ids.
 ///
 /// Fails only with `Memory`.
 pub fn missing_counted<A: Allocator + Copy>(
@@ -60,9 +60,8 @@ pub fn missing_counted<A: Allocator + Copy>(
     missing_known(graph, ids, &ConnectedMarks::new(graph.allocator()))
 }
 
-/// Returns the result of `missing`, by a walk that does not continue past marked ids. The count
-/// covers the ids of the graph that the walk visits, and the parents of those visited ids that are
-/// unmarked.
+/// Returns the result of `missing`, by a walk that does not continue past marked ids. Also counts
+/// the ids of the graph that the walk visits, and the parents of the unmarked ids among them.
 ///
 /// Fails only with `Memory`.
 pub fn missing_known<A: Allocator + Copy>(

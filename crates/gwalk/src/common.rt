@@ -102,7 +102,7 @@ pub fn met_of<A: Allocator + Copy>(graph: &Graph<A>, ids: &[Oid]) -> Result<Walk
     Ok(walk)
 }
 
-// Returns the ids at some positions.
+// Returns the ids at the given positions.
 fn ids_at<A: Allocator + Copy>(
     graph: &Graph<A>,
     numbers: &[usize],
@@ -135,7 +135,7 @@ fn absent_of<A: Allocator + Copy>(graph: &Graph<A>, ids: &[Oid]) -> Result<Vec<O
         .collect(graph.allocator())
 }
 
-// Returns whether the list contains at least one of the ids.
+// Returns whether `list` contains at least one of `ids`.
 fn has_one(list: &[Oid], ids: &[Oid]) -> bool
     ensures { IsTrue result ↔ Any (Contains list.now) ids.now }
 {

@@ -5,7 +5,7 @@ ghost use Rattle.gwalk.specs.Marks.{CoveringStays, MarksStayConnected, StopsAtMa
 use gdag::laws::{connected_stays_connected, growing_keeps};
 use std::alloc::Allocator;
 
-/// Marks of connected ids remain marks of connected ids when objects are added to the graph.
+/// Proves that all marked ids stay connected when objects are added to the graph.
 pub fn marks_stay_connected<A: Allocator + Copy>()
     ensures { MarksStayConnected A }
 {
@@ -13,8 +13,8 @@ pub fn marks_stay_connected<A: Allocator + Copy>()
     growing_keeps::<A>();
 }
 
-/// Marks that cover connected ids still cover them when objects are added to the graph. Marks cover
-/// an id if all ids that this id reaches are marked.
+/// Proves that marks that cover connected ids still cover them when objects are added to the graph.
+/// Marks cover an id if all ids that this id reaches are marked.
 pub fn covering_stays<A: Allocator + Copy>()
     ensures { CoveringStays A }
 {
@@ -22,9 +22,9 @@ pub fn covering_stays<A: Allocator + Copy>()
     growing_keeps::<A>();
 }
 
-/// A walk that does not continue past marked objects is equivalent to a walk in the graph without
-/// the parents of marked objects. Both walks have the same reachable ids and the same counts, which
-/// are those of `missing_known`.
+/// Proves that a walk that does not continue past marked objects is equivalent to a walk in the
+/// graph in which marked objects have no parents. Both walks reach the same ids, and both have the
+/// counts of `missing_known`.
 pub fn stops_at_marks<A: Allocator + Copy>()
     ensures { StopsAtMarks A }
 {}

@@ -1,26 +1,26 @@
-//! Walks over the graph of a repository's commits and tags. The walks find the objects that some
-//! ids reach, the missing objects, the objects to send, and the ids to offer.
+//! Walks over the graph of a repository's commits and tags. The walks find the objects that the
+//! given ids reach, the missing objects, the objects to send, and the ids to offer.
 //!
 //! # Proved
 //!
 //! - [`missing`] returns `None` if each id is connected. Otherwise the call returns an id that one
 //!   of the given ids reaches and that the graph does not contain. In an ordered graph `missing`
 //!   never reports out of memory.
-//! - [`missing_counted`] returns the result of `missing`, with the exact number of ids in the graph
-//!   that the given ids reach and the exact number of their parents. No id is counted twice.
+//! - [`missing_counted`] returns the result of `missing`, the number of distinct ids in the graph
+//!   that the given ids reach, and the total number of their parents. Both numbers are exact.
 //! - [`mark_connected`] marks every id that the given ids reach, and leaves the other marks
 //!   unchanged. If memory runs out, the [`ConnectedMarks`] are unchanged. All marked ids stay
 //!   connected when objects are added to the graph ([`laws`]).
 //! - [`missing_known`] returns the result of `missing` by a walk that does not continue past marked
-//!   ids. The call counts exactly the ids that the walk visits, and the parents of those ids that
-//!   are unmarked ([`laws::stops_at_marks`]).
+//!   ids. The call counts exactly the ids that the walk visits, and the parents of the unmarked ids
+//!   among them ([`laws::stops_at_marks`]).
 //! - [`common_ids`] returns exactly the common ids. [`reaches`] and [`ready`] return whether an id
 //!   reaches another, and whether the server is ready to send a pack.
 //! - [`send_list`] returns the list of objects to send, and [`send_list_tags`] adds the tags of the
 //!   refs. The ids of the list are distinct and have the graph's format.
 //! - If each object was inserted after its parents, `reaches`, `ready` and `send_list` make one
 //!   pass down or up the insertion order. The pass down ends when every remaining object that a
-//!   want is known to reach is also known to be common.
+//!   want was found to reach is also reachable from a common id.
 //! - [`haves`] returns the offer: the first `n` unsent ids of the graph, level by level from the
 //!   tips, that no common id reaches. [`Offers`] returns successive offers, for which it resumes
 //!   the same walk. No id is offered twice.
@@ -30,14 +30,14 @@
 //! # What the contracts do not rule out
 //!
 //! If several ids are missing, `missing` may return any of them. A call may report out of memory at
-//! any time, unless it is proved not to. A call may take any amount of time, and more memory than
-//! it needs. No contract says that the time of a walk is linear in the number of objects and
-//! parents that the walk meets. No contract says that `ready` stops at a common id, or that `haves`
-//! stops when it has `n` ids.
+//! any time, except where the contract rules that out. A call may take any amount of time, and more
+//! memory than it needs. No contract says that the time of a walk is linear in the number of
+//! objects and parents that the walk meets. No contract says that `ready` stops at a common id, or
+//! that `haves` stops when it has `n` ids.
 //!
 //! This crate has no tests of its own. The program `conformance` makes each call on sample
-//! histories. One sample history has so many paths that a walk along each path would not end in
-//! practice.
+//! histories. One sample history has so many paths that following each path separately would take
+//! too long.
 //!
 //! # Dependencies
 //!

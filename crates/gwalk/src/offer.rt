@@ -18,8 +18,8 @@ use gname::Oid;
 use std::alloc::{AllocError, Allocator, Global};
 
 /// Returns the ids to offer as haves to a server that has `commons` (gitprotocol-v2(5), "fetch":
-/// `have`). The offer is the first `n` ids of the graph, level by level, that no id of `commons`
-/// reaches and that are not in `sent`.
+/// `have`). The offer is the first `n` ids of the graph, level by level, that are not in `sent` and
+/// that no id of `commons` reaches.
 ///
 /// Level 0 has the tips in order, each once. Each further level has the parents of the previous
 /// level in order, each once, without ids of earlier levels. An id that the graph does not contain
@@ -40,15 +40,15 @@ pub fn haves<A: Allocator + Copy>(
     Ok(ids)
 }
 
-/// A walk from some tips that can be resumed, with the number of its visited positions.
+/// A resumable walk from a list of tips, with the number of positions that the walk has visited.
 #[derive(Drop)]
 pub(crate) struct Tour<A: Allocator + Copy> {
     pub(crate) walk: Walk<A>,
     pub(crate) at: usize,
 }
 
-/// The state of offering haves in batches, level by level from some tips. Each batch resumes the
-/// same walk, so all batches together cost only one walk.
+/// The state of offering haves in batches, level by level from a list of tips. Each batch resumes
+/// the same walk, so all batches together cost only one walk.
 #[derive(Drop)]
 pub struct Offers<A: Allocator + Copy = Global> {
     tour: Tour<A>,

@@ -84,7 +84,7 @@ fn list_to_send<A: Allocator + Copy>(
     Ok(walked_list(graph, wants, commons, tips)?)
 }
 
-// Returns the list to send. The function finds it by walks, in a graph in any order.
+// Returns the list to send. The function walks from the wants, and accepts a graph in any order.
 fn walked_list<A: Allocator + Copy>(
     graph: &Graph<A>,
     wants: &[Oid],

@@ -1,4 +1,4 @@
-//! The walk from some ids to all their ancestors.
+//! The walk from a list of ids to all their ancestors.
 
 ghost use Rattle.std.specs.Prelude.{◌≡◌, ◌<◌, ◌∷◌, ◌++◌, [], Bool, List, slice_get, length, IfOk, OnOk, Some};
 ghost use Rattle.std.specs.Option.{option_map};
@@ -87,7 +87,7 @@ impl<A: Allocator + Copy> Walk<A> {
         Ok(())
     }
 
-    /// Records that the walk meets some ids, in order. Fails as `meet` does.
+    /// Records that the walk meets the ids, in order. Fails as `meet` does.
     pub fn meet_all(
         &mut self,
         graph: &Graph<A>,

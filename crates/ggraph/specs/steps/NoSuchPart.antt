@@ -1,4 +1,4 @@
--- Definitions for the proofs of refusing a line: each states that a part of the line does not have a form.
+-- Definitions for the proofs of refusing a line. Each definition states that a part of the line is malformed.
 use Rattle.std.specs.Prelude.{◌≡◌, ℕ, ◌≤◌, List, ◌∷◌, ◌++◌, length, All, codes}
 use Rattle.gname.specs.Ids.{Id, IsIdOf, id_text}
 use Rattle.gname.specs.Names.{Name}

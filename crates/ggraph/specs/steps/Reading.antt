@@ -20,7 +20,7 @@ use Rattle.ggraph.specs.declared.text.reading.Reading.{Reading}
 use Rattle.ggraph.specs.declared.text.reading.TextStage.{TextStage}
 use Rattle.ggraph.specs.declared.text.reading.TextStage.TheVariants.{First, Nodes, Refs, Last, Done}
 
--- the contents of a line of a repository text
+-- the contents of one line of a repository text
 pub data Item (A : Type 0) : Type 0 where
   begins : Format → Item A
   node : Entry A → Item A
@@ -36,7 +36,7 @@ line_of (ref it) = ref_line it
 line_of (heads head) = head_line head
 line_of ends = last_line
 
--- an item that must be stored
+-- whether the contents of the item must be stored
 abbrev pub IsKept : {A : Type 0} → Item A → Type 0
 IsKept (node entry) = ⊤
 IsKept (ref it) = ⊤
@@ -52,7 +52,7 @@ abbrev pub nothing_read : {A : Type 0} → Reading A
 nothing_read =
     record { stage = First; graph = record { format = Sha1; entries = [] }; refs = []; head = head_is.None }
 
--- the stages of reading at which a ref or HEAD is allowed next
+-- the stages at which the line of a ref or of HEAD is allowed next
 abbrev pub RefMayCome : TextStage → Type 0
 RefMayCome stage = (stage ≡ Nodes) ⊎ (stage ≡ Refs)
 
@@ -81,8 +81,8 @@ ComesNext {A} order old line new =
 abbrev pub NeverComes : {A : Type 0} → Order → Reading A → List ℕ → Type 0
 NeverComes {A} order old line = (item : Item A) → line ≡ line_of item → MayCome order old item → ⊥
 
--- the reason to refuse a line: out of memory for an allowed line, a line that is not allowed, or a parent on a later
--- line
+-- the fault of a refused line: `Memory` for an allowed line, `Text` for a line that is not allowed, or `ParentLater`
+-- for a later parent
 abbrev pub RefusesLine : {A : Type 0} → Order → Reading A → List ℕ → ℕ → LoadFault → Type 0
 RefusesLine {A} order old line number Memory =
     (item : Item A) × (line ≡ line_of item) × MayCome order old item × IsKept item

@@ -4,8 +4,8 @@ ghost use Rattle.ggraph.specs.steps.TextLaws.{TextLaws};
 
 use gname::laws;
 
-/// The laws of ids and names. The function does nothing at run time, and its contract states the
-/// laws.
+/// Proves that the laws of ids and names. The function does nothing at run time, and its contract
+/// states the laws.
 pub(crate) fn text_laws()
     ensures { TextLaws }
 {

@@ -62,8 +62,8 @@ pub fn load<A: Allocator + Copy>(
     })
 }
 
-// Estimates the number of nodes from a prefix of the text. The estimate exceeds neither the maximum
-// number of nodes of a graph, nor the number of nodes for which the text is long enough.
+// Estimates the number of nodes from a prefix of the text. The estimate is at most `MAX_NODES`, and
+// at most the number of nodes for which the text is long enough.
 fn expected_nodes(text: &[u8]) -> usize
     ensures { result ≤ max_nodes }
 {

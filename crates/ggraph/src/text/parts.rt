@@ -92,7 +92,7 @@ fn take_parent<'t>(format: Format, recent: &Recent<'_>, text: &'t [u8]) -> Optio
     take_id(format, text)
 }
 
-/// The data that all lines of a text share: an array for a node's parents, the expected number of
+/// The data shared by all lines of a text: an array for a node's parents, the expected number of
 /// nodes, and the recent ids.
 #[derive(Drop)]
 pub(crate) struct Room<'a> {
@@ -113,8 +113,7 @@ impl<'a> Room<'a> {
         }
     }
 
-    /// Parses the ids of a node's parents, each after a space. Returns `None` if the text is
-    /// anything else.
+    /// Parses the ids of a node's parents, each after a space. Returns `None` for any other text.
     pub(crate) fn read(&mut self, format: Format, text: &[u8]) -> Option<&[Oid]>
         ensures { MatchOption result (IsNoParents format text.now) (λ ids.
             (text.now ≡ ids_text ids.now) × All (IsIdOf format) ids.now

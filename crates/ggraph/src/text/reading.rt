@@ -229,7 +229,7 @@ fn add_node<A: Allocator + Copy>(
     }
 }
 
-// Returns whether a node of the kind may have these parents.
+// Returns whether a node of this kind may have these parents.
 fn is_shaped(kind: Kind, parents: &[Oid]) -> bool
     ensures { IsTrue result ↔ IsShaped {A = Unit {0}} (node_of kind parents.now) }
 {

@@ -7,7 +7,8 @@ use gname::Oid;
 use std::marker::Model;
 
 /// The ids of the last two nodes, with their digits in the text. A node's parents are often among
-/// these ids. Such parents need no decoding. Before the first node the digits are empty.
+/// these ids. A parent among these ids needs no decoding. Before the first node the digits are
+/// empty.
 #[derive(Drop)]
 pub(crate) struct Recent<'a> {
     last: Oid,

@@ -19,8 +19,8 @@ use std::alloc::{AllocError, Allocator};
 
 /// Returns the unique text of this repository, which `load` reads back under `Order::Any`.
 ///
-/// Fails with `OtherFormat` for the first id that does not have the graph's format. The refs are
-/// checked in name order, and HEAD last. Otherwise fails only with `Memory`.
+/// Fails with `OtherFormat` for the first id of a ref or of HEAD that does not have the graph's
+/// format. The refs are checked in name order, and HEAD last. Otherwise fails only with `Memory`.
 pub fn save<A: Allocator + Copy>(
     alloc: A,
     graph: &Graph<A>,
@@ -42,7 +42,8 @@ pub fn save<A: Allocator + Copy>(
     Ok(text)
 }
 
-// Returns the first id of a ref that does not have the format, or otherwise such an id of HEAD.
+// Returns the first id of a ref that does not have the format. If all refs have the format, returns
+// the id of a detached HEAD that does not have it.
 fn other_id<A: Allocator + Copy>(
     format: Format,
     refs: &[(RefName<A>, Oid)],

@@ -21,7 +21,7 @@ abbrev pub separator_byte : Separator → ℕ
 separator_byte Space = 32
 separator_byte LineFeed = 10
 
--- the text is this part, then the byte of the separator, and then the rest
+-- the text consists of this part, the byte of the separator, and the rest
 pub record SplitsPart (text part : List ℕ) (separator : Separator) (rest : List ℕ) : Type 0 where
   pub whole : text ≡ part ++ separator_byte separator ∷ rest
   pub unbroken : IsPart part
@@ -80,7 +80,8 @@ line_number next_is.Header n = 1
 line_number next_is.Nothing n = n + 3
 line_number _ n = n + 2
 
--- the outcome of reading a part and its separator: the part is read, or the bytes are refused whatever bytes follow
+-- the outcome of reading a part and its separator: the part is read, or the bytes are refused regardless of the bytes
+-- that follow
 abbrev pub Reads : {A : Type 0} → Lines A → Lines A → Result (Unit {0}) IndexFault → List ℕ → Separator → Type 0
 Reads {A} old new result part end =
     MatchResult result
@@ -100,8 +101,8 @@ Finishes {A} lines result part =
 
 -- ---- the bytes that were fed
 
--- the outcome of feeding a piece: the piece is appended to the bytes that were fed, or the bytes are refused whatever
--- bytes follow
+-- the outcome of feeding a piece: the piece is appended to the bytes that were fed, or the bytes are refused regardless
+-- of the bytes that follow
 abbrev pub Feeds : {A : Type 0} → PlainFeed A → PlainFeed A → Result (Unit {0}) IndexFault → List ℕ → Type 0
 Feeds {A} old new result piece =
     MatchResult result (λ _. (given : List ℕ) → Fed old given → Fed new (given ++ piece))

@@ -2,7 +2,7 @@
 use Rattle.std.specs.Prelude.{◌≡◌, ℕ, Bool, List, nat_eq}
 use Rattle.grefs.specs.Refspecs.{Refspec, AreSides, IsRefspec, side_text, sides_text}
 
--- the text after the optional `+` is that of this refspec
+-- the text after the optional `+` encodes this refspec
 pub record IsRest (forced : Bool) (text : List ℕ) (spec : Refspec) : Type 0 where
   pub force : spec.forced ≡ forced
   pub written : text ≡ sides_text spec

@@ -4,7 +4,7 @@ ghost use Rattle.grefs.specs.Refspecs.{OneReading};
 
 use gname::laws::names_are_clean;
 
-/// A text describes at most one refspec.
+/// Proves that a text encodes at most one refspec.
 pub fn one_reading()
     ensures { OneReading }
 {

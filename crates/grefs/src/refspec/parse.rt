@@ -78,7 +78,7 @@ fn names<A: Allocator + Copy>(
     Err(SpecFault::BadSpec)
 }
 
-// Returns the refspec whose source and destination are patterns, given without their `*`.
+// Returns the refspec with this source and this destination, which are patterns without their `*`.
 fn patterns<A: Allocator + Copy>(
     alloc: A,
     forced: bool,

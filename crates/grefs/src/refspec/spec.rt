@@ -130,8 +130,8 @@ impl<A: Allocator + Copy> Spec<A> {
         }
     }
 
-    /// Returns whether the destination of a name is a valid ref name. Also returns `true` if the
-    /// source does not match the name. The call does not allocate.
+    /// Returns whether the destination of a name is a valid ref name. Returns `true` if the source
+    /// does not match the name. The call does not allocate.
     pub fn can_take<B: Allocator + Copy>(&self, name: &RefName<B>) -> bool
         ensures { IsTrue result ↔ (matches self.now name.now ≡ true
             → IsRefName (destination_of self.now name.now)) }

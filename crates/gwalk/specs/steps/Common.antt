@@ -7,7 +7,7 @@ use Rattle.gname.specs.Ids.{Id}
 use Rattle.gobject.specs.declared.node.Entry.{Entry}
 use Rattle.gobject.specs.Objects.{node_at, position_of}
 
--- the ids at some positions, in order
+-- the ids at the given positions, in order
 abbrev pub ids_at : {A : Type 0} → List (Entry A) → List ℕ → List Id
 ids_at g numbers = filter_map (λ position. option_map (λ entry. entry.id) (slice_get g position)) numbers
 

@@ -63,7 +63,7 @@ is_marked marks p = slice_index_or marks p false
 abbrev pub IsMarked : List Bool → ℕ → Type 0
 IsMarked marks p = is_marked marks p ≡ true
 
--- the positions of the ids that are below the end of the marks are now also marked
+-- those positions of the ids that are below the end of the marks are now also marked
 pub record MarksAll {A : Type 0} (g : List (Entry A)) (ids : IdList) (old new : List Bool) : Type 0 where
   pub long : length new ≡ length old
   pub kept : (p : ℕ) → IsMarked old p → IsMarked new p
@@ -94,8 +94,8 @@ pub record IsCounted (wanted known : List Bool) (next pending : ℕ) : Type 0 wh
 -- ---- the pass down
 
 -- The state of a pass down that has visited the positions from `next` up. The wants are marked as wanted and the common
--- ids as known, and every marked object is reachable from such an id. The parents of a visited object are marked as
--- that object is, or as known.
+-- ids as known, and every object with a mark is reachable from an id of the same mark. Each parent of a visited known
+-- object is marked as known. Each parent of a visited wanted object is marked as wanted or as known.
 pub record IsPassed {A : Type 0} (g : List (Entry A)) (wants commons : IdList)
     (wanted known : List Bool) (next : ℕ) : Type 0 where
   pub wants_in : (p : ℕ) → IsPositionOf g wants p → IsMarked wanted p

@@ -12,7 +12,8 @@ use gdag::{Graph, GraphFault};
 use gname::Oid;
 use std::alloc::Allocator;
 
-// Passes down until no unvisited position is open: marked as wanted and not as known.
+// Passes down until no unvisited position is open. A position is open if it is marked as wanted and
+// not as known.
 #[tactic(auto, using(crate::proofs::Positions::in_order))]
 pub(crate) fn pass_down<A: Allocator + Copy>(
     graph: &Graph<A>,
@@ -47,9 +48,9 @@ pub(crate) fn pass_down<A: Allocator + Copy>(
 // The state of a pass down the positions.
 #[derive(Drop)]
 pub(crate) struct Pass<A: Allocator + Copy> {
-    // For each position, whether some want is known to reach the object at the position.
+    // For each position, whether a want was found to reach the object at the position.
     wanted: Vec<bool, A>,
-    // For each position, whether some common id is known to reach the object at the position.
+    // For each position, whether a common id was found to reach the object at the position.
     known: Vec<bool, A>,
     // The end of the unvisited positions: all positions below `next` are still unvisited.
     pub(crate) next: usize,

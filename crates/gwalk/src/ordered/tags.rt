@@ -1,4 +1,4 @@
-//! The tags to send: those in the chains of tags from tips to new commits.
+//! The tags to send: the tags in the chains from tips to new commits.
 
 ghost use Rattle.std.specs.Prelude.{◌≡◌, ◌⊎◌, ◌≤◌, ◌<◌, ℕ, IfErr, IfOk, MatchOption, length, true};
 ghost use Rattle.gwalk.specs.steps.Passes.{IsCommitAt, IsInOrder, IsOnChain, IsPeeledAt, IsPositionOf, IsTagAt, MarksChain, MarksTags, is_open};

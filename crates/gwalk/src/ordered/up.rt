@@ -1,4 +1,5 @@
-//! Reachability by one pass up the insertion order. The pass marks the objects that reach some ids.
+//! Reachability by one pass up the insertion order. The pass marks the objects that reach one of
+//! the given ids.
 
 ghost use Rattle.std.specs.Prelude.{◌≡◌, ◌↔◌, ◌≤◌, ◌<◌, ◌∷◌, [], ℕ, IfErr, IfOk, IsTrue, Ok, false, length, true};
 ghost use Rattle.std.specs.List.{Any};
