@@ -18,7 +18,7 @@ use std::alloc::Allocator;
 /// The answer of a server.
 #[derive(Drop)]
 pub enum Reply<A: Allocator + Copy> {
-    /// The answer to the empty request, a lone flush packet: nothing is sent.
+    /// The answer to the empty request, which is a lone flush packet: the server sends nothing.
     Nothing,
     /// The answer to an ls-refs request: a list of refs.
     Ls(LsReply<A>),
@@ -44,11 +44,11 @@ impl<A: Allocator + Copy> Server<A> {
     ///
     /// Fails with `NoWants` if a fetch request has no wants, or with `NotOurs` for the first want
     /// that the server does not hold. Otherwise fails with `Pack` and the packer's fault if the
-    /// packer fails for the objects to send.
+    /// packer fails.
     ///
     /// The packer is asked exactly once if the answer contains a pack or the packer fails.
     /// Otherwise the packer is not asked. So a fault of the packer is always reported, and `Memory`
-    /// is reported only if the packer was not asked.
+    /// only if the packer was not asked.
     pub fn answer<K: Packer<A>>(
         &self,
         request: &Request<A>,

@@ -24,11 +24,11 @@ use std::alloc::Allocator;
 /// The answer to a fetch request, before the objects to send are packed.
 #[derive(Drop)]
 pub enum BegunFetch<A: Allocator + Copy> {
-    /// The common ids. At least one want reaches no common id, so no pack follows.
+    /// The common ids without a pack, since at least one want reaches no common id.
     Acks(Acks<A>),
-    /// The common ids and the objects to send. Each want reaches a common id.
+    /// The common ids and the objects to send, since each want reaches a common id.
     Ready(Acks<A>, Vec<Entry<A>, A>),
-    /// The objects to send. The reply acknowledges no ids.
+    /// The objects to send, without acknowledgments.
     Pack(Vec<Entry<A>, A>),
 }
 
@@ -37,8 +37,7 @@ impl<A: Allocator + Copy> Server<A> {
     /// does. The packer is asked exactly once if the answer contains a pack or the packer fails.
     /// Otherwise the packer is not asked.
     ///
-    /// So the packer's fault is always reported, and `Memory` is reported only if the packer was
-    /// not asked.
+    /// So the packer's fault is always reported, and `Memory` only if the packer was not asked.
     pub fn answer_fetch<K: Packer<A>>(
         &self,
         asked: &FetchRequest<A>,
@@ -175,7 +174,7 @@ impl<A: Allocator + Copy> Server<A> {
     }
 }
 
-// Converts a fault of a graph walk, which is always out of memory, to `Memory`.
+// Converts a fault of a graph walk to `Memory`, since a graph walk fails only if memory runs out.
 fn no_memory(fault: GraphFault) -> ServeFault
     requires { fault ≡ OutOfMemory }
     ensures { result ≡ Memory }
