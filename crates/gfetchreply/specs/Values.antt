@@ -23,7 +23,7 @@ pub record Acks : Type 0 where
 abbrev pub with_id : Acks → Id → Acks
 with_id acks id = record acks { ids = acks.ids ++ id ∷ [] }
 
--- the reason that a list of ids can't be acknowledged: an id has another format, or there are too many ids
+-- the reason that a list of ids can't be acknowledged: an id has the wrong format, or there are too many ids
 abbrev pub acks_fault : Format → List Id → Option Why
 acks_fault format ids =
     if list_all (has_format format) ids then if nat_le (length ids) max_acks then None else Some why.Limit
