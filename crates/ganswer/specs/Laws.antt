@@ -93,8 +93,7 @@ AcksAreCommon A packs =
 
 -- The pack contains entries of the server's graph. Consider a client that holds the full history of each have, and
 -- agrees with the server about every object that both hold. Once the client has inserted the entries, it holds every
--- object that a want
--- reaches at the server.
+-- object that a want reaches at the server.
 pub record IsEnough {A : Type 0} (server : Server A) (packs : Packs A) (asked : FetchAsked)
     (pack : Bytes) : Type 0 where
   pub list : List (Entry A)

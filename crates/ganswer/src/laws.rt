@@ -57,8 +57,8 @@ pub fn acks_are_common<A: Allocator + Copy, K: Packer<A>>()
 
 /// Proves that the pack of an answer consists of entries of the server's graph, and suffices for
 /// the client. Consider a client that holds the full history of each have, and agrees with the
-/// server about every object that both hold. Once the client has
-/// inserted the entries, it holds every object that the wants reach at the server.
+/// server about every object that both hold. Once the client has inserted the entries, it holds
+/// every object that the wants reach at the server.
 pub fn packs_are_enough<A: Allocator + Copy, K: Packer<A>>()
     ensures { (packer : K) → PacksAreEnough A (K.packs packer) }
 {
@@ -76,8 +76,8 @@ pub fn held_wants_are_served<A: Allocator + Copy, K: Packer<A>>()
 }
 
 /// Proves that a server with a faithful packer has at most one answer to each request. The request
-/// determines
-/// the objects to send, and a faithful packer has only one pack for each list of objects.
+/// determines the objects to send, and a faithful packer has only one pack for each list of
+/// objects.
 pub fn answers_are_one<A: Allocator + Copy, K: Faithful<A>>(packer: &K)
     ensures { AnswersAreOne A (K.packs packer.now) }
 {

@@ -5,19 +5,17 @@
 //!
 //! - A [`Server`] has exactly the graph, the refs and the HEAD that were passed to [`Server::new`].
 //!   Its graph always holds all parents, the id of each ref, and the id of a detached HEAD. If an
-//!   object is missing, [`Server::new`] reports the first missing object, in a fixed
-//!   order.
+//!   object is missing, [`Server::new`] reports the first missing object, in a fixed order.
 //! - [`Server::add`], [`Server::set_ref`] and [`Server::set_head`] change only one object, one ref
 //!   and HEAD respectively. If a change fails, the call reports the first reason and changes
 //!   nothing.
 //! - [`Server::answer`] returns an answer that `specs/Answers.antt` allows for the request, with
 //!   any packer. For ls-refs the answer lists the requested refs with the requested attributes:
 //!   HEAD first, then the names in byte order. For fetch the answer is the common ids, the pack of
-//!   the
-//!   objects to send, or both. A fetch request is refused only if it has no wants, the server does
-//!   not hold a want, the packer fails, or memory runs out. The fault contains the first want that
-//!   the server does not hold. The ids of an answer have the format of the graph. A request never
-//!   fails because its answer is too long.
+//!   the objects to send, or both. A fetch request is refused only if it has no wants, the server
+//!   does not hold a want, the packer fails, or memory runs out. The fault contains the first want
+//!   that the server does not hold. The ids of an answer have the format of the graph. A request
+//!   never fails because its answer is too long.
 //! - [`Server::answer`] uses exactly one result of the packer if the answer contains a pack or the
 //!   packer fails. Otherwise `answer` uses no result of the packer. So out of memory never hides a
 //!   fault of the packer (`specs/OnePack.antt`). A packer that has failed is not asked again
@@ -30,13 +28,13 @@
 //! - [`Server::advert`] fails only if memory runs out. The advertisement contains `agent=gitv2/1`,
 //!   `ls-refs=unborn`, `fetch`, and the format of the graph's ids.
 //! - By [`laws`], a client of the same object format can read and accept the advertisement. A
-//!   server has exactly one answer to each ls-refs request, and holds the id of each
-//!   line of the answer. With a faithful packer, a server has at most one answer to each request of
-//!   any kind. Acknowledged ids are haves of the request that the server holds. If a client holds
-//!   the full history of the haves, inserting the pack gives it the full history of the wants. If
-//!   the server holds all wants, a request fails only if the packer fails or memory runs out.
-//!   Answers are well-formed messages, so a client of the same object format can read them. Changes
-//!   to a server never remove objects or change its object format.
+//!   server has exactly one answer to each ls-refs request, and holds the id of each line of the
+//!   answer. With a faithful packer, a server has at most one answer to each request of any kind.
+//!   Acknowledged ids are haves of the request that the server holds. If a client holds the full
+//!   history of the haves, inserting the pack gives it the full history of the wants. If the server
+//!   holds all wants, a request fails only if the packer fails or memory runs out. Answers are
+//!   well-formed messages, so a client of the same object format can read them. Changes to a server
+//!   never remove objects or change its object format.
 //! - Each fault has a number, a name and a text. A fault of a request also has a text for the
 //!   client. [`ServeFault::is_memory`] returns whether memory ran out.
 //! - Every call returns, without a panic, an overflow or a read out of bounds.
@@ -52,9 +50,8 @@
 //! For a fetch request it may report it if the server holds all wants, but not after asking the
 //! packer. `advert` may report out of memory at any time, `new` if no object is missing, `add` for
 //! a new object, and `set_ref` for a new name. A call may take any amount of time, and more memory
-//! than it needs. `OnePack` may
-//! call its packer several times and use one of the results. Formatting a fault may return
-//! `fmt::Error` although the text was written correctly.
+//! than it needs. `OnePack` may call its packer several times and use one of the results.
+//! Formatting a fault may return `fmt::Error` although the text was written correctly.
 //!
 //! # Dependencies
 //!

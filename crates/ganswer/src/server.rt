@@ -51,12 +51,11 @@ impl<A: Allocator + Copy> Server<A> {
     /// Creates a server from a graph, refs and HEAD.
     ///
     /// Fails with `NotClosed` for the first parent that the graph does not hold. Otherwise fails
-    /// with `RefMissing` for the first ref by
-    /// name whose id the graph does not hold. Otherwise fails with `HeadMissing` if HEAD is
-    /// detached at an id that the graph does not hold. The faults `NotClosed`, `RefMissing` and
-    /// `HeadMissing` are reported even if memory has run out. If no object is missing, fails with
-    /// `Memory` if there is no memory for the name HEAD. A failed call drops the graph, the refs
-    /// and HEAD.
+    /// with `RefMissing` for the first ref by name whose id the graph does not hold. Otherwise
+    /// fails with `HeadMissing` if HEAD is detached at an id that the graph does not hold. The
+    /// faults `NotClosed`, `RefMissing` and `HeadMissing` are reported even if memory has run out.
+    /// If no object is missing, fails with `Memory` if there is no memory for the name HEAD. A
+    /// failed call drops the graph, the refs and HEAD.
     pub fn new(graph: Graph<A>, refs: Refs<A>, head: Head<A>) -> Result<Server<A>, BuildFault<A>>
         ensures { Makes (server_of graph refs head) result }
     {
@@ -74,8 +73,7 @@ impl<A: Allocator + Copy> Server<A> {
     }
 
     // Creates a server from a graph that holds all parents and the id of each ref. The graph need
-    // not hold the
-    // id of HEAD.
+    // not hold the id of HEAD.
     fn with_refs(
         graph: Graph<A>,
         refs: Refs<A>,

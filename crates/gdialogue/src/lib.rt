@@ -9,8 +9,7 @@
 //!
 //! - Messages and answers alternate. Each message is complete according to the grammar of the
 //!   side's current state, and the side answers it in that state. Apart from its opening, the side
-//!   sends only
-//!   answers (`Answered` in `specs/Dialogues.antt`).
+//!   sends only answers (`Answered` in `specs/Dialogues.antt`).
 //! - A dialogue ends with a last answer, with a reply that ends the dialogue early, or with a
 //!   refused message (`HasEnded`). A message is refused at the first packet that its grammar
 //!   rejects, with the position of the packet and the reason. An incomplete message is also refused

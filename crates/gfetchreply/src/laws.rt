@@ -61,8 +61,7 @@ pub fn one_meaning()
 {}
 
 /// Proves that no reply is a prefix of another, as packets or as bytes. So the end of a reply is
-/// known without
-/// the bytes after it.
+/// known without the bytes after it.
 pub fn prefix_free()
     ensures packets { (reading : Reading) → IsPrefixFree (judge reading) }
     ensures spellings { (reading : Reading) → SpellingsPrefixFree (judge reading) }
@@ -82,8 +81,7 @@ pub fn endings()
 }
 
 /// Proves that a packet is rejected only because of its content. Every byte sequence begins with a
-/// reply, or is
-/// rejected because of its content.
+/// reply, or is rejected because of its content.
 pub fn every_input()
     ensures packets { (reading : Reading) → RefusesPackets (judge reading) }
     ensures bytes { (reading : Reading) → BeginsOrIsRefused (judge reading) (brings reading) }
@@ -93,8 +91,7 @@ pub fn every_input()
 }
 
 /// Proves that the packets written for a reply encode it, and that each payload fits a packet. The
-/// limit for reading
-/// the reply must be the value of some [`PackLimit`](crate::PackLimit).
+/// limit for reading the reply must be the value of some [`PackLimit`](crate::PackLimit).
 pub fn canonical_says()
     ensures { (reading : Reading) → reading.limit ≤ max_pack
         → CanonicalSays (Says reading) (IsReplyIn reading) (IsCanonical reading.ends) }
@@ -105,8 +102,7 @@ pub fn canonical_says()
 }
 
 /// Proves that [`crate::read_fetch_reply_in`] reads a reply exactly if the bytes begin with packets
-/// that encode
-/// it.
+/// that encode it.
 pub fn reads_exactly()
     ensures { (reading : Reading) → ReadsExactly (judge reading) (brings reading) (Says reading) }
 {
@@ -127,8 +123,7 @@ pub fn reads_back()
 }
 
 /// Proves that [`crate::read_fetch_reply_into_in`] reads a reply and passes its pack to a sink
-/// exactly if the bytes begin with
-/// packets that encode it.
+/// exactly if the bytes begin with packets that encode it.
 pub fn reads_into_exactly<T: PackSink>()
     ensures said { (reading : Reading) → ReadsIntoWhereSaid T.taken T.refuses reading }
     ensures only { (reading : Reading) → ReadsIntoOnlySaid T.taken reading }
@@ -148,9 +143,9 @@ pub fn reads_back_into<T: PackSink>()
 }
 
 /// Proves that reading the same packets with other parameters, for another request or with another
-/// limit, returns no other reply. A reply is
-/// accepted with every limit that its pack does not exceed. If a reply is refused because of its
-/// content with another limit, its pack exceeds that limit.
+/// limit, returns no other reply. A reply is accepted with every limit that its pack does not
+/// exceed. If a reply is refused because of its content with another limit, its pack exceeds that
+/// limit.
 pub fn other_readings()
     ensures whatever_reading { OneInWhateverReading }
     ensures any_limit { IsInAnyLimit }

@@ -8,20 +8,19 @@
 //!   into pieces. The call returns the head of the reply, whose ids have the requested format. The
 //!   sink has accepted the reply's pack after its previous bytes. The length of the pack is within
 //!   the limit. Otherwise the reply is rejected at the first packet that does not fit, for the
-//!   reason
-//!   that the grammar states (`judge` in `specs/FetchReplies.antt`). The sink has then accepted
-//!   exactly the data of the packets before the rejected packet, which does not exceed the limit.
-//!   Whatever the result, `PackSink::same` relates the sink before the call to the sink after the
-//!   call. The reader never passes an empty piece to the sink.
+//!   reason that the grammar states (`judge` in `specs/FetchReplies.antt`). The sink has then
+//!   accepted exactly the data of the packets before the rejected packet, which does not exceed the
+//!   limit. Whatever the result, `PackSink::same` relates the sink before the call to the sink
+//!   after the call. The reader never passes an empty piece to the sink.
 //! - Out of memory never replaces another fault, and is reported only at a packet that the grammar
 //!   accepts. This packet contains an acknowledged id, or a piece of the pack if the sink's type
-//!   may refuse pieces. Each implementation of [`PackSink`] states whether it may refuse
-//!   pieces; a vector may. [`read_fetch_reply_into`] has the same contract for SHA-1 ids. The
-//!   functions [`read_fetch_reply_in`] and [`read_fetch_reply`] store the pack in memory.
+//!   may refuse pieces. Each implementation of [`PackSink`] states whether it may refuse pieces; a
+//!   vector may. [`read_fetch_reply_into`] has the same contract for SHA-1 ids. The functions
+//!   [`read_fetch_reply_in`] and [`read_fetch_reply`] store the pack in memory.
 //! - [`Acks`] has at most 4,096 ids of one format. [`PackBytes`] has at most `gname::MAX_PACK`
 //!   bytes, and a [`PackLimit`] is at most `gname::MAX_PACK`. A call that builds such a value
-//!   reports an id of the wrong format before an exceeded limit. A call that fails
-//!   changes nothing. Building a reply moves existing ids and an existing pack into it, unchanged.
+//!   reports an id of the wrong format before an exceeded limit. A call that fails changes nothing.
+//!   Building a reply moves existing ids and an existing pack into it, unchanged.
 //! - [`write_fetch_reply`] writes exactly the bytes of a reply's packets (`canonical_reply`), or a
 //!   prefix of these bytes if the sink fails. A payload is never too long. The written reply reads
 //!   back if the pack is within the reader's limit and `direct` in [`FetchReading`] is true exactly
@@ -35,14 +34,12 @@
 //!   begins with a reply or is rejected because of its content. If the same bytes are read for
 //!   another request, the result is the same reply or no reply. If they are read with another
 //!   limit, the result is the same reply or a rejection because of the limit. The constant
-//!   `MAX_ACKS` equals the limit in
-//!   the specifications.
+//!   `MAX_ACKS` equals the limit in the specifications.
 //!
 //! # Only tested
 //!
 //! Calls succeed if there is enough memory, although the contracts do not state it. Writing does
-//! not allocate, and
-//! neither does building a reply from existing ids and an existing pack.
+//! not allocate, and neither does building a reply from existing ids and an existing pack.
 //!
 //! # What the contracts do not rule out
 //!

@@ -250,10 +250,9 @@ pub fn read_fetch_reply_into<S: Source, T: PackSink, A: Allocator + Copy, B: All
 /// A fault contains the reason, and the position of the first packet that does not fit. A fault of
 /// the packet reader ([`Why::Line`]) takes precedence, then the end of the input ([`Why::Ended`]).
 /// An error that the peer reports ([`Why::RemoteErr`]) comes third, and a fault of the grammar
-/// last. A
-/// well-formed 4,097th id is rejected with [`Why::Limit`]. A packet with which the pack would
-/// exceed its limit is also rejected with [`Why::Limit`]. The fault [`Why::Memory`] is reported
-/// only at an acknowledged id or, if the sink may refuse a piece, at data of the pack.
+/// last. A well-formed 4,097th id is rejected with [`Why::Limit`]. A packet with which the pack
+/// would exceed its limit is also rejected with [`Why::Limit`]. The fault [`Why::Memory`] is
+/// reported only at an acknowledged id or, if the sink may refuse a piece, at data of the pack.
 ///
 /// If the reply is rejected, the sink has accepted the data of the packets before the rejected
 /// packet, within the limit. After a rejection, the packet reader has failed exactly if it rejected

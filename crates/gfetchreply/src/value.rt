@@ -88,8 +88,7 @@ impl<A: Allocator + Copy> Acks<A> {
     ///
     /// Fails with [`Why::BadText`] if the id has another format. Otherwise fails with
     /// [`Why::Limit`] if there are already 4,096 ids, or with [`Why::Memory`] if memory runs out.
-    /// The fault reports packet position 0. A
-    /// failed call changes nothing.
+    /// The fault reports packet position 0. A failed call changes nothing.
     pub fn push(&mut self, id: Oid) -> Result<(), MessageFault>
         ensures { Builds (has_format self.old.format id) (nat_lt (length self.old.ids) max_acks)
             self.old self.new (with_id self.old id) result }

@@ -27,8 +27,7 @@ pub fn limits_are_the_constants()
 
 /// Proves that no message is a prefix of another. A list of packets is open if the message
 /// continues after each packet of the list. If each open list can be completed, no prefix of an
-/// open list is a complete
-/// message. In this case a rejected packet is the first that does not fit.
+/// open list is a complete message. In this case a rejected packet is the first that does not fit.
 pub fn grammars_are_exact()
     ensures { (judge : Judge) → LawsOf judge }
 {}
@@ -36,9 +35,8 @@ pub fn grammars_are_exact()
 /// Proves that a complete message at the front of some bytes is read, and that the bytes after it
 /// remain. If bytes are refused because of their content, they begin with no message, and they
 /// determine the fault and the remaining bytes. If the packet reader reports the end of the input,
-/// the bytes begin
-/// with no message. If each open list of packets can be completed, every byte sequence begins with
-/// a message or is refused. No encoding of a message is a prefix of another.
+/// the bytes begin with no message. If each open list of packets can be completed, every byte
+/// sequence begins with a message or is refused. No encoding of a message is a prefix of another.
 pub fn messages_are_read()
     ensures { (judge : Judge) → LawsOfBytes judge }
 {
@@ -69,9 +67,8 @@ pub fn texts_are_read()
 }
 
 /// Proves that consecutive writes of packets have the effect of one write of all these packets. If
-/// one of the
-/// writes fails, the write of all the packets fails. All packets of a message remain before the
-/// first write, and no packet remains after the last write.
+/// one of the writes fails, the write of all the packets fails. All packets of a message remain
+/// before the first write, and no packet remains after the last write.
 pub fn writes_packets<W: Sink>()
     ensures line { WritesPacket W.contents W.passed_on W.is_down W.loans }
     ensures fitting { WritesFitting W.contents W.passed_on W.is_down W.loans }
@@ -88,8 +85,8 @@ pub fn writes_packets<W: Sink>()
 
 /// Proves two laws for each kind of message whose complete lists of packets encode exactly one
 /// message. A message is read exactly if the bytes begin with it, and a written message reads back,
-/// whatever bytes follow.
-/// Both laws also apply to a reader that accepts the end of the input in place of a message.
+/// whatever bytes follow. Both laws also apply to a reader that accepts the end of the input in
+/// place of a message.
 pub fn kinds_are_read<K: MessageKind>()
     ensures exactly { (given : K.Given) → SaysWhole (K.judge given) (K.says given)
         → OneMeaning (K.says given)

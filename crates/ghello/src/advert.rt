@@ -215,8 +215,8 @@ impl<A: Allocator + Copy> Advert<A> {
     }
 
     /// Returns the format of the server's ids. The first `object-format` names the format. Without
-    /// `object-format`, the format is SHA-1 (gitprotocol-v2(5), "object-format"). Returns
-    /// `None` if the first `object-format` names neither SHA-1 nor SHA-256.
+    /// `object-format`, the format is SHA-1 (gitprotocol-v2(5), "object-format"). Returns `None` if
+    /// the first `object-format` names neither SHA-1 nor SHA-256.
     pub fn format(&self) -> Option<Format>
         ensures { IsFormatOf self.now result }
     {

@@ -86,8 +86,8 @@ pub fn prefix_free()
 }
 
 /// Proves that the readers accept exactly the hellos and the advertisements that the manual allows,
-/// with the same values
-/// (gitprotocol-pack(5), "Git Transport"; gitprotocol-v2(5), "Capability Advertisement").
+/// with the same values (gitprotocol-pack(5), "Git Transport"; gitprotocol-v2(5), "Capability
+/// Advertisement").
 pub fn manual()
     ensures hello { SaysWhole hello.judge hello.Says }
     ensures hello_payload { PayloadSaysHello }

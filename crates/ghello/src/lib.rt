@@ -20,14 +20,13 @@
 //!   capability with a key, and [`Advert::has_feature`] looks for a word in the value of that
 //!   capability. [`Advert::format`] returns the format of the server's ids. [`Advert::check_in`]
 //!   checks that a client whose ids have a given format can use the server.
-//! - [`laws`] proves laws about both kinds of messages. The grammars accept exactly the messages
-//!   of the manual, with the same values. A list of packets encodes at most one value. No message
-//!   is a prefix of another, as packets or as bytes. Every accepted prefix can be completed, and a
-//!   refused packet is the first that fits no message. Any input begins with a
-//!   message or is refused because of its bytes. The packets that are written for a value encode
-//!   that value, and each payload fits in a packet. A reader returns a message exactly when the
-//!   input begins with it, and a written message reads back. The public constants equal the limits
-//!   in the specs.
+//! - [`laws`] proves laws about both kinds of messages. The grammars accept exactly the messages of
+//!   the manual, with the same values. A list of packets encodes at most one value. No message is a
+//!   prefix of another, as packets or as bytes. Every accepted prefix can be completed, and a
+//!   refused packet is the first that fits no message. Any input begins with a message or is
+//!   refused because of its bytes. The packets that are written for a value encode that value, and
+//!   each payload fits in a packet. A reader returns a message exactly when the input begins with
+//!   it, and a written message reads back. The public constants equal the limits in the specs.
 //!
 //! # What the contracts do not rule out
 //!

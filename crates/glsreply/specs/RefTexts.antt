@@ -1,6 +1,5 @@
 -- The parsing of the lines of an ls-refs reply (gitprotocol-v2(5), "ls-refs"). `LsManual` defines the grammar of the
--- lines.
--- One space separates the parts of a line, and the parts are checked from left to right.
+-- lines. One space separates the parts of a line, and the parts are checked from left to right.
 use Rattle.std.specs.Prelude.{Bool, List, [], ◌∷◌, ◌++◌, codes, if◌then◌else◌, Option, Some, None, is_none}
 use Rattle.std.specs.Prelude.{Result, Ok, Err}
 use Rattle.std.specs.List.{slice_split}

@@ -55,8 +55,7 @@ pub fn endings()
 }
 
 /// Proves that `judge` refuses a packet only because of the packet's contents. Any input either
-/// begins with a
-/// reply or is refused because of its bytes.
+/// begins with a reply or is refused because of its bytes.
 pub fn every_input()
     ensures packets { (format : Format) (ends : Ends) → RefusesPackets (judge format ends) }
     ensures bytes { (format : Format) (ends : Ends)

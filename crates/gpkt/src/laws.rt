@@ -80,8 +80,7 @@ pub fn text_reads_back()
 
 /// Proves that a payload decodes to a band exactly when it consists of the band byte followed by
 /// the bytes of that band. The payload fits into a packet exactly when it has at most
-/// [`MAX_BAND`](crate::MAX_BAND)
-/// bytes after the band byte.
+/// [`MAX_BAND`](crate::MAX_BAND) bytes after the band byte.
 #[tactic(auto, using(crate::proofs::Bands::band_is_read, crate::proofs::Bands::band_is_payload))]
 pub fn bands_are_read()
     ensures payload { BandIsRead }

@@ -4,11 +4,9 @@
 //! A packet starts with four hexadecimal digits. The digits `0000` announce a flush, `0001` a
 //! delimiter, and `0002` a response-end. Any other digits are the length of a data packet, and the
 //! length includes the digits. [`PacketReader`] reads packets from a [`Source`]. [`PacketWriter`]
-//! writes
-//! packets to a [`Sink`], and [`write_all`] writes any bytes. [`FromRead`] and [`ToWrite`] borrow
-//! std's readers and writers as sources and sinks. [`memory`] defines sources and sinks in memory.
-//! [`band_of`] decodes the
-//! side band of a payload.
+//! writes packets to a [`Sink`], and [`write_all`] writes any bytes. [`FromRead`] and [`ToWrite`]
+//! borrow std's readers and writers as sources and sinks. [`memory`] defines sources and sinks in
+//! memory. [`band_of`] decodes the side band of a payload.
 //!
 //! # Proved
 //!

@@ -13,9 +13,8 @@ use crate::packet::{DIGITS, MAX_PAYLOAD};
 /// empty.
 ///
 /// If the call fails, only a prefix of the bytes was written, and the sink has failed. Written
-/// bytes
-/// may still be buffered until a [`Sink::flush`]. A sink that had failed before the call is still
-/// failed afterwards.
+/// bytes may still be buffered until a [`Sink::flush`]. A sink that had failed before the call is
+/// still failed afterwards.
 pub fn write_all<W: Sink>(sink: &mut W, bytes: &[u8]) -> Result<(), Down>
     ensures ok { OnOk result (Appends (W.contents sink.old) (W.contents sink.new) bytes.now) }
     ensures err { OnErr result

@@ -108,8 +108,8 @@ impl<A: Allocator + Copy> FetchRequest<A> {
         self.agent.as_ref().map(|value| value.as_slice())
     }
 
-    /// Returns the wants, which are the requested ids, in the order of the request. A request
-    /// has at most 1,024 wants.
+    /// Returns the wants, which are the requested ids, in the order of the request. A request has
+    /// at most 1,024 wants.
     pub fn wants(&self) -> &[Oid]
         ensures wants { result.now ≡ self.now.asked.wants }
         ensures well_formed { IsFetchAsked self.now.format self.now.asked }
@@ -118,8 +118,7 @@ impl<A: Allocator + Copy> FetchRequest<A> {
     }
 
     /// Returns the haves, which are ids of objects that the client holds, in the order of the
-    /// request. A request has
-    /// at most 4,096 haves.
+    /// request. A request has at most 4,096 haves.
     pub fn haves(&self) -> &[Oid]
         ensures haves { result.now ≡ self.now.asked.haves }
         ensures well_formed { IsFetchAsked self.now.format self.now.asked }
@@ -222,9 +221,8 @@ impl<A: Allocator + Copy> FetchRequest<A> {
     /// Appends a want.
     ///
     /// Fails with `BadText` if the format of the id is not that of the request. Otherwise fails
-    /// with
-    /// `Limit` if there are already 1,024 wants, or with `Memory` if memory runs out. The fault
-    /// reports packet position 0, and the request is unchanged.
+    /// with `Limit` if there are already 1,024 wants, or with `Memory` if memory runs out. The
+    /// fault reports packet position 0, and the request is unchanged.
     pub fn push_want(&mut self, id: Oid) -> Result<(), MessageFault>
         ensures { Builds (has_format self.old.format id)
             (nat_lt (length self.old.asked.wants) max_wants)
@@ -241,9 +239,8 @@ impl<A: Allocator + Copy> FetchRequest<A> {
     /// Appends a have.
     ///
     /// Fails with `BadText` if the format of the id is not that of the request. Otherwise fails
-    /// with
-    /// `Limit` if there are already 4,096 haves, or with `Memory` if memory runs out. The fault
-    /// reports packet position 0, and the request is unchanged.
+    /// with `Limit` if there are already 4,096 haves, or with `Memory` if memory runs out. The
+    /// fault reports packet position 0, and the request is unchanged.
     pub fn push_have(&mut self, id: Oid) -> Result<(), MessageFault>
         ensures { Builds (has_format self.old.format id)
             (nat_lt (length self.old.asked.haves) max_haves)

@@ -42,8 +42,7 @@ pub fn one_meaning()
 {}
 
 /// Proves that no request is a prefix of another, as packets or as bytes. So the end of a request
-/// is known
-/// without the bytes after it.
+/// is known without the bytes after it.
 pub fn prefix_free()
     ensures packets { (format : Format) → IsPrefixFree (judge format) }
     ensures spellings { (format : Format) → SpellingsPrefixFree (judge format) }
@@ -84,8 +83,7 @@ pub fn canonical_says()
 }
 
 /// Proves that a request is read exactly if the bytes begin with packets that encode it. Nothing
-/// after these
-/// packets is read. `None` is returned exactly if there are no bytes.
+/// after these packets is read. `None` is returned exactly if there are no bytes.
 pub fn reads_exactly()
     ensures request { (format : Format) → ReadsExactlyIfAny (judge format) brings (Says format) }
     ensures missing { (format : Format) → IsMissingWhereEmpty format }

@@ -64,8 +64,8 @@ HasEnded requests rest =
 
 module _ {A : Type 0} (server : Server A) (packs : Packs A) (fails : PackFails A) (ends : Ends) where
   -- The relation between the input, the output, the number of answered requests and the end of a connection. All
-  -- replies are written and
-  -- flushed. If the sink fails, each counted reply was flushed, and a prefix of the next message was written.
+  -- replies are written and flushed. If the sink fails, each counted reply was flushed, and a prefix of the next
+  -- message was written.
   abbrev pub Serves : Input → Output → ℕ → End → Type 0
   Serves input output requests end.Closed =
       (turns : List Turn) × (requests < max_requests)

@@ -110,8 +110,7 @@ module _ {A : Type 0} (server : Server A) (packs : Packs A) (fails : PackFails A
     refusal : (fault : ServeFault) → IsRefused server fails input fault → IsDue input (err_packets fault)
 
   -- The relation between the input, the output and the end of an exchange. The reply or the error packet is written and
-  -- flushed. If the sink
-  -- fails, a prefix of the reply or of the error packet is written.
+  -- flushed. If the sink fails, a prefix of the reply or of the error packet is written.
   abbrev pub Exchanges : Input → Output → ExchangeEnd → Type 0
   Exchanges input output end.Answered =
       (turn : Turn) × ReadsTurn server packs input turn

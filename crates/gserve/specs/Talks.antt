@@ -28,8 +28,7 @@ last_packets _ = []
 
 module _ {A : Type 0} (server : Server A) (fails : PackFails A) where
   -- How a conversation ends after this many requests, with these bytes left. A lone flush packet is next, no bytes are
-  -- left, the
-  -- maximum number of requests was answered, or the next request is refused.
+  -- left, the maximum number of requests was answered, or the next request is refused.
   abbrev pub Stops : ℕ → Bytes → End → Type 0
   Stops requests left end.Closed =
       (requests < max_requests) × (rest : Bytes) × ReadsEmpty server.graph.format (input_of_bytes left rest)

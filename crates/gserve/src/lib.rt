@@ -1,18 +1,16 @@
 //! Serves connections of Git's fetch service, protocol version 2 (gitprotocol-v2(5)). The server
 //! sends the advertisement and then replies to each request, or it only replies to a single
-//! request. A connection of the `git://` transport begins with a first line
-//! (gitprotocol-pack(5), "Git Transport").
+//! request. A connection of the `git://` transport begins with a first line (gitprotocol-pack(5),
+//! "Git Transport").
 //!
 //! # Proved
 //!
 //! - [`serve`] serves a whole connection (`specs/Conversations.antt`). The requests depend only on
 //!   the bytes, not on how the bytes are split into pieces. Nothing after the last packet of a
-//!   request
-//!   is read. The reply to each request is the answer that `ganswer` returns, with any packer. An
-//!   ls-refs
-//!   request always gets a reply, since this reply needs no memory. The server writes the
-//!   advertisement and the replies in their canonical encoding, and flushes each message. The field
-//!   [`Served::requests`](Served) is the number of replies.
+//!   request is read. The reply to each request is the answer that `ganswer` returns, with any
+//!   packer. An ls-refs request always gets a reply, since this reply needs no memory. The server
+//!   writes the advertisement and the replies in their canonical encoding, and flushes each
+//!   message. The field [`Served::requests`](Served) is the number of replies.
 //! - The advertisement and each reply are flushed before anything more is read. If the sink fails
 //!   while a reply is written or flushed, nothing after the request of that reply was read. If the
 //!   sink fails while the advertisement is written, nothing was read.
@@ -22,8 +20,8 @@
 //!   which is flushed. The fault comes from the grammar of requests, from the server's answer, or
 //!   from the source.
 //! - If the packer fails, its fault is reported, and never an out-of-memory fault of the server
-//!   (`specs/Packings.antt`). The functions [`serve`], [`serve_one`] and [`serve_git`] take
-//!   the packer as a [`OnePack`], which records the last result of the packer. Any other fault is
+//!   (`specs/Packings.antt`). The functions [`serve`], [`serve_one`] and [`serve_git`] take the
+//!   packer as a [`OnePack`], which records the last result of the packer. Any other fault is
 //!   reported only if the packer was not asked for a pack for the last request.
 //! - If memory runs out for the buffer or for the advertisement, an error packet replaces the
 //!   advertisement, and nothing is read.
@@ -37,12 +35,10 @@
 //!   advertisement is flushed (`specs/GitConnections.antt`). If the line names the served path,
 //!   byte for byte, the connection continues as for [`serve`]. If the line names another path or is
 //!   refused, the server writes and flushes an error packet instead of the advertisement. Nothing
-//!   after the
-//!   first line is read. If the sink fails, a prefix of the error packet was written. The type
-//!   [`GitEnd`] distinguishes these cases.
+//!   after the first line is read. If the sink fails, a prefix of the error packet was written. The
+//!   type [`GitEnd`] distinguishes these cases.
 //! - If memory runs out before the first line is read, nothing is read. The error packet is still
-//!   written,
-//!   since it needs no memory. The function [`hear`] reads only a first line.
+//!   written, since it needs no memory. The function [`hear`] reads only a first line.
 //! - [`write_reply`] writes a reply as its canonical list of packets, or a prefix of it if the sink
 //!   fails.
 //! - [`err_text`] writes the text of a fault, at most 128 bytes, and leaves the rest of the buffer

@@ -19,8 +19,7 @@ use std::alloc::Allocator;
 /// is sent.
 ///
 /// Fails for the same reasons as `ganswer::Server::answer_fetch`. If `goes_on` is true, the
-/// connection accepts
-/// another request after the reply.
+/// connection accepts another request after the reply.
 pub fn speak_fetch<A: Allocator + Copy, R: PartPacker<A> + Drop>(
     server: &Server<A>,
     packer: R,

@@ -50,8 +50,7 @@ pub trait Host<A: Allocator + Copy, R> {
         ensures { finds self.now hello.now result };
 
     /// Opens the repository again, so that its objects can be packed. Fails with a text for the
-    /// client if
-    /// the repository cannot be read.
+    /// client if the repository cannot be read.
     fn open(&self, repo: &R) -> Result<R, ErrText>
         ensures { opens self.now repo.now result };
 

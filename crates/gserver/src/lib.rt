@@ -29,9 +29,8 @@
 //!   accepts messages, no fault is stored.
 //! - A connection begins with no repository, no request and no fault (`OpensFresh`). The side
 //!   always uses the host, and the packets that end each reply, that were passed to
-//!   [`ServerSide::new`]. Each ls-refs or
-//!   fetch request is counted. A connection ends only after an error packet, an empty request, a
-//!   failed pack or the last permitted request.
+//!   [`ServerSide::new`]. Each ls-refs or fetch request is counted. A connection ends only after an
+//!   error packet, an empty request, a failed pack or the last permitted request.
 //! - [`ServerSide::repo`], [`ServerSide::requests`] and [`ServerSide::fault`] return the state of
 //!   the side.
 //! - Each call to [`Reply::say`](gdialogue::Reply) decreases the number of remaining steps, so
@@ -50,9 +49,9 @@
 //!
 //! # Only tested
 //!
-//! Only tests check the texts of errors, and how a host finds and opens its repositories. The
-//! tests run `gitrepo serve` with Git's clients (`examples/with-git.sh`), and with many clients at
-//! once (`examples/many-clients.py`).
+//! Only tests check the texts of errors, and how a host finds and opens its repositories. The tests
+//! run `gitrepo serve` with Git's clients (`examples/with-git.sh`), and with many clients at once
+//! (`examples/many-clients.py`).
 //!
 //! # Dependencies
 //!

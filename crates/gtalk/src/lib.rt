@@ -10,22 +10,18 @@
 //!
 //! - The received bytes consist of the encodings of the packets that the conversation received, and
 //!   a part of the next packet. The sent bytes followed by the pending bytes are the canonical
-//!   encoding of
-//!   the packets that the conversation queued (`Holds` in `specs/Connections.antt`). The contract
-//!   of each call states which bytes the call receives and sends (`Moves`).
+//!   encoding of the packets that the conversation queued (`Holds` in `specs/Connections.antt`).
+//!   The contract of each call states which bytes the call receives and sends (`Moves`).
 //! - While more packets may arrive, [`Connection::receive_limit`] is at least one byte, and no call
-//!   accepts more bytes than this limit. Therefore no byte after the last packet is
-//!   read.
+//!   accepts more bytes than this limit. Therefore no byte after the last packet is read.
 //! - A conversation receives the reason why no more packets arrive ([`Stop`]). `Failed` is reported
 //!   only if the source has failed. `Ended` and `Truncated` are reported only if the source is at
 //!   its end (`LeavesSource`). Bytes are refused only if they are not a packet, or if there is no
-//!   memory
-//!   for them.
+//!   memory for them.
 //! - [`drive`] returns if all calls to its source and its sink return. The connection receives all
-//!   bytes that
-//!   are read, and writes all bytes that it sends, in order. [`drive`] succeeds only if the
-//!   conversation is done, or if no more packets arrive. After success all queued packets are sent
-//!   and flushed.
+//!   bytes that are read, and writes all bytes that it sends, in order. [`drive`] succeeds only if
+//!   the conversation is done, or if no more packets arrive. After success all queued packets are
+//!   sent and flushed.
 //! - [`drive`] fails with `Io` only if the sink has failed, and with `Memory` only if there is not
 //!   enough memory. After a failure all packets of earlier turns were flushed, and a prefix of the
 //!   last turn was written (`BreaksOff`).
