@@ -1,5 +1,5 @@
--- The answer to ls-refs (gitprotocol-v2(5), "ls-refs"): HEAD first, then the refs in the byte order of their names. It
--- lists only the requested refs, each with the requested attributes.
+-- The answer to ls-refs (gitprotocol-v2(5), "ls-refs"): HEAD first, then the refs in the byte order of their names. The
+-- answer lists only the requested refs, each with the requested attributes.
 use Rattle.std.specs.Prelude.{◌≡◌, Bool, true, false, ◌&&◌, List, [], ◌∷◌, ◌++◌, All, filter, map, nat_eq}
 use Rattle.std.specs.Prelude.{if◌then◌else◌, is_none, MatchOption, Option, Some, None, ℕ, slice_get, bytes_eq}
 use Rattle.std.specs.List.{list_any, starts_with}

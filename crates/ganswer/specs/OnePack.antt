@@ -11,7 +11,7 @@ pub record OnePack (K : Type 0) : Type 0 where
   pub packer : K
   pub answered : Packing
 
--- the packer failed, so it is not asked again
+-- the packer failed, so it is not asked for another pack
 abbrev pub has_failed : Packing → Bool
 has_failed packing.Unasked = false
 has_failed packing.Packed = false

@@ -110,7 +110,7 @@ pub enum ServeFault {
     Request(MessageFault),
     /// A fetch request has no wants (fault 73).
     NoWants,
-    /// The server does not hold this want, the first such want of the request (fault 74).
+    /// The server does not hold this want of the request (fault 74).
     NotOurs { id: Oid },
     /// The packer can't pack the objects to send (fault 65).
     Pack(PackFault),

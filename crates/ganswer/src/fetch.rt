@@ -34,10 +34,11 @@ pub enum BegunFetch<A: Allocator + Copy> {
 
 impl<A: Allocator + Copy> Server<A> {
     /// Returns the answer to a fetch request (gitprotocol-v2(5), "fetch"), as [`Server::answer`]
-    /// does. The packer is asked exactly once if the answer contains a pack or the packer fails.
-    /// Otherwise the packer is not asked.
+    /// does. The packer is asked for a pack at most once, and only if the answer contains a pack or
+    /// the packer fails.
     ///
-    /// So the packer's fault is always reported, and `Memory` only if the packer was not asked.
+    /// The packer's fault is always reported, and `Memory` only if the packer was not asked for a
+    /// pack.
     pub fn answer_fetch<K: Packer<A>>(
         &self,
         asked: &FetchRequest<A>,
@@ -71,7 +72,7 @@ impl<A: Allocator + Copy> Server<A> {
     /// pack the objects itself.
     ///
     /// Fails with `NoWants` if the request has no wants. Fails with `NotOurs` for the first want
-    /// that the server does not hold. Otherwise fails only with `Memory`.
+    /// that the server does not hold. Otherwise fails only if memory runs out.
     pub fn begin_fetch(&self, asked: &FetchRequest<A>) -> Result<BegunFetch<A>, ServeFault>
         ensures { MatchResult result (BeginsFetch self.now asked.now.asked)
             (FetchDeclines self.now asked.now.asked) }

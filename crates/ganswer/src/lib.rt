@@ -17,9 +17,9 @@
 //!   that the server does not hold. The ids of an answer have the format of the graph. A request
 //!   never fails because its answer is too long.
 //! - [`Server::answer`] uses exactly one result of the packer if the answer contains a pack or the
-//!   packer fails. Otherwise `answer` uses no result of the packer. So out of memory never hides a
-//!   fault of the packer (`specs/OnePack.antt`). A packer that has failed is not asked again
-//!   ([`OnePack`]).
+//!   packer fails. In all other cases, `answer` uses no result of the packer. Out of memory never
+//!   hides a fault of the packer (`specs/OnePack.antt`). After a failure, the packer is not asked
+//!   for another pack ([`OnePack`]).
 //! - [`Server::answer_fetch`] has the same contract, but accepts only fetch requests.
 //! - [`Server::begin_fetch`] returns the answer to a fetch request before the objects are packed
 //!   (`specs/BegunFetches.antt`). The caller can then pack the objects in parts.

@@ -60,8 +60,8 @@ pub fn one_meaning()
     ensures whole { (reading : Reading) → SaysWhole (judge reading) (Says reading) }
 {}
 
-/// Proves that no reply is a prefix of another, as packets or as bytes. So the end of a reply is
-/// known without the bytes after it.
+/// Proves that no reply is a prefix of another, as packets or as bytes. A reader therefore finds
+/// the end of a reply without reading further.
 pub fn prefix_free()
     ensures packets { (reading : Reading) → IsPrefixFree (judge reading) }
     ensures spellings { (reading : Reading) → SpellingsPrefixFree (judge reading) }

@@ -248,7 +248,7 @@ pub fn read_fetch_reply_into<S: Source, T: PackSink, A: Allocator + Copy, B: All
 /// allocated with `alloc`.
 ///
 /// A fault contains the reason, and the position of the first packet that does not fit. A fault of
-/// the packet reader ([`Why::Line`]) takes precedence, then the end of the input ([`Why::Ended`]).
+/// the packet reader ([`Why::Line`]) takes precedence over the end of the input ([`Why::Ended`]).
 /// An error that the peer reports ([`Why::RemoteErr`]) comes third, and a fault of the grammar
 /// last. A well-formed 4,097th id is rejected with [`Why::Limit`]. A packet with which the pack
 /// would exceed its limit is also rejected with [`Why::Limit`]. The fault [`Why::Memory`] is

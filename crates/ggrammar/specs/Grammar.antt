@@ -22,7 +22,7 @@ pub record IsOpen (judge : Judge) (lines : List Packet) : Type 0 where
   pub each : (front : List Packet) (packet : Packet) (back : List Packet) → lines ≡ front ++ packet ∷ back
       → judge front packet ≡ Open
 
--- the packets are a complete message: the last packet ends the message, and no earlier packet ends it
+-- the packets are a complete message: the last packet, and no earlier packet, ends the message
 pub record IsWhole (judge : Judge) (lines : List Packet) : Type 0 where
   pub front : List Packet
   pub last : Packet
@@ -48,7 +48,7 @@ pub record IsFirstMisfit (judge : Judge) (front : List Packet) (packet : Packet)
 abbrev pub HasEndings : Judge → Type 0
 HasEndings judge = (front : List Packet) → IsOpen judge front → Begins judge front
 
--- ---- laws of judges whose open lists (lists after which the message continues) can all be completed
+-- ---- laws of judges whose open lists can all be completed
 
 -- an open list is the beginning of a message, and no prefix of it is a complete message
 abbrev pub OpenIsUnfinished : Judge → Type 0

@@ -67,7 +67,7 @@ pub enum Why {
     /// The grammar does not allow this flush, delimiter or response-end, or requires a response-end
     /// (fault 41).
     UnexpectedFrame,
-    /// The grammar allows no such text (fault 42).
+    /// The text matches no rule of the grammar (fault 42).
     BadText,
     /// The server does not support the command (fault 43).
     UnknownCommand,

@@ -27,7 +27,8 @@ pub fn limits_are_the_constants()
 
 /// Proves that no message is a prefix of another. A list of packets is open if the message
 /// continues after each packet of the list. If each open list can be completed, no prefix of an
-/// open list is a complete message. In this case a rejected packet is the first that does not fit.
+/// open list is a complete message. If each open list can be completed, a rejected packet is the
+/// first that does not fit.
 pub fn grammars_are_exact()
     ensures { (judge : Judge) → LawsOf judge }
 {}
@@ -66,7 +67,7 @@ pub fn texts_are_read()
     text_reads_back();
 }
 
-/// Proves that consecutive writes of packets have the effect of one write of all these packets. If
+/// Proves that consecutive writes of packets have the effect of one write of all the packets. If
 /// one of the writes fails, the write of all the packets fails. All packets of a message remain
 /// before the first write, and no packet remains after the last write.
 pub fn writes_packets<W: Sink>()

@@ -4,10 +4,11 @@
 //! # Proved
 //!
 //! - [`read_message`] reads a message exactly to its end, however its bytes are split into pieces.
-//!   It rejects any other input at the first packet that does not fit, for the reason that the
-//!   grammar states. A fault of the packet reader takes precedence, then the end of the input, then
-//!   a fault of the grammar. The packets before the rejected packet begin a message and contain no
-//!   complete message. Out of memory is reported only at a packet with contents to store.
+//!   Any other input is rejected at the first packet that does not fit, for the reason that the
+//!   grammar states. A fault of the packet reader takes precedence over the end of the input, which
+//!   takes precedence over a fault of the grammar. The packets before the rejected packet begin a
+//!   message and contain no complete message. Out of memory is reported only at a packet with
+//!   contents to store.
 //! - In every grammar, no message is a prefix of another ([`laws`]). If the packets accepted so far
 //!   can always be completed to a message, a rejected packet is the first that does not fit. A
 //!   complete message at the front of some bytes is read, and nothing after it. If bytes are
@@ -15,7 +16,7 @@
 //!   the remaining bytes. If the grammar also rejects packets only because of their content, every
 //!   byte sequence begins with a message or is refused. If each complete list of packets encodes
 //!   exactly one message, a message is read exactly if the bytes begin with it, and a written
-//!   message reads back. Consecutive writes of packets have the effect of one write of all these
+//!   message reads back. Consecutive writes of packets have the effect of one write of all the
 //!   packets, even if one of the writes fails.
 //! - [`capability_of`] splits a text into a key and a value exactly if the text is a capability.
 //!   The function [`id_of_text`] reads an id exactly if the text consists of the hex digits of the

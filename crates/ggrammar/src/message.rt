@@ -57,9 +57,10 @@ pub trait Message {
 /// Reads a message to its end, and nothing after it.
 ///
 /// The fault contains the position of the rejected packet, counted from 0. A fault of the packet
-/// reader takes precedence, then the end of the input, then a fault of the grammar. If the message
-/// is rejected, the packet reader has failed exactly if the packet was not read. If the reader had
-/// failed before the call, the call fails at once, and the fault reports packet position 0.
+/// reader takes precedence over the end of the input, which takes precedence over a fault of the
+/// grammar. If the message is rejected, the packet reader has failed exactly if the packet was not
+/// read. If the reader had failed before the call, the call fails at once, and the fault reports
+/// packet position 0.
 pub fn read_message<S: Source, A: Allocator + Copy, M: Message>(
     reader: &mut PacketReader<S, A>,
     message: &mut M,

@@ -9,17 +9,18 @@
 //!   `Limit`, and a call that runs out of memory fails with `Memory`. A failed call changes
 //!   nothing.
 //! - [`read_hello`] and [`read_advert`] read exactly one message, however its bytes are split into
-//!   pieces. They refuse any other input at the first packet that does not fit, for the reason that
-//!   the grammar gives (`specs/Hello.antt`, `specs/Adverts.antt`). They report out of memory only
-//!   at a packet with contents to store. After a message was read, the packet reader is ready for
-//!   the next message. After a refusal, the packet reader is unusable exactly if it refused the
-//!   packet itself.
+//!   pieces. Both functions refuse any other input at the first packet that does not fit, for the
+//!   reason that the grammar states (`specs/Hello.antt`, `specs/Adverts.antt`). Both functions
+//!   report out of memory only at a packet with contents to store. After a message was read, the
+//!   packet reader is ready for the next message. After a refusal, the packet reader is unusable
+//!   exactly if it refused the packet itself.
 //! - [`write_hello`] and [`write_advert`] write the canonical packets of the value, or a prefix of
 //!   them if the sink fails. A reader of the written packets returns the same value.
-//! - The look-ups for a client obey `specs/Offers.antt`. [`Advert::value_of`] returns the first
-//!   capability with a key, and [`Advert::has_feature`] looks for a word in the value of that
-//!   capability. [`Advert::format`] returns the format of the server's ids. [`Advert::check_in`]
-//!   checks that a client whose ids have a given format can use the server.
+//! - The checks of a client on a server's capabilities are specified in `specs/Offers.antt`.
+//!   [`Advert::value_of`] returns the first capability with a key, and [`Advert::has_feature`]
+//!   looks for a word in the value of that capability. [`Advert::format`] returns the format of the
+//!   server's ids. [`Advert::check_in`] checks that a client whose ids have a given format can use
+//!   the server.
 //! - [`laws`] proves laws about both kinds of messages. The grammars accept exactly the messages of
 //!   the manual, with the same values. A list of packets encodes at most one value. No message is a
 //!   prefix of another, as packets or as bytes. Every accepted prefix can be completed, and a

@@ -5,10 +5,10 @@
 //! # Proved
 //!
 //! - [`read_ls_reply`] and [`read_ls_reply_in`] read one reply exactly to its end, however its
-//!   bytes are split into pieces. Both functions return the value that the packets encode. They
-//!   refuse any other input at the first packet that does not fit, for the reason that the grammar
-//!   gives (`judge` in `specs/LsReplies.antt`). They check a line from left to right. They report
-//!   out of memory only at a line that the grammar accepts.
+//!   bytes are split into pieces. Both functions return the value that the packets encode. Both
+//!   functions refuse any other input at the first packet that does not fit, for the reason that
+//!   the grammar states (`judge` in `specs/LsReplies.antt`). Both functions check a line from left
+//!   to right. Both functions report out of memory only at a line that the grammar accepts.
 //! - Every reply that was read can be written. A reply that was read has ids of the requested
 //!   format, valid ref names, and at most 65,537 lines.
 //! - All ids of an [`LsReply`] have the same format, and an [`LsReply`] has at most 65,537 lines. A

@@ -136,7 +136,7 @@ module _
         (old new : Writer W) (bytes more : Bytes) (fault : WriteFault) → Writes old new (Err fault) bytes
         → fault ≢ write_fault.Payload → Writes old new (Err fault) (bytes ++ more)
 
-    -- a flush keeps all bytes written before it, and after a successful flush all these bytes are flushed
+    -- a flush keeps all bytes written before it, and a successful flush flushes them all
     abbrev pub PushesWritten : Type 0
     PushesWritten =
         (old mid new : Writer W) (bytes : Bytes) (result : Result Unit WriteFault) → Writes old mid (Ok tt) bytes

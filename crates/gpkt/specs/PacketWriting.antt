@@ -13,7 +13,7 @@ pub record Writer (W : Type 0) : Type 0 where
   pub sink : W
   pub failed : Bool
 
--- if the old bytes are known, a proper prefix of these bytes is appended to them
+-- the call writes a proper prefix of these bytes, if the bytes written before are known
 abbrev pub AppendsFront : Change → Bytes → Type 0
 AppendsFront written bytes =
     (front : Bytes) × (rest : Bytes) × (bytes ≡ front ++ rest) × (0 < length rest)

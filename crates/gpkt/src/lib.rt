@@ -24,7 +24,7 @@
 //!   returns `Failed` and writes nothing (`HasWritten` in `specs/PacketWriting.antt`).
 //! - If the flushed bytes are known, writing flushes nothing, and a successful
 //!   [`push`](PacketWriter::push) flushes all written bytes (`HasPushed`).
-//! - [`write_all`] writes all of its bytes, or a prefix of these bytes if the sink fails.
+//! - [`write_all`] writes all of its bytes, or a prefix of the bytes if the sink fails.
 //! - A source or sink over std's readers and writers fails exactly when a call to the reader or
 //!   writer fails, or a write accepts no byte of a nonempty slice. Two private functions, which
 //!   receive the result of that call, state this condition in their contracts.

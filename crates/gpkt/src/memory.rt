@@ -1,5 +1,5 @@
-//! Sources and sinks in memory, and a wrapper that limits a source or sink. They are for tests, and
-//! for callers whose bytes are in memory.
+//! Sources and sinks in memory, and a wrapper that limits a source or sink. The module is for
+//! tests, and for callers whose bytes are in memory.
 
 ghost use Rattle.std.specs.Prelude.{◌≡◌, ◌<◌, ◌≤◌, ◌⊎◌, ◌++◌, [], false, Some, length, take, drop};
 

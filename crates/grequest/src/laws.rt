@@ -41,8 +41,8 @@ pub fn one_meaning()
     ensures whole { (format : Format) → SaysWhole (judge format) (Says format) }
 {}
 
-/// Proves that no request is a prefix of another, as packets or as bytes. So the end of a request
-/// is known without the bytes after it.
+/// Proves that no request is a prefix of another, as packets or as bytes. A reader therefore finds
+/// the end of a request without reading further.
 pub fn prefix_free()
     ensures packets { (format : Format) → IsPrefixFree (judge format) }
     ensures spellings { (format : Format) → SpellingsPrefixFree (judge format) }
