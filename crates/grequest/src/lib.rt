@@ -5,7 +5,7 @@
 //!
 //! - [`read_request_in`] reads a request exactly to its end, however its bytes are split into
 //!   pieces. It returns the request that the packets encode, or `None` if the input ends before the
-//!   first packet. It rejects every other input at the first packet that does not fit, for the
+//!   first packet. Any other input is rejected at the first packet that does not fit, for the
 //!   reason that the grammar states (`judge` in `specs/Requests.antt`). An error packet from the
 //!   peer takes precedence, then a malformed text, then an exceeded limit. Out of memory is
 //!   reported only at an agent, a prefix, a want or a have.

@@ -54,8 +54,8 @@ pub struct Served {
 /// reports out of memory, and reads nothing.
 ///
 /// A fault of the packer is reported as the packer returned it, and ends the connection. The packer
-/// is asked at most once for each request. Any other fault, such as out of memory, is reported only
-/// if the last request did not ask the packer.
+/// is asked for at most one pack for each request. Any other fault, such as out of memory, is
+/// reported only if the packer was not asked for a pack for the last request.
 pub fn serve<S: Source, W: Sink, A: Allocator + Copy, K: Packer<A>>(
     server: &Server<A>,
     packer: &mut OnePack<'_, K>,
