@@ -26,7 +26,7 @@ reply_of values.Nothing = Nothing
 reply_of (values.Ls reply) = Ls reply
 reply_of (values.Fetch reply) = Fetch (reply_in reply)
 
--- any ids that the reply acknowledges have this object format
+-- all ids that the reply acknowledges have this object format
 abbrev pub HasFormat : {A : Type 0} → Format → value.Reply A → Type 0
 HasFormat format (values.Fetch reply) = IsReplyOf format reply
 HasFormat format _ = ⊤
@@ -38,8 +38,8 @@ Answers server packs (LsAsked asked) (Ls reply) = LsAnswer server asked reply
 Answers server packs (Fetches asked) (Fetch reply) = FetchAnswer server packs asked reply
 Answers server packs asked reply = ⊥
 
--- the possible faults of a fetch request: no wants, the first want that the server does not hold, a fault of the
--- packer, or out of memory
+-- the possible faults of a fetch request: no wants, a want that the server does not hold, a fault of the packer, or out
+-- of memory
 abbrev pub FetchRefuses : {A : Type 0} → Server A → PackFails A → FetchAsked → ServeFault → Type 0
 FetchRefuses server fails asked serve.NoWants = asked.wants ≡ []
 FetchRefuses server fails asked (serve.NotOurs id) = IsFirstAbsent server.graph.entries asked.wants id
@@ -48,7 +48,7 @@ FetchRefuses server fails asked (serve.Pack cause) =
 FetchRefuses server fails asked serve.Memory = CanServe server asked
 FetchRefuses server fails asked _ = ⊥
 
--- the possible faults of a request; the empty request has none
+-- the possible faults of a request; the empty request never fails
 abbrev pub Refuses : {A : Type 0} → Server A → PackFails A → Asked → ServeFault → Type 0
 Refuses server fails Empty cause = ⊥
 Refuses server fails (LsAsked asked) cause = cause ≡ serve.Memory

@@ -14,7 +14,7 @@ use Rattle.ganswer.specs.declared.fetch.BegunFetch.TheVariants as begun
 abbrev pub acks_for : {A : Type 0} → Server A → FetchAsked → Acks
 acks_for server asked = record { format = server.graph.format; ids = commons_of server asked }
 
--- the parts of the answer: the common ids that it acknowledges, and the objects to send
+-- the parts of the answer: the common ids to acknowledge, and the objects to send
 abbrev pub BeginsWith : {A : Type 0} → Server A → FetchAsked → BegunFetch A → Type 0
 BeginsWith server asked (begun.Pack list) = (is_direct asked ≡ true) × IsSent server asked list.items
 BeginsWith server asked (begun.Ready commons list) =
@@ -23,7 +23,7 @@ BeginsWith server asked (begun.Ready commons list) =
 BeginsWith server asked (begun.Acks commons) =
     (is_direct asked ≡ false) × (commons ≡ acks_for server asked) × ¬ (IsReadyFor server asked)
 
--- the server can serve the request, and `fetch` is the answer before the objects are packed
+-- the server holds all wants, and `fetch` is the answer before the objects are packed
 pub record BeginsFetch {A : Type 0} (server : Server A) (asked : FetchAsked) (fetch : BegunFetch A) : Type 0 where
   pub can : CanServe server asked
   pub begins : BeginsWith server asked fetch

@@ -17,7 +17,7 @@ use Rattle.ganswer.specs.declared.fault.BuildFault.TheVariants as build
 
 -- ---- an object
 
--- the reasons to reject a new object: its first parent that the server does not hold, or a fault of the graph
+-- the reasons to reject a new object: the server lacks a parent, or the graph rejects the object
 abbrev pub IsNotAdded : {A : Type 0} → Server A → Entry A → BuildFault A → Type 0
 IsNotAdded server entry (build.MissingParent id) = IsFirstAbsent server.graph.entries entry.node.parents id
 IsNotAdded server entry (build.Graph cause) =
@@ -39,7 +39,7 @@ Adds old entry new (Err fault) = (new ≡ old) × IsNotAdded old entry fault
 
 -- ---- a ref
 
--- the reasons to reject a ref name: the list of refs can't hold this name, or the ref is new and memory runs out
+-- the reasons to reject a ref name: the refs reject the name, or the ref is new and memory runs out
 abbrev pub IsNotTaken : RefList → Name → RefsFault → Type 0
 IsNotTaken list name refs.Refs = CannotSet list name
 IsNotTaken list name refs.Memory = (ref_at list name ≡ None) × ¬ (CannotSet list name)
@@ -63,7 +63,7 @@ Sets old name id new (Err fault) = (new ≡ old) × IsNotSet old name id fault
 
 -- ---- HEAD
 
--- HEAD is replaced, or the server rejects a detached HEAD whose id it does not hold
+-- HEAD is replaced, or a detached HEAD is rejected because the server does not hold its id
 abbrev pub SetsHead : {A : Type 0} → Server A → Head A → Server A → Result (Unit {0}) (BuildFault A) → Type 0
 SetsHead old head new (Ok _) = HoldsHead old.graph.entries head × (new ≡ record old { head = head })
 SetsHead old head new (Err build.HeadMissing) = (new ≡ old) × ¬ (HoldsHead old.graph.entries head)

@@ -20,7 +20,7 @@ use Rattle.ganswer.specs.declared.fault.ServeFault.TheVariants as serve
 abbrev pub ref_missing : FaultRow
 ref_missing = (71, codes "RefMissing")
 
--- the number and name of a fault in making or changing a server
+-- the number and name of a fault of creating or changing a server
 abbrev pub build_fault_row : {A : Type 0} → BuildFault A → FaultRow
 build_fault_row (build.Graph fault) = graph_fault_row fault
 build_fault_row (build.Refs fault) = refs_fault_row fault
@@ -30,7 +30,7 @@ build_fault_row build.HeadMissing = ref_missing
 build_fault_row (build.MissingParent id) = missing_parent
 build_fault_row build.Memory = out_of_memory
 
--- the number, name and client text of a fault in answering a request
+-- the number, name and client text of a fault of answering a request
 abbrev pub serve_fault_row : ServeFault → WhyRow
 serve_fault_row (serve.Reader fault) = row_of (packet_fault_row fault) (line_phrase fault)
 serve_fault_row (serve.Request fault) = why_row fault.why
@@ -47,7 +47,7 @@ why_lacks_memory (why.Line line.Memory) = true
 why_lacks_memory why.Memory = true
 why_lacks_memory _ = false
 
--- memory ran out for a reader, a request, a pack, or an answer
+-- memory ran out for the packet reader, a request, a pack, or an answer
 abbrev pub lacks_memory : ServeFault → Bool
 lacks_memory (serve.Reader line.Memory) = true
 lacks_memory (serve.Reader _) = false

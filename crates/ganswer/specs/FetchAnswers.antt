@@ -28,11 +28,12 @@ commons_of server asked = common_of server.graph.entries asked.haves
 abbrev pub IsReadyFor : {A : Type 0} → Server A → FetchAsked → Type 0
 IsReadyFor server asked = IsReady server.graph.entries asked.wants (commons_of server asked)
 
--- the ids from which tags are sent: the ids of all refs with `include-tag`, otherwise none
+-- the ids of the tags that may be added to the pack: with `include-tag` the ids of all refs, otherwise none
 abbrev pub tag_tips : {A : Type 0} → Server A → FetchAsked → List Id
 tag_tips server asked = if fetch_has asked IncludeTag then values_of server.refs else []
 
--- the objects to send: those that a want reaches and no common id reaches, and the tags requested with `include-tag`
+-- the objects to send: each object that a want reaches and no common id reaches, and the tags requested with
+-- `include-tag`
 abbrev pub IsSent : {A : Type 0} → Server A → FetchAsked → List (Entry A) → Type 0
 IsSent server asked list =
     IsListToSend server.graph.entries asked.wants (commons_of server asked) (tag_tips server asked) list
@@ -51,7 +52,7 @@ pub record FailsToPack {A : Type 0} (server : Server A) (fails : PackFails A) (a
   pub sent : IsSent server asked list
   pub failed : fails list fault
 
--- the reply has the parts that the request calls for: a pack alone, common ids and a pack, or common ids alone
+-- the reply has the parts that the protocol requires: a pack alone, common ids and a pack, or common ids alone
 abbrev pub RepliesWith : {A : Type 0} → Server A → Packs A → FetchAsked → FetchReply → Type 0
 RepliesWith server packs asked (Pack pack) = (is_direct asked ≡ true) × SendsPack server packs asked pack
 RepliesWith server packs asked (Ready commons pack) =

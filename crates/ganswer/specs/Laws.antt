@@ -32,9 +32,9 @@ use Rattle.ganswer.specs.LsAnswers.{LsAnswer}
 use Rattle.ganswer.specs.Servers.{Server, IsServer}
 use Rattle.ganswer.specs.declared.fault.ServeFault.TheVariants as serve
 
--- ---- what is advertised
+-- ---- the advertisement
 
--- a client of this object format can read the capabilities, accepts them, and may then ask for an unborn HEAD
+-- a client of this object format can read and accept the capabilities, and may then request the name of an unborn HEAD
 -- (gitprotocol-v2(5), "ls-refs")
 pub record Welcomes (format : Format) (capabilities : List Capability) : Type 0 where
   pub form : AreCapabilities capabilities
@@ -91,9 +91,9 @@ AcksAreCommon A packs =
     (server : Server A) (asked : FetchAsked) (reply : FetchReply)
     → FetchAnswer server packs asked reply → AreCommon server asked (acknowledged_by reply)
 
--- The pack contains entries of the server's graph. Consider a client whose graph agrees with the server's and that
--- holds the full history of each have. Once the client has inserted the entries, it holds every object that a want
--- reaches at the server.
+-- The pack contains entries of the server's graph. Consider a client that holds the full history of each have, and
+-- agrees with the server about every object that both hold. Once the client has inserted the entries, it holds every
+-- object that a want reaches at the server.
 pub record IsEnough {A : Type 0} (server : Server A) (packs : Packs A) (asked : FetchAsked)
     (pack : Bytes) : Type 0 where
   pub list : List (Entry A)
@@ -111,8 +111,7 @@ PacksAreEnough A packs =
     (server : Server A) (asked : FetchAsked) (pack : Bytes)
     → IsServer server → CanServe server asked → SendsPack server packs asked pack → IsEnough server packs asked pack
 
--- if the server holds all wants, the request fails only if the packer fails for entries of a graph, or if memory runs
--- out
+-- if the server holds all wants, the request fails only if the packer fails or if memory runs out
 abbrev pub ServesWhatIsHeld : (A : Type 0) → PackFails A → Type 0
 ServesWhatIsHeld A fails =
     (server : Server A) (asked : FetchAsked) (cause : ServeFault)
@@ -130,7 +129,7 @@ AnswersAreOne A packs =
 
 -- ---- changes
 
--- a server only gains objects, only by adding an object, and its object format never changes
+-- changes to a server never remove objects or change its object format; only adding an object changes the graph
 pub record ServersGrow (A : Type 0) : Type 0 where
   pub adding : (old new : Server A) (entry : Entry A) (result : Result (Unit {0}) (BuildFault A)) →
       Adds old entry new result → (new.graph.format ≡ old.graph.format) × Grows old.graph.entries new.graph.entries

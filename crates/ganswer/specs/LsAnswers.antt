@@ -1,5 +1,5 @@
--- The answer to ls-refs (gitprotocol-v2(5), "ls-refs"): HEAD first, then the refs in the byte order of their names. It
--- lists only the requested refs, each with the requested attributes.
+-- The answer to ls-refs (gitprotocol-v2(5), "ls-refs"): HEAD first, then the refs in the byte order of their names. The
+-- answer lists only the requested refs, each with the requested attributes.
 use Rattle.std.specs.Prelude.{◌≡◌, Bool, true, false, ◌&&◌, List, [], ◌∷◌, ◌++◌, All, filter, map, nat_eq}
 use Rattle.std.specs.Prelude.{if◌then◌else◌, is_none, MatchOption, Option, Some, None, ℕ, slice_get, bytes_eq}
 use Rattle.std.specs.List.{list_any, starts_with}
@@ -17,9 +17,9 @@ use Rattle.glsreply.specs.RefTexts.{RefLine}
 use Rattle.glsreply.specs.LsReplies.{LsReply}
 use Rattle.ganswer.specs.Servers.{Server}
 
--- ---- which refs are shown
+-- ---- the requested refs
 
--- the id that HEAD points at, directly or through a ref
+-- the id of the object that HEAD points at, directly or through a ref
 abbrev pub head_id : {A : Type 0} → Head A → RefList → Option Id
 head_id heads.None refs = None
 head_id (heads.Id id) refs = Some id
@@ -33,7 +33,7 @@ head_ref (Some id) = (head_name, id) ∷ []
 abbrev pub all_refs : {A : Type 0} → Server A → RefList
 all_refs server = head_ref (head_id server.head server.refs) ++ server.refs
 
--- the request asks for the name: the name begins with a requested prefix, or the request has no prefixes
+-- the request includes the name: the name begins with a requested prefix, or the request has no prefixes
 abbrev pub is_asked : List Bytes → Name → Bool
 is_asked [] name = true
 is_asked (prefix ∷ prefixes) name = list_any (starts_with nat_eq name) (prefix ∷ prefixes)
@@ -41,7 +41,7 @@ is_asked (prefix ∷ prefixes) name = list_any (starts_with nat_eq name) (prefix
 abbrev pub is_shown : List Bytes → Name × Id → Bool
 is_shown prefixes ref = is_asked prefixes ref.0
 
--- ---- their attributes
+-- ---- the attributes of refs
 
 -- the name that HEAD points at
 abbrev pub target_of : {A : Type 0} → Head A → Option Name
@@ -49,11 +49,11 @@ target_of heads.None = None
 target_of (heads.Id id) = None
 target_of (heads.Symref target) = Some target
 
--- the name that HEAD points at, if the request has `symrefs` and this is the line of HEAD
+-- the name of the ref that HEAD points at, if the request has `symrefs` and this is the line of HEAD
 abbrev pub symref_of : {A : Type 0} → Head A → LsRefsAsked → Name → Option Name
 symref_of head asked name = if ls_has asked Symrefs && bytes_eq name head_name then target_of head else None
 
--- `id` is the id of a tag, and a chain of tags leads from this tag to the commit
+-- the object `id` is a tag, and a chain of tags leads from this tag to the commit
 pub record TagPeelsTo {A : Type 0} (g : List (Entry A)) (id commit : Id) : Type 0 where
   pub named : Id
   pub tag : IsTagOf g id named
@@ -78,7 +78,7 @@ pub record HasAttributes {A : Type 0} (server : Server A) (asked : LsRefsAsked) 
 abbrev pub name_and_id : RefLine → Name × Id
 name_and_id line = (line.name, line.id)
 
--- the lines are those of the requested refs, in order, with the requested attributes
+-- the reply has a line for each requested ref, in order, with the requested attributes
 pub record ShowsLines {A : Type 0} (server : Server A) (asked : LsRefsAsked) (refs : RefList)
     (lines : List RefLine) : Type 0 where
   pub shown : map name_and_id lines ≡ filter (is_shown asked.prefixes) refs
@@ -92,7 +92,7 @@ missing_target heads.None refs = None
 missing_target (heads.Id id) refs = None
 missing_target (heads.Symref target) refs = if is_none (ref_at refs target) then Some target else None
 
--- the name that an unborn HEAD points at, if the request asks for HEAD and for unborn HEADs
+-- the name that an unborn HEAD points at, if the request includes HEAD and has `unborn`
 abbrev pub unborn_of : {A : Type 0} → Server A → LsRefsAsked → Option Name
 unborn_of server asked =
     if ls_has asked Unborn && is_asked asked.prefixes head_name then missing_target server.head server.refs else None

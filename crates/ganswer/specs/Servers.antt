@@ -1,5 +1,5 @@
--- The contents of a server: a graph, refs and HEAD (gitglossary(7), "ref", "HEAD"). The graph holds the id of each
--- parent, of each ref and of a detached HEAD.
+-- The contents of a server: a graph, refs and HEAD (gitglossary(7), "ref", "HEAD"). The graph holds each parent, and
+-- the object that each ref or a detached HEAD points at.
 use Rattle.std.specs.Prelude.{◌≡◌, ⊤, List, ◌∷◌, ◌++◌, All, None, Result, Ok, Err, flat_map}
 use Rattle.std.specs.Map.{values_of}
 use Rattle.gname.specs.Ids.{Id}
@@ -28,13 +28,13 @@ server_of graph refs head = record { graph = graph; refs = refs; head = head }
 abbrev pub HoldsRefs : {A : Type 0} → List (Entry A) → RefList → Type 0
 HoldsRefs g refs = All (Holds g) (values_of refs)
 
--- the graph holds the id of a detached HEAD; a HEAD that points at a ref may be unborn
+-- the graph holds the id of HEAD, if HEAD is detached; a HEAD that points at a ref may be unborn
 abbrev pub HoldsHead : {A : Type 0} → List (Entry A) → Head A → Type 0
 HoldsHead g heads.None = ⊤
 HoldsHead g (heads.Id id) = Holds g id
 HoldsHead g (heads.Symref target) = ⊤
 
--- a valid server: the graph is closed, and it holds the id of each ref and of a detached HEAD
+-- a valid server: the graph holds all parents, the id of each ref, and the id of a detached HEAD
 pub record IsServer {A : Type 0} (server : Server A) : Type 0 where
   pub graph : IsGraph server.graph
   pub refs : IsRefs server.refs
@@ -43,7 +43,7 @@ pub record IsServer {A : Type 0} (server : Server A) : Type 0 where
   pub head : HoldsHead server.graph.entries server.head
   pub target : PointsBelowRefs server.head
 
--- ---- making a server
+-- ---- creating a server
 
 -- the parents of all objects, in insertion order
 abbrev pub parents_in : {A : Type 0} → List (Entry A) → List Id
@@ -58,8 +58,8 @@ pub record IsFirstDangling {A : Type 0} (g : List (Entry A)) (refs : RefList) (n
   pub held : HoldsRefs g front
   pub absent : node_at g id ≡ None
 
--- The possible faults of making a server: the first missing parent, otherwise the first ref whose id is missing,
--- otherwise a detached HEAD whose id is missing. If no object is missing, memory may run out for the name HEAD.
+-- The possible faults of creating a server: a missing parent, otherwise a ref with a missing id, otherwise a detached
+-- HEAD with a missing id. If no object is missing, there may be no memory for the name HEAD.
 abbrev pub IsUnserved : {A : Type 0} → Server A → BuildFault A → Type 0
 IsUnserved server (build.NotClosed id) = IsFirstAbsent server.graph.entries (parents_in server.graph.entries) id
 IsUnserved server (build.RefMissing name) =
@@ -70,7 +70,7 @@ IsUnserved server build.HeadMissing =
 IsUnserved server build.Memory = IsServer server
 IsUnserved server _ = ⊥
 
--- the result of making a server: a server with exactly the given graph, refs and HEAD, or a fault
+-- the result of creating a server: a server with exactly the given graph, refs and HEAD, or a fault
 abbrev pub Makes : {A : Type 0} → Server A → Result (Server A) (BuildFault A) → Type 0
 Makes parts (Ok server) = (server ≡ parts) × IsServer server
 Makes parts (Err fault) = IsUnserved parts fault

@@ -14,9 +14,9 @@ use std::alloc::Allocator;
 
 impl<A: Allocator + Copy> Server<A> {
     /// Returns the server's advertisement (gitprotocol-v2(5), "Capability Advertisement"):
-    /// `agent=gitv2/1`, `ls-refs=unborn`, `fetch`, and the format of its ids.
+    /// `agent=gitv2/1`, `ls-refs=unborn`, `fetch`, and the object format.
     ///
-    /// Fails only with `Memory`.
+    /// Fails only if memory runs out.
     pub fn advert(&self) -> Result<Advert<A>, ServeFault>
         ensures advert { IfOk result (λ advert. advert ≡ advertisement self.now.graph.format) }
         ensures fault { IfErr result (λ fault. fault ≡ Memory) }

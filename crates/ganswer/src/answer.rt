@@ -18,7 +18,7 @@ use std::alloc::Allocator;
 /// The answer of a server.
 #[derive(Drop)]
 pub enum Reply<A: Allocator + Copy> {
-    /// The answer to the empty request, a lone flush packet: nothing is sent.
+    /// The answer to the empty request, which is a lone flush packet: the server sends nothing.
     Nothing,
     /// The answer to an ls-refs request: a list of refs.
     Ls(LsReply<A>),
@@ -29,26 +29,26 @@ pub enum Reply<A: Allocator + Copy> {
 impl<A: Allocator + Copy> Server<A> {
     /// Returns the answer to a request (gitprotocol-v2(5), "ls-refs" and "fetch").
     ///
-    /// The answer to ls-refs lists HEAD first, then the refs in the byte order of their names. It
-    /// lists the names that begin with a requested prefix, or all names if there is no prefix. With
-    /// `symrefs`, a HEAD that points at a ref is listed with its target. With `peel`, a tag is
-    /// listed with the commit that it peels to. With `unborn`, the answer contains the name that an
-    /// unborn HEAD points at, if HEAD is requested.
+    /// The answer to ls-refs lists HEAD first, then the refs in the byte order of their names. The
+    /// answer lists the names that begin with a requested prefix, or all names if there is no
+    /// prefix. With `symrefs`, a HEAD that points at a ref is listed with its target. With `peel`,
+    /// a tag is listed with the commit that it peels to. With `unborn`, the answer contains the
+    /// name that an unborn HEAD points at, if HEAD is requested.
     ///
     /// For a fetch request, the common ids are the distinct haves that the server holds, in the
     /// order of their first occurrence. With `done`, or without haves, the answer is a pack of the
     /// objects that a want reaches and no common id reaches. Otherwise, if each want reaches a
-    /// common id, the answer is the common ids and this pack. Otherwise the answer is the common
-    /// ids alone. With `include-tag`, the pack also contains the tags that lead from a ref to a
-    /// commit in the pack.
+    /// common id, the answer is the common ids and this pack. If a want reaches no common id, the
+    /// answer is the common ids alone. With `include-tag`, the pack also contains the tags that
+    /// lead from a ref to a commit in the pack.
     ///
     /// Fails with `NoWants` if a fetch request has no wants, or with `NotOurs` for the first want
     /// that the server does not hold. Otherwise fails with `Pack` and the packer's fault if the
-    /// packer fails for the objects to send.
+    /// packer fails.
     ///
-    /// The packer is asked exactly once if the answer contains a pack or the packer fails.
-    /// Otherwise the packer is not asked. So a fault of the packer is always reported, and `Memory`
-    /// is reported only if the packer was not asked.
+    /// The packer is asked for a pack at most once, and only if the answer contains a pack or the
+    /// packer fails. A fault of the packer is always reported, and `Memory` only if the packer was
+    /// not asked for a pack.
     pub fn answer<K: Packer<A>>(
         &self,
         request: &Request<A>,

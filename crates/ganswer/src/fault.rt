@@ -1,4 +1,4 @@
-//! The faults of making and changing a server, and of answering requests.
+//! The faults of creating and changing a server, and of answering requests.
 
 ghost use Rattle.std.specs.Prelude.{◌≡◌, Some};
 ghost use Rattle.gpkt.specs.Faults.{packet_fault_row};
@@ -16,22 +16,22 @@ use std::alloc::{AllocError, AllocFailed, Allocator, Global};
 use std::error::Error;
 use std::fmt;
 
-/// The reason that a server could not be made or changed.
+/// The reason that a server could not be created or changed.
 #[derive(Debug, Drop)]
 pub enum BuildFault<A: Allocator + Copy = Global> {
-    /// Faults 60 to 64 and 75: the graph rejects the object.
+    /// The graph rejects the object (faults 60 to 64 and 75).
     Graph(GraphFault),
-    /// Faults 69 and 64: the refs reject the name.
+    /// The refs reject the name (69), or memory runs out (64).
     Refs(RefsFault),
-    /// Fault 70: the graph does not hold this parent of an object.
+    /// The graph does not hold this parent of an object (fault 70).
     NotClosed { id: Oid },
-    /// Fault 71: the graph does not hold the id of this ref.
+    /// The graph does not hold the id of this ref (fault 71).
     RefMissing { name: RefName<A> },
-    /// Fault 71: the graph does not hold the id of a detached HEAD.
+    /// HEAD is detached, and the graph does not hold its id (fault 71).
     HeadMissing,
-    /// Fault 72: the graph does not hold this parent of the object to add.
+    /// The graph does not hold this parent of the object to add (fault 72).
     MissingParent { id: Oid },
-    /// Fault 64: out of memory for the name `HEAD`.
+    /// There is not enough memory for the name `HEAD` (fault 64).
     Memory,
 }
 
@@ -104,17 +104,17 @@ impl<A: Allocator + Copy, T: Drop> From<AllocFailed<T>> for BuildFault<A> {
 /// The reason that a request was not answered.
 #[derive(Debug, Drop)]
 pub enum ServeFault {
-    /// Fault 28: out of memory while making the reader of requests.
+    /// There is not enough memory for the reader of requests (fault 28).
     Reader(PacketFault),
-    /// Faults 20 to 54: the request could not be read.
+    /// The request could not be read (faults 20 to 54).
     Request(MessageFault),
-    /// Fault 73: a fetch has no wants.
+    /// A fetch request has no wants (fault 73).
     NoWants,
-    /// Fault 74: the first want of the request that the server does not hold.
+    /// The server does not hold this want of the request (fault 74).
     NotOurs { id: Oid },
-    /// Fault 65: the packer fails for the objects to send.
+    /// The packer can't pack the objects to send (fault 65).
     Pack(PackFault),
-    /// Fault 64: out of memory for the answer.
+    /// There is not enough memory for the answer (fault 64).
     Memory,
 }
 
@@ -132,7 +132,7 @@ fn serve_row(code: u32, name: &'static str, phrase: &'static str) -> ServeRow
     ServeRow { code, name, phrase }
 }
 
-// Returns the number, the name and the text of the fault for a packet that can't be read.
+// Returns the number, the name and the client text of a fault of reading a packet.
 fn line_row(fault: PacketFault) -> ServeRow
     ensures { row_view result ≡ row_of (packet_fault_row fault) (line_phrase fault) }
 {
@@ -163,8 +163,7 @@ impl ServeFault {
         self.fault_row().phrase
     }
 
-    /// Returns whether memory ran out: fault 28, 53 or 64, or fault 65 if the packer ran out of
-    /// memory.
+    /// Returns whether the fault is out of memory, in the server or in the packer.
     pub fn is_memory(&self) -> bool
         ensures { result ≡ lacks_memory self.now }
     {

@@ -24,21 +24,21 @@ use std::alloc::Allocator;
 /// The answer to a fetch request, before the objects to send are packed.
 #[derive(Drop)]
 pub enum BegunFetch<A: Allocator + Copy> {
-    /// The common ids. At least one want reaches no common id, so no pack follows.
+    /// The common ids without a pack, since at least one want reaches no common id.
     Acks(Acks<A>),
-    /// The common ids and the objects to send. Each want reaches a common id.
+    /// The common ids and the objects to send, since each want reaches a common id.
     Ready(Acks<A>, Vec<Entry<A>, A>),
-    /// The objects to send. The reply acknowledges no ids.
+    /// The objects to send, without acknowledgments.
     Pack(Vec<Entry<A>, A>),
 }
 
 impl<A: Allocator + Copy> Server<A> {
     /// Returns the answer to a fetch request (gitprotocol-v2(5), "fetch"), as [`Server::answer`]
-    /// does. The packer is asked exactly once if the answer contains a pack or the packer fails.
-    /// Otherwise the packer is not asked.
+    /// does. The packer is asked for a pack at most once, and only if the answer contains a pack or
+    /// the packer fails.
     ///
-    /// So the packer's fault is always reported, and `Memory` is reported only if the packer was
-    /// not asked.
+    /// The packer's fault is always reported, and `Memory` only if the packer was not asked for a
+    /// pack.
     pub fn answer_fetch<K: Packer<A>>(
         &self,
         asked: &FetchRequest<A>,
@@ -72,7 +72,7 @@ impl<A: Allocator + Copy> Server<A> {
     /// pack the objects itself.
     ///
     /// Fails with `NoWants` if the request has no wants. Fails with `NotOurs` for the first want
-    /// that the server does not hold. Otherwise fails only with `Memory`.
+    /// that the server does not hold. Otherwise fails only if memory runs out.
     pub fn begin_fetch(&self, asked: &FetchRequest<A>) -> Result<BegunFetch<A>, ServeFault>
         ensures { MatchResult result (BeginsFetch self.now asked.now.asked)
             (FetchDeclines self.now asked.now.asked) }
@@ -175,7 +175,7 @@ impl<A: Allocator + Copy> Server<A> {
     }
 }
 
-// Converts a fault of a graph walk, which is always out of memory, to `Memory`.
+// Converts a fault of a graph walk to `Memory`, since a graph walk fails only if memory runs out.
 fn no_memory(fault: GraphFault) -> ServeFault
     requires { fault ≡ OutOfMemory }
     ensures { result ≡ Memory }

@@ -1,4 +1,4 @@
-//! Laws about answers and changes: functions without effect whose contracts state the laws.
+//! Laws about answers and changes: each function does nothing, and its contract proves a law.
 
 ghost use Rattle.ganswer.specs.Laws.{AcksAreCommon, AdvertsWelcome, AnswersAreOne, FetchAnswersFit, LsAnswersAreHeld, LsAnswersAreOne, LsAnswersFit, LsRequestsHaveAnswers, PacksAreEnough, ServersGrow, ServesWhatIsHeld};
 
@@ -10,14 +10,13 @@ use ggraph::{Faithful, Packer};
 use gname::laws::head_is_a_name;
 use std::alloc::Allocator;
 
-/// A server can send its advertisement. A client of the same object format accepts the
-/// advertisement, and may then ask for an unborn HEAD (gitprotocol-v2(5), "Capability
-/// Advertisement").
+/// Proves that a client of the same object format can read and accept a server's advertisement, and
+/// may then request the name of an unborn HEAD (gitprotocol-v2(5), "Capability Advertisement").
 pub fn adverts_welcome()
     ensures { AdvertsWelcome }
 {}
 
-/// A server has exactly one answer to each ls-refs request.
+/// Proves that a server has exactly one answer to each ls-refs request.
 pub fn ls_requests_have_one_answer<A: Allocator + Copy>()
     ensures exists { LsRequestsHaveAnswers A }
     ensures one { LsAnswersAreOne A }
@@ -25,8 +24,9 @@ pub fn ls_requests_have_one_answer<A: Allocator + Copy>()
     peels_to_one::<A>();
 }
 
-/// An answer to an ls-refs request is a well-formed message. Its ids have the server's object
-/// format, its ref names are valid, and its number of lines is within the limit of a reply.
+/// Proves that each answer to an ls-refs request is a well-formed message. Its ids have the
+/// server's object format, its ref names are valid, and its number of lines is within the limit of
+/// a reply.
 pub fn ls_answers_fit<A: Allocator + Copy>()
     ensures { LsAnswersFit A }
 {
@@ -34,31 +34,31 @@ pub fn ls_answers_fit<A: Allocator + Copy>()
     head_is_a_name();
 }
 
-/// The server holds the id of each line of an answer to an ls-refs request.
+/// Proves that the server holds the id of each line of an answer to an ls-refs request.
 #[tactic(auto, using(crate::proofs::LawLemmas::ls_answers_are_held))]
 pub fn ls_answers_are_held<A: Allocator + Copy>()
     ensures { LsAnswersAreHeld A }
 {}
 
-/// An answer to a fetch request is a well-formed message. The client that sent the request can read
-/// the answer with the server's object format, if the pack is within the client's limit.
+/// Proves that the client that sent a fetch request can read the answer with the server's object
+/// format, if the pack is within the client's limit.
 pub fn fetch_answers_fit<A: Allocator + Copy, K: Packer<A>>()
     ensures { (packer : K) → FetchAnswersFit A (K.packs packer) }
 {
     positions_are_nodes::<A>();
 }
 
-/// An answer acknowledges only haves of the request that the server holds, and no have more than
-/// once.
+/// Proves that an answer acknowledges only haves that the server holds, and each have at most once.
 pub fn acks_are_common<A: Allocator + Copy, K: Packer<A>>()
     ensures { (packer : K) → AcksAreCommon A (K.packs packer) }
 {
     commons_are_held::<A>();
 }
 
-/// A pack that is sent consists of entries of the server's graph. Consider a client whose graph
-/// agrees with the server's and that holds the full history of each have. Once the client has
-/// inserted the entries, it holds every object that the wants reach at the server.
+/// Proves that the pack of an answer consists of entries of the server's graph, and suffices for
+/// the client. Consider a client that holds the full history of each have, and agrees with the
+/// server about every object that both hold. Once the client has inserted the entries, it holds
+/// every object that the wants reach at the server.
 pub fn packs_are_enough<A: Allocator + Copy, K: Packer<A>>()
     ensures { (packer : K) → PacksAreEnough A (K.packs packer) }
 {
@@ -67,16 +67,17 @@ pub fn packs_are_enough<A: Allocator + Copy, K: Packer<A>>()
     sending_is_enough::<A>();
 }
 
-/// If the server holds the wants of a request, the request fails only if the packer fails for
-/// entries of the graph or memory runs out.
+/// Proves that, if the server holds the wants of a request, the request fails only if the packer
+/// fails or memory runs out.
 pub fn held_wants_are_served<A: Allocator + Copy, K: Packer<A>>()
     ensures { (packer : K) → ServesWhatIsHeld A (K.pack_fails packer) }
 {
     sent_are_entries::<A>();
 }
 
-/// A server with a faithful packer has at most one answer to each request. The request determines
-/// the objects to send, and a faithful packer has only one pack for each list of objects.
+/// Proves that a server with a faithful packer has at most one answer to each request. The request
+/// determines the objects to send, and a faithful packer has only one pack for each list of
+/// objects.
 pub fn answers_are_one<A: Allocator + Copy, K: Faithful<A>>(packer: &K)
     ensures { AnswersAreOne A (K.packs packer.now) }
 {
@@ -86,7 +87,8 @@ pub fn answers_are_one<A: Allocator + Copy, K: Faithful<A>>(packer: &K)
     packer.loses_nothing();
 }
 
-/// A server only gains objects, and only by [`Server::add`](crate::Server::add).
+/// Proves that changes to a server never remove objects, and that only
+/// [`Server::add`](crate::Server::add) adds objects.
 #[tactic(auto, using(crate::proofs::LawLemmas::servers_grow))]
 pub fn servers_grow<A: Allocator + Copy>()
     ensures { ServersGrow A }

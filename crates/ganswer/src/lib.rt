@@ -4,23 +4,22 @@
 //! # Proved
 //!
 //! - A [`Server`] has exactly the graph, the refs and the HEAD that were passed to [`Server::new`].
-//!   Its invariant is that the graph is closed, and holds the id of each ref and of a detached
-//!   HEAD. If an object is missing, [`Server::new`] reports the first missing object, in a fixed
-//!   order.
+//!   Its graph always holds all parents, the id of each ref, and the id of a detached HEAD. If an
+//!   object is missing, [`Server::new`] reports the first missing object, in a fixed order.
 //! - [`Server::add`], [`Server::set_ref`] and [`Server::set_head`] change only one object, one ref
 //!   and HEAD respectively. If a change fails, the call reports the first reason and changes
 //!   nothing.
 //! - [`Server::answer`] returns an answer that `specs/Answers.antt` allows for the request, with
-//!   any packer. For ls-refs the answer is the requested refs with the requested attributes: HEAD
-//!   first, then the names in byte order. For fetch the answer is the common ids, the pack of the
-//!   objects to send, or both. A fetch request is refused only if it has no wants, the server does
-//!   not hold a want, the packer fails, or memory runs out. The fault contains the first want that
-//!   the server does not hold. The ids of an answer have the format of the graph. An answer is
-//!   never refused for its length.
+//!   any packer. For ls-refs the answer lists the requested refs with the requested attributes:
+//!   HEAD first, then the names in byte order. For fetch the answer is the common ids, the pack of
+//!   the objects to send, or both. A fetch request is refused only if it has no wants, the server
+//!   does not hold a want, the packer fails, or memory runs out. The fault contains the first want
+//!   that the server does not hold. The ids of an answer have the format of the graph. A request
+//!   never fails because its answer is too long.
 //! - [`Server::answer`] uses exactly one result of the packer if the answer contains a pack or the
-//!   packer fails. Otherwise `answer` uses no result of the packer. So out of memory never hides a
-//!   fault of the packer (`specs/OnePack.antt`). A packer that has failed is not asked again
-//!   ([`OnePack`]).
+//!   packer fails. In all other cases, `answer` uses no result of the packer. Out of memory never
+//!   hides a fault of the packer (`specs/OnePack.antt`). After a failure, the packer is not asked
+//!   for another pack ([`OnePack`]).
 //! - [`Server::answer_fetch`] has the same contract, but accepts only fetch requests.
 //! - [`Server::begin_fetch`] returns the answer to a fetch request before the objects are packed
 //!   (`specs/BegunFetches.antt`). The caller can then pack the objects in parts.
@@ -28,14 +27,14 @@
 //!   if the sink fails.
 //! - [`Server::advert`] fails only if memory runs out. The advertisement contains `agent=gitv2/1`,
 //!   `ls-refs=unborn`, `fetch`, and the format of the graph's ids.
-//! - [`laws`]: each client can read the advertisement, and a client of the same object format
-//!   accepts it. A server has exactly one answer to each ls-refs request, and holds the id of each
-//!   line of the answer. With a faithful packer, a server has at most one answer to each request of
-//!   any kind. Acknowledged ids are haves of the request that the server holds. If a client holds
-//!   the full history of the haves, it holds that of the wants once it has inserted the pack. If
-//!   the server holds all wants, a request fails only if the packer fails or memory runs out.
-//!   Answers are well-formed messages, so a client of the same object format can read them. A
-//!   server only gains objects, and its object format never changes.
+//! - By [`laws`], a client of the same object format can read and accept the advertisement. A
+//!   server has exactly one answer to each ls-refs request, and holds the id of each line of the
+//!   answer. With a faithful packer, a server has at most one answer to each request of any kind.
+//!   Acknowledged ids are haves of the request that the server holds. If a client holds the full
+//!   history of the haves, inserting the pack gives it the full history of the wants. If the server
+//!   holds all wants, a request fails only if the packer fails or memory runs out. Answers are
+//!   well-formed messages, so a client of the same object format can read them. Changes to a server
+//!   never remove objects or change its object format.
 //! - Each fault has a number, a name and a text. A fault of a request also has a text for the
 //!   client. [`ServeFault::is_memory`] returns whether memory ran out.
 //! - Every call returns, without a panic, an overflow or a read out of bounds.
@@ -47,18 +46,18 @@
 //!
 //! # What the contracts do not rule out
 //!
-//! Any call that allocates may report out of memory. `answer` may report it for an ls-refs request,
-//! and for a fetch request if the server holds all wants, but not after asking the packer. `advert`
-//! may report it at any time, `new` if no object is missing, `add` for a new object, and `set_ref`
-//! for a new name. A call may take any amount of time, and more memory than it needs. `OnePack` may
-//! call its packer several times and use one of the results. Formatting a fault may return
-//! `fmt::Error` although the text was written correctly.
+//! Any call that allocates may report out of memory. `answer` may report it for an ls-refs request.
+//! For a fetch request it may report it if the server holds all wants, but not after asking the
+//! packer. `advert` may report out of memory at any time, `new` if no object is missing, `add` for
+//! a new object, and `set_ref` for a new name. A call may take any amount of time, and more memory
+//! than it needs. `OnePack` may call its packer several times and use one of the results.
+//! Formatting a fault may return `fmt::Error` although the text was written correctly.
 //!
 //! # Dependencies
 //!
-//! `ggraph` for graphs, refs, walks and packers, which it re-exports from `gobject`, `gdag`,
-//! `grefs` and `gwalk`. `grequest`, `glsreply`, `gfetchreply` and `ghello` for the messages,
-//! `ggrammar` and `gpkt` for the code that these share, `gname` for ids and names.
+//! `ggraph` re-exports graphs, refs, walks and packers from `gobject`, `gdag`, `grefs` and `gwalk`.
+//! `grequest`, `glsreply`, `gfetchreply` and `ghello` define the messages, and `gname` defines ids
+//! and names. The crates of messages share `ggrammar` and `gpkt`.
 #![tactic(auto)]
 
 mod advert;

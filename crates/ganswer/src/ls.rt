@@ -23,7 +23,7 @@ use grequest::{LsRefsFlag, LsRefsRequest};
 use std::alloc::{AllocError, Allocator};
 
 impl<A: Allocator + Copy> Server<A> {
-    // Returns the reply to an ls-refs request. Fails only with `Memory`.
+    // Returns the reply to an ls-refs request. Fails only if memory runs out.
     pub(crate) fn answer_ls(&self, asked: &LsRefsRequest<A>) -> Result<LsReply<A>, ServeFault>
         ensures answer { IfOk result (LsAnswer self.now asked.now) }
         ensures fault { IfErr result (λ fault. fault ≡ Memory) }
@@ -47,7 +47,7 @@ impl<A: Allocator + Copy> Server<A> {
         Ok(reply)
     }
 
-    // Appends the line of HEAD, if HEAD has an id and the request asks for it.
+    // Appends the line of HEAD, if HEAD has an id and the request includes HEAD.
     fn add_head(&self, asked: &LsRefsRequest<A>, reply: &mut LsReply<A>) -> Result<(), ServeFault>
         requires { reply.old ≡ record { unborn = unborn_of self.now asked.now; lines = [] } }
         ensures head { OnOk result (IsAnswering self.now asked.now
@@ -80,7 +80,7 @@ impl<A: Allocator + Copy> Server<A> {
         Ok(())
     }
 
-    // Appends the line of a ref, if the request asks for the ref. `known` is the ref's peeled id,
+    // Appends the line of a ref, if the request includes the ref. `known` is the ref's peeled id,
     // if the peeled id was looked up before.
     fn add_ref_line(
         &self,
@@ -112,7 +112,7 @@ impl<A: Allocator + Copy> Server<A> {
     }
 
     /// Returns the line of a ref with the requested attributes, or `None` if the request does not
-    /// ask for the ref. `known` is the ref's peeled id, if the peeled id was looked up before.
+    /// include the ref. `known` is the ref's peeled id, if the peeled id was looked up before.
     pub fn line<'a>(
         &'a self,
         asked: &LsRefsRequest<A>,
@@ -134,7 +134,8 @@ impl<A: Allocator + Copy> Server<A> {
         })
     }
 
-    /// Returns the id that HEAD points at, directly or through a ref, or `None` if HEAD is unborn.
+    /// Returns the id of the object that HEAD points at, directly or through a ref, or `None` if
+    /// HEAD is unborn.
     pub fn head_id(&self) -> Option<Oid>
         ensures { result ≡ head_id self.now.head self.now.refs }
     {
@@ -177,8 +178,8 @@ impl<A: Allocator + Copy> Server<A> {
         }
     }
 
-    /// Returns the name that an unborn HEAD points at, if the request asks for HEAD and for unborn
-    /// HEADs.
+    /// Returns the name that an unborn HEAD points at, if the request includes HEAD and has
+    /// `unborn`.
     pub fn unborn(&self, asked: &LsRefsRequest<A>) -> Option<&RefName<A>>
         ensures { option_copied result ≡ unborn_of self.now asked.now }
     {
@@ -219,7 +220,8 @@ fn begins_with_any<A: Allocator + Copy>(prefixes: &[Prefix<A>], name: &RefName<A
     prefixes.iter().any(|prefix| name.starts_with(prefix))
 }
 
-// Converts a fault of adding a line that fits the reply. This fault is always out of memory.
+// Converts a fault of adding a line to `Memory`. The reply has room for the line, so only memory
+// can run out.
 fn no_memory(fault: MessageFault) -> ServeFault
     requires { fault.why ≡ why.Memory }
     ensures { result ≡ Memory }

@@ -13,7 +13,7 @@ use std::marker::Model;
 /// The result of a packer.
 #[derive(Clone, Copy, Debug, PartialEq, Eq, Drop)]
 pub enum Packing {
-    /// The packer was not asked.
+    /// The packer was not asked for a pack.
     Unasked,
     /// The packer returned a pack.
     Packed,
@@ -21,8 +21,8 @@ pub enum Packing {
     Failed(PackFault),
 }
 
-/// A packer that is asked for at most one pack for each answer, and its last result. A packer that
-/// has failed is not asked again, so that its fault is not lost.
+/// A packer that is asked for at most one pack for each answer, and its last result. After a
+/// failure, the packer is not asked for another pack, so that its fault is not lost.
 #[derive(Drop)]
 pub struct OnePack<'a, K> {
     packer: &'a K,

@@ -19,8 +19,8 @@ pub(crate) fn empty_peeled_ids<A: Allocator + Copy>(alloc: A, count: usize) -> V
     }
 }
 
-// Appends the peeled id of the ref at index `place`, if the list contains exactly the ids
-// before this index and has spare capacity. Allocates nothing.
+// Appends the peeled id of the ref at index `place`, if the list has exactly `place` entries and
+// spare capacity. Allocates nothing.
 pub(crate) fn keep_peeled<A: Allocator + Copy>(
     peels: &mut Vec<Option<Oid>, A>,
     place: usize,

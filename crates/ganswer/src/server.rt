@@ -1,4 +1,4 @@
-//! The served repository, and its changes.
+//! The served repository, and changes to it.
 
 ghost use Rattle.std.specs.Prelude.{◌≡◌, ◌↔◌, slice_get, IfOk, IfSome, IsTrue, MatchOption, MatchResult, Some};
 ghost use Rattle.gname.specs.Ids.{Id};
@@ -20,8 +20,8 @@ use gname::{Oid, RefName};
 use std::alloc::{Allocator, Global};
 use std::marker::Model;
 
-/// A served repository: a graph, refs and HEAD (gitglossary(7), "ref", "HEAD"). The graph is
-/// closed, and holds the id of each ref and of a detached HEAD. HEAD may be unborn.
+/// A served repository: a graph, refs and HEAD (gitglossary(7), "ref", "HEAD"). The graph holds all
+/// parents, the id of each ref, and the id of a detached HEAD. HEAD may be unborn.
 #[derive(Drop)]
 pub struct Server<A: Allocator + Copy = Global> {
     graph: Graph<A>,
@@ -48,14 +48,14 @@ impl<A: Allocator + Copy> Model for Server<A> {
 }
 
 impl<A: Allocator + Copy> Server<A> {
-    /// Makes a server from a graph, refs and HEAD.
+    /// Creates a server from a graph, refs and HEAD.
     ///
-    /// Fails with `NotClosed` for the first parent that the graph does not hold, in the order of
-    /// the objects and of their parents. Otherwise fails with `RefMissing` for the first ref by
-    /// name whose id the graph does not hold. Otherwise fails with `HeadMissing` if HEAD is
-    /// detached at an id that the graph does not hold. These three faults are reported even if
-    /// memory has run out. Fails with `Memory` if no object is missing, but there is no memory for
-    /// the name HEAD. A failed call drops the graph, the refs and HEAD.
+    /// Fails with `NotClosed` for the first parent that the graph does not hold. Otherwise fails
+    /// with `RefMissing` for the first ref by name whose id the graph does not hold. Otherwise
+    /// fails with `HeadMissing` if HEAD is detached at an id that the graph does not hold. The
+    /// faults `NotClosed`, `RefMissing` and `HeadMissing` are reported even if memory has run out.
+    /// If no object is missing, fails with `Memory` if there is no memory for the name HEAD. A
+    /// failed call drops the graph, the refs and HEAD.
     pub fn new(graph: Graph<A>, refs: Refs<A>, head: Head<A>) -> Result<Server<A>, BuildFault<A>>
         ensures { Makes (server_of graph refs head) result }
     {
@@ -72,8 +72,8 @@ impl<A: Allocator + Copy> Server<A> {
         }
     }
 
-    // Makes a server from a closed graph that holds the id of each ref. The graph need not hold the
-    // id of HEAD.
+    // Creates a server from a graph that holds all parents and the id of each ref. The graph need
+    // not hold the id of HEAD.
     fn with_refs(
         graph: Graph<A>,
         refs: Refs<A>,
@@ -118,7 +118,7 @@ impl<A: Allocator + Copy> Server<A> {
         &self.refs
     }
 
-    /// A law that states the invariant of a server.
+    /// Proves that every server satisfies its invariant.
     pub fn laws(&self)
         ensures { IsServer self.now }
     {
@@ -133,11 +133,11 @@ impl<A: Allocator + Copy> Server<A> {
         &self.head
     }
 
-    /// Appends an object to the graph. Changes nothing if the graph already holds its id with the
-    /// same kind and parents.
+    /// Appends an object to the graph. Changes nothing if the graph already holds the id of the
+    /// object with the same kind and parents.
     ///
-    /// Fails with `MissingParent` for the object's first parent that the graph does not hold, and
-    /// otherwise with `Graph` if `Graph::insert` fails. A failed call changes nothing.
+    /// Fails with `MissingParent` for the first parent of the object that the graph does not hold.
+    /// Otherwise fails with `Graph` if `Graph::insert` fails. A failed call changes nothing.
     pub fn add(&mut self, entry: Entry<A>) -> Result<(), BuildFault<A>>
         ensures adds { Adds self.old entry self.new result }
         ensures format { self.new.graph.format ≡ self.old.graph.format }
@@ -199,8 +199,9 @@ impl<A: Allocator + Copy> Server<A> {
         &self.name_of_head
     }
 
-    /// Returns the id that the ref at index `place` peels to, or `Some(None)` if the ref does not
-    /// point at a tag. Returns `None` if the peeled id was not looked up before.
+    /// Returns the id that the ref at index `place` peels to, or `Some(None)` if the ref points at
+    /// no tag, or at a tag that peels to no commit. Returns `None` if the peeled id was not looked
+    /// up before.
     pub fn peeled_at(&self, place: usize) -> Option<Option<Oid>>
         ensures { (ref : Name × Id) → slice_get self.now.refs place ≡ Some ref
             → IfSome result (IsPeeled self.now.graph.entries ref.1) }

@@ -61,7 +61,7 @@ impl<A: Allocator + Copy> Server<A> {
         write_end(ends, writer)
     }
 
-    // Writes the line of HEAD, if HEAD has an id and the request asks for it.
+    // Writes the line of HEAD, if HEAD has an id and the request includes HEAD.
     fn write_head<W: Sink>(
         &self,
         asked: &LsRefsRequest<A>,

@@ -40,8 +40,8 @@ turn_of (stage.Says reply) = Speaks
 turn_of (stage.Ends reply) = Speaks
 turn_of stage.Over = Done
 
--- a bound on the rest of a dialogue: two turns for each message that is not yet answered, and fewer than 2^60 packets
--- in the current message
+-- a bound on the rest of a dialogue: two turns for each further message, and fewer than 2^60 packets in the current
+-- message
 abbrev pub left_of : {M R : Type 0} → (R → ℕ) → ℕ → DialogueStage M R → Left
 left_of calls messages (stage.Hears message frame) = record { turns = messages + messages + 2; steps = 2 ^ 60 - frame }
 left_of calls messages (stage.Says reply) = record { turns = messages + messages + 3; steps = calls reply }
@@ -51,15 +51,15 @@ left_of calls messages stage.Over = record { turns = 0; steps = 0 }
 module _ {S : Type 0} (judge : S → Judge) (brings : S → List Packet → Packet → Bool)
     (opens : S → List Packet → Bool → Type 0) (answers : S → List Packet → List Packet → Bool → S → Type 0)
     (refuses : S → MessageFault → List Packet → S → Type 0) where
-  -- The dialogue from the first state of this end until now. This end sent its opening, and then answered each received
-  -- message in the state that it had then reached.
+  -- The dialogue from the first state of this end until now. This end first sent its opening. It then answered each
+  -- received message in the state reached before that message.
   pub data Answered (first : S) : List Packet → List Packet → S → Type 0 where
     opened : (said : List Packet) → opens first said true → Answered first [] said first
     more : (heard said lines reply : List Packet) (mid last : S) → Answered first heard said mid
         → IsWhole (judge mid) lines → answers mid lines reply true last
         → Answered first (heard ++ lines) (said ++ reply) last
 
-  -- the ways in which a dialogue ends: after its opening, after a last answer, or after a refused message
+  -- how a dialogue ends: after its opening, after a last answer, or after a refused message
   pub data HasEnded (first : S) : List Packet → Option Stop → List Packet → S → Type 0 where
     opened : (said : List Packet) → opens first said false → HasEnded first [] None said first
     last : (heard said lines reply : List Packet) (mid last : S) → Answered first heard said mid
@@ -91,13 +91,13 @@ module _ {S : Type 0} (judge : S → Judge) (brings : S → List Packet → Pack
       pub count : frame ≡ length front
       pub unstopped : talk.stopped ≡ None
 
-    -- this end is sending an answer; any permitted rest of the reply completes the answer
+    -- this end is sending an answer; any packets that may complete the reply complete the answer
     pub record HoldsSaying (side : S) (reply : R) (talk : Talk) : Type 0 where
       pub first : S
       pub due : (rest : List Packet) (goes : Bool) → may reply rest goes
           → IsSoFar first goes talk.heard talk.stopped (talk.said ++ rest) side
 
-    -- this end is sending its last reply; any permitted rest of the reply ends the dialogue
+    -- this end is sending its last reply; any packets that may complete the reply end the dialogue
     pub record HoldsEnding (side : S) (reply : R) (talk : Talk) : Type 0 where
       pub first : S
       pub due : (rest : List Packet) (goes : Bool) → may reply rest goes

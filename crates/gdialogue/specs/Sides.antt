@@ -6,7 +6,7 @@ use Rattle.gdialogue.specs.declared.side.Answer.TheVariants as answer
 use Rattle.gdialogue.specs.declared.side.Said.{Said}
 use Rattle.gdialogue.specs.declared.side.Said.TheVariants.{More, Whole, Last}
 
--- a reply with known packets: exactly these packets are still to be sent, and then the dialogue continues
+-- a reply with known packets sends exactly the remaining packets, and then the dialogue continues
 abbrev pub SaysExactly : {R : Type 0} → (R → List Packet) → R → List Packet → Bool → Type 0
 SaysExactly rest reply packets goes = (packets ≡ rest reply) × (goes ≡ true)
 
@@ -15,7 +15,8 @@ abbrev pub SaysNothing : List Packet → Bool → Type 0
 SaysNothing packets goes = (packets ≡ []) × (goes ≡ true)
 
 module _ {R : Type 0} (may : R → List Packet → Bool → Type 0) where
-  -- from the old state, the reply may send these packets, and then any packets that may complete it from the new state
+  -- from the old state, the reply may send the packets `said` followed by any packets that may complete it from the new
+  -- state
   abbrev pub LeadsTo : R → R → List Packet → Said → Type 0
   LeadsTo old new said More = (rest : List Packet) (goes : Bool) → may new rest goes → may old (said ++ rest) goes
   LeadsTo old new said Whole = may old said true
@@ -27,8 +28,8 @@ module _ {R : Type 0} (may : R → List Packet → Bool → Type 0) where
     pub spelt : bytes ≡ canonical_all said
     pub leads : LeadsTo old new said result
 
-  -- the packets that an answer may send, and whether the dialogue then continues; it never continues after a last
-  -- answer
+  -- the relation between the packets that an answer may send and whether the dialogue then continues; a last answer
+  -- always ends the dialogue
   abbrev pub MayAnswer : Answer R → List Packet → Bool → Type 0
   MayAnswer (answer.GoesOn reply) packets goes = may reply packets goes
   MayAnswer (answer.Last reply) packets goes = (goes ≡ false) × ((reply_goes : Bool) × may reply packets reply_goes)

@@ -31,7 +31,7 @@ enum DialogueStage<M, R> {
 ///
 /// A dialogue receives one message after another, and sends the answer of its [`Side`] to each
 /// message, until a last answer. A message is refused at the first packet that its grammar rejects,
-/// or if no more packets arrive. The answer to a refused message is the last.
+/// or if no more packets arrive. The answer to a refused message is the last answer.
 #[derive(Drop)]
 pub struct Dialogue<S, M, R> {
     side: S,
@@ -39,7 +39,7 @@ pub struct Dialogue<S, M, R> {
 }
 
 impl<S, M, R> Dialogue<S, M, R> {
-    /// Returns the side of the dialogue.
+    /// Returns the side that conducts the dialogue.
     pub fn side(&self) -> &S
         ensures { result.now ≡ self.now.side }
     {
@@ -60,7 +60,7 @@ impl<S, M, R> Dialogue<S, M, R> {
 }
 
 impl<S: Side<M, R>, M: Message + Drop, R: Reply + Drop> Dialogue<S, M, R> {
-    /// Returns a dialogue in which the other end speaks first.
+    /// Returns a dialogue in which the other end sends the first message.
     pub fn new(side: S) -> Dialogue<S, M, R>
         ensures holds { S.opens side [] true
             → Holds S.judge S.brings S.opens S.answers S.refuses M.judge M.brings M.holds R.may result no_talk }
@@ -75,7 +75,7 @@ impl<S: Side<M, R>, M: Message + Drop, R: Reply + Drop> Dialogue<S, M, R> {
         }
     }
 
-    /// Returns a dialogue that this end opens with `reply`.
+    /// Returns a dialogue in which this end first sends `reply`.
     pub fn speak_first(side: S, reply: R) -> Dialogue<S, M, R>
         ensures holds { ((said : List Packet) (goes : Bool) → R.may reply said goes → S.opens side said goes)
             → Holds S.judge S.brings S.opens S.answers S.refuses M.judge M.brings M.holds R.may result no_talk }

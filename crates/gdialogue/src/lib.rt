@@ -7,17 +7,17 @@
 //!
 //! # Proved
 //!
-//! - Messages and answers alternate. Each message is complete by the grammar of the side's current
-//!   state, and the side answers it in that state. Apart from its opening, the side sends only
-//!   answers (`Answered` in `specs/Dialogues.antt`).
+//! - Messages and answers alternate. Each message is complete according to the grammar of the
+//!   side's current state, and the side answers it in that state. Apart from its opening, the side
+//!   sends only answers (`Answered` in `specs/Dialogues.antt`).
 //! - A dialogue ends with a last answer, with a reply that ends the dialogue early, or with a
 //!   refused message (`HasEnded`). A message is refused at the first packet that its grammar
 //!   rejects, with the position of the packet and the reason. An incomplete message is also refused
 //!   if no more packets arrive.
-//! - A reply sends only packets that its contract permits, and sends them completely. The packets
-//!   need not be known beforehand (`SaysSome` in `specs/Sides.antt`).
-//! - Each dialogue ends. After every call, fewer packets of the message, fewer calls for the reply,
-//!   or fewer messages are left (`left_of`).
+//! - A reply sends only packets that its contract permits, and sends them completely. The reply can
+//!   determine the packets while it is sent (`SaysSome` in `specs/Sides.antt`).
+//! - Each dialogue ends. With every call, the remaining packets of the message, the remaining calls
+//!   for the reply, or the remaining messages decrease (`left_of`).
 //!
 //! # What the contracts do not rule out
 //!
@@ -28,7 +28,7 @@
 //!
 //! # Dependencies
 //!
-//! `gtalk` for conversations, `ggrammar` for messages, and `gpkt` for packets.
+//! `gtalk` defines conversations, `ggrammar` messages, and `gpkt` packets.
 #![tactic(auto)]
 
 mod dialogue;

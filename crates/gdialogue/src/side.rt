@@ -22,12 +22,12 @@ pub enum Said {
 
 /// A reply: a sequence of packets to send.
 ///
-/// The packets need not be known beforehand. For example, a pack that is read while it is sent may
-/// fail in the middle. The reply then ends with the packet that reports the failure, and the
-/// dialogue ends too. A reply with known packets uses `SaysExactly` as its `may`.
+/// The reply can determine the packets while it is sent. For example, reading a pack may fail after
+/// some of it was sent. The last packet of the reply then reports the failure, and the dialogue
+/// ends. A reply whose packets are known in advance can define `may` as `SaysExactly`.
 pub trait Reply {
-    // The packets that may complete the reply from this state, and whether the dialogue then
-    // continues.
+    // The relation between the packets that may complete the reply from this state and whether the
+    // dialogue then continues.
     ghost may: { Self → List Packet → Bool → Type 0 };
 
     // The maximum number of further calls that return [`Said::More`].
@@ -58,18 +58,19 @@ pub trait Side<M: Message, R: Reply> {
     // The grammar of the next message.
     ghost judge: { Self → Judge };
 
-    // Whether a packet of the next message has contents to store, which needs memory.
+    // Whether a packet of the next message has contents that need memory.
     ghost brings: { Self → List Packet → Packet → Bool };
 
-    // The packets that the end may send before the first message, and whether the dialogue then
-    // continues. For an end that only answers, this is `SaysNothing`.
+    // The relation between the packets that the end may send before the first message and whether
+    // the dialogue then continues. An end that only answers uses `SaysNothing`.
     ghost opens: { Self → List Packet → Bool → Type 0 };
 
-    // The packets that may answer a message, whether the dialogue then continues, and the side's
-    // new state.
+    // The relation between a message, the packets that may answer it, whether the dialogue then
+    // continues, and the side's new state.
     ghost answers: { Self → List Packet → List Packet → Bool → Self → Type 0 };
 
-    // The packets that may answer a refused message, and the side's new state.
+    // The relation between a refused message, the packets that may answer it, and the side's new
+    // state.
     ghost refuses: { Self → MessageFault → List Packet → Self → Type 0 };
 
     // The maximum number of further messages that the side answers without ending the dialogue.

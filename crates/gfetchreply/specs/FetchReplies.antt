@@ -4,7 +4,7 @@
 --   acknowledgments = "acknowledgments" (nak | *ack) (ready)
 --   packfile = "packfile" *(sideband packet)
 --
--- A reply is `direct` if the request had `done` or no haves. A direct reply is only the section of the pack. Any other
+-- A reply is `direct` if the request had `done` or no haves. A direct reply has only one section, the pack. Any other
 -- reply begins with the acknowledgments, and the pack follows exactly if the acknowledgments end with `ready`. If the
 -- peer ends each reply with a response-end, this packet follows the flush.
 use Rattle.std.specs.Prelude.{◌≡◌, ℕ, zero, suc, ◌+◌, Bool, true, false, ◌&&◌, List, [], ◌∷◌, ◌++◌, length, map, take, drop}
@@ -32,8 +32,8 @@ pub data FetchReply : Type 0 where
   Ready : (ids : List Id) (pack : Bytes) → FetchReply
   Pack : (pack : Bytes) → FetchReply
 
--- the parameters of reading a reply: the id format, whether the pack comes first, the pack's size limit, and the last
--- packet
+-- the parameters of reading a reply: the id format, whether the reply starts with the pack, the pack's size limit, and
+-- the last packet
 pub record Reading : Type 0 where
   pub format : Format
   pub direct : Bool
@@ -111,7 +111,7 @@ place_of direct packets = place_after next_place (first_place direct) packets
 
 -- ---- the contents of the packets so far
 
--- the acknowledged ids, the bytes of the pack, and the number of the pack's packets, each by the position
+-- functions of the position: the acknowledged ids, the bytes of the pack, and the number of the pack's packets
 abbrev pub ack_id : Format → ReplyForm → Option Id
 ack_id format (Ack id) = id_of_text format id
 ack_id format _ = None
@@ -159,7 +159,7 @@ reply_by reading texts payloads =
 abbrev pub reply_of : Reading → List Packet → FetchReply
 reply_of reading packets = reply_by reading (ack_texts reading.direct packets) (band_payloads reading.direct packets)
 
--- ---- the table
+-- ---- the verdict on each packet
 
 -- the state of reading after some packets
 pub record State : Type 0 where
@@ -247,10 +247,10 @@ judge_at reading state packet = judge_there reading state.place state packet
 abbrev pub judge : Reading → List Packet → Packet → Verdict
 judge reading packets packet = judge_at reading (state_of reading packets) packet
 
--- ---- the packets that need memory
+-- ---- accepting a packet may need memory
 
--- Accepting the packet needs memory. An acknowledged id is stored, and a sink may run out of memory for data of the
--- pack. The other packets need no memory.
+-- Whether accepting the packet needs memory. An acknowledged id is stored, and a sink may run out of memory for data of
+-- the pack. All other packets need no memory.
 abbrev pub form_brings : ReplyForm → Bool
 form_brings (Ack id) = true
 form_brings _ = false
@@ -278,7 +278,7 @@ pub record Says (reading : Reading) (packets : List Packet) (reply : FetchReply)
   pub whole : IsWhole (judge reading) packets
   pub says : reply ≡ reply_of reading packets
 
--- ---- the packets that are written
+-- ---- writing a reply
 
 abbrev pub ack_packet : Id → Packet
 ack_packet id = text_packet (codes "ACK " ++ id_text id)
@@ -287,14 +287,14 @@ abbrev pub nak_if_none : List Packet → List Packet
 nak_if_none [] = text_packet (codes "NAK") ∷ []
 nak_if_none (first ∷ acks) = first ∷ acks
 
--- the pack in at most this many pieces of the maximum size; only the last piece may be shorter
+-- at most this many pieces of the pack; each has the maximum size, except that the last may be shorter
 abbrev pub pieces_within : ℕ → Bytes → List Bytes
 pieces_within zero pack = []
 pieces_within (suc most) [] = []
 pieces_within (suc most) (byte ∷ rest) =
     take max_band (byte ∷ rest) ∷ pieces_within most (drop max_band (byte ∷ rest))
 
--- the pack in pieces of the maximum size; only the last piece may be shorter
+-- the pieces of the pack; each has the maximum size, except that the last may be shorter
 unfoldable pub pieces : Bytes → List Bytes
 pieces pack = pieces_within (length pack) pack
 
@@ -321,6 +321,6 @@ body_packets (Pack pack) = pack_section pack
 unfoldable pub canonical_reply : Ends → FetchReply → List Packet
 canonical_reply ends reply = body_packets reply ++ ends_with ends
 
--- the packets are those that are written for the reply
+-- the packets are exactly those that are written for the reply
 abbrev pub IsCanonical : Ends → List Packet → FetchReply → Type 0
 IsCanonical ends packets reply = packets ≡ canonical_reply ends reply

@@ -21,10 +21,10 @@ abbrev pub HasShortEndings : Reading → Type 0
 HasShortEndings reading = (front : List Packet) → IsOpen (judge reading) front
     → (more : List Packet) × (length more ≤ max_ending) × IsWhole (judge reading) (front ++ more)
 
--- ---- replies that are read with different parameters: for another request, or with another limit
+-- ---- reading the same packets with different parameters
 
--- Consider two readings with the same id format and the same `ends`. If some packets are a reply under one reading and
--- begin a reply under the other, the two replies and their packets are equal.
+-- Consider two readings with the same id format and the same `ends`. If a list of packets is a reply in one reading and
+-- a prefix of it is a reply in the other, both lists and both replies are equal.
 abbrev pub OneInWhateverReading : Type 0
 OneInWhateverReading =
     (reading other : Reading) (packets back : List Packet) (one also : FetchReply) → other.format ≡ reading.format
@@ -37,7 +37,7 @@ IsInAnyLimit =
     (reading : Reading) (limit : ℕ) (packets : List Packet) (reply : FetchReply) → Says reading packets reply
     → length (pack_of reply) ≤ limit → Says (record reading { limit = limit }) packets reply
 
--- if a reply is refused with another limit because of its content, then only because its pack exceeds the limit
+-- if a reply is refused for its content when it is read with another limit, its pack exceeds this limit
 abbrev pub IsRefusedOverLimit : Type 0
 IsRefusedOverLimit =
     (reading : Reading) (limit : ℕ) (packets front : List Packet) (reply : FetchReply) (bytes new rest : Bytes)
@@ -48,15 +48,15 @@ IsRefusedOverLimit =
 -- ---- reading into a sink
 
 module _ {S : Type 0} (taken : S → Bytes → Type 0) where
-  -- the reply was read, nothing after the reply was read, and the sink has accepted the pack
+  -- the call read the reply and nothing after it, and the sink has accepted the pack
   pub record HasReadInto (rest new : Bytes) (old sink : S) (result : Result FetchHead MessageFault)
       (reply : FetchReply) : Type 0 where
     pub head : result ≡ Ok (head_of reply)
     pub left : new ≡ rest
     pub pack : (before : Bytes) → taken old before → taken sink (before ++ pack_of reply)
 
-  -- A reply is read if the bytes begin with packets that encode it. The law excepts out of memory, a failed device, and
-  -- a reader that failed before.
+  -- A reply is read if the bytes begin with packets that encode it. The law does not apply if memory runs out, the
+  -- source fails, or the reader had failed before.
   abbrev pub ReadsIntoWhereSaid : Bool → Reading → Type 0
   ReadsIntoWhereSaid refuses reading =
       (bytes new rest : Bytes) (old sink : S) (result : Result FetchHead MessageFault) (reply : FetchReply)

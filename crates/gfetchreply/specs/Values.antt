@@ -15,7 +15,7 @@ use Rattle.gfetchreply.specs.FetchReplies.{max_acks}
 abbrev pub default_limit : ℕ
 default_limit = 16777216
 
--- acknowledged ids, and the format of these ids
+-- acknowledged ids, and the format of the ids
 pub record Acks : Type 0 where
   pub format : Format
   pub ids : List Id
@@ -23,19 +23,19 @@ pub record Acks : Type 0 where
 abbrev pub with_id : Acks → Id → Acks
 with_id acks id = record acks { ids = acks.ids ++ id ∷ [] }
 
--- the reason that a list of ids can't be acknowledged: an id has another format, or there are too many ids
+-- the reason that a list of ids can't be acknowledged: an id has the wrong format, or there are too many ids
 abbrev pub acks_fault : Format → List Id → Option Why
 acks_fault format ids =
     if list_all (has_format format) ids then if nat_le (length ids) max_acks then None else Some why.Limit
     else Some why.BadText
 
--- the result of making acknowledgments from these ids: all of the ids, or the fault
+-- the result of making acknowledgments from a list of ids: all of the ids, or the fault
 abbrev pub MakesAcks : Format → List Id → Result Acks MessageFault → Type 0
 MakesAcks format ids (Ok acks) =
     (acks_fault format ids ≡ None) × (acks ≡ record { format = format; ids = ids })
 MakesAcks format ids (Err fault) = (fault.frame ≡ 0) × (acks_fault format ids ≡ Some fault.why)
 
--- the result of making a pack from these bytes, whose number must not exceed the limit
+-- the result of making a pack from bytes, whose number must not exceed the limit
 abbrev pub MakesPack : Bytes → Result Bytes MessageFault → Type 0
 MakesPack bytes (Ok pack) = (length bytes ≤ max_pack) × (pack ≡ bytes)
 MakesPack bytes (Err fault) =

@@ -1,4 +1,4 @@
--- Values and parameters, independent of where their bytes are in memory.
+-- The contents of values and parameters, independent of where their bytes are in memory.
 use Rattle.std.specs.Prelude.{◌≡◌, ℕ, Bool, Result, Ok, Err}
 use Rattle.gname.specs.declared.formats.Format.{Format}
 use Rattle.gname.specs.declared.formats.Format.TheVariants.{Sha1}
@@ -24,7 +24,7 @@ head_in (value_head.Acks acks) = head.Acks acks.ids
 head_in (value_head.Ready acks) = head.Ready acks.ids
 head_in value_head.Pack = head.Pack
 
--- any ids that the head acknowledges have this format
+-- all ids that the head acknowledges have this format
 abbrev pub IsHeadOf : {A : Type 0} → Format → FetchHead A → Type 0
 IsHeadOf format (value_head.Acks acks) = acks.format ≡ format
 IsHeadOf format (value_head.Ready acks) = acks.format ≡ format

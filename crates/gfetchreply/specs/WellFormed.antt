@@ -8,7 +8,7 @@ pub record AreAcks (format : Format) (acked : List Id) : Type 0 where
   pub ids : All (IsIdOf format) acked
   pub few : length acked ≤ max_acks
 
--- a well-formed reply: it is only a pack exactly if it is direct, and its pack is within the limit
+-- a well-formed reply: it has no acknowledgments exactly if it is direct, and its pack is within the limit
 abbrev pub IsReplyIn : Reading → FetchReply → Type 0
 IsReplyIn reading (Acks ids) = (reading.direct ≡ false) × AreAcks reading.format ids
 IsReplyIn reading (Ready ids pack) =

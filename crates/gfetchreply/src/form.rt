@@ -14,7 +14,7 @@ pub(crate) enum ReplyForm<'a> {
     Nak,
     Readiness,
     Packfile,
-    /// `ACK ` and the text after it, whatever its form.
+    /// `ACK ` followed by any text, which may be malformed.
     Ack(&'a [u8]),
     Other,
 }

@@ -1,5 +1,5 @@
-//! Laws about fetch replies: functions without effect whose contracts state the laws. A caller may
-//! rely on a law after calling its function.
+//! Laws about fetch replies: each function does nothing, and its contract proves a law. A caller
+//! may rely on a law after calling its function.
 
 ghost use Rattle.std.specs.Prelude.{◌≡◌, ◌≤◌};
 ghost use Rattle.gname.specs.Limits.{max_pack};
@@ -18,7 +18,7 @@ use ggrammar::laws::{grammars_are_exact, kinds_are_read, messages_are_read};
 use gname::laws::{ids_have_one_format, ids_have_texts};
 use gpkt::laws::text_reads_back;
 
-// Replies as a kind of message, with the parameters of reading them and whether the sink may refuse
+// The kind of message "fetch reply", with the parameters of reading and whether the sink may refuse
 // a piece.
 struct Replies;
 
@@ -42,25 +42,26 @@ impl MessageKind for Replies {
     ghost is_canonical = { λ given. IsCanonical given.1.ends };
 }
 
-/// The constant `MAX_ACKS` equals the limit in the specifications of this crate.
+/// Proves that the constant `MAX_ACKS` equals the limit in the specifications of this crate.
 pub fn limits_are_the_constants()
     ensures acks { MAX_ACKS ≡ max_acks }
 {}
 
-/// A list of packets is read as a reply exactly if Git's manual allows the list, and with the
-/// meaning that the manual states (gitprotocol-v2(5), "fetch").
+/// Proves that a list of packets is read as a reply exactly if Git's manual allows the list, and
+/// with the meaning that the manual states (gitprotocol-v2(5), "fetch").
 pub fn manual()
     ensures { (reading : Reading) → AsInManual (Says reading) (IsFetchReply reading) }
 {}
 
-/// A list of packets encodes at most one reply. It encodes a reply exactly if the list is complete.
+/// Proves that a list of packets encodes at most one reply, and encodes a reply exactly if the list
+/// is complete.
 pub fn one_meaning()
     ensures meaning { (reading : Reading) → OneMeaning (Says reading) }
     ensures whole { (reading : Reading) → SaysWhole (judge reading) (Says reading) }
 {}
 
-/// No reply is a prefix of another, as packets or as bytes. So the end of a reply is known without
-/// the bytes after it.
+/// Proves that no reply is a prefix of another, as packets or as bytes. A reader therefore finds
+/// the end of a reply without reading further.
 pub fn prefix_free()
     ensures packets { (reading : Reading) → IsPrefixFree (judge reading) }
     ensures spellings { (reading : Reading) → SpellingsPrefixFree (judge reading) }
@@ -69,8 +70,8 @@ pub fn prefix_free()
     messages_are_read();
 }
 
-/// Each unfinished reply can be completed with at most four packets, and a rejected packet is the
-/// first that does not fit.
+/// Proves that each unfinished reply can be completed with at most four packets, and that a
+/// rejected packet is the first that does not fit.
 pub fn endings()
     ensures endings { (reading : Reading) → HasEndings (judge reading) }
     ensures short { (reading : Reading) → HasShortEndings reading }
@@ -79,8 +80,8 @@ pub fn endings()
     grammars_are_exact();
 }
 
-/// A packet is rejected only because of its content. Every byte sequence begins with a reply, or is
-/// rejected because of its content.
+/// Proves that a packet is rejected only because of its content. Every byte sequence begins with a
+/// reply, or is rejected because of its content.
 pub fn every_input()
     ensures packets { (reading : Reading) → RefusesPackets (judge reading) }
     ensures bytes { (reading : Reading) → BeginsOrIsRefused (judge reading) (brings reading) }
@@ -89,8 +90,8 @@ pub fn every_input()
     messages_are_read();
 }
 
-/// The packets written for a reply encode it, and each payload fits a packet. The limit for reading
-/// the reply must be the value of some [`PackLimit`](crate::PackLimit).
+/// Proves that the packets written for a reply encode it, and that each payload fits a packet. The
+/// limit for reading the reply must be the value of some [`PackLimit`](crate::PackLimit).
 pub fn canonical_says()
     ensures { (reading : Reading) → reading.limit ≤ max_pack
         → CanonicalSays (Says reading) (IsReplyIn reading) (IsCanonical reading.ends) }
@@ -100,8 +101,8 @@ pub fn canonical_says()
     text_reads_back();
 }
 
-/// [`crate::read_fetch_reply_in`] reads a reply exactly if the bytes begin with packets that encode
-/// it.
+/// Proves that [`crate::read_fetch_reply_in`] reads a reply exactly if the bytes begin with packets
+/// that encode it.
 pub fn reads_exactly()
     ensures { (reading : Reading) → ReadsExactly (judge reading) (brings reading) (Says reading) }
 {
@@ -109,8 +110,8 @@ pub fn reads_exactly()
     kinds_are_read::<Replies>();
 }
 
-/// A written reply reads back, whatever bytes follow, with any [`PackLimit`](crate::PackLimit) that
-/// its pack does not exceed.
+/// Proves that a written reply reads back, whatever bytes follow, with any
+/// [`PackLimit`](crate::PackLimit) that its pack does not exceed.
 pub fn reads_back()
     ensures { (reading : Reading) → reading.limit ≤ max_pack
         → ReadsBack (judge reading) (brings reading) (Says reading) (IsReplyIn reading)
@@ -121,8 +122,8 @@ pub fn reads_back()
     kinds_are_read::<Replies>();
 }
 
-/// [`crate::read_fetch_reply_into_in`] reads a reply into a sink exactly if the bytes begin with
-/// packets that encode it.
+/// Proves that [`crate::read_fetch_reply_into_in`] reads a reply and passes its pack to a sink
+/// exactly if the bytes begin with packets that encode it.
 pub fn reads_into_exactly<T: PackSink>()
     ensures said { (reading : Reading) → ReadsIntoWhereSaid T.taken T.refuses reading }
     ensures only { (reading : Reading) → ReadsIntoOnlySaid T.taken reading }
@@ -131,7 +132,7 @@ pub fn reads_into_exactly<T: PackSink>()
     kinds_are_read::<Replies>();
 }
 
-/// A written reply reads back into a sink, whatever bytes follow.
+/// Proves that a written reply reads back, with its pack passed to a sink, whatever bytes follow.
 pub fn reads_back_into<T: PackSink>()
     ensures { (reading : Reading) → reading.limit ≤ max_pack
         → ReadsBackInto T.taken T.refuses reading }
@@ -141,10 +142,10 @@ pub fn reads_back_into<T: PackSink>()
     kinds_are_read::<Replies>();
 }
 
-/// A reply may be read as the answer to another request, or with another limit. With all such
-/// parameters, at most one prefix of the packets is a reply, and it is the same reply. A reply is
-/// accepted with every limit that its pack does not exceed. With a smaller limit it is refused only
-/// because of the limit.
+/// Proves that reading the same packets with other parameters, for another request or with another
+/// limit, returns no other reply. A reply is accepted with every limit that its pack does not
+/// exceed. If a reply is refused because of its content with another limit, its pack exceeds that
+/// limit.
 pub fn other_readings()
     ensures whatever_reading { OneInWhateverReading }
     ensures any_limit { IsInAnyLimit }

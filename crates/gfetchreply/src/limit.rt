@@ -51,7 +51,7 @@ impl PackLimit {
         self.bytes
     }
 
-    /// A law that states the invariant of a limit.
+    /// Proves that every limit is at most [`MAX_PACK`].
     pub fn laws(self)
         ensures { self ≤ max_pack }
     {

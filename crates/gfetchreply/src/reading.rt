@@ -39,9 +39,10 @@ pub struct FetchReading {
     pub ends: Ends,
 }
 
-// Specification members for one reading: the borrowed sink, its previous state and bytes, and the
-// parameters. A call at `Brand` chooses the members in its `Invariants.antt`. They are members of a
-// type, since `Message` describes only a reader and its packets.
+// Members for the specification of one call that reads a reply: the borrowed sink, its previous
+// state and bytes, and the parameters. A call that uses the type `Brand` chooses the members in its
+// `Invariants.antt`. The members belong to a type, since `Message` describes only a reader and its
+// packets.
 trait Lent<T> {
     ghost use Rattle.gfetchreply.specs.FetchReplies.{Reading};
 
@@ -215,8 +216,8 @@ impl<T: PackSink, A: Allocator + Copy, L: Lent<T>> Message for ReplyReader<'_, T
     }
 }
 
-/// Reads a fetch reply with SHA-1 ids, as [`read_fetch_reply_into_in`] does. The arguments
-/// `direct`, `limit` and `ends` are as in [`FetchReading`].
+/// Reads a fetch reply with SHA-1 ids, as [`read_fetch_reply_into_in`] does. For the arguments
+/// `direct`, `limit` and `ends`, see the fields of [`FetchReading`].
 pub fn read_fetch_reply_into<S: Source, T: PackSink, A: Allocator + Copy, B: Allocator + Copy>(
     reader: &mut PacketReader<S, A>,
     direct: bool,
@@ -247,15 +248,16 @@ pub fn read_fetch_reply_into<S: Source, T: PackSink, A: Allocator + Copy, B: All
 /// allocated with `alloc`.
 ///
 /// A fault contains the reason, and the position of the first packet that does not fit. A fault of
-/// the packet reader ([`Why::Line`]) takes precedence, then the end of the input ([`Why::Ended`]).
-/// Next is an error that the peer reports ([`Why::RemoteErr`]), and then a fault of the grammar. A
-/// well-formed 4,097th id is rejected with [`Why::Limit`]. A packet with which the pack would
-/// exceed its limit is also rejected with [`Why::Limit`]. The fault [`Why::Memory`] is reported
-/// only at an acknowledged id or, if the sink may refuse a piece, at data of the pack.
+/// the packet reader ([`Why::Line`]) takes precedence over the end of the input ([`Why::Ended`]).
+/// An error that the peer reports ([`Why::RemoteErr`]) comes third, and a fault of the grammar
+/// last. A well-formed 4,097th id is rejected with [`Why::Limit`]. A packet with which the pack
+/// would exceed its limit is also rejected with [`Why::Limit`]. The fault [`Why::Memory`] is
+/// reported only at an acknowledged id or, if the sink may refuse a piece, at data of the pack.
 ///
 /// If the reply is rejected, the sink has accepted the data of the packets before the rejected
-/// packet, within the limit. The packet reader has then failed exactly if it rejected the packet
-/// itself. Whatever the result, the sink is still the same sink.
+/// packet, within the limit. After a rejection, the packet reader has failed exactly if it rejected
+/// the packet itself. Whatever the result, `PackSink::same` relates the sink before the call to the
+/// sink after the call.
 pub fn read_fetch_reply_into_in<S: Source, T: PackSink, A: Allocator + Copy, B: Allocator + Copy>(
     reader: &mut PacketReader<S, A>,
     reading: FetchReading,

@@ -148,8 +148,8 @@ impl<A: Allocator + Copy> Sections<A> {
         }
     }
 
-    /// Returns the length of the pack after `more` further bytes. Returns `None` if these bytes or
-    /// a further packet would exceed a limit.
+    /// Returns the length of the pack after `more` further bytes, or `None` if the bytes or a
+    /// further packet would exceed a limit.
     pub(crate) fn with_room(&self, limit: PackLimit, more: usize) -> Option<usize>
         ensures { result ≡ (if nat_lt self.now.band_count max_packets && nat_le
             (self.now.byte_count + more) limit then Some (self.now.byte_count + more) else None) }
@@ -247,7 +247,8 @@ impl<A: Allocator + Copy> Sections<A> {
     }
 }
 
-// Returns the state of a reply after its flush: complete, or open if a response-end must follow.
+// Returns the state of a reply after its flush: complete, or incomplete if a response-end must
+// follow.
 fn after_flush(ends: Ends) -> Step
     ensures { verdict_of result ≡ at_flush ends }
 {

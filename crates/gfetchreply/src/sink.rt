@@ -10,7 +10,8 @@ pub trait PackSink {
     // Whether the sink has accepted exactly these bytes, in this order.
     ghost taken: { Self → List ℕ → Type 0 };
 
-    // Whether two states are states of the same sink: the parts that no piece changes are equal.
+    // Whether two states are states of the same sink: the parts that accepting a piece never
+    // changes are equal.
     ghost same: { Self → Self → Type 0 };
 
     // Whether a sink of this type may ever refuse a piece.
@@ -24,14 +25,14 @@ pub trait PackSink {
         ensures takes { TakesPiece taken refuses self.old self.new bytes.now result }
         ensures same { same self.old self.new };
 
-    /// Laws of `same`: it is reflexive and transitive.
+    /// Proves that `same` is reflexive and transitive.
     fn laws()
         ensures still { (sink : Self) → same sink sink }
         ensures onward { (first : Self) (second : Self) (third : Self) → same first second
             → same second third → same first third };
 }
 
-/// A vector appends the pack to its previous bytes. It may refuse a piece if memory runs out.
+/// A vector appends the pack to its previous bytes. A vector may refuse a piece if memory runs out.
 impl<A: Allocator + Copy> PackSink for Vec<u8, A> {
     ghost taken = { λ bytes taken. bytes.items ≡ taken };
 

@@ -53,8 +53,9 @@ impl<A: Allocator + Copy> Acks<A> {
 
     /// Returns acknowledgments of these ids, without copying the ids. Allocates nothing.
     ///
-    /// Fails at packet 0 with [`Why::BadText`] if an id has another format. Otherwise fails with
-    /// [`Why::Limit`] if there are more than 4,096 ids. A failed call drops the ids.
+    /// Fails with [`Why::BadText`] if an id has another format. Otherwise fails with [`Why::Limit`]
+    /// if there are more than 4,096 ids. The fault reports packet position 0. A failed call drops
+    /// the ids.
     pub fn from_ids(format: Format, ids: Vec<Oid, A>) -> Result<Acks<A>, MessageFault>
         ensures { MakesAcks format ids.items result }
     {
@@ -85,9 +86,9 @@ impl<A: Allocator + Copy> Acks<A> {
 
     /// Appends an id.
     ///
-    /// Fails at packet 0 with [`Why::BadText`] if the id has another format. Otherwise fails with
-    /// [`Why::Limit`] if there are already 4,096 ids, or with [`Why::Memory`] if memory runs out. A
-    /// failed call changes nothing.
+    /// Fails with [`Why::BadText`] if the id has another format. Otherwise fails with
+    /// [`Why::Limit`] if there are already 4,096 ids, or with [`Why::Memory`] if memory runs out.
+    /// The fault reports packet position 0. A failed call changes nothing.
     pub fn push(&mut self, id: Oid) -> Result<(), MessageFault>
         ensures { Builds (has_format self.old.format id) (nat_lt (length self.old.ids) max_acks)
             self.old self.new (with_id self.old id) result }
@@ -157,7 +158,8 @@ impl<A: Allocator + Copy> Model for PackBytes<A> {
 impl<A: Allocator + Copy> PackBytes<A> {
     /// Returns a pack of these bytes. Allocates nothing.
     ///
-    /// Fails at packet 0 with [`Why::Limit`] if there are more than [`MAX_PACK`] bytes.
+    /// Fails with [`Why::Limit`] if there are more than [`MAX_PACK`] bytes. The fault reports
+    /// packet position 0.
     pub fn new(bytes: Vec<u8, A>) -> Result<PackBytes<A>, MessageFault>
         ensures { MakesPack bytes.items result }
     {
@@ -189,9 +191,9 @@ impl<A: Allocator + Copy> PackBytes<A> {
 /// A fetch reply (gitprotocol-v2(5), "fetch").
 #[derive(Debug, Drop)]
 pub enum FetchReply<A: Allocator + Copy> {
-    /// The common ids. At least one want reaches no common id, so no pack follows.
+    /// The common ids without a pack, since at least one want reaches no common id.
     Acks(Acks<A>),
-    /// The common ids, and the pack. Each want reaches a common id.
+    /// The common ids and the pack, since each want reaches a common id.
     Ready(Acks<A>, PackBytes<A>),
     /// Only the pack, for a request with `done` or without haves.
     Pack(PackBytes<A>),
@@ -215,10 +217,10 @@ impl<A: Allocator + Copy> FetchReply<A> {
 /// A fetch reply without its pack.
 #[derive(Debug, Drop)]
 pub enum FetchHead<A: Allocator + Copy> {
-    /// The common ids. At least one want reaches no common id, so no pack follows.
+    /// The common ids without a pack, since at least one want reaches no common id.
     Acks(Acks<A>),
-    /// The common ids. Each want reaches a common id, so a pack follows.
+    /// The common ids of a reply with a pack, since each want reaches a common id.
     Ready(Acks<A>),
-    /// No ids. The reply is only a pack.
+    /// No ids. The reply has no acknowledgments, only a pack.
     Pack,
 }

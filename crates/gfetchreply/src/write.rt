@@ -20,13 +20,14 @@ use std::alloc::Allocator;
 use std::slice::Chunks;
 
 /// Writes a reply as its canonical list of packets (gitprotocol-v2(5), "fetch"). The pack is
-/// written in pieces of the maximum size, without progress. The call does not allocate, and copies
-/// neither the ids nor the pack.
+/// written in pieces of the maximum size, without progress. The call neither allocates nor copies
+/// the ids or the pack.
 ///
 /// Fails with `Io` if the sink fails, after writing a prefix of the reply. Fails with `Failed` if
 /// the writer failed before the call. Every reply meets the conditions of
-/// [`reads_back`](crate::laws::reads_back). So a written reply reads back, if the reader expects a
-/// direct reply exactly if the reply is direct, and its limit is not exceeded.
+/// [`reads_back`](crate::laws::reads_back). So a written reply reads back, if the pack is within
+/// the reader's limit and `direct` in [`FetchReading`](crate::FetchReading) is true exactly for a
+/// direct reply.
 #[tactic(auto, unfolding(crate::specs::FetchReplies::canonical_reply))]
 pub fn write_fetch_reply<A: Allocator + Copy, W: Sink>(
     reply: &FetchReply<A>,

@@ -57,7 +57,7 @@ abbrev pub capability_split : Bytes → Option ℕ → Option Capability
 capability_split text None = key_alone text
 capability_split text (Some at) = key_and_value (take at text) (drop (at + 1) text)
 
--- the capability that a text encodes: a key, or a key, the first `=` and a value
+-- the capability that a text encodes: a key alone, or a key and a value with `=` between them
 unfoldable pub capability_of : Bytes → Option Capability
 capability_of text = capability_split text (position is_equals_sign text)
 

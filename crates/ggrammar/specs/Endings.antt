@@ -12,7 +12,7 @@ abbrev pub ends_with : Ends → List Packet
 ends_with Plain = []
 ends_with Response = ResponseEnd ∷ []
 
--- the verdict on the flush: it ends the reply, unless a response-end must follow
+-- the verdict on the flush, which ends the reply unless a response-end must follow
 abbrev pub at_flush : Ends → Verdict
 at_flush Plain = Whole
 at_flush Response = Open

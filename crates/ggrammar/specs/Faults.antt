@@ -1,4 +1,4 @@
--- The table of faults of messages: the number and the name of each fault, and its text for the peer. Also the part of a
+-- The table of faults of messages: the number, the name and the text for the peer of each fault. Also the part of a
 -- peer's error text that is stored.
 use Rattle.std.specs.Prelude.{ℕ, ◌++◌, codes, take}
 use Rattle.std.specs.Fmt.{decimal}
@@ -11,11 +11,11 @@ use Rattle.ggrammar.specs.declared.fault.MessageFault.{MessageFault}
 use Rattle.ggrammar.specs.declared.fault.Why.{Why}
 use Rattle.ggrammar.specs.declared.fault.Why.TheVariants as why
 
--- the maximum number of bytes that are stored of a peer's error text
+-- the maximum length of the stored part of a peer's error text, in bytes
 abbrev pub max_peer_text : ℕ
 max_peer_text = 256
 
--- the stored part of a peer's error text: one line feed at the end is removed, and then all bytes after the first 256
+-- the stored part of a peer's error text: at most the first 256 bytes of the text without its final line feed
 abbrev pub kept_text : Bytes → Bytes
 kept_text said = take max_peer_text (text said)
 

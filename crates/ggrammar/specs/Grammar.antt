@@ -1,6 +1,6 @@
--- The grammar of a message, as a judge of its packets. Given the packets so far and the next packet, a judge says that
--- the message goes on, is complete, or is rejected with a reason. (gitprotocol-v2(5) states for each message which
--- packets may be sent. The judge adds the reasons.)
+-- The grammar of a message, as a judge: a function that accepts or rejects packets. Given the packets so far and the
+-- next packet, a judge decides that the message continues, is complete, or is rejected with a reason. For each message,
+-- gitprotocol-v2(5) states which packets may be sent, and the judge adds the reasons for rejection.
 use Rattle.std.specs.Prelude.{◌≡◌, Bool, List, [], ◌∷◌, ◌++◌, if◌then◌else◌}
 use Rattle.gpkt.specs.Packets.{Packet}
 use Rattle.ggrammar.specs.declared.fault.Why.{Why}
@@ -10,19 +10,19 @@ pub data Verdict : Type 0 where
   Open Whole : Verdict
   Refused : (why : Why) → Verdict
 
--- the verdict on a packet that is accepted if and only if the message has room for it
+-- the verdict on a packet that is accepted exactly if the message has room for it
 abbrev pub if_room : Bool → Verdict
 if_room has_room = if has_room then Open else Refused Limit
 
 abbrev pub Judge : Type 0
 Judge = List Packet → Packet → Verdict
 
--- the judge lets the message go on after each of these packets
+-- the message continues after each of these packets
 pub record IsOpen (judge : Judge) (lines : List Packet) : Type 0 where
   pub each : (front : List Packet) (packet : Packet) (back : List Packet) → lines ≡ front ++ packet ∷ back
       → judge front packet ≡ Open
 
--- the packets are a complete message: its last packet ends the message, and no packet before does
+-- the packets are a complete message: the last packet, and no earlier packet, ends the message
 pub record IsWhole (judge : Judge) (lines : List Packet) : Type 0 where
   pub front : List Packet
   pub last : Packet
@@ -39,12 +39,12 @@ pub record IsUnfinished (judge : Judge) (front : List Packet) : Type 0 where
   pub begins : Begins judge front
   pub unfinished : (whole back : List Packet) → front ≡ whole ++ back → IsWhole judge whole → ⊥
 
--- the packets before `packet` are the beginning of a message, but with `packet` they are not
+-- the earlier packets are the beginning of a message, but no message begins with them followed by `packet`
 pub record IsFirstMisfit (judge : Judge) (front : List Packet) (packet : Packet) : Type 0 where
   pub before : IsUnfinished judge front
   pub misfit : Begins judge (front ++ packet ∷ []) → ⊥
 
--- each list of packets after which the message goes on can be completed to a message
+-- each list of packets after which the message continues can be completed to a message
 abbrev pub HasEndings : Judge → Type 0
 HasEndings judge = (front : List Packet) → IsOpen judge front → Begins judge front
 
@@ -67,7 +67,7 @@ IsPrefixFree judge = (lines back : List Packet) → IsWhole judge lines → IsWh
 abbrev pub NothingIsOpen : Judge → Type 0
 NothingIsOpen judge = IsOpen judge []
 
--- an open list stays open if a packet is appended after which the message goes on
+-- an open list stays open if the judge accepts another packet that does not end the message
 abbrev pub OpenGoesOn : Judge → Type 0
 OpenGoesOn judge = (front : List Packet) (packet : Packet) → IsOpen judge front → judge front packet ≡ Open
     → IsOpen judge (front ++ packet ∷ [])

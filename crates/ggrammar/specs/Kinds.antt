@@ -1,4 +1,4 @@
--- The laws of a kind of message: about its judge, about the meaning of complete lists of packets, and about writing.
+-- The laws of a kind of message: about its judge, the meaning of complete lists of packets, and writing.
 use Rattle.std.specs.Prelude.{◌≡◌, ◌↔◌, All, Bool, List, ◌++◌, Option, Some, None, Result, Ok, Err, IfErr}
 use Rattle.gpkt.specs.Packets.{Bytes, Packet, canonical_all}
 use Rattle.gpkt.specs.Change.{Change}
@@ -9,7 +9,7 @@ use Rattle.ggrammar.specs.MessageReading.{ReadsWhole, ReadsRefused}
 use Rattle.ggrammar.specs.MessageBytes.{known_bytes, IsFront, IsOfBytes}
 use Rattle.ggrammar.specs.declared.fault.MessageFault.{MessageFault}
 
--- a relation between packets and a message: the packets encode the message, or are written for the message
+-- a relation between packets and a message, such as that the packets encode the message
 abbrev pub Meaning : Type 0 → Type 1
 Meaning M = List Packet → M → Type 0
 
@@ -22,11 +22,11 @@ module _ {M : Type 0} where
   abbrev pub SaysWhole : Judge → Meaning M → Type 0
   SaysWhole judge Says = (lines : List Packet) → IsWhole judge lines ↔ ((message : M) × Says lines message)
 
-  -- the packets that encode a message are those that Git's manual allows for this message
+  -- the packets that encode a message are exactly the packets that Git's manual allows for the message
   abbrev pub AsInManual : Meaning M → Meaning M → Type 0
   AsInManual Says IsMessage = (lines : List Packet) (message : M) → Says lines message ↔ IsMessage lines message
 
-  -- the packets that are written for a value encode this value, and no packet is too long
+  -- the packets that are written for a message encode the message, and no packet is too long
   abbrev pub CanonicalSays : Meaning M → (M → Type 0) → Meaning M → Type 0
   CanonicalSays Says IsValue IsCanonical = (lines : List Packet) (message : M) → IsValue message
       → IsCanonical lines message → Says lines message × All Fits lines
@@ -58,7 +58,7 @@ module _ {M : Type 0} where
       → ReadsOrRefuses judge brings Says (known_bytes bytes new) result → IfErr result (λ fault. IsOfBytes fault.why)
       → ((result ≡ Ok message) × (new ≡ rest)) ↔ SaysAtFront Says bytes rest message
 
-  -- a written value reads back, whatever bytes follow
+  -- a written message reads back, whatever bytes follow
   abbrev pub ReadsBack : Judge → (List Packet → Packet → Bool) → Meaning M → (M → Type 0) → Meaning M → Type 0
   ReadsBack judge brings Says IsValue IsCanonical =
       (lines : List Packet) (rest new : Bytes) (result : Result M MessageFault) (message : M) → IsValue message
@@ -66,9 +66,9 @@ module _ {M : Type 0} where
       → ReadsOrRefuses judge brings Says (known_bytes (canonical_all lines ++ rest) new) result
       → IfErr result (λ fault. IsOfBytes fault.why) → (result ≡ Ok message) × (new ≡ rest)
 
-  -- ---- a message that the input may lack
+  -- ---- reading a message from an input that may end before it
 
-  -- the input ends before the message, or the message is read, or the message is rejected
+  -- the input ends before the message, or a message is read, or the input is rejected
   abbrev pub ReadsIfAny : Judge → (List Packet → Packet → Bool) → Meaning M → Change
       → Result (Option M) MessageFault → Type 0
   ReadsIfAny judge brings Says change (Ok (Some message)) = ReadsMessage judge Says change message
@@ -83,7 +83,7 @@ module _ {M : Type 0} where
       → ReadsIfAny judge brings Says (known_bytes bytes new) result → IfErr result (λ fault. IsOfBytes fault.why)
       → ((result ≡ Ok (Some message)) × (new ≡ rest)) ↔ SaysAtFront Says bytes rest message
 
-  -- a written value reads back, whatever bytes follow
+  -- a written message reads back, whatever bytes follow
   abbrev pub ReadsBackIfAny : Judge → (List Packet → Packet → Bool) → Meaning M → (M → Type 0) → Meaning M → Type 0
   ReadsBackIfAny judge brings Says IsValue IsCanonical =
       (lines : List Packet) (rest new : Bytes) (result : Result (Option M) MessageFault) (message : M)

@@ -10,7 +10,7 @@ use Rattle.ggrammar.specs.declared.fault.Why.{Why}
 use Rattle.ggrammar.specs.declared.fault.Why.TheVariants.{Line, Memory, Ended}
 use Rattle.ggrammar.specs.declared.fault.MessageFault.{MessageFault}
 
--- the bytes of a source before and after a call, both known
+-- the known bytes of a source before and after a call
 abbrev pub known_bytes : Bytes → Bytes → Change
 known_bytes old new = record { old = Some old; new = Some new }
 
@@ -20,7 +20,8 @@ pub record IsFront (lines : List Packet) (bytes rest : Bytes) : Type 0 where
   pub parts : bytes ≡ front ++ rest
   pub spelt : SpellsAll lines front
 
--- the reason lies in the bytes: it is not out of memory, a failed source, or a reader that had failed before
+-- the reason to refuse is the content of the bytes, not out of memory, a failed source, or a reader that had failed
+-- before
 abbrev pub IsOfBytes : Why → Type 0
 IsOfBytes (Line Io) = ⊥
 IsOfBytes (Line Failed) = ⊥
@@ -32,7 +33,7 @@ abbrev pub ReadsFront : Judge → Type 0
 ReadsFront judge = (lines : List Packet) (bytes rest : Bytes) → IsWhole judge lines → IsFront lines bytes rest
     → ReadsWhole judge (known_bytes bytes rest) lines
 
--- only the message at the front of the bytes is read, and the bytes after it are left
+-- only the message at the front of the bytes is read, and the bytes after it remain
 abbrev pub ReadsNoOther : Judge → Type 0
 ReadsNoOther judge = (lines others : List Packet) (bytes rest new : Bytes) → IsWhole judge lines
     → IsFront lines bytes rest → ReadsWhole judge (known_bytes bytes new) others → (others ≡ lines) × (new ≡ rest)
@@ -49,7 +50,7 @@ abbrev pub EndedIsNoMessage : Judge → Type 0
 EndedIsNoMessage judge = (lines : List Packet) (bytes new rest : Bytes) → Reads (known_bytes bytes new) (Ok None)
     → IsFront lines bytes rest → ¬ IsWhole judge lines
 
--- if bytes are refused because of their content, the fault and the bytes that are left are unique
+-- if bytes are refused because of their content, they determine the fault and the remaining bytes
 abbrev pub OneRefusal : Judge → Type 0
 OneRefusal judge =
     (brings : List Packet → Packet → Bool) (front others : List Packet) (bytes new after : Bytes)
@@ -57,14 +58,15 @@ OneRefusal judge =
     → ReadsRefused judge brings others (known_bytes bytes after) other → IsOfBytes fault.why → IsOfBytes other.why
     → (fault ≡ other) × (new ≡ after)
 
--- the reason lies in the packet: it is not a fault of the packet reader, the end of the input, or out of memory
+-- the reason to reject is the content of the packet, not a fault of the packet reader, the end of the input, or out of
+-- memory
 abbrev pub IsOfPacket : Why → Type 0
 IsOfPacket (Line fault) = ⊥
 IsOfPacket Ended = ⊥
 IsOfPacket Memory = ⊥
 IsOfPacket why = Unit {0}
 
--- if the verdict rejects a packet, the reason lies in the packet
+-- if the verdict rejects a packet, the reason is the content of the packet
 abbrev pub IsForPacket : Verdict → Type 0
 IsForPacket (Refused why) = IsOfPacket why
 IsForPacket verdict = Unit {0}
@@ -90,8 +92,8 @@ pub record IsRefused (judge : Judge) (brings : List Packet → Packet → Bool) 
 abbrev pub BeginsOrIsRefused : Judge → (List Packet → Packet → Bool) → Type 0
 BeginsOrIsRefused judge brings = (bytes : Bytes) → BeginsWithMessage judge bytes ⊎ IsRefused judge brings bytes
 
--- every byte sequence begins with a message or is refused, if open lists can be completed and packets are rejected only
--- because of their content
+-- if open lists can be completed and packets are rejected only for their content, every byte sequence begins with a
+-- message or is refused
 abbrev pub EveryInput : Judge → Type 0
 EveryInput judge = HasEndings judge → RefusesPackets judge → (brings : List Packet → Packet → Bool)
     → BeginsOrIsRefused judge brings

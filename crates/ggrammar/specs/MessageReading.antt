@@ -1,4 +1,4 @@
--- The packets that reading a message consumes from its source, and the result.
+-- The result of reading a message, and the packets that the call consumes from its source.
 use Rattle.std.specs.Prelude.{◌≡◌, Bool, true, false, List, [], ◌∷◌, ◌++◌, length, Option, Some, None, Result}
 use Rattle.std.specs.Prelude.{IsTrue, Ok, Err}
 use Rattle.gpkt.specs.Packets.{Bytes, Packet}
@@ -23,8 +23,8 @@ IsAccepted Open = Unit {0}
 IsAccepted Whole = Unit {0}
 IsAccepted (Refused why) = ⊥
 
--- The reasons to reject a packet: the reason that the judge gives, or out of memory for the contents of a packet that
--- the judge accepts.
+-- The reason to reject a packet: the judge's reason, or out of memory for the contents of a packet that the judge
+-- accepts.
 abbrev pub IsReason : Verdict → Bool → Why → Type 0
 IsReason verdict brings (Line fault) = ⊥
 IsReason verdict brings Ended = ⊥
@@ -57,20 +57,20 @@ pub record ReadsRefused (judge : Judge) (brings : List Packet → Packet → Boo
 
 module _ {M : Type 0} (judge : Judge) (brings : List Packet → Packet → Bool)
     (holds left : M → List Packet → Type 0) where
-  -- The message accepts or rejects the packet as the judge says. If it rejects the packet, the predicate `left` holds
-  -- of the packets before it.
+  -- The message accepts or rejects the packet according to the judge. If the packet is rejected, the predicate `left`
+  -- is true for the packets before it.
   abbrev pub TakesPacket : List Packet → Packet → M → Result Step Why → Type 0
   TakesPacket front packet new (Ok step.Open) = (judge front packet ≡ Open) × holds new (front ++ packet ∷ [])
   TakesPacket front packet new (Ok step.Whole) = (judge front packet ≡ Whole) × holds new (front ++ packet ∷ [])
   TakesPacket front packet new (Err why) = IsReason (judge front packet) (brings front packet) why × left new front
 
-  -- a complete message was read, and `message` holds the contents of its packets
+  -- a complete message was read, and `message` contains the contents of its packets
   pub record HasTaken (change : Change) (message : M) : Type 0 where
     pub lines : List Packet
     pub read : ReadsWhole judge change lines
     pub held : holds message lines
 
-  -- the message was rejected after some packets, and `left` holds of these packets
+  -- the message was rejected after some packets, and `left` is true for these packets
   pub record HasRefused (change : Change) (message : M) (fault : MessageFault) : Type 0 where
     pub front : List Packet
     pub refused : ReadsRefused judge brings front change fault
@@ -89,9 +89,9 @@ abbrev pub IsFailedBy : Why → Bool → Type 0
 IsFailedBy (Line fault) failed = failed ≡ true
 IsFailedBy why failed = failed ≡ false
 
--- The state of the packet reader after reading a message. After a message, neither the reader nor its source has
--- failed. After a fault, the reader has failed exactly if the packet was not read. The source has failed exactly if the
--- fault is an error of the source. If the reader had failed before, the fault is at packet 0.
+-- The state of the packet reader after reading a message. After a complete message, neither the reader nor its source
+-- has failed. After a fault, the reader has failed exactly if the packet was not read. The source has failed exactly if
+-- the fault is an error of the source. If the reader had failed before, the fault reports packet position 0.
 abbrev pub LeavesReader : {S M : Type 0} → (S → Bool) → Reader S → Reader S → Result M MessageFault → Type 0
 LeavesReader is_down old new (Ok message) =
     (old.failed ≡ false) × (new.failed ≡ false) × (is_down new.source ≡ false)
@@ -101,13 +101,13 @@ LeavesReader is_down old new (Err fault) =
 
 -- ---- one packet of a message
 
--- the packet is accepted as the verdict says, and the predicate holds afterwards; or the packet is rejected
+-- the packet is accepted according to the verdict, and the predicate is true afterwards, or the packet is rejected
 abbrev pub TakesAs : Verdict → Bool → Type 0 → Result Step Why → Type 0
 TakesAs verdict brings taken (Ok step.Open) = (verdict ≡ Open) × taken
 TakesAs verdict brings taken (Ok step.Whole) = (verdict ≡ Whole) × taken
 TakesAs verdict brings taken (Err why) = IsReason verdict brings why
 
--- a packet that does not end the message is accepted, and the predicate holds afterwards; or the packet is rejected
+-- a packet that does not end the message is accepted, and the predicate is true afterwards, or the packet is rejected
 abbrev pub AddsAs : Verdict → Bool → Type 0 → Result Unit Why → Type 0
 AddsAs verdict brings taken (Ok done) = (verdict ≡ Open) × taken
 AddsAs verdict brings taken (Err why) = IsReason verdict brings why

@@ -18,6 +18,6 @@ abbrev pub unless_error : Option Bytes → Verdict → Verdict
 unless_error (Some said) verdict = Refused (RemoteErr (kept_text said))
 unless_error None verdict = verdict
 
--- the verdict on a payload: a rejection if the payload reports an error, otherwise the given verdict
+-- a rejection if the payload reports an error, otherwise the given verdict
 abbrev pub judge_unless_error : (Bytes → Verdict) → Bytes → Verdict
 judge_unless_error table payload = unless_error (peer_error payload) (table payload)

@@ -8,7 +8,7 @@ abbrev pub place_after : {Place : Type 0} → (Place → Packet → Place) → P
 place_after next place [] = place
 place_after next place (packet ∷ packets) = place_after next (next place packet) packets
 
--- the values in the packets, in order; the value in a packet depends on its position
+-- the values of the packets, in order; the value of a packet depends on its position
 abbrev pub collect : {Place X : Type 0} → (Place → Packet → Place) → (Place → Packet → List X) → Place
     → List Packet → List X
 collect next give place [] = []

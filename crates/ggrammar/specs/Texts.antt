@@ -1,5 +1,5 @@
--- The text packets of messages (gitprotocol-common(5), "pkt-line Format"). A text is written with a line feed after it,
--- and read with or without this line feed.
+-- The text packets of messages (gitprotocol-common(5), "pkt-line Format"). A text is written with a final line feed,
+-- and read with or without it.
 use Rattle.std.specs.Prelude.{◌≡◌, ℕ, Bool, List, [], ◌∷◌, ◌++◌, Option, Some, None, nat_eq}
 use Rattle.std.specs.List.{filter_map}
 use Rattle.gpkt.specs.Packets.{Bytes, Packet, Data, line_feed, text as stripped}
@@ -20,7 +20,8 @@ text_in _ = None
 abbrev pub texts_of : List Packet → List Bytes
 texts_of packets = filter_map text_in packets
 
--- the texts of two concatenated lists of packets are the texts of the first list, followed by those of the second
+-- the texts of two concatenated lists of packets are the texts of the first list followed by the texts of the second
+-- list
 abbrev pub TextsOfMore : Type 0
 TextsOfMore = (packets more : List Packet) → texts_of (packets ++ more) ≡ texts_of packets ++ texts_of more
 

@@ -11,13 +11,13 @@ module _
     {W : Type 0} (contents_of passed_on_of : W → Option Bytes) (is_down : W → Bool)
     (loans_of : W → List ℕ)
   where
-    -- the effect of one call that writes these packets; no packet is too long
+    -- the effect of one call that writes these packets, none of which is too long
     pub record WritesPackets (old new : Writer W) (result : Result Unit WriteFault) (lines : List Packet) : Type 0 where
       pub written : HasWritten contents_of passed_on_of is_down loans_of old new result (canonical_all lines)
       pub fits : IfErr result (λ fault. fault ≢ Payload)
 
-    -- Some packets were written, and the packets in `coming` remain. A call that writes `coming`, perhaps with more
-    -- packets after it, completes a write of `lines` with the same packets after it.
+    -- The first packets of `lines` were written, and the packets of `coming` remain. A call that writes `coming`
+    -- followed by more packets completes a write of `lines` followed by the same packets.
     pub record IsWriting (start now : Writer W) (lines coming : List Packet) : Type 0 where
       pub joins : (more : List Packet) (new : Writer W) (result : Result Unit WriteFault)
           → WritesPackets now new result (coming ++ more) → WritesPackets start new result (lines ++ more)
@@ -29,7 +29,7 @@ module _
 
     -- ---- laws
 
-    -- a call that can't fail because of the payload's length writes its packet
+    -- a call whose payload has at most the maximum length writes its packet
     abbrev pub WritesPacket : Type 0
     WritesPacket =
         (old new : Writer W) (result : Result Unit WriteFault) (line : Packet)
@@ -66,7 +66,7 @@ module _
         (start now next : Writer W) (lines coming part rest : List Packet) → IsWriting start now lines coming
         → coming ≡ part ++ rest → WritesPart now next (Ok tt) part → IsWriting start next lines rest
 
-    -- if writing some of the packets fails, and this fault is returned, writing all the packets has failed
+    -- if writing some of the packets fails, and the fault is returned, the whole write of the packets has failed
     abbrev pub FailsWriting : Type 0
     FailsWriting =
         (start now new : Writer W) (lines coming front rest : List Packet) (fault : WriteFault)
@@ -74,7 +74,7 @@ module _
         → WritesPackets now new (Err fault) front → IsErrAnd result (λ other. other ≡ fault)
         → WritesPackets start new result lines
 
-    -- a call that writes the packets that remain completes the write of all packets
+    -- a call that writes the remaining packets completes the write of all packets
     abbrev pub EndsWriting : Type 0
     EndsWriting =
         (start now new : Writer W) (lines coming : List Packet) (result : Result Unit WriteFault)

@@ -1,4 +1,4 @@
-//! The reason that a message is rejected, and the position of its packet.
+//! The reason that a message is rejected, and the position of the rejected packet.
 
 ghost use Rattle.std.specs.Prelude.{◌≡◌, ◌+◌, ◌≤◌, ◌++◌, length, Some};
 ghost use Rattle.ggrammar.specs.Faults.{why_row, row_of, line_phrase, kept_text, max_peer_text, message_fault_text};
@@ -12,7 +12,7 @@ use std::error::Error;
 use std::fmt;
 use std::marker::Model;
 
-/// The maximum number of bytes that are stored of a peer's error text.
+/// The maximum length of the stored part of a peer's error text, in bytes.
 pub const MAX_PEER_TEXT: usize = 256;
 
 /// The first 256 bytes of the text of an error that a peer reports.
@@ -30,8 +30,8 @@ impl Model for PeerText {
 }
 
 impl PeerText {
-    /// Stores the error that a peer reports, after `ERR ` in a packet or on the side band for fatal
-    /// errors. Removes one line feed at the end, and then all bytes after the first 256. Allocates
+    /// Stores the error text of a peer, from an `ERR` packet or from the side band for fatal
+    /// errors. Removes one line feed at the end, and stores at most the first 256 bytes. Allocates
     /// nothing.
     pub fn new(said: &[u8]) -> PeerText
         ensures { result ≡ kept_text said.now }
@@ -57,42 +57,41 @@ impl fmt::Debug for PeerText {
     }
 }
 
-/// The reason that a packet, or the end of the input, is not allowed at this position of the
-/// message.
+/// The reason that a message is rejected at a packet, or at the end of the input.
 #[derive(Debug, Drop)]
 pub enum Why {
-    /// Faults 20 to 25: the packet could not be read.
+    /// The packet could not be read (faults 20 to 25).
     Line(PacketFault),
-    /// Faults 29 and 30: the payload names no valid side band.
+    /// The payload does not begin with a valid side band (faults 29 and 30).
     Band(BandFault),
-    /// Fault 41: a flush, delimiter or response-end that the grammar does not allow here, or any
-    /// other packet instead of a response-end.
+    /// The grammar does not allow this flush, delimiter or response-end, or requires a response-end
+    /// (fault 41).
     UnexpectedFrame,
-    /// Fault 42: a text that matches no case of the grammar.
+    /// The text matches no rule of the grammar (fault 42).
     BadText,
-    /// Fault 43: a command that the server does not support.
+    /// The server does not support the command (fault 43).
     UnknownCommand,
-    /// Fault 44: a capability that the server does not support.
+    /// The server does not support the capability (fault 44).
     UnknownCapability,
-    /// Fault 45: an argument that the command does not accept.
+    /// The command does not accept the argument (fault 45).
     UnknownArgument,
-    /// Fault 46: an object id was expected.
+    /// The grammar requires an object id (fault 46).
     BadId,
-    /// Fault 47: a ref name, or a prefix of ref names, was expected.
+    /// The grammar requires a ref name, or a prefix of ref names (fault 47).
     BadName,
-    /// Fault 48: the packet would exceed a limit.
+    /// The packet would exceed a limit (fault 48).
     Limit,
-    /// Fault 49: the peer reported an error.
+    /// The peer reported an error (fault 49).
     RemoteErr(PeerText),
-    /// Fault 50: the peer reported a fatal error on its side band.
+    /// The peer reported a fatal error on its side band (fault 50).
     RemoteFatal(PeerText),
-    /// Fault 51: a section, a packet of a section or an end is out of order in a fetch reply.
+    /// The parts of a fetch reply are in the wrong order (fault 51).
     WrongSection,
-    /// Fault 52: another object format was expected.
+    /// The object format is not the expected format (fault 52).
     Format,
-    /// Fault 53: out of memory for the contents of the packet.
+    /// There is not enough memory for the contents of the packet (fault 53).
     Memory,
-    /// Fault 54: the input ends before the end of the message.
+    /// The input ends before the end of the message (fault 54).
     Ended,
 }
 

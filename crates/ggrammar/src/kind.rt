@@ -1,11 +1,11 @@
-//! Kinds of messages, for laws that hold of every kind.
+//! Kinds of messages, for laws that are true for every kind.
 
 ghost use Rattle.std.specs.Prelude.{Bool, List};
 ghost use Rattle.gpkt.specs.Packets.{Packet};
 ghost use Rattle.ggrammar.specs.Grammar.{Judge};
 ghost use Rattle.ggrammar.specs.Kinds.{Meaning};
 
-/// A kind of message, as a type without values. The caller of a law names this type to choose the
+/// A kind of message, as a type without values. The caller of a law passes this type to choose the
 /// kind.
 pub trait MessageKind {
     // The parameters of the grammar, such as the format of ids and the end of a reply.

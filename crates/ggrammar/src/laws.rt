@@ -1,4 +1,4 @@
-//! Laws of every grammar: functions without effect whose contracts state the laws.
+//! Laws of every grammar: each function does nothing, and its contract proves a law.
 
 ghost use Rattle.std.specs.Prelude.{◌≡◌};
 ghost use Rattle.ggrammar.specs.Capabilities.{CapabilityIsItsText, max_capability};
@@ -19,24 +19,25 @@ use gpkt::laws::{
     refused_front, text_reads_back, writes_join,
 };
 
-/// The public constants of this crate equal the limits in its specifications.
+/// Proves that the public constants of this crate equal the limits in its specifications.
 pub fn limits_are_the_constants()
     ensures capability { MAX_CAPABILITY ≡ max_capability }
     ensures peer_text { MAX_PEER_TEXT ≡ max_peer_text }
 {}
 
-/// A list of packets is open if the message goes on after each packet of the list. No message is a
-/// prefix of another. If each open list can be completed, no prefix of an open list is a complete
-/// message. In this case a rejected packet is the first that does not fit.
+/// Proves that no message is a prefix of another. A list of packets is open if the message
+/// continues after each packet of the list. If each open list can be completed, no prefix of an
+/// open list is a complete message. If each open list can be completed, a rejected packet is the
+/// first that does not fit.
 pub fn grammars_are_exact()
     ensures { (judge : Judge) → LawsOf judge }
 {}
 
-/// A complete message at the front of some bytes is read, and the bytes after it are left. If bytes
-/// are refused because of their content, they begin with no message, and the fault and the
-/// remaining bytes are unique. If the packet reader reports the end of the input, the bytes begin
-/// with no message. If each open list of packets can be completed, every byte sequence begins with
-/// a message or is refused. No encoding of a message is a prefix of another.
+/// Proves that a complete message at the front of some bytes is read, and that the bytes after it
+/// remain. If bytes are refused because of their content, they begin with no message, and they
+/// determine the fault and the remaining bytes. If the packet reader reports the end of the input,
+/// the bytes begin with no message. If each open list of packets can be completed, every byte
+/// sequence begins with a message or is refused. No encoding of a message is a prefix of another.
 pub fn messages_are_read()
     ensures { (judge : Judge) → LawsOfBytes judge }
 {
@@ -48,15 +49,16 @@ pub fn messages_are_read()
     every_front();
 }
 
-/// A text is read as an id of a format exactly if it consists of the hex digits of the id, in
-/// either case. A text is read as a capability exactly if it is the text of a well-formed
+/// Proves that a text is read as an id of a format exactly if it consists of the hex digits of the
+/// id, in either case. A text is read as a capability exactly if it is the text of a well-formed
 /// capability.
 pub fn texts_are_classified()
     ensures ids { IdIsSpelt }
     ensures capabilities { CapabilityIsItsText }
 {}
 
-/// The texts of packets are in the order of the packets. The packet of a text is read as that text.
+/// Proves that the texts of packets are in the order of the packets, and that the packet of a text
+/// is read as that text.
 #[tactic(auto, using(crate::proofs::PlaceLemmas::texts_of_more, crate::proofs::PlaceLemmas::text_is_read))]
 pub fn texts_are_read()
     ensures more { TextsOfMore }
@@ -65,9 +67,9 @@ pub fn texts_are_read()
     text_reads_back();
 }
 
-/// Consecutive writes of packets have the effect of one write of all these packets. If one of the
-/// writes fails, the write of all the packets fails. Before the first write, all packets of a
-/// message remain to be written, and after the last write none remain.
+/// Proves that consecutive writes of packets have the effect of one write of all the packets. If
+/// one of the writes fails, the write of all the packets fails. All packets of a message remain
+/// before the first write, and no packet remains after the last write.
 pub fn writes_packets<W: Sink>()
     ensures line { WritesPacket W.contents W.passed_on W.is_down W.loans }
     ensures fitting { WritesFitting W.contents W.passed_on W.is_down W.loans }
@@ -82,9 +84,10 @@ pub fn writes_packets<W: Sink>()
     writes_join::<W>();
 }
 
-/// Suppose each complete list of packets of a kind encodes exactly one message. Then a message is
-/// read exactly if the bytes begin with it, and a written value reads back, whatever bytes follow.
-/// Both also hold for a reader that accepts the end of the input in place of a message.
+/// Proves two laws for each kind of message whose complete lists of packets encode exactly one
+/// message. A message is read exactly if the bytes begin with it, and a written message reads back,
+/// whatever bytes follow. Both laws also apply to a reader that accepts the end of the input in
+/// place of a message.
 pub fn kinds_are_read<K: MessageKind>()
     ensures exactly { (given : K.Given) → SaysWhole (K.judge given) (K.says given)
         → OneMeaning (K.says given)

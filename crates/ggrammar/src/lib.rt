@@ -4,42 +4,44 @@
 //! # Proved
 //!
 //! - [`read_message`] reads a message exactly to its end, however its bytes are split into pieces.
-//!   Otherwise the call rejects the message at the first packet that does not fit, for the reason
-//!   that the grammar gives. A fault of the packet reader takes precedence, then the end of the
-//!   input, then a fault of the grammar. The packets before the rejected packet begin a message and
-//!   contain no complete message. Out of memory is reported only at a packet with contents to
-//!   store.
-//! - In every grammar, no message is a prefix of another ([`laws`]). If each prefix can be
-//!   completed, a rejected packet is the first that does not fit. A complete message at the front
-//!   of some bytes is read, and nothing after it. If bytes are refused because of their content,
-//!   they begin with no message, and the fault and the remaining bytes are unique. Every byte
-//!   sequence begins with a message or is refused, if each prefix can be completed and the grammar
-//!   rejects packets only because of their content. Suppose each complete list of packets of a kind
-//!   encodes exactly one message. Then a message is read exactly if the bytes begin with it, and a
-//!   written value reads back, whatever bytes follow. Consecutive writes of packets have the effect
-//!   of one write of all these packets, even if one of the writes fails.
+//!   Any other input is rejected at the first packet that does not fit, for the reason that the
+//!   grammar states. A fault of the packet reader takes precedence over the end of the input, which
+//!   takes precedence over a fault of the grammar. The packets before the rejected packet begin a
+//!   message and contain no complete message. Out of memory is reported only at a packet with
+//!   contents to store.
+//! - In every grammar, no message is a prefix of another ([`laws`]). If the packets accepted so far
+//!   can always be completed to a message, a rejected packet is the first that does not fit. A
+//!   complete message at the front of some bytes is read, and nothing after it. If bytes are
+//!   refused because of their content, they begin with no message, and they determine the fault and
+//!   the remaining bytes. If the grammar also rejects packets only because of their content, every
+//!   byte sequence begins with a message or is refused. If each complete list of packets encodes
+//!   exactly one message, a message is read exactly if the bytes begin with it, and a written
+//!   message reads back. Consecutive writes of packets have the effect of one write of all the
+//!   packets, even if one of the writes fails.
 //! - [`capability_of`] splits a text into a key and a value exactly if the text is a capability.
 //!   The function [`id_of_text`] reads an id exactly if the text consists of the hex digits of the
 //!   id.
-//! - The number, the name and the phrase of each fault are in one row of the table `why_row`. The
+//! - The table `why_row` has the number, the name and the text for the peer of each fault. The
 //!   first 256 bytes of a peer's error text are stored. The public constants equal the limits in
 //!   the specifications.
-//! - [`compose`] appends exactly a piece, or the hex digits of an id, to a text of bounded length.
+//! - The module [`compose`] appends a piece, or the hex digits of an id, to a text of bounded
+//!   length.
 //!
 //! # What the contracts do not rule out
 //!
 //! - A call may take any amount of time. The `Debug` output of a fault may show any part of a
 //!   peer's text.
 //! - Formatting a fault may return `fmt::Error` although the text was written correctly.
-//! - At a packet with contents to store, reading may report out of memory for no reason.
+//! - At a packet with contents to store, reading may report out of memory even if there is enough
+//!   memory.
 //! - If the bytes of a source are unknown, the contracts do not state which packets are read. The
 //!   contracts still state whether the source has failed.
-//! - Each kind of message defines its state after it is rejected.
+//! - Each kind of message defines the state of a rejected message.
 //!
 //! # Dependencies
 //!
-//! `gpkt` for packets, `gname` for ids and names, `hex` for the hex digits of ids, and `arrayvec`
-//! for texts of bounded length.
+//! `gpkt` defines packets, and `gname` defines ids and names. `hex` writes the hex digits of ids,
+//! and `arrayvec` stores texts of bounded length.
 #![tactic(auto)]
 
 mod capability;

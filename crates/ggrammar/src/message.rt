@@ -43,7 +43,7 @@ pub trait Message {
             → TakesPacket (judge self.old) (brings self.old) holds left front
             (packet_of line.entry) self.new result };
 
-    /// Laws of the message, for generic callers. The call has no effect. If `holds` is true for
+    /// Proves laws of the message for generic callers, and does nothing. If `holds` is true for
     /// some packets, `left` is true for these packets. Each open list of packets can be completed
     /// to a message. The number of packets in an incomplete message does not overflow.
     fn laws()
@@ -57,9 +57,10 @@ pub trait Message {
 /// Reads a message to its end, and nothing after it.
 ///
 /// The fault contains the position of the rejected packet, counted from 0. A fault of the packet
-/// reader takes precedence, then the end of the input, then a fault of the grammar. If the message
-/// is rejected, the packet reader has failed exactly if the packet was not read. If the reader had
-/// failed before the call, the call fails at once, at packet 0.
+/// reader takes precedence over the end of the input, which takes precedence over a fault of the
+/// grammar. If the message is rejected, the packet reader has failed exactly if the packet was not
+/// read. If the reader had failed before the call, the call fails at once, and the fault reports
+/// packet position 0.
 pub fn read_message<S: Source, A: Allocator + Copy, M: Message>(
     reader: &mut PacketReader<S, A>,
     message: &mut M,

@@ -22,7 +22,7 @@ max_advertised = 64
 abbrev pub version : Bytes
 version = codes "version 2"
 
--- ---- the advertisement in the words of the manual
+-- ---- the advertisement as the manual defines it
 
 -- the packets are an advertisement with these capabilities
 pub record IsAdvert (packets : List Packet) (capabilities : List Capability) : Type 0 where
@@ -49,7 +49,7 @@ abbrev pub judge_capability : ℕ → Option Capability → Verdict
 judge_capability count None = Refused why.BadText
 judge_capability count (Some capability) = if_room (nat_lt count max_advertised)
 
--- the verdict on a text line, given the number of earlier lines and the number of capabilities among these lines
+-- the verdict on a text line, given the number of earlier lines and the number of earlier capabilities
 abbrev pub judge_text : ℕ → ℕ → Bytes → Verdict
 judge_text texts capabilities line =
     if texts == 0 then judge_version line else judge_capability capabilities (capability_of line)
@@ -64,7 +64,7 @@ judge_at texts capabilities ResponseEnd = Refused why.UnexpectedFrame
 abbrev pub judge : List Packet → Packet → Verdict
 judge packets packet = judge_at (length (texts_of packets)) (length (capabilities_of packets)) packet
 
--- whether the packet has contents to store, as a capability has; the version line has none
+-- whether the packet has contents to store: a capability has contents, but the version line does not
 abbrev pub brings : List Packet → Packet → Bool
 brings packets (Data payload) = nat_lt 0 (length (texts_of packets))
 brings packets _ = false

@@ -45,7 +45,8 @@ pub record IsHello (hello : Hello) : Type 0 where
 abbrev pub is_hello : Hello → Bool
 is_hello hello = is_path hello.path && is_host hello.host
 
--- the call returns this hello, or fails at packet 0: the path or the host is malformed, or memory runs out
+-- the call returns this hello, or fails because the path or the host is malformed or memory runs out; the fault reports
+-- packet position 0
 abbrev pub MakesHello : Hello → Result Hello MessageFault → Type 0
 MakesHello wanted (Ok hello) = (hello ≡ wanted) × IsHello hello
 MakesHello wanted (Err fault) = (fault.frame ≡ 0) × IsBuildReason (is_hello wanted) true fault.why
@@ -68,7 +69,7 @@ canonical_hello hello = Data (hello_payload hello) ∷ []
 abbrev pub IsCanonical : List Packet → Hello → Type 0
 IsCanonical packets hello = packets ≡ canonical_hello hello
 
--- the packets encode this hello, which has only this one encoding
+-- the packets encode this hello; a hello has only one encoding
 pub record Says (packets : List Packet) (hello : Hello) : Type 0 where
   pub form : IsHello hello
   pub line : IsCanonical packets hello
@@ -105,7 +106,7 @@ abbrev pub judge : List Packet → Packet → Verdict
 judge packets (Data payload) = judge_payload (hello_of payload)
 judge packets _ = Refused UnexpectedFrame
 
--- whether the packet has contents to store, as every valid hello has
+-- whether the packet has contents to store; every valid hello has
 abbrev pub brings : List Packet → Packet → Bool
 brings packets (Data payload) = is_some (hello_of payload)
 brings packets _ = false

@@ -1,4 +1,4 @@
--- A law about hellos only. The other laws about hellos hold of every kind of message.
+-- A law about hellos. The other laws about hellos are laws about every kind of message.
 use Rattle.std.specs.Prelude.{◌≡◌, ◌↔◌, [], ◌∷◌, Some}
 use Rattle.gpkt.specs.Packets.{Bytes, Data}
 use Rattle.ghello.specs.Hello.{Hello, Says, hello_of}

@@ -25,7 +25,7 @@ abbrev pub value_in : Option Capability → Option Bytes
 value_in None = None
 value_in (Some capability) = capability.value
 
--- whether the value is present and contains this word; spaces separate its words
+-- whether the value is present and contains this word; spaces separate the words of a value
 abbrev pub has_word : Bytes → Option Bytes → Bool
 has_word word None = false
 has_word word (Some value) = list_any (λ part. bytes_eq part word) (slice_split is_space value)
@@ -34,7 +34,7 @@ has_word word (Some value) = list_any (λ part. bytes_eq part word) (slice_split
 abbrev pub has_feature : Bytes → Bytes → List Capability → Bool
 has_feature key word capabilities = has_word word (value_in (first_with key capabilities))
 
--- the object format that a server names: `sha1` if there is no `object-format`, and `None` if `object-format` has no
+-- the name of the server's object format: `sha1` if there is no `object-format`, and `None` if `object-format` has no
 -- value
 abbrev pub named_format : Option Capability → Option Bytes
 named_format None = Some (format_name Sha1)

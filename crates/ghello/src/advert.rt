@@ -32,13 +32,13 @@ use std::marker::Model;
 /// The maximum number of capabilities that a server advertises.
 pub const MAX_ADVERTISED: usize = 64;
 
-// The text of the first line.
+// The text of the first line of an advertisement.
 const VERSION: &[u8] = b"version 2";
 
 // The maximum length of a capability's text in bytes: a key, `=` and a value.
 const MAX_TEXT: usize = 2_001;
 
-// The commands that a server must support for a client.
+// The commands that a client requires of a server.
 const LS_REFS: &[u8] = b"ls-refs";
 
 const FETCH: &[u8] = b"fetch";
@@ -139,10 +139,10 @@ impl<A: Allocator + Copy> Advert<A> {
 
     /// Appends a capability.
     ///
-    /// Fails with `BadText` if the key is not 1 to 1,000 letters, digits, `-` and `_`. Also fails
-    /// with `BadText` if the value is not 1 to 1,000 bytes from space to `~`. Otherwise fails with
-    /// `Limit` if the advertisement already has 64 capabilities, or with `Memory`. The fault is at
-    /// packet 0, and a failed call leaves the advertisement unchanged.
+    /// Fails with `BadText` unless the key is 1 to 1,000 letters, digits, `-` and `_`, and the
+    /// value, if any, is 1 to 1,000 bytes from space to `~`. Otherwise fails with `Limit` if the
+    /// advertisement already has 64 capabilities, or with `Memory` if memory runs out. The fault
+    /// reports packet position 0, and a failed call leaves the advertisement unchanged.
     pub fn push(&mut self, capability: Capability<'_>) -> Result<(), MessageFault>
         ensures { Builds (is_capability (capability_view capability.entry)) (has_room self.old)
             self.old self.new (self.old ++ capability_view capability.entry ∷ []) result }
@@ -203,8 +203,8 @@ impl<A: Allocator + Copy> Advert<A> {
     }
 
     /// Returns whether the value of the first capability with this key contains `word` as one of
-    /// its space-separated words. For example, a server whose `ls-refs` has the word `unborn`
-    /// reports an unborn `HEAD` (gitprotocol-v2(5), "ls-refs").
+    /// its space-separated words. For example, a server can report an unborn `HEAD` if the value of
+    /// its `ls-refs` contains `unborn` (gitprotocol-v2(5), "ls-refs").
     pub fn has_feature(&self, key: &[u8], word: &[u8]) -> bool
         ensures { result ≡ has_feature key.now word.now self.now }
     {
@@ -214,9 +214,9 @@ impl<A: Allocator + Copy> Advert<A> {
         }
     }
 
-    /// Returns the format of the server's ids. The first `object-format` names the format, and
-    /// without `object-format` the format is SHA-1 (gitprotocol-v2(5), "object-format"). Returns
-    /// `None` if the first `object-format` names neither SHA-1 nor SHA-256.
+    /// Returns the format of the server's ids. The first `object-format` names the format. Without
+    /// `object-format`, the format is SHA-1 (gitprotocol-v2(5), "object-format"). Returns `None` if
+    /// the first `object-format` names neither SHA-1 nor SHA-256.
     pub fn format(&self) -> Option<Format>
         ensures { IsFormatOf self.now result }
     {
@@ -242,7 +242,7 @@ impl<A: Allocator + Copy> Advert<A> {
     ///
     /// Fails with `UnknownCommand` if the server does not advertise both `ls-refs` and `fetch`.
     /// Otherwise fails with `Format` if the first `object-format` does not name the given format. A
-    /// server without `object-format` has SHA-1 ids. The fault is at packet 0.
+    /// server without `object-format` has SHA-1 ids. The fault reports packet position 0.
     pub fn check_in(&self, format: Format) -> Result<(), MessageFault>
         ensures { MatchResult result (λ _. check_fault format self.now ≡ None)
             (λ fault. (check_fault format self.now ≡ Some fault.why) × (fault.frame ≡ 0)) }
@@ -344,12 +344,13 @@ fn is_value_or_none(value: Option<&[u8]>) -> bool
 /// Reads an advertisement exactly to the end of its flush.
 ///
 /// The fault states the position of the refused packet, counted from 0. A fault of the packet
-/// reader takes precedence, then the end of the input, then an error that the peer reports.
-/// Otherwise the fault is `UnexpectedFrame` for a delimiter, a response-end, or a flush at position
+/// reader takes precedence over the end of the input, which takes precedence over an error that the
+/// peer reports. Otherwise the fault is `UnexpectedFrame` for a delimiter, a response-end, or a
+/// flush at position
 /// 0. The fault is `BadText` for a first line other than `version 2`, and for any later line that
-///    is not a capability. The fault is `Limit` for a 65th capability, and `Memory` only if a
-///    capability could not be stored. The packet reader is unusable after a refusal exactly if the
-///    packet reader itself refused the packet.
+///    is not a capability. The fault is `Limit` for a 65th capability, and `Memory` only if there
+///    is not enough memory for a capability. After a refusal, the packet reader is unusable exactly
+///    if it refused the packet itself.
 pub fn read_advert<S: Source, A: Allocator + Copy, B: Allocator + Copy>(
     reader: &mut PacketReader<S, B>,
     alloc: A,
@@ -365,8 +366,9 @@ pub fn read_advert<S: Source, A: Allocator + Copy, B: Allocator + Copy>(
     Ok(advert)
 }
 
-/// Writes an advertisement: the version, the capabilities in order, and a flush. The bytes read
-/// back as the same advertisement ([`reads_back`](crate::laws::reads_back)). Allocates nothing.
+/// Writes an advertisement: the version, the capabilities in order, and a flush. A reader of the
+/// bytes returns the same advertisement ([`reads_back`](crate::laws::reads_back)). Allocates
+/// nothing.
 ///
 /// Fails with `Io` if the sink fails; a prefix of the advertisement may then have been written.
 /// Fails with `Failed` if the writer had failed before.

@@ -27,8 +27,7 @@ pub const MAX_PATH: usize = 1_000;
 /// The maximum length of a host in bytes.
 pub const MAX_HOST: usize = 255;
 
-// The fixed words of the payload: the first is before the path, the second before the host, the
-// third at the end.
+// The fixed words of the payload: before the path, before the host, and at the end.
 const COMMAND: &[u8] = b"git-upload-pack ";
 
 const HOST: &[u8] = b"host=";
@@ -64,7 +63,7 @@ impl<A: Allocator + Copy> Hello<A> {
     /// bytes, from space to `~`. A host has 1 to 255 bytes, from `!` to `~`.
     ///
     /// Fails with `BadText` if the path or the host is malformed, and otherwise with `Memory` if
-    /// the hello could not be stored. The fault is at packet 0.
+    /// there is not enough memory for the hello. The fault reports packet position 0.
     pub fn new(alloc: A, path: &[u8], host: &[u8]) -> Result<Hello<A>, MessageFault>
         ensures { MakesHello (record { path = path.now; host = host.now }) result }
     {
@@ -127,11 +126,11 @@ pub fn is_host(host: &[u8]) -> bool
 
 /// Reads the first line of a connection exactly to its end.
 ///
-/// The fault is at packet 0. A fault of the packet reader takes precedence, then the end of the
-/// input. Otherwise the fault is `UnexpectedFrame` for a flush, a delimiter or a response-end. The
+/// The fault reports packet position 0. A fault of the packet reader takes precedence over the end
+/// of the input. The fault is `UnexpectedFrame` for a flush, a delimiter or a response-end. The
 /// fault is `BadText` for a malformed payload, even if the payload is an `ERR` text, and `Memory`
-/// only if a hello could not be stored. The packet reader is unusable after a refusal exactly if
-/// the packet reader itself refused the packet.
+/// only if there is not enough memory for the hello. After a refusal, the packet reader is unusable
+/// exactly if it refused the packet itself.
 pub fn read_hello<S: Source, A: Allocator + Copy, B: Allocator + Copy>(
     reader: &mut PacketReader<S, B>,
     alloc: A,
@@ -151,7 +150,7 @@ pub fn read_hello<S: Source, A: Allocator + Copy, B: Allocator + Copy>(
     }
 }
 
-/// Writes a hello as one packet, which reads back as the same hello
+/// Writes a hello as one packet. A reader of the packet returns the same hello
 /// ([`reads_back`](crate::laws::reads_back)). Allocates nothing.
 ///
 /// Fails with `Io` if the sink fails; a prefix of the packet may then have been written. Fails with

@@ -60,21 +60,21 @@ impl MessageKind for Adverts {
     ghost is_canonical = { λ _. advert.IsCanonical };
 }
 
-/// The public constants equal the limits in the specs.
+/// Proves that the public constants equal the limits in the specs.
 pub fn limits_are_the_constants()
     ensures path { MAX_PATH ≡ hello.max_path }
     ensures host { MAX_HOST ≡ hello.max_host }
     ensures advertised { MAX_ADVERTISED ≡ advert.max_advertised }
 {}
 
-/// A list of packets encodes at most one hello and at most one advertisement.
+/// Proves that a list of packets encodes at most one hello and at most one advertisement.
 pub fn one_meaning()
     ensures hello { OneMeaning hello.Says }
     ensures advert { OneMeaning advert.Says }
 {}
 
-/// No hello is a prefix of another hello, and no advertisement is a prefix of another
-/// advertisement. The law holds for packets and for bytes.
+/// Proves that no hello is a prefix of another hello, and no advertisement is a prefix of another
+/// advertisement, as packets or as bytes.
 pub fn prefix_free()
     ensures hello { IsPrefixFree hello.judge }
     ensures hello_spellings { SpellingsPrefixFree hello.judge }
@@ -85,8 +85,9 @@ pub fn prefix_free()
     messages_are_read();
 }
 
-/// The readers accept exactly the hellos and the advertisements of the manual, with the same values
-/// (gitprotocol-pack(5), "Git Transport"; gitprotocol-v2(5), "Capability Advertisement").
+/// Proves that the readers accept exactly the hellos and the advertisements that the manual allows,
+/// with the same values (gitprotocol-pack(5), "Git Transport"; gitprotocol-v2(5), "Capability
+/// Advertisement").
 pub fn manual()
     ensures hello { SaysWhole hello.judge hello.Says }
     ensures hello_payload { PayloadSaysHello }
@@ -98,8 +99,8 @@ pub fn manual()
     grammars_are_exact();
 }
 
-/// Every accepted prefix of a hello or of an advertisement can be completed. A refused packet is
-/// the first packet with which no message can continue.
+/// Proves that every accepted prefix of a hello or of an advertisement can be completed. A refused
+/// packet is the first packet that fits no message.
 pub fn endings()
     ensures hello { HasEndings hello.judge }
     ensures hello_first { RefusesFirstMisfits hello.judge }
@@ -109,8 +110,8 @@ pub fn endings()
     grammars_are_exact();
 }
 
-/// The grammars refuse a packet only because of its contents. Any input either begins with a hello
-/// or is refused as a hello because of its bytes. The same holds for advertisements.
+/// Proves that the grammars refuse a packet only because of its contents. Any input either begins
+/// with a hello or is refused as a hello because of its bytes. The same is true for advertisements.
 pub fn every_input()
     ensures hello_packets { RefusesPackets hello.judge }
     ensures hello { BeginsOrIsRefused hello.judge hello.brings }
@@ -121,8 +122,8 @@ pub fn every_input()
     messages_are_read();
 }
 
-/// The packets that are written for a hello or an advertisement encode that value, and each payload
-/// fits in a packet.
+/// Proves that the packets that are written for a hello or an advertisement encode that message,
+/// and that each payload fits in a packet.
 pub fn canonical_says()
     ensures hello { CanonicalSays hello.Says hello.IsHello hello.IsCanonical }
     ensures advert { CanonicalSays advert.Says advert.AreCapabilities advert.IsCanonical }
@@ -132,8 +133,8 @@ pub fn canonical_says()
     manual();
 }
 
-/// The readers return a hello or an advertisement exactly when the input begins with it, and they
-/// read nothing after it.
+/// Proves that the readers return a hello or an advertisement exactly when the input begins with
+/// it, and read nothing after it.
 pub fn reads_exactly()
     ensures hello { ReadsExactly hello.judge hello.brings hello.Says }
     ensures advert { ReadsExactly advert.judge advert.brings advert.Says }
@@ -144,7 +145,8 @@ pub fn reads_exactly()
     kinds_are_read::<Adverts>();
 }
 
-/// A written hello or advertisement reads back as the same value, whatever bytes follow it.
+/// Proves that a written hello or advertisement reads back as the same value, whatever bytes follow
+/// it.
 pub fn reads_back()
     ensures hello { ReadsBack hello.judge hello.brings hello.Says hello.IsHello hello.IsCanonical }
     ensures advert { ReadsBack advert.judge advert.brings advert.Says advert.AreCapabilities

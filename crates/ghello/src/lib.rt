@@ -1,39 +1,40 @@
 //! The first messages of a connection. A client sends the first line of a `git://` connection
-//! (gitprotocol-pack(5), "Git Transport"), and a server an advertisement (gitprotocol-v2(5),
+//! (gitprotocol-pack(5), "Git Transport"), and a server sends an advertisement (gitprotocol-v2(5),
 //! "Capability Advertisement"). Each of the two messages has a value type, a reader and a writer.
 //!
 //! # Proved
 //!
 //! - Every [`Hello`] and every [`Advert`] is well-formed and within its limits. A call with a
 //!   malformed text fails with `BadText`. Otherwise a call that would exceed a limit fails with
-//!   `Limit`, and any other call can fail only with `Memory`. A failed call changes nothing.
+//!   `Limit`, and a call that runs out of memory fails with `Memory`. A failed call changes
+//!   nothing.
 //! - [`read_hello`] and [`read_advert`] read exactly one message, however its bytes are split into
-//!   pieces. They refuse any other input at the first packet that does not fit, for the reason that
-//!   the grammar gives (`specs/Hello.antt`, `specs/Adverts.antt`). They report out of memory only
-//!   at a packet with contents to store. After a message the packet reader is ready for the next
-//!   message. After a refusal the packet reader is unusable exactly if the packet reader itself
-//!   refused the packet.
+//!   pieces. Both functions refuse any other input at the first packet that does not fit, for the
+//!   reason that the grammar states (`specs/Hello.antt`, `specs/Adverts.antt`). Both functions
+//!   report out of memory only at a packet with contents to store. After a message was read, the
+//!   packet reader is ready for the next message. After a refusal, the packet reader is unusable
+//!   exactly if it refused the packet itself.
 //! - [`write_hello`] and [`write_advert`] write the canonical packets of the value, or a prefix of
-//!   them if the sink fails. The written value reads back.
-//! - The look-ups for a client obey `specs/Offers.antt`. [`Advert::value_of`] returns the first
-//!   capability with a key, and [`Advert::has_feature`] looks for a word in the value of that
-//!   capability. [`Advert::format`] returns the format of the server's ids. [`Advert::check_in`]
-//!   checks that a client whose ids have a given format can use the server.
-//! - [`laws`] states facts about both kinds of messages. The grammars accept exactly the messages
-//!   of the manual, with the same values. A list of packets encodes at most one value. No message
-//!   is a prefix of another, as packets or as bytes. Every accepted prefix can be completed, and a
-//!   refused packet is the first with which no message can continue. Any input begins with a
-//!   message or is refused because of its bytes. The packets that are written for a value encode
-//!   that value, and each payload fits in a packet. A reader returns a message exactly when the
-//!   input begins with it, and a written message reads back. The public constants equal the limits
-//!   in the specs.
+//!   them if the sink fails. A reader of the written packets returns the same value.
+//! - The checks of a client on a server's capabilities are specified in `specs/Offers.antt`.
+//!   [`Advert::value_of`] returns the first capability with a key, and [`Advert::has_feature`]
+//!   looks for a word in the value of that capability. [`Advert::format`] returns the format of the
+//!   server's ids. [`Advert::check_in`] checks that a client whose ids have a given format can use
+//!   the server.
+//! - [`laws`] proves laws about both kinds of messages. The grammars accept exactly the messages of
+//!   the manual, with the same values. A list of packets encodes at most one value. No message is a
+//!   prefix of another, as packets or as bytes. Every accepted prefix can be completed, and a
+//!   refused packet is the first that fits no message. Any input begins with a message or is
+//!   refused because of its bytes. The packets that are written for a value encode that value, and
+//!   each payload fits in a packet. A reader returns a message exactly when the input begins with
+//!   it, and a written message reads back. The public constants equal the limits in the specs.
 //!
 //! # What the contracts do not rule out
 //!
-//! A call may take any amount of time, and may report out of memory whenever it has contents to
-//! store. A value may use more memory than it needs, and a look-up or a writer may allocate and
+//! A call may take any amount of time, and a call that stores contents may report out of memory at
+//! any time. A value may use more memory than it needs, and a look-up or a writer may allocate and
 //! free memory. If a sink fails, any prefix of the packets may have been written. If the bytes of a
-//! source or of a sink are unknown, the contracts say nothing about the bytes read or written. The
+//! source or of a sink are unknown, the contracts do not state which bytes are read or written. The
 //! contracts still state whether the source or the sink has failed.
 //!
 //! # Dependencies

@@ -1,4 +1,4 @@
--- The value of a ref's line with borrowed names: the bytes of the names without their addresses.
+-- The value of a ref's line, with the bytes of the borrowed names but not their addresses.
 use Rattle.std.specs.Option.{option_copied}
 use Rattle.glsreply.specs.RefTexts.{RefLine}
 use Rattle.glsreply.specs.declared.lent.LentLine.{LentLine}

@@ -7,7 +7,7 @@
 --   symref = "symref-target:" symref-target
 --   peeled = "peeled:" obj-id
 --
--- Here `unborn` is allowed only in the first line, for HEAD, with a symref target and no other attribute. Each
+-- This crate allows `unborn` only in the first line, for HEAD, with a symref target and no other attribute. Each
 -- attribute occurs at most once.
 use Rattle.std.specs.Prelude.{◌≡◌, ℕ, ◌≤◌, List, [], ◌∷◌, ◌++◌, length, map, codes, Option, Some, None, ◌⊎◌}
 use Rattle.gpkt.specs.Packets.{Bytes, Packet, Data, Flush, text}

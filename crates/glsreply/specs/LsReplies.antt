@@ -31,7 +31,7 @@ abbrev pub is_flush : Packet → Bool
 is_flush Flush = true
 is_flush _ = false
 
--- whether the flush is among the packets, so that only a response-end may follow
+-- whether the flush is among the packets; after the flush only a response-end may follow
 abbrev pub is_over : List Packet → Bool
 is_over packets = list_any is_flush packets
 
@@ -48,7 +48,7 @@ abbrev pub line_in : Result RefLine Why → Option RefLine
 line_in (Ok line) = Some line
 line_in (Err why) = None
 
--- the refs of the texts; the line of an unborn HEAD is skipped, because `unborn` is not an id
+-- the refs that the texts describe; the line of an unborn HEAD is skipped
 abbrev pub ref_lines : Format → List Bytes → List RefLine
 ref_lines format texts = filter_map (λ line. line_in (line_of format line)) texts
 
@@ -92,7 +92,7 @@ judge_at format ends over count packet = if over then after_flush packet else ju
 abbrev pub judge : Format → Ends → List Packet → Packet → Verdict
 judge format ends packets packet = judge_at format ends (is_over packets) (length (texts_of packets)) packet
 
--- whether the packet has contents to store, as every text line has
+-- whether the packet has contents to store; every text line has
 abbrev pub brings : List Packet → Packet → Bool
 brings packets (Data payload) = true
 brings packets _ = false

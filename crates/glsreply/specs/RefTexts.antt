@@ -1,5 +1,5 @@
--- The parsing of the lines of an ls-refs reply (gitprotocol-v2(5), "ls-refs"). `LsManual` has the grammar of the lines.
--- One space separates the parts of a line, and the parts are checked from left to right.
+-- The parsing of the lines of an ls-refs reply (gitprotocol-v2(5), "ls-refs"). `LsManual` defines the grammar of the
+-- lines. One space separates the parts of a line, and the parts are checked from left to right.
 use Rattle.std.specs.Prelude.{Bool, List, [], ◌∷◌, ◌++◌, codes, if◌then◌else◌, Option, Some, None, is_none}
 use Rattle.std.specs.Prelude.{Result, Ok, Err}
 use Rattle.std.specs.List.{slice_split}
@@ -47,7 +47,7 @@ unfoldable pub attribute_of : Bytes → Attribute
 attribute_of part =
     symref_or_else (after_word (codes "symref-target:") part) (peeled_or_unknown (after_word (codes "peeled:") part))
 
--- the line with this symref target; a line that already has a target is refused before the new target is checked
+-- the line with this symref target; a line that already has a target is refused, even if the new target is malformed
 abbrev pub with_symref : RefLine → Bytes → Result RefLine Why
 with_symref line target =
     if is_none line.symref

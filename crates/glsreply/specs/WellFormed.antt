@@ -24,7 +24,7 @@ pub record IsRefLine (format : Format) (line : RefLine) : Type 0 where
 abbrev pub HasIdsOf : Format → RefLine → Type 0
 HasIdsOf format line = IsIdOf format line.id × IfSome line.peeled (IsIdOf format)
 
--- the first line of a reply, if there is one, has an id of the given format
+-- the id of the first line, if there is a line, has the given format
 abbrev pub BeginsIn : Format → List RefLine → Type 0
 BeginsIn format [] = Unit {0}
 BeginsIn format (line ∷ lines) = IsIdOf format line.id
@@ -78,7 +78,7 @@ abbrev pub Pushes : LsReply → RefLine → LsReply → Result Unit MessageFault
 Pushes old line new result =
     Builds (has_one_format old.lines line) (has_room old) old new (record old { lines = old.lines ++ line ∷ [] }) result
 
--- the reply gets this unborn HEAD, or the call fails and the reply is unchanged
+-- the unborn HEAD of the reply is set, or the call fails and the reply is unchanged
 abbrev pub SetsUnborn : LsReply → Name → LsReply → Result Unit MessageFault → Type 0
 SetsUnborn old target new result =
     Builds true (has_room_for_unborn old) old new (record old { unborn = Some target }) result

@@ -1,5 +1,5 @@
 //! Laws about ls-refs replies. Each function does nothing at run time, and its contract states the
-//! law. A proof may use the law after a call to the function.
+//! law. A caller's proof may use a law after calling its function.
 
 ghost use Rattle.std.specs.Prelude.{◌≡◌, ◌+◌, List, length};
 ghost use Rattle.gname.specs.declared.formats.Format.{Format};
@@ -20,23 +20,23 @@ use gname::laws::{
     texts_have_one_reading,
 };
 
-/// The constant [`MAX_LINES`] equals the limit `max_lines` of the specs.
+/// Proves that the constant [`MAX_LINES`] equals the limit `max_lines` of the specs.
 pub fn limits_are_the_constants()
     ensures lines { MAX_LINES ≡ max_lines }
 {}
 
-/// A list of packets encodes at most one reply.
+/// Proves that a list of packets encodes at most one reply.
 pub fn one_meaning()
     ensures { (format : Format) (ends : Ends) → OneMeaning (Says format ends) }
 {}
 
-/// A list of packets is complete exactly if it encodes a reply.
+/// Proves that a list of packets is complete exactly if it encodes a reply.
 pub fn says_whole()
     ensures { (format : Format) (ends : Ends) → SaysWhole (judge format ends) (Says format ends) }
 {}
 
-/// Among the replies with the same object format and ending, no reply is a prefix of another. The
-/// law holds for packets and for bytes.
+/// Proves that no reply is a prefix of another reply with the same object format and ending, as
+/// packets or as bytes.
 pub fn prefix_free()
     ensures packets { (format : Format) (ends : Ends) → IsPrefixFree (judge format ends) }
     ensures spellings { (format : Format) (ends : Ends) → SpellingsPrefixFree (judge format ends) }
@@ -45,8 +45,8 @@ pub fn prefix_free()
     messages_are_read();
 }
 
-/// Every list of packets that `judge` accepts as incomplete is a prefix of some reply. A refused
-/// packet is the first packet with which no reply can continue.
+/// Proves that every list of packets that `judge` accepts as incomplete is a prefix of some reply.
+/// A refused packet is the first packet that fits no reply.
 pub fn endings()
     ensures endings { (format : Format) (ends : Ends) → HasEndings (judge format ends) }
     ensures first { (format : Format) (ends : Ends) → RefusesFirstMisfits (judge format ends) }
@@ -54,8 +54,8 @@ pub fn endings()
     grammars_are_exact();
 }
 
-/// `judge` refuses a packet only because of the packet's contents. Any input either begins with a
-/// reply or is refused because of its bytes.
+/// Proves that `judge` refuses a packet only because of the packet's contents. Any input either
+/// begins with a reply or is refused because of its bytes.
 pub fn every_input()
     ensures packets { (format : Format) (ends : Ends) → RefusesPackets (judge format ends) }
     ensures bytes { (format : Format) (ends : Ends)
@@ -65,8 +65,8 @@ pub fn every_input()
     messages_are_read();
 }
 
-/// The reader accepts exactly the replies of gitprotocol-v2(5), and reads each with the value that
-/// the manual gives it.
+/// Proves that the reader accepts exactly the replies of gitprotocol-v2(5), and reads each reply
+/// with the value that the manual states.
 pub fn manual()
     ensures { (format : Format) (ends : Ends)
         → AsInManual (Says format ends) (IsLsReply format ends) }
@@ -78,7 +78,8 @@ pub fn manual()
     texts_have_one_reading();
 }
 
-/// The packets that are written for a reply encode that reply, and each payload fits in a packet.
+/// Proves that the packets that are written for a reply encode that reply, and that each payload
+/// fits in a packet.
 pub fn canonical_says()
     ensures { (format : Format) (ends : Ends)
         → CanonicalSays (Says format ends) (IsLsReplyIn format) (IsCanonicalReply ends) }
@@ -92,8 +93,8 @@ pub fn canonical_says()
     texts_have_one_reading();
 }
 
-/// [`LsReply::last_frame`](crate::LsReply::last_frame) is the position of the last packet of a
-/// reply.
+/// Proves that [`LsReply::last_frame`](crate::LsReply::last_frame) is the position of the last
+/// packet of a reply.
 pub fn last_frame()
     ensures { (format : Format) (ends : Ends) (packets : List Packet) (reply : LsReply)
         → Says format ends packets reply → length packets ≡ last_frame ends reply + 1 }
@@ -125,7 +126,7 @@ impl MessageKind for Replies {
     ghost is_canonical = { λ given. IsCanonicalReply given.1 };
 }
 
-/// The reader returns a reply exactly when the input begins with that reply.
+/// Proves that the reader returns a reply exactly when the input begins with that reply.
 pub fn reads_exactly()
     ensures { (format : Format) (ends : Ends)
         → ReadsExactly (judge format ends) brings (Says format ends) }
@@ -135,7 +136,7 @@ pub fn reads_exactly()
     kinds_are_read::<Replies>();
 }
 
-/// A written reply reads back as the same reply, whatever bytes follow it.
+/// Proves that a written reply reads back as the same reply, whatever bytes follow it.
 pub fn reads_back()
     ensures { (format : Format) (ends : Ends)
         → ReadsBack (judge format ends) brings (Says format ends) (IsLsReplyIn format)

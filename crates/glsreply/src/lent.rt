@@ -14,7 +14,7 @@ use gname::{Oid, RefName};
 use std::alloc::Allocator;
 use std::marker::Model;
 
-// The maximum length of a line's text in bytes: two ids, two names, and the words in between.
+// The maximum length of a line's text in bytes: two ids, two names, and the attribute words.
 const MAX_REF_TEXT: usize = 2_152;
 
 /// The line of a ref (gitprotocol-v2(5), "ls-refs"), with borrowed names.
@@ -31,8 +31,8 @@ pub struct LentLine<'a, A: Allocator + Copy> {
 }
 
 impl<'a, A: Allocator + Copy> LentLine<'a, A> {
-    /// Returns the line with the given id, name, symref target and peeled object. The two names may
-    /// be borrowed from different values.
+    /// Returns the line with the given id, name, symref target and peeled object. The name and the
+    /// target may be borrowed from different values.
     pub fn new(
         id: Oid,
         name: &'a RefName<A>,
@@ -56,7 +56,7 @@ impl<'a, A: Allocator + Copy> LentLine<'a, A> {
         }
     }
 
-    /// A law: the ids and the names in a line are well-formed.
+    /// Proves that the ids and the names in a line are well-formed.
     pub(crate) fn laws(&self)
         ensures { IsLine (lent_view self.now) }
     {
@@ -71,8 +71,8 @@ impl<'a, A: Allocator + Copy> LentLine<'a, A> {
     }
 }
 
-/// The text of a ref's line. The buffer has room for the text of any line, so it never allocates.
-/// The buffer can be reused for other lines.
+/// The text of a ref's line, in a buffer with room for any line. The buffer never allocates, and
+/// can be reused for other lines.
 #[derive(Drop)]
 pub struct RefText {
     text: ArrayVec<u8, MAX_REF_TEXT>,

@@ -28,7 +28,7 @@ enum Attribute<'a> {
 
 /// The two kinds of a reply's first line.
 pub(crate) enum FirstText<'a> {
-    /// The line of an unborn `HEAD`: its target, or the reason why the line is refused.
+    /// The line of an unborn `HEAD`, with its target or the reason why the line is refused.
     Unborn(Result<&'a [u8], Why>),
     /// The line of a ref.
     Ref,
@@ -146,8 +146,8 @@ fn attribute_of(part: &[u8]) -> Attribute<'_>
     }
 }
 
-/// Returns the kind of a reply's first line. A line whose first word is `unborn` reports an unborn
-/// `HEAD`. Allocates nothing.
+/// Returns the kind of a reply's first line. A line whose first word is `unborn` describes an
+/// unborn `HEAD`. Allocates nothing.
 #[tactic(auto, unfolding(crate::specs::RefTexts::first_form))]
 pub(crate) fn first_form(text: &[u8]) -> FirstText<'_>
     ensures { form_view result ≡ first_form text.now }

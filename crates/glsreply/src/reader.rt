@@ -41,12 +41,12 @@ pub fn read_ls_reply<S: Source, A: Allocator + Copy, B: Allocator + Copy>(
 /// have the given format.
 ///
 /// The fault states the reason, and the position of the first packet that does not fit. A fault of
-/// the packet reader ([`Why::Line`]) takes precedence over all other faults. Next is the end of the
-/// input ([`Why::Ended`]), then an error that the peer reports ([`Why::RemoteErr`]), and last a
-/// refusal by the grammar. The grammar checks a line from left to right. A well-formed 65,538th
-/// line is refused with [`Why::Limit`]. [`Why::Memory`] is reported only at a line that the grammar
-/// accepts. The packet reader is unusable after a refusal exactly if the packet reader itself
-/// refused the packet.
+/// the packet reader ([`Why::Line`]) takes precedence over all other faults. The end of the input
+/// ([`Why::Ended`]) comes second, an error that the peer reports ([`Why::RemoteErr`]) third, and a
+/// refusal by the grammar last. The grammar checks a line from left to right. A well-formed
+/// 65,538th line is refused with [`Why::Limit`]. [`Why::Memory`] is reported only at a line that
+/// the grammar accepts. After a refusal, the packet reader is unusable exactly if it refused the
+/// packet itself.
 pub fn read_ls_reply_in<S: Source, A: Allocator + Copy, B: Allocator + Copy>(
     reader: &mut PacketReader<S, A>,
     format: Format,

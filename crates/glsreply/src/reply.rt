@@ -109,7 +109,7 @@ impl<A: Allocator + Copy> LsReply<A> {
 
     /// Adds a line. Fails with `BadText` if the ids of the line differ in format from each other or
     /// from the ids of earlier lines. Otherwise fails with `Limit` if the reply has no room for
-    /// another line, or with `Memory`. A failed call leaves the reply unchanged.
+    /// another line, or with `Memory` if memory runs out. A failed call leaves the reply unchanged.
     pub fn push(&mut self, line: RefLine<A>) -> Result<(), MessageFault>
         ensures { Pushes self.old line self.new result }
     {

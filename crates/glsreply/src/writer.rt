@@ -26,9 +26,9 @@ use std::alloc::Allocator;
 /// `ends` requires one (gitprotocol-v2(5), "ls-refs"). Allocates nothing.
 ///
 /// Fails with `Io` if the sink fails; a prefix of the reply may then have been written. Fails with
-/// `Failed` if the writer had failed before. Never fails with `Payload`. Every reply meets the
-/// conditions of [`reads_back`](crate::laws::reads_back) in the format of its ids, so a written
-/// reply reads back.
+/// `Failed` if the writer had failed before. Never fails with `Payload`. A written reply reads back
+/// ([`reads_back`](crate::laws::reads_back)), since every reply meets the conditions of that law in
+/// the format of its ids.
 pub fn write_ls_reply<A: Allocator + Copy, W: Sink>(
     reply: &LsReply<A>,
     ends: Ends,
@@ -51,8 +51,8 @@ pub fn write_ls_reply<A: Allocator + Copy, W: Sink>(
 /// Allocates nothing.
 ///
 /// A caller that writes a reply line by line calls `write_unborn`, then [`write_ref`] for each ref,
-/// then [`write_end`]. The bytes are those of [`write_ls_reply`], and each function fails as
-/// [`write_ls_reply`] does.
+/// then [`write_end`]. The calls write the same bytes as [`write_ls_reply`], and fail for the same
+/// reasons.
 pub fn write_unborn<A: Allocator + Copy, W: Sink>(
     target: Option<&RefName<A>>,
     writer: &mut PacketWriter<W>,
@@ -88,11 +88,11 @@ fn write_refs<A: Allocator + Copy, W: Sink>(
 }
 
 /// Writes the line of a ref. The function uses `text` as a buffer and overwrites it. Allocates
-/// nothing, and fails as [`write_ls_reply`] does.
+/// nothing, and fails for the same reasons as [`write_ls_reply`].
 ///
-/// If both ids of the line have a format, the line is valid in a reply of that format. The caller
-/// must ensure that all ids of a reply have the same format, because a reader refuses an id of
-/// another format.
+/// The line is valid in a reply whose format is that of both ids of the line. The caller must
+/// ensure that all ids of a reply have the same format, because a reader refuses an id of another
+/// format.
 pub fn write_ref<A: Allocator + Copy, W: Sink>(
     line: &LentLine<'_, A>,
     text: &mut RefText,
@@ -112,7 +112,7 @@ pub fn write_ref<A: Allocator + Copy, W: Sink>(
 }
 
 /// Writes the end of a reply: a flush, and a response-end if `ends` requires one. Allocates
-/// nothing, and fails as [`write_ls_reply`] does.
+/// nothing, and fails for the same reasons as [`write_ls_reply`].
 pub fn write_end<W: Sink>(ends: Ends, writer: &mut PacketWriter<W>) -> Result<(), WriteFault>
     ensures { WritesPackets W.contents W.passed_on W.is_down W.loans writer.old writer.new result
         (Flush ∷ ends_with ends) }

@@ -5,12 +5,12 @@ use Rattle.gobject.specs.Packs.{MayPack, PackFails, Packs}
 use Rattle.gobject.specs.declared.fault.PackFault.{PackFault}
 use Rattle.gobject.specs.declared.node.Entry.{Entry}
 
--- the bytes that may still be returned, and whether they complete the pack or end with a fault
+-- the relation between the bytes that may still be returned and the fault, if any, that follows them
 abbrev pub Gives : Type 1
 Gives = List ℕ → Option PackFault → Type 0
 
--- if the bytes complete the pack, they are a pack of the list; if they end with a fault, the packer may fail with this
--- fault for the list
+-- the bytes of a complete pack are a pack that `packs` permits for the list; a fault is one that `fails` permits for
+-- the list
 pub record Begins {A : Type 0} (packs : Packs A) (fails : PackFails A) (list : List (Entry A)) (gives : Gives)
     (most : ℕ) : Type 0 where
   pub whole : (bytes : List ℕ) → gives bytes None → MayPack packs list bytes

@@ -2,9 +2,9 @@
 //!
 //! # Proved
 //!
-//! - The parts of a [`PartPacker`], in order, are a pack of the entries, of at most
-//!   `gname::MAX_PACK` bytes. A packer fails only with a fault that its `pack_fails` permits.
-//! - Any packer of `gobject` becomes a [`PartPacker`] as a [`WholePack`], with the same packs and
+//! - The parts that a [`PartPacker`] returns, in order, form a pack of the entries. The pack has at
+//!   most `gname::MAX_PACK` bytes. A packer fails only with a fault that its `pack_fails` permits.
+//! - A [`WholePack`] turns any packer of `gobject` into a [`PartPacker`], with the same packs and
 //!   faults.
 //! - No call panics, overflows or reads out of bounds, and each call returns.
 //!
@@ -18,7 +18,7 @@
 //!
 //! # Dependencies
 //!
-//! `gobject` for entries, packers and faults, and `gname` for the proofs.
+//! `gobject` defines entries, packers and faults. The proofs use `gname`.
 #![tactic(auto)]
 
 mod parts;

@@ -20,14 +20,15 @@ pub trait PartPacker<A: Allocator + Copy> {
 
     ghost pack_fails: { Self → List (Entry A) → PackFault → Type 0 };
 
-    // The bytes that may still be returned, and whether they complete the pack or end with a fault.
+    // The relation between the bytes that may still be returned and the fault, if any, that follows
+    // them.
     ghost gives: { Self → Self.Parts → List ℕ → Option PackFault → Type 0 };
 
     // The maximum number of bytes that may still be returned.
     ghost most: { Self → Self.Parts → ℕ };
 
-    /// Starts a pack of the entries, of at most `gname::MAX_PACK` bytes. Memory is allocated with
-    /// `alloc`.
+    /// Starts a pack of the entries. The pack has at most `gname::MAX_PACK` bytes, and its memory
+    /// is allocated with `alloc`.
     fn begin(&self, alloc: A, entries: &[Entry<A>]) -> Result<Self::Parts, PackFault>
         ensures { MatchResult result
             (λ parts. Begins (packs self.now) (pack_fails self.now) entries.now

@@ -15,7 +15,7 @@ pub struct WholePack<'a, K> {
 }
 
 impl<'a, K> WholePack<'a, K> {
-    /// Returns the packer as a [`PartPacker`](crate::PartPacker).
+    /// Wraps the packer as a [`PartPacker`](crate::PartPacker).
     pub fn new(packer: &'a K) -> WholePack<'a, K>
         ensures { result.packer.now ≡ packer.now }
     {

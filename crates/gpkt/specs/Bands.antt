@@ -7,7 +7,7 @@ use Rattle.gpkt.specs.declared.fault.BandFault.{BandFault}
 use Rattle.gpkt.specs.declared.fault.BandFault.TheVariants.{NoBand, BadBand}
 use Rattle.gpkt.specs.declared.band.Band.TheVariants as lent
 
--- the payload of a side-band packet: bytes of the pack, progress to show, or the reason why the sender gives up
+-- the payload of a side-band packet: bytes of the pack, progress to show, or the reason why the sender aborts
 pub data BandPacket : Type 0 where
   Data : (bytes : Bytes) → BandPacket
   Progress : (bytes : Bytes) → BandPacket
@@ -51,7 +51,7 @@ unfoldable pub band_form : Bytes → Result BandPacket BandFault
 band_form [] = Err NoBand
 band_form (first ∷ bytes) = band_at first bytes
 
--- a borrowed side-band packet as a value without addresses
+-- the contents of a borrowed side-band packet, without addresses
 abbrev pub band_packet : Band → BandPacket
 band_packet (lent.Data bytes) = Data bytes.now
 band_packet (lent.Progress bytes) = Progress bytes.now

@@ -1,4 +1,4 @@
--- Devices, and the results of calls to them, apart from the bytes read or written.
+-- Sources and sinks, and the results of calls to them, apart from the bytes read or written.
 use Rattle.std.specs.Prelude.{◌≡◌, ℕ, ◌<◌, Bool, ◌++◌, length, Option, Result, IfOk, IsErr, IsSome, IsTrue}
 use Rattle.gpkt.specs.Change.{Change, WhereKnown}
 use Rattle.gpkt.specs.Packets.{Bytes}
@@ -7,7 +7,7 @@ use Rattle.gpkt.specs.Packets.{Bytes}
 abbrev pub TakesSome : {E : Type 0} → Result ℕ E → Bytes → Type 0
 TakesSome result bytes = 0 < length bytes → IfOk result (λ count. 0 < count)
 
--- a call to a device that is down fails
+-- a call to a source or sink that has failed before fails again
 abbrev pub AnswersDown : {A E : Type 0} → Bool → Result A E → Type 0
 AnswersDown was_down result = IsTrue was_down → IsErr result
 
@@ -15,11 +15,11 @@ AnswersDown was_down result = IsTrue was_down → IsErr result
 abbrev pub PassesAll : Option Bytes → Change → Type 0
 PassesAll written passed_on = IsSome passed_on.old → passed_on.new ≡ written
 
--- the known flushed bytes stay flushed, perhaps with more bytes after them
+-- the known flushed bytes stay flushed, and more bytes may be flushed after them
 abbrev pub KeepsPassed : Change → Type 0
 KeepsPassed passed_on = WhereKnown passed_on (λ old new. (more : Bytes) × (new ≡ old ++ more))
 
--- a device that wraps a reader or a writer, and whether the device has failed
+-- a source or sink that wraps a reader or writer, and whether the source or sink has failed
 pub record Device (X : Type 0) : Type 0 where
   pub inner : X
   pub down : Bool

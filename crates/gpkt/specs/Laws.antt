@@ -30,7 +30,7 @@ RefusedIsNoPacket =
 abbrev pub OneFault : Type 0
 OneFault = (fault other : PacketFault) (bytes : Bytes) → NoPacket fault bytes → NoPacket other bytes → fault ≡ other
 
--- the bytes determine the result: the source did not fail, and the reader had not failed before the call
+-- only the bytes determine the result, since the source did not fail and the reader had not failed before the call
 abbrev pub IsOfBytes : Result (Option Packet) PacketFault → Type 0
 IsOfBytes result = (result ≢ Err packet_fault.Io) × (result ≢ Err packet_fault.Failed)
 
@@ -78,8 +78,7 @@ abbrev pub SpellingsSplit : Type 0
 SpellingsSplit = (lines more : List Packet) (bytes : Bytes) → SpellsAll (lines ++ more) bytes
     → (front : Bytes) × (rest : Bytes) × (bytes ≡ front ++ rest) × SpellsAll lines front × SpellsAll more rest
 
--- the first list is a prefix of the second, and `rest` begins with the encoding of the remaining packets, followed by
--- `after`
+-- the first list is a prefix of the second, and `rest` is an encoding of the remaining packets followed by `after`
 abbrev pub BeginsWith : List Packet → List Packet → Bytes → Bytes → Type 0
 BeginsWith lines longer rest after =
     (more : List Packet) × (bytes : Bytes) × (longer ≡ lines ++ more) × SpellsAll more bytes
@@ -96,15 +95,15 @@ OneBegins =
 abbrev pub TextOfLine : Type 0
 TextOfLine = (words : Bytes) → text (words ++ line_feed ∷ []) ≡ words
 
--- the text of a payload is the payload, perhaps without a final line feed
+-- the text of a payload is the payload, or the payload without its final line feed
 abbrev pub TextOrLine : Type 0
 TextOrLine = (payload : Bytes) → (payload ≡ text payload) ⊎ (payload ≡ text payload ++ line_feed ∷ [])
 
--- if no call is made, the empty list of packets is read
+-- making no call reads the empty list of packets
 abbrev pub ReadsNone : Type 0
 ReadsNone = (bytes : Option Bytes) → ReadsPackets (record { old = bytes; new = bytes }) []
 
--- reading a list of packets and then one packet more reads the extended list
+-- reading a list of packets and then another packet reads the extended list
 abbrev pub ReadsNext : Type 0
 ReadsNext =
     (old mid new : Option Bytes) (lines : List Packet) (line : Packet)
@@ -121,7 +120,7 @@ module _
     {W : Type 0} (contents_of passed_on_of : W → Option Bytes) (is_down : W → Bool)
     (loans_of : W → List ℕ)
   where
-    -- the outcome of one call to a writer, which writes these bytes
+    -- the outcome of one call to a writer that writes these bytes
     abbrev pub Writes : Writer W → Writer W → Result Unit WriteFault → Bytes → Type 0
     Writes old new result bytes = HasWritten contents_of passed_on_of is_down loans_of old new result bytes
 
@@ -131,13 +130,13 @@ module _
         (old mid new : Writer W) (bytes more : Bytes) (result : Result Unit WriteFault) → Writes old mid (Ok tt) bytes
         → Writes mid new result more → result ≢ Err write_fault.Payload → Writes old new result (bytes ++ more)
 
-    -- a failed write of some bytes has the outcome of a failed write of these bytes and more bytes after them
+    -- a failed write of some bytes has the outcome of a failed write of the same bytes followed by more bytes
     abbrev pub FailsOfMore : Type 0
     FailsOfMore =
         (old new : Writer W) (bytes more : Bytes) (fault : WriteFault) → Writes old new (Err fault) bytes
         → fault ≢ write_fault.Payload → Writes old new (Err fault) (bytes ++ more)
 
-    -- a flush keeps all bytes written before it, and after a successful flush all these bytes are flushed
+    -- a flush keeps all bytes written before it, and a successful flush flushes them all
     abbrev pub PushesWritten : Type 0
     PushesWritten =
         (old mid new : Writer W) (bytes : Bytes) (result : Result Unit WriteFault) → Writes old mid (Ok tt) bytes

@@ -1,4 +1,4 @@
--- The state of a packet reader after the borrow of the packet that it returned has ended.
+-- The state of a packet reader after the borrow of the returned packet has ended.
 use Rattle.std.specs.Borrow.{Fml, RattleType, MutBor}
 use Rattle.std.specs.Io.BufRead.{Rests}
 use Rattle.std.specs.Prelude.{Bool, List, ℕ, Option, Result}

@@ -34,7 +34,7 @@ NoPacket Io bytes = ⊥
 NoPacket Failed bytes = ⊥
 NoPacket Memory bytes = ⊥
 
--- the result of a read that turns the known input `old` into `new`
+-- the result of a read that leaves `new` of the known input `old`
 abbrev pub Gives : Bytes → Bytes → Result (Option Packet) PacketFault → Type 0
 Gives old new (Ok (Some line)) = (front : Bytes) × (old ≡ front ++ new) × Spells line front
 Gives old new (Ok None) = (old ≡ []) × (new ≡ [])
@@ -54,7 +54,7 @@ Reads bytes result = WhereKnown bytes (λ old new. Gives old new result)
 abbrev pub ReadsPackets : Change → List Packet → Type 0
 ReadsPackets bytes lines = WhereKnown bytes (λ old new. (front : Bytes) × (old ≡ front ++ new) × SpellsAll lines front)
 
--- the result of a read, with the borrowed payload as a value without address
+-- the result of a read, with the contents of the borrowed payload but not its address
 abbrev pub read_of : Result (Option LentPacket) PacketFault → Result (Option Packet) PacketFault
 read_of (Ok line) = Ok (option_map packet_of line)
 read_of (Err fault) = Err fault
@@ -65,12 +65,12 @@ IsReadFault Memory = ⊥
 IsReadFault _ = Unit {0}
 
 module _ {S : Type 0} (remaining_of : S → Option Bytes) (is_down : S → Bool) (loans_of : S → List ℕ) where
-  -- the reader had not failed before the call; the two booleans state whether the reader has failed, and whether the
-  -- source is down, after the call
+  -- the reader had not failed before the call; the two booleans state whether the reader and its source have failed
+  -- after the call
   abbrev pub SetsReader : Reader S → Reader S → Bool → Bool → Type 0
   SetsReader old new failed down = (old.failed ≡ false) × (new.failed ≡ failed) × (is_down new.source ≡ down)
 
-  -- whether the reader has failed, and whether its source is down, after a read with this result
+  -- whether the reader and its source have failed, after a read with this result
   abbrev pub IsReaderAfter : Reader S → Reader S → Result (Option Packet) PacketFault → Type 0
   IsReaderAfter old new (Ok line) = SetsReader old new false false
   IsReaderAfter old new (Err BadDigits) = SetsReader old new true false

@@ -13,7 +13,7 @@ pub record Writer (W : Type 0) : Type 0 where
   pub sink : W
   pub failed : Bool
 
--- if the old bytes are known, a proper prefix of these bytes is appended to them
+-- the call writes a proper prefix of these bytes, if the bytes written before are known
 abbrev pub AppendsFront : Change → Bytes → Type 0
 AppendsFront written bytes =
     (front : Bytes) × (rest : Bytes) × (bytes ≡ front ++ rest) × (0 < length rest)
@@ -23,8 +23,8 @@ module _
     {W : Type 0} (contents_of passed_on_of : W → Option Bytes) (is_down : W → Bool)
     (loans_of : W → List ℕ)
   where
-    -- the writer had not failed before the call; the boolean states whether, after the call, the writer has failed and
-    -- its sink is down
+    -- the writer had not failed before the call; the boolean states whether the writer and its sink have failed after
+    -- the call
     abbrev pub SetsWriter : Writer W → Writer W → Bool → Type 0
     SetsWriter old new failed = (old.failed ≡ false) × (new.failed ≡ failed) × (is_down new.sink ≡ failed)
 

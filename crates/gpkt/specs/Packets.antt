@@ -94,7 +94,7 @@ abbrev pub canonical_all : List Packet → Bytes
 canonical_all [] = []
 canonical_all (line ∷ lines) = canonical line ++ canonical_all lines
 
--- a borrowed packet as a value without addresses
+-- the contents of a borrowed packet, without addresses
 abbrev pub packet_of : LentPacket → Packet
 packet_of (lent.Data payload) = Data payload.now
 packet_of lent.Flush = Flush

@@ -5,7 +5,7 @@ use Rattle.gpkt.specs.Change.{Change, change_of}
 use Rattle.gpkt.specs.Devices.{PassesAll}
 use Rattle.gpkt.specs.Packets.{Bytes}
 
--- a source before and after a call: its unread bytes, if known, and whether the source is down
+-- a source before and after a call: its unread bytes, if known, and whether the source has failed
 pub record Input : Type 0 where
   pub read : Change
   pub was_down : Bool
@@ -15,7 +15,7 @@ abbrev pub input_of : {S : Type 0} → (S → Option Bytes) → (S → Bool) →
 input_of remaining is_down old new =
     record { read = change_of remaining old new; was_down = is_down old; is_down = is_down new }
 
--- the part of the change after the point where `between` are the unread bytes of the source
+-- the part of the change after the unread bytes of the source were `between`
 abbrev pub rest_of : Input → Option Bytes → Input
 rest_of input between = record {
   read = record { old = between; new = input.read.new };
@@ -23,7 +23,7 @@ rest_of input between = record {
   is_down = input.is_down;
 }
 
--- a sink before and after a call: its written and flushed bytes, if known, and whether the sink is down
+-- a sink before and after a call: its written and flushed bytes, if known, and whether the sink has failed
 pub record Output : Type 0 where
   pub written : Change
   pub passed_on : Change
@@ -38,16 +38,16 @@ output_of contents passed_on is_down old new = record {
   is_down = is_down new;
 }
 
--- nothing is read, and the source does not go down
+-- the call reads nothing, and the source does not fail
 pub record IsUnread (input : Input) : Type 0 where
   pub read : input.read.new ≡ input.read.old
   pub down : input.is_down ≡ input.was_down
 
--- the source is not down after the call
+-- the source has not failed after the call
 abbrev pub IsUp : Input → Type 0
 IsUp input = input.is_down ≡ false
 
--- nothing is written or flushed, and the sink does not go down
+-- the call writes and flushes nothing, and the sink does not fail
 pub record IsUnwritten (output : Output) : Type 0 where
   pub written : output.written.new ≡ output.written.old
   pub passed_on : output.passed_on.new ≡ output.passed_on.old
@@ -65,7 +65,7 @@ PassesAfter output bytes =
     (old : Bytes) → output.written.old ≡ Some old → IsSome output.passed_on.old
     → (more : Bytes) × (output.passed_on.new ≡ Some (old ++ bytes ++ more))
 
--- the call writes a prefix of these bytes, perhaps all of them, and the sink is down
+-- the call writes a prefix of these bytes, perhaps all of them, and the sink has failed
 pub record SendsSome (output : Output) (bytes : Bytes) : Type 0 where
   pub front : Bytes
   pub rest : Bytes
@@ -79,7 +79,8 @@ pub record Passes (output : Output) (bytes : Bytes) : Type 0 where
   pub passed_on : IsSome output.written.old → PassesAll output.written.new output.passed_on
   pub up : output.is_down ≡ false
 
--- the call writes and flushes the bytes `sent`, then writes a prefix of `due`, perhaps all of it, and the sink is down
+-- the call writes and flushes the bytes `sent`, then writes a prefix of `due`, perhaps all of it, and the sink has
+-- failed
 pub record SendsAndFails (output : Output) (sent due : Bytes) : Type 0 where
   pub front : Bytes
   pub rest : Bytes

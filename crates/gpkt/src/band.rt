@@ -24,7 +24,7 @@ pub enum Band<'a> {
     Data(&'a [u8]),
     /// Band 2: progress to show to the user.
     Progress(&'a [u8]),
-    /// Band 3: the reason why the sender gives up. No packet follows.
+    /// Band 3: the reason why the sender aborts. No packet follows.
     Fatal(&'a [u8]),
 }
 
@@ -41,8 +41,7 @@ impl<'a> Band<'a> {
     }
 }
 
-/// Returns the band of a payload, which the first byte of the payload selects, with the other
-/// bytes.
+/// Splits a payload into its band, which the first byte selects, and the other bytes.
 ///
 /// Fails with [`NoBand`](BandFault::NoBand) if the payload is empty. Fails with
 /// [`BadBand`](BandFault::BadBand) if the first byte of the payload is not 1, 2 or 3.

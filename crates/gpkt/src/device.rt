@@ -11,8 +11,7 @@ use std::error::Error;
 use std::marker::Model;
 use std::{fmt, io};
 
-/// The failure of a device. The device is down from the failed call on, and every later call also
-/// fails.
+/// The failure of a source or sink. Every later call to the source or sink also fails.
 #[derive(Clone, Copy, Debug, PartialEq, Eq)]
 pub struct Down;
 
@@ -28,7 +27,7 @@ impl Error for Down {}
 
 /// A source of bytes.
 ///
-/// After any error the source is down, and the call is not retried.
+/// After any error, every later call to the source also fails.
 pub trait Source {
     // The bytes still to be read, if they are known.
     ghost remaining: { Self → Option (List ℕ) };
@@ -51,7 +50,7 @@ pub trait Source {
 
 /// A sink for bytes.
 ///
-/// After any error the sink is down, and the call is not retried.
+/// After any error, every later call to the sink also fails.
 pub trait Sink {
     // The bytes written so far, if they are known.
     ghost contents: { Self → Option (List ℕ) };
@@ -118,7 +117,7 @@ impl<W: Sink> Sink for &mut W {
     }
 }
 
-/// Whether a device has failed. A device that has failed stays down.
+/// Whether a source or sink has failed. After a failure, every later call also fails.
 #[derive(Drop)]
 pub(crate) struct FailureFlag {
     down: bool,
@@ -146,8 +145,8 @@ impl FailureFlag {
         self.down
     }
 
-    /// Records the result of a call to the wrapped reader or writer. The device fails exactly when
-    /// that call failed.
+    /// Records the result of a call to the wrapped reader or writer. The source or sink fails
+    /// exactly when that call failed.
     pub(crate) fn note<T>(&mut self, answer: io::Result<T>) -> Result<T, Down>
         ensures failed { IsErr result ↔ IsErr answer }
         ensures value { IfOk result (λ value. answer ≡ Ok value) }
@@ -160,7 +159,7 @@ impl FailureFlag {
         }
     }
 
-    /// Records the result of a write of `buf` to the wrapped writer. The device fails exactly when
+    /// Records the result of a write of `buf` to the wrapped writer. The sink fails exactly when
     /// that write failed, or when it wrote no byte of a nonempty `buf`.
     pub(crate) fn note_write(
         &mut self,
@@ -179,7 +178,7 @@ impl FailureFlag {
         }
     }
 
-    /// Records that the device has failed, and returns the error.
+    /// Records that the source or sink has failed, and returns the error.
     pub(crate) fn fail<T>(&mut self) -> Result<T, Down>
         ensures down { self.new ≡ true }
         ensures err { IsErr result }

@@ -1,4 +1,4 @@
-//! Laws about packets. Each function does nothing at run time and provides its law to the proof of
+//! Laws about packets. Each function does nothing at run time, and its contract proves a law for
 //! the caller.
 
 ghost use Rattle.std.specs.Prelude.{◌≡◌};
@@ -9,47 +9,47 @@ ghost use Rattle.gpkt.specs.Packets.{max_packet, max_payload};
 use crate::device::Sink;
 use crate::{MAX_BAND, MAX_PACKET, MAX_PAYLOAD};
 
-/// The public constants equal the limits in the specifications.
+/// Proves that the public constants equal the limits in the specifications.
 pub fn limits_are_the_constants()
     ensures packet { MAX_PACKET ≡ max_packet }
     ensures payload { MAX_PAYLOAD ≡ max_payload }
     ensures band { MAX_BAND ≡ max_band }
 {}
 
-/// Bytes begin with at most one encoded packet, and this packet ends at only one position.
+/// Proves that bytes begin with at most one encoded packet, which ends at only one position.
 #[tactic(auto, using(crate::proofs::Readings::one_reading_lem))]
 pub fn one_reading()
     ensures { OneReading }
 {}
 
-/// Bytes that a reader rejects do not begin with an encoded packet, and there is only one possible
-/// reason to reject them.
+/// Proves that bytes that a reader rejects do not begin with an encoded packet, and that a reader
+/// can reject them for only one reason.
 #[tactic(auto, using(crate::proofs::Readings::refused_lem, crate::proofs::Fronts::one_fault_lem))]
 pub fn refused_front()
     ensures no_packet { RefusedIsNoPacket }
     ensures one_fault { OneFault }
 {}
 
-/// The input bytes determine the result of a read and the bytes that remain, unless the source
-/// fails or the reader had failed.
+/// Proves that the input bytes determine the result of a read and the remaining bytes, unless the
+/// source fails or the reader had failed before.
 #[tactic(auto, using(crate::proofs::Fronts::one_outcome_lem))]
 pub fn one_outcome()
     ensures { OneOutcome }
 {}
 
-/// Every byte sequence is empty, or begins with an encoded packet, or is rejected by a reader with
-/// a fault.
+/// Proves that every byte sequence is empty, or begins with an encoded packet, or is rejected by a
+/// reader with a fault.
 pub fn every_front()
     ensures { EveryFront }
 {}
 
-/// An encoded packet has at least four bytes.
+/// Proves that an encoded packet has at least four bytes.
 #[tactic(auto, using(crate::proofs::Readings::has_four_bytes_lem))]
 pub fn has_four_bytes()
     ensures { HasFourBytes }
 {}
 
-/// The canonical form of a packet, or of a list of packets, is one of its encodings.
+/// Proves that the canonical form of a packet, or of a list of packets, is one of its encodings.
 #[tactic(auto, using(crate::proofs::Readings::canonical_spells_lem, crate::proofs::Readings::canonical_spells_all_lem, crate::proofs::Readings::canonical_joins_lem))]
 pub fn canonical_spells()
     ensures line { CanonicalSpells }
@@ -57,30 +57,30 @@ pub fn canonical_spells()
     ensures joins { CanonicalJoins }
 {}
 
-/// Bytes encode two concatenated lists of packets exactly when they are an encoding of the first
-/// list and then one of the second.
+/// Proves that bytes encode two concatenated lists of packets exactly when they are an encoding of
+/// the first list followed by an encoding of the second.
 #[tactic(auto, using(crate::proofs::Readings::spellings_join_lem, crate::proofs::Readings::spellings_split_lem))]
 pub fn spellings_join()
     ensures join { SpellingsJoin }
     ensures split { SpellingsSplit }
 {}
 
-/// If the same bytes begin with the encodings of two lists of packets, one list is a prefix of the
-/// other.
+/// Proves that, if the same bytes begin with the encodings of two lists of packets, one list is a
+/// prefix of the other.
 #[tactic(auto, using(crate::proofs::Readings::one_begins_lem))]
 pub fn one_begins()
     ensures { OneBegins }
 {}
 
-/// Reading a text packet returns the text that was written.
+/// Proves that reading a text packet returns the text that was written.
 pub fn text_reads_back()
     ensures line { TextOfLine }
     ensures nothing_else { TextOrLine }
 {}
 
-/// A payload decodes to a band exactly when it consists of the band byte and then the bytes of that
-/// band. The payload fits into a packet exactly when it has at most [`MAX_BAND`](crate::MAX_BAND)
-/// bytes after the band byte.
+/// Proves that a payload decodes to a band exactly when it consists of the band byte followed by
+/// the bytes of that band. The payload fits into a packet exactly when it has at most
+/// [`MAX_BAND`](crate::MAX_BAND) bytes after the band byte.
 #[tactic(auto, using(crate::proofs::Bands::band_is_read, crate::proofs::Bands::band_is_payload))]
 pub fn bands_are_read()
     ensures payload { BandIsRead }
@@ -88,7 +88,8 @@ pub fn bands_are_read()
     ensures fits { BandFits }
 {}
 
-/// Consecutive reads of packets have the effect of one read of the list of all these packets.
+/// Proves that consecutive reads of packets have the effect of one read of the list of all the
+/// packets.
 #[tactic(auto, using(crate::proofs::Joins::reads_none, crate::proofs::Joins::reads_next, crate::proofs::Joins::reads_join))]
 pub fn reads_join()
     ensures none { ReadsNone }
@@ -96,8 +97,8 @@ pub fn reads_join()
     ensures join { ReadsJoin }
 {}
 
-/// Consecutive writes have the effect of one write of all the bytes, and a push flushes all these
-/// bytes.
+/// Proves that consecutive writes have the effect of one write of all the bytes, and that a push
+/// flushes all the bytes.
 #[tactic(auto, using(crate::proofs::Joins::writes_join, crate::proofs::Joins::fails_of_more, crate::proofs::Joins::pushes_written))]
 pub fn writes_join<W: Sink>()
     ensures join { WritesJoin W.contents W.passed_on W.is_down W.loans }

@@ -1,12 +1,12 @@
-//! Packets of Git's protocol (gitprotocol-common(5), "pkt-line Format"), read from and written to
-//! devices, and the side bands of a payload (gitprotocol-pack(5), "Packfile Data").
+//! Packets of Git's protocol (gitprotocol-common(5), "pkt-line Format"), read from sources and
+//! written to sinks, and the side bands of a payload (gitprotocol-pack(5), "Packfile Data").
 //!
 //! A packet starts with four hexadecimal digits. The digits `0000` announce a flush, `0001` a
-//! delimiter, and `0002` a response-end. Any other digits are the length of a data packet,
-//! including the digits. [`PacketReader`] reads packets from a [`Source`]. [`PacketWriter`] writes
-//! packets to a [`Sink`], and [`write_all`] writes any bytes. [`FromRead`] and [`ToWrite`] borrow
-//! std's readers and writers as devices. [`memory`] has devices in memory. [`band_of`] decodes the
-//! side band of a payload.
+//! delimiter, and `0002` a response-end. Any other digits are the length of a data packet, and the
+//! length includes the digits. [`PacketReader`] reads packets from a [`Source`]. [`PacketWriter`]
+//! writes packets to a [`Sink`], and [`write_all`] writes any bytes. [`FromRead`] and [`ToWrite`]
+//! borrow std's readers and writers as sources and sinks. [`memory`] defines sources and sinks in
+//! memory. [`band_of`] decodes the side band of a payload.
 //!
 //! # Proved
 //!
@@ -15,8 +15,8 @@
 //!   if no byte is left. For each fault, the contract states when the reader may report it and
 //!   which bytes are consumed (`HasRead` in `specs/PacketReading.antt`, which uses `Spells` and
 //!   `NoPacket`).
-//! - For any source, a reader that has failed returns `Failed` and reads nothing. After any fault
-//!   the reader has failed. A call that reads reports `Io` exactly when the source is down
+//! - For any source, a reader that has failed returns `Failed` and reads nothing. After any fault,
+//!   the reader counts as failed. A call that reads reports `Io` exactly when the source has failed
 //!   afterwards. A payload has at most 65,516 bytes. Only the constructor reports `Memory`.
 //! - A successful write appends exactly the canonical encoding, if the written bytes are known. A
 //!   write reports `Payload` exactly when the payload is too long for a packet, and then changes
@@ -24,32 +24,32 @@
 //!   returns `Failed` and writes nothing (`HasWritten` in `specs/PacketWriting.antt`).
 //! - If the flushed bytes are known, writing flushes nothing, and a successful
 //!   [`push`](PacketWriter::push) flushes all written bytes (`HasPushed`).
-//! - [`write_all`] writes all of its bytes, or a prefix of these bytes if the sink goes down.
-//! - A device over std's readers and writers goes down exactly when a call to the reader or writer
-//!   fails, or a write accepts no byte of a nonempty slice. The contracts of two private functions,
-//!   which receive the result of that call, state this.
+//! - [`write_all`] writes all of its bytes, or a prefix of the bytes if the sink fails.
+//! - A source or sink over std's readers and writers fails exactly when a call to the reader or
+//!   writer fails, or a write accepts no byte of a nonempty slice. Two private functions, which
+//!   receive the result of that call, state this condition in their contracts.
 //! - Bytes begin with at most one encoded packet, which ends at only one position. Bytes that a
 //!   reader rejects begin with no encoded packet, and there is only one possible reason to reject
 //!   them. The canonical form of a packet is one of its encodings. If the same bytes begin with the
 //!   encodings of two lists of packets, one list is a prefix of the other. Every byte sequence is
 //!   empty, or begins with an encoded packet, or is rejected by a reader with a fault. Consecutive
 //!   reads have the effect of one read, and consecutive writes the effect of one write. A payload
-//!   decodes to a band exactly when it consists of the band byte and then the bytes of that band
+//!   decodes to a band exactly when it consists of the band byte followed by the bytes of that band
 //!   ([`laws`]).
 //! - Each fault has the number, the name and the text that `specs/Faults.antt` states.
 //!
 //! # Only tested
 //!
-//! - A device over std's readers and writers makes one call to the reader or writer for each call
-//!   that it receives. A flush of the device flushes the writer.
-//! - A failed call is not retried, whatever the error is. No read asks for zero bytes.
+//! - A source or sink over std's readers and writers makes one call to the reader or writer for
+//!   each call that it receives. A flush of the sink flushes the writer.
+//! - A failed call is not retried, whatever the error is. No read requests zero bytes.
 //!
 //! # What the contracts do not rule out
 //!
-//! - A device may always be down. A source or a sink may move only one byte per call. A device over
-//!   std's writers may flush twice, or flush without a call to `flush`.
-//! - The allocation of a buffer may always fail, and a constructor may read from the source before
-//!   it fails.
+//! - A source or sink may fail at any call, and may move only one byte per call. A sink over std's
+//!   writers may flush twice, or flush without a call to `flush`.
+//! - The allocation of a buffer may fail at any time, and a constructor may read from the source
+//!   before it fails.
 //! - A [`memory::Limited`] may ignore its limits, and a [`memory::VecSink`] need not count flushes.
 //! - A sink that flushes at every write has unknown flushed bytes, since a write must not change
 //!   known flushed bytes. A failed flush may have flushed any part of the buffered bytes.
@@ -57,7 +57,8 @@
 //!
 //! # Dependencies
 //!
-//! `hex` for the hexadecimal digits, and std's `Read` and `Write`.
+//! `hex` reads and writes the hexadecimal digits. Sources and sinks may wrap std's `Read` and
+//! `Write`.
 #![tactic(auto)]
 
 mod band;

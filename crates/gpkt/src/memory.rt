@@ -1,5 +1,5 @@
-//! Devices in memory, and a wrapper that limits a device. These devices are for tests, and for
-//! callers whose bytes are in memory.
+//! Sources and sinks in memory, and a wrapper that limits a source or sink. The module is for
+//! tests, and for callers whose bytes are in memory.
 
 ghost use Rattle.std.specs.Prelude.{◌≡◌, ◌<◌, ◌≤◌, ◌⊎◌, ◌++◌, [], false, Some, length, take, drop};
 
@@ -171,10 +171,10 @@ impl<A: Allocator + Copy> Sink for VecSink<A> {
     }
 }
 
-/// A device that moves only a limited number of bytes per call, and fails at a chosen call.
+/// A source or sink that moves only a limited number of bytes per call, and fails at a chosen call.
 ///
-/// The limit and the failing call are only tested. The contracts cover the wrapped device and
-/// whether the wrapper has failed.
+/// Only tests check the limit and the failing call. The contracts describe the wrapped source or
+/// sink, and whether the wrapper has failed.
 #[derive(Drop)]
 pub struct Limited<D> {
     device: D,
@@ -225,7 +225,7 @@ impl<D> Limited<D> {
         self
     }
 
-    /// Returns the wrapped device in its current state.
+    /// Returns the wrapped source or sink in its current state.
     pub fn into_inner(self) -> D
         ensures { result ≡ self.inner }
     {

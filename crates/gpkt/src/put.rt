@@ -12,8 +12,9 @@ use crate::packet::{DIGITS, MAX_PAYLOAD};
 /// Writes all bytes, with as many calls to the sink as needed. The sink is not called if `bytes` is
 /// empty.
 ///
-/// If the call fails, only a prefix of the bytes was written, and the sink is down. Written bytes
-/// may still be buffered until a [`Sink::flush`]. A sink that was down before the call stays down.
+/// If the call fails, only a prefix of the bytes was written, and the sink has failed. Written
+/// bytes may still be buffered until a [`Sink::flush`]. A sink that had failed before the call is
+/// still failed afterwards.
 pub fn write_all<W: Sink>(sink: &mut W, bytes: &[u8]) -> Result<(), Down>
     ensures ok { OnOk result (Appends (W.contents sink.old) (W.contents sink.new) bytes.now) }
     ensures err { OnErr result

@@ -1,4 +1,4 @@
-//! Devices over std's readers and writers.
+//! Sources and sinks over std's readers and writers.
 
 ghost use Rattle.std.specs.Prelude.{◌≡◌, ◌∷◌, [], false, None};
 
@@ -7,7 +7,7 @@ use std::io::{Read, Write};
 
 /// A source that borrows one of std's readers and reads from it.
 ///
-/// The source goes down after any error of the reader, even `Interrupted`.
+/// The source fails after any error of the reader, even `Interrupted`.
 #[derive(Drop)]
 pub struct FromRead<'a, R> {
     reader: &'a mut R,
@@ -15,7 +15,7 @@ pub struct FromRead<'a, R> {
 }
 
 impl<'a, R> FromRead<'a, R> {
-    /// Returns a source that is not down.
+    /// Returns a source that has not failed.
     pub fn new(reader: &'a mut R) -> FromRead<'a, R>
         ensures same { result.reader.ghost_name ≡ reader.entry.ghost_name }
         ensures reader { result.reader.now ≡ reader.old }
@@ -56,8 +56,8 @@ impl<R: Read> Source for FromRead<'_, R> {
 /// A sink that borrows one of std's writers and writes to it. The flushed bytes of the sink are
 /// unknown.
 ///
-/// The sink goes down after any error of the writer, even `Interrupted`. The sink also goes down if
-/// a write accepts no byte of a nonempty slice.
+/// The sink fails after any error of the writer, even `Interrupted`. The sink also fails if a write
+/// accepts no byte of a nonempty slice.
 #[derive(Drop)]
 pub struct ToWrite<'a, W> {
     writer: &'a mut W,
@@ -65,7 +65,7 @@ pub struct ToWrite<'a, W> {
 }
 
 impl<'a, W> ToWrite<'a, W> {
-    /// Returns a sink that is not down.
+    /// Returns a sink that has not failed.
     pub fn new(writer: &'a mut W) -> ToWrite<'a, W>
         ensures same { result.writer.ghost_name ≡ writer.entry.ghost_name }
         ensures writer { result.writer.now ≡ writer.old }

@@ -89,8 +89,8 @@ impl<W: Sink> PacketWriter<W> {
         self.put_parts(first, second, b"\n")
     }
 
-    /// Writes one data packet whose payload is the band byte and then the bytes of the band. Fails
-    /// with [`Payload`](WriteFault::Payload) if the band has more than
+    /// Writes one data packet whose payload is the band byte followed by the bytes of the band.
+    /// Fails with [`Payload`](WriteFault::Payload) if the band has more than
     /// [`MAX_BAND`](crate::MAX_BAND) bytes.
     pub fn put_band(&mut self, band: &Band<'_>) -> Result<(), WriteFault>
         ensures written { HasWritten W.contents W.passed_on W.is_down W.loans self.old self.new

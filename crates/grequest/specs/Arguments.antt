@@ -1,5 +1,5 @@
--- The texts of a request's packets (gitprotocol-v2(5), "Command Request", "ls-refs", "fetch"): the kind of each text,
--- and the value in it. There are tables for commands, for capabilities and for the arguments of each command.
+-- The texts of a request's packets (gitprotocol-v2(5), "Command Request", "ls-refs", "fetch"): the kind and the value
+-- of each text. There are tables for commands, for capabilities and for the arguments of each command.
 use Rattle.std.specs.Prelude.{Bool, [], ◌∷◌, codes, if◌then◌else◌, Option, Some, None}
 use Rattle.std.specs.Str.{bytes_eq}
 use Rattle.gpkt.specs.Packets.{Bytes}
@@ -38,7 +38,7 @@ abbrev pub command_after : Option Bytes → CommandForm
 command_after None = BadCommand
 command_after (Some key) = command_of_key key
 
--- the command that the first text of a request names; this text is `command=` and a key
+-- the command that the first text of a request names, after `command=`
 unfoldable pub command_form : Bytes → CommandForm
 command_form text = command_after (after_word (codes "command=") text)
 
@@ -82,7 +82,7 @@ ls_flags =
     ∷ (ls.Unborn, codes "unborn")
     ∷ []
 
--- the flags of fetch, in the order in which they are written, except that `done` is written after the ids
+-- the flags of fetch, in the order in which they are written; `done` is written after the ids
 abbrev pub fetch_flags : Table FetchFlag
 fetch_flags =
     (fetch.ThinPack, codes "thin-pack")

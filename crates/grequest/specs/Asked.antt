@@ -62,7 +62,7 @@ ls_with asked flag is_set = record asked { flags = with_flag same_ls_flag ls_fla
 abbrev pub fetch_with : FetchAsked → FetchFlag → Bool → FetchAsked
 fetch_with asked flag is_set = record asked { flags = with_flag same_fetch_flag fetch_flags asked.flags flag is_set }
 
--- the reply starts with the pack, since the request has `done` or no haves
+-- the request has `done` or no haves, so the reply starts with the pack
 abbrev pub is_direct : FetchAsked → Bool
 is_direct asked = fetch_has asked Done || length asked.haves == 0
 

@@ -14,7 +14,7 @@ flag_in (row ∷ rows) text = if bytes_eq text row.1 then Some row.0 else flag_i
 
 -- ---- sets of flags
 
--- a boolean for each flag of the table
+-- a set of flags: a boolean for each flag of the table
 abbrev pub FlagsOf : {F : Type 0} → Table F → Type 0
 FlagsOf [] = Unit {0}
 FlagsOf (row ∷ rows) = Bool × FlagsOf rows
@@ -24,11 +24,11 @@ abbrev pub flags_where : {F : Type 0} (table : Table F) → (F → Bool) → Fla
 flags_where [] passes = tt
 flags_where (row ∷ rows) passes = (passes row.0, flags_where rows passes)
 
--- the boolean at the index of the flag's number, or false if the list is too short
+-- the boolean of the flag, at the index of the flag's number, or false if the list is too short
 abbrev pub flag_at : {F : Type 0} → (F → ℕ) → List Bool → F → Bool
 flag_at number kept flag = slice_index_or kept (number flag) false
 
--- the set of flags that a list of booleans represents, with each boolean at the index of its flag's number
+-- the set of flags that a list of booleans represents; the boolean of a flag is at the index of the flag's number
 abbrev pub flags_at : {F : Type 0} → (F → ℕ) → (table : Table F) → List Bool → FlagsOf table
 flags_at number table kept = flags_where table (flag_at number kept)
 

@@ -26,12 +26,12 @@ pub data RequestPlace : Type 0 where
   InCapabilities : (command : Command) → RequestPlace
   InArguments : (command : Command) → RequestPlace
 
--- the section after the first text
+-- the section after the first text of a request
 abbrev pub place_of_command : CommandForm → RequestPlace
 place_of_command (Known command) = InCapabilities command
 place_of_command _ = First
 
--- the section after a packet: the command opens the capabilities, and a delimiter opens the arguments
+-- the section after a packet: the capabilities follow the command, and the arguments follow a delimiter
 abbrev pub next_place : RequestPlace → Packet → RequestPlace
 next_place First (Data payload) = place_of_command (command_form (text payload))
 next_place First _ = First
@@ -124,7 +124,7 @@ abbrev pub first_of : List Bytes → Option Bytes
 first_of [] = None
 first_of (x ∷ xs) = Some x
 
--- ---- the contents of a request: from its command and texts, from its last section, and from its packets
+-- ---- the contents of a request
 
 abbrev pub ls_refs_asked : List Bytes → List Bytes → LsRefsAsked
 ls_refs_asked capabilities arguments = record {
@@ -145,7 +145,7 @@ abbrev pub asked_by_command : Format → Command → List Bytes → List Bytes �
 asked_by_command format LsRefs capabilities arguments = Ls (ls_refs_asked capabilities arguments)
 asked_by_command format Fetch capabilities arguments = Fetches (fetch_asked format capabilities arguments)
 
--- a request without a command is empty
+-- the contents of a request, which is empty if it has no command
 abbrev pub asked_by_texts : Format → RequestPlace → List Bytes → List Bytes → Asked
 asked_by_texts format First capabilities arguments = Empty
 asked_by_texts format (InCapabilities command) capabilities arguments =

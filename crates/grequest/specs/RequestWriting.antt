@@ -21,7 +21,7 @@ abbrev pub agent_packets : Option Bytes → List Packet
 agent_packets None = []
 agent_packets (Some value) = text_packet (codes "agent=" ++ value) ∷ []
 
--- the packet of the object-format capability; there is none for sha1, which is the default
+-- the packet of the object-format capability, or no packet for sha1, which is the default
 abbrev pub format_packets : Format → List Packet
 format_packets Sha1 = []
 format_packets Sha256 = text_packet (codes "object-format=" ++ format_name Sha256) ∷ []

@@ -55,14 +55,14 @@ abbrev pub haves_of : Asked → List Id
 haves_of (Fetches asked) = asked.haves
 haves_of _ = []
 
--- ---- the tables
+-- ---- the verdict on each packet
 
 abbrev pub judge_command : CommandForm → Verdict
 judge_command (Known command) = Open
 judge_command UnknownCommand = Refused why.UnknownCommand
 judge_command BadCommand = Refused why.BadText
 
--- the given verdict for the first occurrence of a capability, and a rejection for a repeated one
+-- the given verdict for the first occurrence of a capability, and a rejection for a repeated capability
 abbrev pub once : Bool → Verdict → Verdict
 once is_first verdict = if is_first then verdict else Refused why.BadText
 
@@ -73,12 +73,12 @@ judge_capability format state (ObjectFormat value) =
 judge_capability format state UnknownCapability = Refused why.UnknownCapability
 judge_capability format state BadCapability = Refused why.BadText
 
--- a request with this many arguments may have another argument
+-- a request with this many arguments has room for another argument
 abbrev pub has_room : ℕ → Bool
 has_room arguments = nat_lt arguments max_arguments
 
--- the verdict on a well-formed argument, given the number of arguments before it, the earlier values of its kind, and
--- their maximum number
+-- the verdict on a well-formed argument, given the number of earlier arguments, the earlier values of the same kind,
+-- and their maximum number
 abbrev pub of_few : ℕ → List (List ℕ) → ℕ → Verdict
 of_few arguments before limit = if_room (has_room arguments && nat_lt (length before) limit)
 
@@ -109,7 +109,7 @@ judge_text format First state line = judge_command (command_form line)
 judge_text format (InCapabilities command) state line = judge_capability format state (capability_form line)
 judge_text format (InArguments command) state line = judge_argument format command state line
 
--- the verdict, but the packet is rejected if the request must name the object format and has not named it
+-- the given verdict, or a rejection if the request must name the object format and has not named it
 abbrev pub unless_unnamed : Format → State → Verdict → Verdict
 unless_unnamed Sha1 state verdict = verdict
 unless_unnamed Sha256 state verdict = if state.format_lines == 0 then Refused why.Format else verdict

@@ -93,14 +93,14 @@ impl<A: Allocator + Copy> FetchRequest<A> {
         self.format
     }
 
-    /// A law that states the invariant of a fetch request.
+    /// Proves that every fetch request satisfies its invariant.
     pub fn laws(&self)
         ensures { IsFetchAsked self.now.format self.now.asked }
     {
         let _ = &self.flags;
     }
 
-    /// Returns the agent that the client sent, if any: 1 to 1,000 bytes from `!` to `~`.
+    /// Returns the client's agent string, if any: 1 to 1,000 bytes from `!` to `~`.
     pub fn agent(&self) -> Option<&[u8]>
         ensures agent { option_copied result ≡ self.now.asked.agent }
         ensures well_formed { IsFetchAsked self.now.format self.now.asked }
@@ -108,8 +108,8 @@ impl<A: Allocator + Copy> FetchRequest<A> {
         self.agent.as_ref().map(|value| value.as_slice())
     }
 
-    /// Returns the wants, the ids that the client asks for, in the order of the request. A request
-    /// has at most 1,024 wants.
+    /// Returns the wants, which are the requested ids, in the order of the request. A request has
+    /// at most 1,024 wants.
     pub fn wants(&self) -> &[Oid]
         ensures wants { result.now ≡ self.now.asked.wants }
         ensures well_formed { IsFetchAsked self.now.format self.now.asked }
@@ -117,8 +117,8 @@ impl<A: Allocator + Copy> FetchRequest<A> {
         self.wants.as_slice()
     }
 
-    /// Returns the haves, the ids that the client has, in the order of the request. A request has
-    /// at most 4,096 haves.
+    /// Returns the haves, which are ids of objects that the client holds, in the order of the
+    /// request. A request has at most 4,096 haves.
     pub fn haves(&self) -> &[Oid]
         ensures haves { result.now ≡ self.now.asked.haves }
         ensures well_formed { IsFetchAsked self.now.format self.now.asked }
@@ -133,8 +133,8 @@ impl<A: Allocator + Copy> FetchRequest<A> {
         self.flags[flag.number()]
     }
 
-    /// Returns the flags without `done`, which is written after the ids. The boolean of each flag
-    /// is at the index of its number.
+    /// Returns a boolean for each flag except `done`, which is written after the ids. The index is
+    /// the number of the flag.
     pub(crate) fn early_flags(&self) -> [bool; MAX_FLAGS]
         ensures { flags_at fetch_number fetch_flags result
             ≡ (fetch_with self.now.asked Done false).flags }
@@ -200,10 +200,11 @@ impl<A: Allocator + Copy> FetchRequest<A> {
         self.flags[flag.number()] = is_set;
     }
 
-    /// Sets the agent, the client's name for itself, and replaces the previous one.
+    /// Sets the client's agent string, and replaces any previous agent string.
     ///
-    /// Fails with `BadText` if the agent does not consist of 1 to 1,000 bytes from `!` to `~`, and
-    /// with `Memory` if memory runs out. The fault is at packet 0, and the request is unchanged.
+    /// Fails with `BadText` if the agent string is not 1 to 1,000 bytes from `!` to `~`, or with
+    /// `Memory` if memory runs out. The fault reports packet position 0, and the request is
+    /// unchanged.
     pub fn set_agent(&mut self, agent: &[u8]) -> Result<(), MessageFault>
         ensures { Builds (is_word_value agent.now) true self.old self.new
             (record self.old { asked = record self.old.asked { agent = Some agent.now } }) result }
@@ -219,9 +220,9 @@ impl<A: Allocator + Copy> FetchRequest<A> {
 
     /// Appends a want.
     ///
-    /// Fails with `BadText` if the id has another format than the request. Otherwise fails with
-    /// `Limit` if there are already 1,024 wants, or with `Memory`. The fault is at packet 0, and
-    /// the request is unchanged.
+    /// Fails with `BadText` if the format of the id is not that of the request. Otherwise fails
+    /// with `Limit` if there are already 1,024 wants, or with `Memory` if memory runs out. The
+    /// fault reports packet position 0, and the request is unchanged.
     pub fn push_want(&mut self, id: Oid) -> Result<(), MessageFault>
         ensures { Builds (has_format self.old.format id)
             (nat_lt (length self.old.asked.wants) max_wants)
@@ -237,9 +238,9 @@ impl<A: Allocator + Copy> FetchRequest<A> {
 
     /// Appends a have.
     ///
-    /// Fails with `BadText` if the id has another format than the request. Otherwise fails with
-    /// `Limit` if there are already 4,096 haves, or with `Memory`. The fault is at packet 0, and
-    /// the request is unchanged.
+    /// Fails with `BadText` if the format of the id is not that of the request. Otherwise fails
+    /// with `Limit` if there are already 4,096 haves, or with `Memory` if memory runs out. The
+    /// fault reports packet position 0, and the request is unchanged.
     pub fn push_have(&mut self, id: Oid) -> Result<(), MessageFault>
         ensures { Builds (has_format self.old.format id)
             (nat_lt (length self.old.asked.haves) max_haves)
@@ -253,7 +254,7 @@ impl<A: Allocator + Copy> FetchRequest<A> {
         Ok(())
     }
 
-    // Stores the agent, the client's name for itself.
+    // Stores the client's agent string.
     pub(crate) fn keep_agent(&mut self, agent: &[u8]) -> Result<(), AllocError>
         requires { is_word_value agent.now ≡ true }
         ensures ok { OnOk result (self.new
@@ -265,7 +266,7 @@ impl<A: Allocator + Copy> FetchRequest<A> {
         Ok(())
     }
 
-    // Adds an argument that follows `arguments` other arguments.
+    // Adds an argument to a request that has `arguments` arguments so far.
     pub(crate) fn take_argument(&mut self, arguments: u32, text: &[u8]) -> Result<(), Why>
         ensures adds { AddsAs (judge_fetch_argument self.old.format arguments self.old.asked.wants
             self.old.asked.haves (fetch_argument text.now))

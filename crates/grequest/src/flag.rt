@@ -4,7 +4,7 @@ ghost use Rattle.std.specs.Prelude.{◌≡◌, ◌<◌, ◌↔◌, ℕ, IsTrue};
 ghost use Rattle.grequest.specs.Flags.{flag_in, flags_at};
 ghost use Rattle.grequest.specs.steps.Flags.{table_in};
 
-/// A flag of ls-refs, named as in Git (gitprotocol-v2(5), "ls-refs").
+/// A flag of ls-refs, with the name that Git uses (gitprotocol-v2(5), "ls-refs").
 #[derive(Clone, Copy, Debug, PartialEq, Eq)]
 pub enum LsRefsFlag {
     Peel,
@@ -12,7 +12,7 @@ pub enum LsRefsFlag {
     Unborn,
 }
 
-/// A flag of fetch, named as in Git (gitprotocol-v2(5), "fetch").
+/// A flag of fetch, with the name that Git uses (gitprotocol-v2(5), "fetch").
 #[derive(Clone, Copy, Debug, PartialEq, Eq)]
 pub enum FetchFlag {
     ThinPack,

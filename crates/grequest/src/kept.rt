@@ -14,8 +14,8 @@ pub(crate) enum NotKept {
 }
 
 impl NotKept {
-    /// Returns the grammar's reason to reject the value. `wrong_form` is the reason for a wrong
-    /// form, which depends on the kind of the value.
+    /// Returns the grammar's reason to reject the value. A malformed value is rejected with the
+    /// reason `wrong_form`.
     pub(crate) fn why(self, wrong_form: Why) -> Why
         ensures { result ≡ why_not_kept wrong_form self }
     {

@@ -1,4 +1,4 @@
-//! Laws about the grammar of requests: functions without effect whose contracts state the laws.
+//! Laws about the grammar of requests: each function does nothing, and its contract proves a law.
 
 ghost use Rattle.std.specs.Prelude.{◌≡◌};
 ghost use Rattle.gname.specs.declared.formats.Format.{Format};
@@ -18,29 +18,31 @@ use ggrammar::laws::{grammars_are_exact, kinds_are_read, messages_are_read};
 use gname::laws::{ids_have_one_format, ids_have_texts, prefixes_are_clean};
 use gpkt::laws::has_four_bytes;
 
-/// The public constants of this crate equal the limits in its specifications.
+/// Proves that the public constants of this crate equal the limits in its specifications.
 pub fn limits_are_the_constants()
     ensures prefixes { MAX_PREFIXES ≡ max_prefixes }
     ensures wants { MAX_WANTS ≡ max_wants }
     ensures haves { MAX_HAVES ≡ max_haves }
 {}
 
-/// A list of packets is read as a request exactly if Git's manual allows the list, and with the
-/// meaning that the manual states (gitprotocol-v2(5), "Command Request", "ls-refs" and "fetch").
+/// Proves that a list of packets is read as a request exactly if Git's manual allows the list, and
+/// with the meaning that the manual states (gitprotocol-v2(5), "Command Request", "ls-refs" and
+/// "fetch").
 pub fn manual()
     ensures { (format : Format) → AsInManual (Says format) (IsRequest format) }
 {
     grammars_are_exact();
 }
 
-/// A list of packets has at most one meaning, and each complete list of packets has a meaning.
+/// Proves that a list of packets encodes at most one request, and that each complete list encodes a
+/// request.
 pub fn one_meaning()
     ensures one { (format : Format) → OneMeaning (Says format) }
     ensures whole { (format : Format) → SaysWhole (judge format) (Says format) }
 {}
 
-/// No request is a prefix of another, as packets or as bytes. So the end of a request is known
-/// without the bytes after it.
+/// Proves that no request is a prefix of another, as packets or as bytes. A reader therefore finds
+/// the end of a request without reading further.
 pub fn prefix_free()
     ensures packets { (format : Format) → IsPrefixFree (judge format) }
     ensures spellings { (format : Format) → SpellingsPrefixFree (judge format) }
@@ -49,7 +51,8 @@ pub fn prefix_free()
     messages_are_read();
 }
 
-/// Each prefix of a request can be completed, and a rejected packet is the first that does not fit.
+/// Proves that the packets accepted so far can always be completed to a request, and that a
+/// rejected packet is the first that does not fit.
 pub fn endings()
     ensures each { (format : Format) → HasEndings (judge format) }
     ensures first { (format : Format) → RefusesFirstMisfits (judge format) }
@@ -57,8 +60,8 @@ pub fn endings()
     grammars_are_exact();
 }
 
-/// A packet is rejected only because of its content. Every byte sequence begins with a request, or
-/// is rejected because of its content.
+/// Proves that a packet is rejected only because of its content. Every byte sequence begins with a
+/// request, or is rejected because of its content.
 pub fn every_input()
     ensures packets { (format : Format) → RefusesPackets (judge format) }
     ensures bytes { (format : Format) → BeginsOrIsRefused (judge format) brings }
@@ -67,7 +70,8 @@ pub fn every_input()
     messages_are_read();
 }
 
-/// The packets written for a request encode this request, and each payload fits a packet.
+/// Proves that the packets written for a request encode the request, and that each payload fits a
+/// packet.
 pub fn canonical_says()
     ensures { (format : Format)
         → CanonicalSays (Says format) (IsAsked format) (IsCanonicalRequest format) }
@@ -78,8 +82,8 @@ pub fn canonical_says()
     prefixes_are_clean();
 }
 
-/// A request is read exactly if the bytes begin with packets that encode it. Nothing after these
-/// packets is read. `None` is returned exactly if there are no bytes.
+/// Proves that a request is read exactly if the bytes begin with packets that encode it. Nothing
+/// after these packets is read. `None` is returned exactly if there are no bytes.
 pub fn reads_exactly()
     ensures request { (format : Format) → ReadsExactlyIfAny (judge format) brings (Says format) }
     ensures missing { (format : Format) → IsMissingWhereEmpty format }
@@ -90,7 +94,7 @@ pub fn reads_exactly()
     kinds_are_read::<Requests>();
 }
 
-/// A written request reads back as the same request, whatever bytes follow.
+/// Proves that a written request reads back as the same request, whatever bytes follow.
 pub fn reads_back()
     ensures { (format : Format)
         → ReadsBackIfAny (judge format) brings (Says format) (IsAsked format)

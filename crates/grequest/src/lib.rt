@@ -4,17 +4,16 @@
 //! # Proved
 //!
 //! - [`read_request_in`] reads a request exactly to its end, however its bytes are split into
-//!   pieces. It returns the contents of the packets, or `None` if the input ends before the first
-//!   packet. It rejects every other input at the first packet that does not fit, for the reason
-//!   that the grammar states (`judge` in `specs/Requests.antt`). An error that the peer reports
-//!   takes precedence, then a wrong form, then a limit. Out of memory is reported only at an agent,
-//!   a prefix, a want or a have.
-//! - In a repository of SHA-256 ids, a request must name the object format, and its ids have this
-//!   format.
-//! - The values of [`LsRefsRequest`] and [`FetchRequest`] are always well-formed and within their
-//!   limits. A call with an ill-formed value fails with `BadText`. Otherwise a call that would
-//!   exceed a limit fails with `Limit`, and a call that runs out of memory fails with `Memory`.
-//!   Each fault is at packet 0, and the request is unchanged.
+//!   pieces. It returns the request that the packets encode, or `None` if the input ends before the
+//!   first packet. Any other input is rejected at the first packet that does not fit, for the
+//!   reason that the grammar states (`judge` in `specs/Requests.antt`). An error packet from the
+//!   peer takes precedence, then a malformed text, then an exceeded limit. Out of memory is
+//!   reported only at an agent, a prefix, a want or a have.
+//! - A request to a SHA-256 repository must name the object format, and its ids have this format.
+//! - Every [`LsRefsRequest`] and every [`FetchRequest`] is well-formed and within its limits. A
+//!   call with an ill-formed value fails with `BadText`. Otherwise a call that would exceed a limit
+//!   fails with `Limit`, and a call that runs out of memory fails with `Memory`. Each fault reports
+//!   packet position 0, and the request is unchanged.
 //! - [`FetchRequest::is_direct`] returns whether the reply starts with the pack: the request has
 //!   `done` or no haves.
 //! - A copy of a request has the same contents, and its ids have the same format. `asks_as` returns
@@ -23,30 +22,31 @@
 //!   (`specs/RequestWriting.antt`), or a prefix of it if the sink fails. For a request with ids,
 //!   the caller passes the format of these ids, and the request then reads back.
 //! - By [`laws`], a list of packets is read as a request exactly if Git's manual allows the list
-//!   (`specs/Manual.antt`), and the list has only one meaning. No request is a prefix of another,
-//!   as packets or as bytes. Each prefix can be completed, and a rejected packet is the first that
-//!   does not fit. The packets written for a request encode this request, and each payload fits a
-//!   packet. A request is read exactly if the bytes begin with packets that encode it, and `None`
-//!   is returned exactly if there are no bytes. Every byte sequence begins with a request or is
-//!   rejected because of its content. A written request reads back, whatever bytes follow. The
-//!   public constants equal the limits in the specifications.
+//!   (`specs/Manual.antt`). A list of packets encodes at most one request. No request is a prefix
+//!   of another, as packets or as bytes. The packets accepted so far can always be completed to a
+//!   request, and a rejected packet is the first that does not fit. The packets written for a
+//!   request encode this request, and each payload fits a packet. A request is read exactly if the
+//!   bytes begin with packets that encode it, and `None` is returned exactly if there are no bytes.
+//!   Every byte sequence begins with a request or is rejected because of its content. A written
+//!   request reads back, whatever bytes follow. The public constants equal the limits in the
+//!   specifications.
 //!
 //! # Only tested
 //!
-//! A call does not report out of memory if there is enough memory.
+//! Calls succeed if there is enough memory, although the contracts do not state it.
 //!
 //! # What the contracts do not rule out
 //!
-//! A call that stores or copies a value may always report out of memory. Such a call may take any
-//! amount of time, and more memory than it needs. Even `new` may allocate. If a sink fails, the
-//! contracts do not state how long the written prefix is. If the bytes of a source are unknown, the
-//! contracts do not state which packets are read. The contracts still state whether the source or
-//! the sink has failed.
+//! A call that stores or copies a value may report out of memory at any time. A call that stores or
+//! copies a value may take any amount of time, and use more memory than it needs. Even `new` may
+//! allocate. If a sink fails, the contracts do not state how long the written prefix is. If the
+//! bytes of a source are unknown, the contracts do not state which packets are read. The contracts
+//! still state whether the source or the sink has failed.
 //!
 //! # Dependencies
 //!
-//! `ggrammar` for the reader and the laws that all messages share, `gpkt` for packets, and `gname`
-//! for ids and prefixes.
+//! `ggrammar` defines the reader and the laws that all messages share. `gpkt` defines packets, and
+//! `gname` defines ids and prefixes.
 #![tactic(auto)]
 
 mod command;

@@ -60,7 +60,7 @@ impl<A: Allocator + Copy> Model for LsRefsRequest<A> {
 }
 
 impl<A: Allocator + Copy> LsRefsRequest<A> {
-    /// Returns a request for every ref, without flags. Allocates nothing.
+    /// Returns a request for all refs, without flags. Allocates nothing.
     pub fn new(alloc: A) -> LsRefsRequest<A>
         ensures { result ≡ no_ls_refs }
     {
@@ -71,14 +71,14 @@ impl<A: Allocator + Copy> LsRefsRequest<A> {
         }
     }
 
-    /// A law that states the invariant of an ls-refs request.
+    /// Proves that every ls-refs request satisfies its invariant.
     pub fn laws(&self)
         ensures { IsLsRefsAsked self.now }
     {
         let _ = &self.flags;
     }
 
-    /// Returns the agent that the client sent, if any: 1 to 1,000 bytes from `!` to `~`.
+    /// Returns the client's agent string, if any: 1 to 1,000 bytes from `!` to `~`.
     pub fn agent(&self) -> Option<&[u8]>
         ensures agent { option_copied result ≡ self.now.agent }
         ensures well_formed { IsLsRefsAsked self.now }
@@ -93,7 +93,8 @@ impl<A: Allocator + Copy> LsRefsRequest<A> {
         self.flags[flag.number()]
     }
 
-    /// Returns which flags are set. The boolean of each flag is at the index of its number.
+    /// Returns a boolean for each flag, which is true if the flag is set. The index is the number
+    /// of the flag.
     pub(crate) fn flags(&self) -> &[bool; MAX_FLAGS]
         ensures { flags_at ls_number ls_flags result.now ≡ self.now.flags }
     {
@@ -101,7 +102,7 @@ impl<A: Allocator + Copy> LsRefsRequest<A> {
     }
 
     /// Returns the prefixes of the requested names, at most 64, in the order of the request.
-    /// Without prefixes, the request asks for every name.
+    /// Without prefixes, every name is requested.
     pub fn prefixes(&self) -> &[Prefix<A>]
         ensures prefixes { result.now ≡ self.now.prefixes }
         ensures well_formed { IsLsRefsAsked self.now }
@@ -146,10 +147,11 @@ impl<A: Allocator + Copy> LsRefsRequest<A> {
         self.flags[flag.number()] = is_set;
     }
 
-    /// Sets the agent, the client's name for itself, and replaces the previous one.
+    /// Sets the client's agent string, and replaces any previous agent string.
     ///
-    /// Fails with `BadText` if the agent does not consist of 1 to 1,000 bytes from `!` to `~`, and
-    /// with `Memory` if memory runs out. The fault is at packet 0, and the request is unchanged.
+    /// Fails with `BadText` if the agent string is not 1 to 1,000 bytes from `!` to `~`, or with
+    /// `Memory` if memory runs out. The fault reports packet position 0, and the request is
+    /// unchanged.
     pub fn set_agent(&mut self, agent: &[u8]) -> Result<(), MessageFault>
         ensures { Builds (is_word_value agent.now) true self.old self.new
             (record self.old { agent = Some agent.now }) result }
@@ -163,11 +165,11 @@ impl<A: Allocator + Copy> LsRefsRequest<A> {
         }
     }
 
-    /// Appends a prefix, so that the request also asks for the names that begin with it.
+    /// Appends a prefix, which requests the names that begin with this prefix.
     ///
     /// Fails with `BadText` if the text is not a prefix of names. Otherwise fails with `Limit` if
-    /// there are already 64 prefixes, or with `Memory`. The fault is at packet 0, and the request
-    /// is unchanged.
+    /// there are already 64 prefixes, or with `Memory` if memory runs out. The fault reports packet
+    /// position 0, and the request is unchanged.
     pub fn push_prefix(&mut self, prefix: &[u8]) -> Result<(), MessageFault>
         ensures { Builds (is_none (prefix_fault prefix.now))
             (nat_lt (length self.old.prefixes) max_prefixes)
@@ -179,7 +181,7 @@ impl<A: Allocator + Copy> LsRefsRequest<A> {
         Ok(())
     }
 
-    // Stores the agent, the client's name for itself.
+    // Stores the client's agent string.
     pub(crate) fn keep_agent(&mut self, agent: &[u8]) -> Result<(), AllocError>
         requires { is_word_value agent.now ≡ true }
         ensures ok { OnOk result (self.new ≡ record self.old { agent = Some agent.now }) }
@@ -210,7 +212,7 @@ impl<A: Allocator + Copy> LsRefsRequest<A> {
         }
     }
 
-    // Adds an argument that follows `arguments` other arguments.
+    // Adds an argument to a request that has `arguments` arguments so far.
     pub(crate) fn take_argument(&mut self, arguments: u32, text: &[u8]) -> Result<(), Why>
         ensures adds { AddsAs (judge_ls_argument arguments self.old.prefixes
             (ls_argument text.now)) (ls_argument_brings (ls_argument text.now))

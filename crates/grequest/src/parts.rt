@@ -6,7 +6,7 @@ ghost use Rattle.std.specs.Option.{option_copied, option_map};
 use gname::{Oid, Prefix};
 use std::alloc::{AllocError, Allocator};
 
-/// Returns a copy of the agent, allocated with `alloc`. Fails only if memory runs out.
+/// Returns a copy of the agent string, allocated with `alloc`. Fails only if memory runs out.
 pub(crate) fn copy_agent<A: Allocator + Copy>(
     alloc: A,
     agent: Option<&[u8]>,
@@ -37,7 +37,8 @@ pub(crate) fn copy_prefixes<A: Allocator + Copy, B: Allocator + Copy>(
     Ok(copies)
 }
 
-// Returns a copy of a prefix. A prefix is well-formed, so a copy fails only if memory runs out.
+// Returns a copy of a prefix. The copy fails only if memory runs out, since the prefix is
+// well-formed.
 fn copy_prefix<A: Allocator + Copy, B: Allocator + Copy>(
     alloc: B,
     prefix: &Prefix<A>,
@@ -50,7 +51,7 @@ fn copy_prefix<A: Allocator + Copy, B: Allocator + Copy>(
     }
 }
 
-/// Returns whether both agents are equal, or both are `None`.
+/// Returns whether both agent strings are equal, or both are `None`.
 pub(crate) fn is_same_agent(one: Option<&[u8]>, other: Option<&[u8]>) -> bool
     ensures { IsTrue result ↔ (option_copied one.entry ≡ option_copied other.entry) }
 {

@@ -36,12 +36,12 @@ pub fn read_request<S: Source, A: Allocator + Copy, B: Allocator + Copy>(
 /// request.
 ///
 /// A fault contains the reason, and the position of the first packet that does not fit, counted
-/// from zero. A fault of the packet reader ([`Why::Line`]) takes precedence. Next is the end of the
-/// input after the first packet ([`Why::Ended`]), and then a fault of the grammar. The fault
-/// [`Why::Memory`] is reported only at an agent, a prefix, a want or a have. All packets that were
-/// read, even a rejected packet, are consumed from the source. After a fault, the packet reader has
-/// failed exactly if the packet reader itself rejected the packet. If the reader had failed before
-/// the call, the call fails at once, at packet 0.
+/// from zero. A fault of the packet reader ([`Why::Line`]) takes precedence. The end of the input
+/// after the first packet ([`Why::Ended`]) comes second, and a fault of the grammar third. The
+/// fault [`Why::Memory`] is reported only at an agent, a prefix, a want or a have. All packets that
+/// were read, even a rejected packet, are consumed from the source. After a fault, the packet
+/// reader has failed exactly if it rejected the packet itself. If the reader had failed before the
+/// call, the call fails at once, and the fault reports packet position 0.
 pub fn read_request_in<S: Source, A: Allocator + Copy, B: Allocator + Copy>(
     reader: &mut PacketReader<S, A>,
     format: Format,

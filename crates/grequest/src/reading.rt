@@ -60,7 +60,7 @@ impl<A: Allocator + Copy> Model for RequestReader<A> {
 impl<A: Allocator + Copy> RequestReader<A> {
     ghost use Rattle.grequest.specs.RequestValues.{asked_by_request, IsOfFormat};
 
-    /// Returns the state before the first packet of a request.
+    /// Returns the state of reading before the first packet of a request.
     #[tactic(auto, unfolding(crate::specs::RequestLines::capability_texts, crate::specs::RequestLines::argument_texts))]
     pub fn new(alloc: A, format: Format) -> RequestReader<A>
         ensures { result ≡ record { format = format; state = state_of format [] } }

@@ -11,7 +11,7 @@ use std::alloc::{AllocError, Allocator, Global};
 /// A request (gitprotocol-v2(5), "Command Request").
 #[derive(Debug, Drop)]
 pub enum Request<A: Allocator + Copy = Global> {
-    /// The empty request, a lone flush that ends the conversation.
+    /// The empty request: a lone flush packet, which ends the conversation.
     Empty,
     /// An ls-refs request.
     Ls(LsRefsRequest<A>),
@@ -27,7 +27,7 @@ impl<A: Allocator + Copy> Request<A> {
     ghost use Rattle.grequest.specs.RequestValues.{IsOfFormat, asked_by_request, ids_format};
     ghost use Rattle.grequest.specs.WellFormed.{IsAsked};
 
-    /// A law that states the invariant of a request: all ids have the same format.
+    /// Proves that all ids of a request have the same format.
     pub fn laws(&self)
         ensures { (format : Format) → IsOfFormat format self.now
             → IsAsked format (asked_by_request self.now) }
@@ -39,7 +39,7 @@ impl<A: Allocator + Copy> Request<A> {
         }
     }
 
-    /// Returns the agent that the client sent, if any.
+    /// Returns the client's agent string, if any.
     pub(crate) fn agent(&self) -> Option<&[u8]>
         ensures { option_copied result ≡ agent_of (asked_by_request self.now) }
     {
@@ -81,7 +81,7 @@ impl<A: Allocator + Copy> Request<A> {
         }
     }
 
-    // Stores the agent, the client's name for itself.
+    // Stores the client's agent string.
     pub(crate) fn keep_agent(&mut self, agent: &[u8]) -> Result<(), AllocError>
         requires { is_word_value agent.now ≡ true }
         ensures ok { OnOk result (asked_by_request self.new

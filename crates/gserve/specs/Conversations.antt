@@ -25,7 +25,7 @@ max_requests = 4294967295
 unfoldable pub advert_packets : Format → List Packet
 advert_packets format = canonical_advert (advertisement format)
 
--- the advertisement, followed by the replies of these turns
+-- the packets of the advertisement, followed by the replies to the requests
 unfoldable pub talk : Format → Ends → List Turn → List Packet
 talk format ends turns = advert_packets format ++ flat_map (λ turn. reply_packets ends turn.answer) turns
 
@@ -46,7 +46,7 @@ pub data IsDueFirst (format : Format) (input : Input) : List Packet → Type 0 w
 
 -- ---- the requests
 
--- the server reads and answers `requests` requests, and the predicate holds of the rest of the input
+-- the server reads and answers `requests` requests; the predicate describes the input after the last request
 pub record Converses {A : Type 0} (server : Server A) (packs : Packs A) (input : Input) (requests : ℕ)
     (turns : List Turn) (Last : Input → Type 0) : Type 0 where
   pub between : Option Bytes
@@ -60,11 +60,12 @@ HasEnded requests rest =
     ((requests < max_requests) × ReadsEnd rest)
     ⊎ ((requests ≡ max_requests) × (rest.read.new ≡ rest.read.old) × IsUp rest)
 
--- ---- the whole
+-- ---- the whole connection
 
 module _ {A : Type 0} (server : Server A) (packs : Packs A) (fails : PackFails A) (ends : Ends) where
-  -- The input, the output, the number of answered requests and the end of a connection. All replies are written and
-  -- flushed. If the sink fails, each counted reply was flushed, and a prefix of the next message was written.
+  -- The relation between the input, the output, the number of answered requests and the end of a connection. All
+  -- replies are written and flushed. If the sink fails, each counted reply was flushed, and a prefix of the next
+  -- message was written.
   abbrev pub Serves : Input → Output → ℕ → End → Type 0
   Serves input output requests end.Closed =
       (turns : List Turn) × (requests < max_requests)

@@ -45,12 +45,12 @@ module _ {A : Type 0} (server : Server A) (packs : Packs A) where
     pub asks : turn.asked ≢ Empty
     pub answers : Answers server packs turn.asked turn.answer
 
-  -- the requests of these turns are read, one after the other
+  -- the server reads the requests of the turns, one after the other
   pub record ReadsTurns (read : Change) (turns : List Turn) : Type 0 where
     pub lines : ReadsPackets read (flat_map (λ turn. turn.request) turns)
     pub each : All IsTurn turns
 
-  -- the request of this turn is read, and the source has not failed
+  -- the server reads the request of the turn, and the source has not failed
   pub record ReadsTurn (input : Input) (turn : Turn) : Type 0 where
     pub lines : ReadsPackets input.read turn.request
     pub is_turn : IsTurn turn
@@ -80,8 +80,8 @@ pub record RefusesToRead (format : Format) (input : Input) (cause : MessageFault
   pub source : IsReadFailure false input.is_down cause.why
   pub begun : cause.why ≡ EndedEarly → cause.frame ≢ 0
 
--- The possible faults of a request after it is read. Only a fetch request can fail here: an ls-refs request is always
--- answered, since its reply needs no memory.
+-- The possible faults of a request after it is read. Only a fetch request can fail; the reply to an ls-refs request
+-- needs no memory.
 abbrev pub Declines : {A : Type 0} → Server A → PackFails A → Asked → ServeFault → Type 0
 Declines server fails (Fetches asked) fault = FetchRefuses server fails asked fault
 Declines server fails _ fault = ⊥
@@ -109,8 +109,8 @@ module _ {A : Type 0} (server : Server A) (packs : Packs A) (fails : PackFails A
     reply : (turn : Turn) → ReadsTurn server packs input turn → IsDue input (reply_packets ends turn.answer)
     refusal : (fault : ServeFault) → IsRefused server fails input fault → IsDue input (err_packets fault)
 
-  -- The input, the output and the end of an exchange. The reply or the error packet is written and flushed. If the sink
-  -- fails, a prefix of the reply or of the error packet is written.
+  -- The relation between the input, the output and the end of an exchange. The reply or the error packet is written and
+  -- flushed. If the sink fails, a prefix of the reply or of the error packet is written.
   abbrev pub Exchanges : Input → Output → ExchangeEnd → Type 0
   Exchanges input output end.Answered =
       (turn : Turn) × ReadsTurn server packs input turn
@@ -124,12 +124,12 @@ module _ {A : Type 0} (server : Server A) (packs : Packs A) (fails : PackFails A
 
 -- ---- one request, with a new reader of the source
 
--- memory runs out for the buffer of the reader, and nothing is read
+-- there is no memory for the reader's buffer, and nothing is read
 abbrev pub LacksBuffer : Input → ServeFault → Type 0
 LacksBuffer input (serve.Reader NoBuffer) = IsUnread input
 LacksBuffer input _ = ⊥
 
--- memory runs out for the reader, and the error packet or a prefix of it is written
+-- there is no memory for the reader, and the server writes the error packet, or a prefix of it if the sink fails
 abbrev pub RefusesAtOnce : Input → Output → ExchangeEnd → Type 0
 RefusesAtOnce input output (end.Refused fault) =
     LacksBuffer input fault × Passes output (canonical_all (err_packets fault))
@@ -137,7 +137,7 @@ RefusesAtOnce input output end.WriteFailed = (fault : ServeFault) × LacksBuffer
     × SendsSome output (canonical_all (err_packets fault)) × KeepsPassed output.passed_on
 RefusesAtOnce input output _ = ⊥
 
--- one request is read and answered, or memory runs out at the start
+-- the server reads one request and replies to it, or memory runs out at the start
 abbrev pub ServesOne : {A : Type 0} → Server A → Packs A → PackFails A → Ends → Input → Output → ExchangeEnd → Type 0
 ServesOne server packs fails ends input output ended =
     Exchanges server packs fails ends input output ended ⊎ RefusesAtOnce input output ended

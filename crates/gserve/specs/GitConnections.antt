@@ -43,7 +43,7 @@ Hears input (Ok hello) = ReadsHello input hello
 Hears input (Err (serve.Request cause)) = RefusesHello input cause
 Hears input (Err fault) = LacksBuffer input fault
 
--- the client asks for this path
+-- the client requests this path
 abbrev pub AsksFor : Bytes → Input → Type 0
 AsksFor path input = (hello : Hello) × ReadsHello input hello × (hello.path ≡ path)
 
@@ -56,18 +56,18 @@ AsksForAnother path input = (hello : Hello) × ReadsHello input hello × (hello.
 abbrev pub error_packets : Bytes → List Packet
 error_packets text = text_packet (codes "ERR " ++ text) ∷ []
 
--- the packet that the server sends to a client that asks for another path
+-- the packet that the server sends to a client that requests another path
 abbrev pub elsewhere_packets : List Packet
 elsewhere_packets = error_packets (codes "upload-pack: no such repository")
 
--- the error packet in place of the advertisement, if the client asks for another path or its first line is refused
+-- the error packet in place of the advertisement, if the client requests another path or its first line is refused
 pub data IsDueInstead (path : Bytes) (input : Input) : List Packet → Type 0 where
   elsewhere : AsksForAnother path input → IsDueInstead path input elsewhere_packets
   refusal : (fault : ServeFault) → Hears input (Err fault) → IsDueInstead path input (err_packets fault)
 
--- ---- the whole
+-- ---- the whole connection
 
--- the input up to a point at which the source has not failed
+-- the start of the input; the source has not failed at its end
 abbrev pub head_of : Input → Option Bytes → Input
 head_of input between = record {
   read = record { old = input.read.old; new = between };
@@ -75,7 +75,7 @@ head_of input between = record {
   is_down = false;
 }
 
--- the input from this point on
+-- the rest of the input
 abbrev pub tail_of : Input → Option Bytes → Input
 tail_of input between = record {
   read = record { old = between; new = input.read.new };
@@ -84,7 +84,7 @@ tail_of input between = record {
 }
 
 module _ {A : Type 0} (server : Server A) (packs : Packs A) (fails : PackFails A) (path : Bytes) (ends : Ends) where
-  -- the input, the output and the end of a connection
+  -- the relation between the input, the output and the end of a connection
   abbrev pub ServesGit : Input → Output → GitEnd → Type 0
   ServesGit input output (git.Served served) =
       (between : Option Bytes) × AsksFor path (head_of input between)
@@ -96,7 +96,7 @@ module _ {A : Type 0} (server : Server A) (packs : Packs A) (fails : PackFails A
       (due : List Packet) × IsDueInstead path input due × SendsSome output (canonical_all due)
       × KeepsPassed output.passed_on
 
--- the last result of the packer, which is used only if the client asks for the served path
+-- the last result of the packer, which is used only if the client requests the served path
 abbrev pub ReportsGitPacking : GitEnd → Packing → Type 0
 ReportsGitPacking (git.Served served) answered = ReportsLastPacking served.end answered
 ReportsGitPacking _ answered = answered ≡ Unasked

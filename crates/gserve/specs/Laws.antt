@@ -1,4 +1,4 @@
--- Laws about connections and conversations, which follow from the definitions of both.
+-- Laws about connections and conversations.
 use Rattle.std.specs.Prelude.{◌≡◌, ◌≢◌, ℕ, Some}
 use Rattle.gpkt.specs.Sending.{Input, Output, IsUp, Passes}
 use Rattle.gpkt.specs.Packets.{Bytes}
@@ -19,7 +19,8 @@ ServingIsTalking A packs fails =
     → ended ≢ end.WriteFailed
     → (written : Bytes) × Passes output written × Talks server packs fails ends bytes written ended
 
--- a client's bytes determine the output and the end of a conversation, unless it ends with a fault of the server's own
+-- a client's bytes determine the output and the end of a conversation, unless the server runs out of memory or its
+-- packer fails
 abbrev pub TalksAreOne : (A : Type 0) → Packs A → PackFails A → Type 0
 TalksAreOne A packs fails =
     (server : Server A) (ends : Ends) (bytes one other : Bytes) (ended last : End) → IsServer server

@@ -11,7 +11,7 @@ use Rattle.ganswer.specs.declared.fault.ServeFault.TheVariants as serve
 abbrev pub max_err_text : ℕ
 max_err_text = 128
 
--- the end of a refusal's text: the id of a want that the server does not hold
+-- the last part of a refusal's text: for `NotOurs`, the id of the want that the server does not hold
 abbrev pub detail_of : ServeFault → Bytes
 detail_of (serve.NotOurs id) = codes " " ++ id_text id
 detail_of _ = []

@@ -1,5 +1,6 @@
--- A conversation over bytes: the bytes that a client sends, the bytes that the server writes, and the end. No device is
--- involved (gitprotocol-v2(5), "Capability Advertisement" and "Command Request").
+-- A conversation over bytes: the bytes that the client sends, the bytes that the server writes, and how the
+-- conversation ends. No source or sink is involved (gitprotocol-v2(5), "Capability Advertisement" and "Command
+-- Request").
 use Rattle.std.specs.Prelude.{◌≡◌, ℕ, ◌<◌, ◌⊎◌, ⊤, false, List, [], ◌++◌, length}
 use Rattle.gpkt.specs.Packets.{Bytes, Packet, canonical_all}
 use Rattle.gpkt.specs.Sending.{Input}
@@ -16,7 +17,7 @@ use Rattle.gserve.specs.Refusals.{err_packets}
 use Rattle.gserve.specs.declared.connection.End.{End}
 use Rattle.gserve.specs.declared.connection.End.TheVariants as end
 
--- the input from a source that does not fail: all of `bytes` except `rest` is read
+-- the reads from a source that does not fail: all of `bytes` except `rest` is read
 abbrev pub input_of_bytes : Bytes → Bytes → Input
 input_of_bytes bytes rest = record { read = known_bytes bytes rest; was_down = false; is_down = false }
 
@@ -26,8 +27,8 @@ last_packets (end.Refused fault) = err_packets fault
 last_packets _ = []
 
 module _ {A : Type 0} (server : Server A) (fails : PackFails A) where
-  -- The end after this many requests, with these bytes left. A lone flush packet is next, no bytes are left, the
-  -- maximum number of requests was answered, or the next request is refused.
+  -- How a conversation ends after this many requests, with these bytes left. A lone flush packet is next, no bytes are
+  -- left, the maximum number of requests was answered, or the next request is refused.
   abbrev pub Stops : ℕ → Bytes → End → Type 0
   Stops requests left end.Closed =
       (requests < max_requests) × (rest : Bytes) × ReadsEmpty server.graph.format (input_of_bytes left rest)
@@ -52,13 +53,13 @@ module _ {A : Type 0} (server : Server A) (packs : Packs A) (fails : PackFails A
     pub stops : Stops server fails (length turns) left ended
     pub all : written ≡ talk_bytes server.graph.format ends turns ++ canonical_all (last_packets ended)
 
-  -- the output and the end of a conversation with a client that sends these bytes
+  -- the relation between the bytes that a client sends, the server's output, and the end of the conversation
   abbrev pub Talks : Bytes → Bytes → End → Type 0
   Talks bytes written ended = HoldsTurns bytes written ended ⊎ HoldsNone bytes written ended
 
 -- ---- the server's own faults
 
--- memory ran out or the packer failed, so the fault is not caused by the client
+-- memory ran out or the packer failed; the client did not cause the fault
 abbrev pub IsOwnFault : ServeFault → Type 0
 IsOwnFault (serve.Reader cause) = ⊤
 IsOwnFault (serve.Request cause) = cause.why ≡ why.Memory
@@ -67,7 +68,7 @@ IsOwnFault (serve.NotOurs id) = ⊥
 IsOwnFault (serve.Pack cause) = ⊤
 IsOwnFault serve.Memory = ⊤
 
--- the conversation ends with a fault of the server's own
+-- the conversation ends because memory ran out or the packer failed
 abbrev pub EndsByOwnFault : End → Type 0
 EndsByOwnFault (end.Refused fault) = IsOwnFault fault
 EndsByOwnFault _ = ⊥

@@ -17,8 +17,8 @@ use gpkt::laws::{canonical_spells, reads_join};
 use gpkt::{PacketBuffer, PacketReader, PacketWriter, Sink, Source};
 use std::alloc::Allocator;
 
-/// The maximum number of requests of a connection. After so many requests the server reads nothing
-/// more.
+/// The maximum number of requests of a connection. After the last allowed request, the server reads
+/// nothing more.
 pub const MAX_REQUESTS: u32 = u32::MAX;
 
 /// How a connection ended.
@@ -54,8 +54,8 @@ pub struct Served {
 /// reports out of memory, and reads nothing.
 ///
 /// A fault of the packer is reported as the packer returned it, and ends the connection. The packer
-/// is asked at most once for each request. Any other fault, such as out of memory, is reported only
-/// if the last request did not ask the packer.
+/// is asked for at most one pack for each request. Any other fault, such as out of memory, is
+/// reported only if the packer was not asked for a pack for the last request.
 pub fn serve<S: Source, W: Sink, A: Allocator + Copy, K: Packer<A>>(
     server: &Server<A>,
     packer: &mut OnePack<'_, K>,
@@ -78,7 +78,7 @@ pub fn serve<S: Source, W: Sink, A: Allocator + Copy, K: Packer<A>>(
     served
 }
 
-// Serves one connection, with a writer over the sink.
+// Serves one connection, with a buffered writer for the sink.
 fn serve_to<S: Source, W: Sink, A: Allocator + Copy, K: Packer<A>>(
     server: &Server<A>,
     packer: &mut OnePack<'_, K>,
@@ -110,7 +110,7 @@ fn serve_to<S: Source, W: Sink, A: Allocator + Copy, K: Packer<A>>(
     served
 }
 
-// Writes the advertisement, and then replies to requests until the connection ends.
+// Writes the advertisement, and then replies to each request until the connection ends.
 fn converse<S: Source, W: Sink, A: Allocator + Copy, K: Packer<A>>(
     server: &Server<A>,
     packer: &mut OnePack<'_, K>,
@@ -175,7 +175,7 @@ fn answer_each<S: Source, W: Sink, A: Allocator + Copy, K: Packer<A>>(
     }
 }
 
-// Returns how a connection ends after an exchange, or `None` if the connection goes on.
+// Returns how a connection ends after an exchange, or `None` if the connection continues.
 fn end_after(exchange: ExchangeEnd) -> Option<End>
     ensures { result ≡ end_after exchange }
 {

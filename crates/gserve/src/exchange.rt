@@ -34,9 +34,9 @@ pub enum ExchangeEnd {
 /// Reads one request and writes its reply, without an advertisement (gitprotocol-v2(5), "Command
 /// Request"). Nothing after the request's last packet is read. If memory runs out for the reader's
 /// buffer, nothing is read, and the error packet reports out of memory. The reply to an ls-refs
-/// request needs no memory once the request is read. A fault of the packer is reported as the
-/// packer returned it. Any other fault, such as out of memory, is reported only if the packer was
-/// not asked.
+/// request needs no memory once the request is read. The error packet reports a fault of the packer
+/// unchanged. The error packet reports any other fault, such as out of memory, only if the packer
+/// was not asked for a pack.
 ///
 /// If the call ends with `Answered`, `Closed` or `Ended`, the source has not failed.
 pub fn serve_one<S: Source, W: Sink, A: Allocator + Copy, K: Packer<A>>(

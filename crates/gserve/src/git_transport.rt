@@ -22,7 +22,7 @@ use std::alloc::Allocator;
 pub struct Export<'a, A: Allocator + Copy> {
     /// The repository to serve.
     pub server: &'a Server<A>,
-    /// The path that a client must ask for, byte for byte.
+    /// The path that a client must request, byte for byte.
     pub path: &'a [u8],
     /// The packet that ends each reply.
     pub ends: Ends,
@@ -31,27 +31,27 @@ pub struct Export<'a, A: Allocator + Copy> {
 /// How a `git://` connection ended.
 #[derive(Debug, Drop)]
 pub enum GitEnd {
-    /// The client asked for the served path. The value is the result of the connection.
+    /// The client requested the served path, and the connection ended with this result.
     Served(Served),
-    /// The client asked for another path. Only an error packet was written, and it was flushed.
+    /// The client requested another path. Only an error packet was written and flushed.
     Elsewhere,
     /// The first line was refused, or memory ran out while reading it. Only an error packet was
-    /// written, and it was flushed.
+    /// written and flushed.
     Refused(ServeFault),
     /// The sink failed while the error packet was written. A prefix of the packet was written.
     WriteFailed,
 }
 
 /// Serves one connection (gitprotocol-pack(5), "Git Transport"). Reads the client's first line, and
-/// continues as [`serve`] if the line asks for the served path. Compares the path byte by byte, and
-/// ignores the host.
+/// continues as [`serve`] if the client requests the served path. Compares the paths byte by byte,
+/// and ignores the host.
 ///
-/// If the line asks for another path or is refused, an `ERR` packet replaces the advertisement, and
-/// nothing after the line is read. If memory runs out before the line, nothing is read, and the
-/// `ERR` packet reports out of memory.
+/// If the line names another path or is refused, an `ERR` packet replaces the advertisement, and
+/// nothing after the line is read. If memory runs out before the line is read, nothing is read, and
+/// the `ERR` packet reports out of memory.
 ///
-/// The packer is asked only if the client asks for the served path. Faults of the packer are
-/// reported as by [`serve`].
+/// The packer is used only if the client requests the served path. Faults of the packer are
+/// reported in the same manner as by [`serve`].
 pub fn serve_git<S: Source, W: Sink, A: Allocator + Copy, K: Packer<A>>(
     export: &Export<'_, A>,
     packer: &mut OnePack<'_, K>,
@@ -86,10 +86,11 @@ pub fn serve_git<S: Source, W: Sink, A: Allocator + Copy, K: Packer<A>>(
 /// Reads the first line of a connection (gitprotocol-pack(5), "Git Transport"), and nothing after
 /// it.
 ///
-/// Fails with fault 28 if memory runs out for the reader's buffer, and then reads nothing. Fails
-/// with a fault from 20 to 25 if the packet is refused, and with `Ended` (54) if the input ends
-/// before the packet. Fails with `UnexpectedFrame` (41) or `BadText` (42) if the packet is not a
-/// first line, and with `Memory` (53) if memory runs out while storing the line.
+/// Fails with fault 28 (out of memory) if there is no memory for the reader's buffer, and then
+/// reads nothing. Fails with a fault of the packet reader (20 to 25) if the bytes are not a valid
+/// packet, and with `Ended` (54) if the input ends before the packet. Fails with `UnexpectedFrame`
+/// (41) or `BadText` (42) if the packet is not a first line, and with `Memory` (53) if memory runs
+/// out while storing the line.
 pub fn hear<S: Source, A: Allocator + Copy>(
     source: &mut S,
     alloc: A,
@@ -110,14 +111,14 @@ pub fn hear<S: Source, A: Allocator + Copy>(
     }
 }
 
-// Returns whether the first line of the client asks for `path`.
+// Returns whether the first line of the client requests `path`.
 fn asks_for<A: Allocator + Copy>(path: &[u8], hello: &Hello<A>) -> bool
     ensures { IsTrue result ↔ (hello.now.path ≡ path.now) }
 {
     hello.path() == path
 }
 
-// Writes the error packet for a client that asks for another path.
+// Writes the error packet for a client that requests another path.
 fn send_away<W: Sink>(sink: &mut W) -> Result<(), WriteFault>
     ensures sent { PassesPackets (output_of W.contents W.passed_on W.is_down sink.old sink.new)
         result elsewhere_packets }

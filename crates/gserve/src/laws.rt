@@ -1,4 +1,4 @@
-//! Laws about conversations: functions without effect whose contracts state the laws.
+//! Laws about conversations: each function does nothing, and its contract proves a law.
 
 ghost use Rattle.std.specs.Prelude.{◌≡◌};
 ghost use Rattle.gserve.specs.Laws.{ServingIsTalking, TalksAreOne};
@@ -13,21 +13,21 @@ use gpkt::laws::spellings_join;
 use grequest::laws::{one_meaning, reads_exactly};
 use std::alloc::Allocator;
 
-/// The public constants of this crate equal the limits in its specifications.
+/// Proves that the public constants of this crate equal the limits in its specifications.
 pub fn limits_are_the_constants()
     ensures requests { MAX_REQUESTS ≡ max_requests }
     ensures text { MAX_ERR_TEXT ≡ max_err_text }
 {}
 
-/// A connection is a conversation over the bytes of its source, if these bytes are known and
-/// neither the source nor the sink fails. All output of the connection is flushed.
+/// Proves that a connection is a conversation over the bytes of its source, if the bytes are known
+/// and neither the source nor the sink fails. All output of the connection is flushed.
 pub fn serving_is_talking<A: Allocator + Copy, K: Packer<A>>()
     ensures { (packer : K) → ServingIsTalking A (K.packs packer) (K.pack_fails packer) }
 {}
 
-/// With a faithful packer, a client's bytes determine the output and the end of the conversation,
-/// unless memory runs out or the packer fails. (A packer that is not faithful may return different
-/// packs for the same objects. Then the client's bytes do not determine which pack is sent.)
+/// Proves that, with a faithful packer, a client's bytes determine the output and the end of the
+/// conversation, unless memory runs out or the packer fails. A packer that is not faithful may
+/// return different packs for the same objects, so the bytes of the pack may differ.
 pub fn talks_are_one<A: Allocator + Copy, K: Faithful<A>>(packer: &K)
     ensures { TalksAreOne A (K.packs packer.now) (K.pack_fails packer.now) }
 {

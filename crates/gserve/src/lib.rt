@@ -1,28 +1,28 @@
-//! Served connections of Git's fetch service, protocol version 2 (gitprotocol-v2(5)). On a
-//! connection the server sends the advertisement and a reply to each request, or only the reply to
-//! a single request. A connection of the `git://` transport begins with a first line
-//! (gitprotocol-pack(5), "Git Transport").
+//! Serves connections of Git's fetch service, protocol version 2 (gitprotocol-v2(5)). The server
+//! sends the advertisement and then replies to each request, or it only replies to a single
+//! request. A connection of the `git://` transport begins with a first line (gitprotocol-pack(5),
+//! "Git Transport").
 //!
 //! # Proved
 //!
-//! - [`serve`] holds a conversation (`specs/Conversations.antt`). The bytes alone determine the
-//!   requests, however the bytes are split into pieces. Nothing after the last packet of a request
-//!   is read. Each request gets the reply that `ganswer` returns, with any packer. An ls-refs
-//!   request always gets a reply, since this reply needs no memory. The server writes the
-//!   advertisement and the replies in their canonical encoding, and flushes each message. The field
-//!   [`Served::requests`](Served) counts the replies.
+//! - [`serve`] serves a whole connection (`specs/Conversations.antt`). The requests depend only on
+//!   the bytes, not on how the bytes are split into pieces. Nothing after the last packet of a
+//!   request is read. The reply to each request is the answer that `ganswer` returns, with any
+//!   packer. An ls-refs request always gets a reply, since this reply needs no memory. The server
+//!   writes the advertisement and the replies in their canonical encoding, and flushes each
+//!   message. The field [`Served::requests`](Served) is the number of replies.
 //! - The advertisement and each reply are flushed before anything more is read. If the sink fails
 //!   while a reply is written or flushed, nothing after the request of that reply was read. If the
-//!   sink fails at the advertisement, nothing was read.
+//!   sink fails while the advertisement is written, nothing was read.
 //! - A connection ends with the client's lone flush packet, if the input ends before a request,
 //!   after [`MAX_REQUESTS`] requests, or if the sink fails. A connection also ends at the first
 //!   request that is refused. The last packet written is then the error packet for this request,
-//!   which is flushed. The grammar of requests, the server's answer or the source determines the
-//!   fault.
-//! - If the packer fails, the fault of the packer is reported, never an out-of-memory fault of the
-//!   server (`specs/Packings.antt`). The functions [`serve`], [`serve_one`] and [`serve_git`] take
-//!   the packer as a [`OnePack`], which records the last result of the packer. Any other fault is
-//!   reported only if the last request did not ask the packer.
+//!   which is flushed. The fault comes from the grammar of requests, from the server's answer, or
+//!   from the source.
+//! - If the packer fails, its fault is reported, and never an out-of-memory fault of the server
+//!   (`specs/Packings.antt`). The functions [`serve`], [`serve_one`] and [`serve_git`] take the
+//!   packer as a [`OnePack`], which records the last result of the packer. Any other fault is
+//!   reported only if the packer was not asked for a pack for the last request.
 //! - If memory runs out for the buffer or for the advertisement, an error packet replaces the
 //!   advertisement, and nothing is read.
 //! - If the sink fails, a prefix of the next message was written: the advertisement, a reply, or
@@ -32,19 +32,19 @@
 //! - [`serve_one`] has the same contract for one request, without an advertisement
 //!   (`specs/Exchanges.antt`).
 //! - [`serve_git`] reads the first line of a `git://` connection, and nothing after it before the
-//!   advertisement is flushed (`specs/GitConnections.antt`). If the line asks for the served path,
-//!   byte for byte, the rest is a conversation as for [`serve`]. If the line asks for another path
-//!   or is refused, an error packet replaces the advertisement and is flushed. Nothing after the
-//!   first line is read. If the sink fails, a prefix of the error packet was written. The type
-//!   [`GitEnd`] distinguishes these cases.
-//! - If memory runs out before the first line, nothing is read. The error packet is still written,
-//!   since it needs no memory. The function [`hear`] reads only a first line.
+//!   advertisement is flushed (`specs/GitConnections.antt`). If the line names the served path,
+//!   byte for byte, the connection continues as for [`serve`]. If the line names another path or is
+//!   refused, the server writes and flushes an error packet instead of the advertisement. Nothing
+//!   after the first line is read. If the sink fails, a prefix of the error packet was written. The
+//!   type [`GitEnd`] distinguishes these cases.
+//! - If memory runs out before the first line is read, nothing is read. The error packet is still
+//!   written, since it needs no memory. The function [`hear`] reads only a first line.
 //! - [`write_reply`] writes a reply as its canonical list of packets, or a prefix of it if the sink
 //!   fails.
 //! - [`err_text`] writes the text of a fault, at most 128 bytes, and leaves the rest of the buffer
 //!   unchanged.
-//! - [`laws`]: a connection is a conversation over the bytes of its source (`specs/Talks.antt`), if
-//!   these bytes are known and neither the source nor the sink fails. With a faithful packer, a
+//! - By [`laws`], a connection is a conversation over the bytes of its source (`specs/Talks.antt`),
+//!   if the bytes are known and neither the source nor the sink fails. With a faithful packer, a
 //!   client's bytes determine the output and the end of the conversation, unless memory runs out or
 //!   the packer fails.
 //! - No call panics, overflows or reads out of bounds. Each call returns if all calls to its source
@@ -61,19 +61,19 @@
 //!   whether the source or the sink has failed.
 //! - If the sink fails, the contracts do not state how long the written prefix is. More than the
 //!   counted replies may have been flushed.
-//! - A call may report out of memory for no reason in place of the advertisement. A call may also
-//!   report out of memory in place of a fetch reply, if the packer was not asked and the server
-//!   holds all wants. A call may also report it at a packet whose contents are stored. At the
-//!   start, a call may report fault 64 in place of fault 28 and vice versa, since both mean that
-//!   nothing was read.
+//! - A call may report out of memory in place of the advertisement even if there is enough memory.
+//!   A call may also report out of memory in place of a fetch reply, if the server holds all wants
+//!   and the packer was not asked for a pack. A call may also report out of memory at a packet
+//!   whose contents are stored. At the start, a call may report out of memory as fault 28 or as
+//!   fault 64.
 //! - A call may take any amount of time, flush more often, and write one packet with several calls
 //!   to the sink.
 //!
 //! # Dependencies
 //!
-//! `ganswer` for the server and its answers. `grequest`, `glsreply`, `gfetchreply` and `ghello` for
-//! the messages, `ggrammar` and `gpkt` for the code that these crates share. `ggraph` for packers,
-//! `gname` for the digits of an id, `arrayvec` for a text of bounded length.
+//! `ganswer` defines the server and its answers. The crates `grequest`, `glsreply`, `gfetchreply`
+//! and `ghello` define the messages. They share the code of `ggrammar` and `gpkt`. `ggraph` defines
+//! packers, `gname` writes the digits of an id, and `arrayvec` stores a text of bounded length.
 #![tactic(auto)]
 
 mod connection;

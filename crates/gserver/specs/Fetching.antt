@@ -29,6 +29,6 @@ module _ {A : Type 0} (server : Server A) (packs : Packs A) (fails : PackFails A
     pub all : said ≡ front ++ fatal_packet fault ∷ []
     pub ended : goes ≡ false
 
-  -- a complete reply to the fetch request, or a reply that ends because the packer fails
+  -- a complete reply to the fetch request, or a reply that ends early because the packer fails
   abbrev pub SaysFetch : Ends → Bool → List Packet → Bool → Type 0
   SaysFetch ends goes_on said goes = SaysAnswer ends goes_on said goes ⊎ SaysFailure said goes

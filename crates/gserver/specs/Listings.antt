@@ -30,21 +30,21 @@ module _ {A : Type 0} (server : Server A) (asked : LsRefsAsked) (ends : Ends) (g
     pub all : said ≡ map ref_packet lines ++ Flush ∷ ends_with ends
     pub goes_so : goes ≡ goes_on
 
-  -- the packets from this line of the reply to its end
+  -- the packets of the reply, from this line to the end
   abbrev pub SaysListing : NextLine → May
   SaysListing next.Unborn said goes = SaysLsAnswer said goes
   SaysListing next.Head said goes = SaysRefs (all_refs server) said goes
   SaysListing (next.Ref at) said goes = SaysRefs (drop at server.refs) said goes
   SaysListing next.ResponseEnd said goes = (said ≡ ResponseEnd ∷ []) × (goes ≡ goes_on)
 
--- the maximum number of steps left; each step sends at most one packet
+-- the maximum number of remaining steps; each step sends at most one packet
 abbrev pub steps_of_listing : {A : Type 0} → Server A → NextLine → ℕ
 steps_of_listing server next.Unborn = length server.refs + 4
 steps_of_listing server next.Head = length server.refs + 3
 steps_of_listing server (next.Ref at) = (length server.refs - at) + 2
 steps_of_listing server next.ResponseEnd = 0
 
--- the result after the last packet of a reply, depending on whether the dialogue continues
+-- the result of the call that queues the last packet of a reply, given whether the dialogue then continues
 abbrev pub said_at_end : Bool → Said
 said_at_end true = said.Whole
 said_at_end false = said.Last

@@ -5,11 +5,11 @@ use Rattle.gparts.specs.Parts.{Gives}
 use Rattle.gpkt.specs.Packets.{Bytes, Packet}
 use Rattle.gfetchreply.specs.FetchReplies.{data_packet, pieces}
 
--- the packets that may complete a reply, and whether the dialogue then continues
+-- a relation between the packets that may complete a reply and whether the dialogue then continues
 abbrev pub May : Type 1
 May = List Packet → Bool → Type 0
 
--- the packets that carry a pack on side band 1; if the packer fails, they carry a prefix of the bytes before the fault
+-- the packets that carry a pack on side band 1; if the packer fails, they carry a prefix of the bytes that it returned
 pub record SaysPack (gives : Gives) (packets : List Packet) (end : Option PackFault) : Type 0 where
   pub sent : Bytes
   pub lost : Bytes

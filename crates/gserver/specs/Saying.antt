@@ -26,12 +26,12 @@ pub record SaysFirst (front : List Packet) (May_rest : May) (said : List Packet)
   pub then : May_rest rest goes
 
 module _ (ends : Ends) (goes_on : Bool) where
-  -- the flush packet, and then the response-end packet if replies end with one
+  -- the flush packet, followed by the response-end packet if each reply ends with a response-end
   abbrev pub SaysEnd : May
   SaysEnd said goes = (said ≡ Flush ∷ ends_with ends) × (goes ≡ goes_on)
 
-  -- the packets of a pack and the end of the reply; or, if the packer fails, the packets before the fault and the
-  -- packet that reports the fault
+  -- the packets of a pack and the end of the reply; if the packer fails, a packet that reports the fault replaces the
+  -- end of the reply
   abbrev pub EndsPack : List Packet → Option PackFault → May
   EndsPack packets None said goes = (said ≡ packets ++ Flush ∷ ends_with ends) × (goes ≡ goes_on)
   EndsPack packets (Some fault) said goes = (said ≡ packets ++ fatal_packet fault ∷ []) × (goes ≡ false)
@@ -46,14 +46,14 @@ module _ (ends : Ends) (goes_on : Bool) where
   abbrev pub SaysSection : Gives → May
   SaysSection gives = SaysFirst (text_packet (codes "packfile") ∷ []) (SaysRestOfPack gives)
 
--- the packets that acknowledge these ids, or `NAK` if there are no ids and no pack follows
+-- the packets that acknowledge the ids, or `NAK` if there are no ids and no pack follows
 abbrev pub acks_or_nak : {K : Type 0} → List Id → Option K → List Packet
 acks_or_nak ids None = nak_if_none (map ack_packet ids)
 acks_or_nak ids (Some pack) = map ack_packet ids
 
 -- ---- the rest of a reply
 
--- the packets after the acknowledged ids
+-- the packets that follow the acknowledged ids
 abbrev pub SaysAfterAcks : {R P : Type 0} → (R → P → Gives) → Ends → Bool → Option (R × P) → May
 SaysAfterAcks gives ends goes_on None = SaysEnd ends goes_on
 SaysAfterAcks gives ends goes_on (Some pack) =
@@ -76,14 +76,14 @@ module _ {A R P : Type 0} (gives : R → P → Gives) (ends : Ends) (goes_on : B
   SaysRest rest.Flush said goes = SaysEnd ends goes_on said goes
   SaysRest rest.ResponseEnd said goes = (said ≡ ResponseEnd ∷ []) × (goes ≡ goes_on)
 
--- ---- the steps left
+-- ---- the remaining steps
 
 abbrev pub steps_after_acks : {R P : Type 0} → (R → P → ℕ) → Option (R × P) → ℕ
 steps_after_acks most None = 2
 steps_after_acks most (Some pack) = most pack.0 pack.1 + 5
 
 module _ {A R P : Type 0} (most : R → P → ℕ) where
-  -- the maximum number of steps left; each step sends at most one packet
+  -- the maximum number of remaining steps; each step sends at most one packet
   abbrev pub steps_of : Rest A R P → ℕ
   steps_of rest.Nothing = 0
   steps_of (rest.Refusal text) = 0

@@ -36,20 +36,20 @@ abbrev pub messages_of : {R : Type 0} → Option R → ℕ → ℕ
 messages_of None requests = max_requests + 1
 messages_of (Some repo) requests = max_requests - requests
 
--- the server sends an error packet with a text for which `Why` holds, and ends the connection
+-- the server sends an error packet whose text satisfies `Why`, and ends the connection
 pub record Refuses (Why : Bytes → Type 0) (said : List Packet) (goes : Bool) : Type 0 where
   pub text : Bytes
   pub why : Why text
   pub all : said ≡ text_packets text
   pub ended : goes ≡ false
 
--- the number of requests answered, including this request unless it is empty
+-- the number of answered requests, including the new request unless it is empty
 abbrev pub count_request : Asked → ℕ → ℕ
 count_request Empty requests = requests
 count_request (Ls asked) requests = min (requests + 1) max_requests
 count_request (Fetches asked) requests = min (requests + 1) max_requests
 
--- the text is the host's text for a fault that can occur here, and the server stores this fault
+-- the text is the host's text for a fault that satisfies `Can`, and the server stores the fault
 module _ {H : Type 0} (says : H → ServeFault → Bytes → Type 0) (host : H) where
   pub record IsFault (Can : ServeFault → Type 0) (kept : Option ServeFault) (text : Bytes) : Type 0 where
     pub fault : ServeFault
@@ -57,7 +57,7 @@ module _ {H : Type 0} (says : H → ServeFault → Bytes → Type 0) (host : H) 
     pub keeps : kept ≡ Some fault
     pub words : says host fault text
 
-  -- the fault is out of memory for the answer
+  -- the text is the host's text for the fault `Memory`, which the server stores
   abbrev pub LacksMemory : Option ServeFault → Bytes → Type 0
   LacksMemory = IsFault (λ fault. fault ≡ serve.Memory)
 
@@ -77,7 +77,7 @@ module _ {A R : Type 0} (server_of : R → Server A) where
     pub goes_on : goes ≡ true
 
   module _ {H : Type 0} (says : H → ServeFault → Bytes → Type 0) (host : H) where
-    -- the reasons to reject the first line: the host finds no repository and returns this text, or there is not enough
+    -- the reason to reject the first line: the host finds no repository and returns the text, or there is not enough
     -- memory
     abbrev pub CannotGreet : (Result R Bytes → Type 0) → Option R → Option ServeFault → Bytes → Type 0
     CannotGreet Finds new kept text = (new ≡ None) × (Finds (Err text) ⊎ LacksMemory says host kept text)
@@ -87,8 +87,8 @@ module _ {A R : Type 0} (server_of : R → Server A) where
     AnswersHello Finds new kept said goes = Greets Finds new said goes ⊎ Refuses (CannotGreet Finds new kept) said goes
 
     module _ (packs_of : R → Packs A) (fails_of : R → PackFails A) (Opens : Result R Bytes → Type 0) (ends : Ends) where
-      -- the host opens the repository again, and the server answers the fetch request from it and serves it from then
-      -- on
+      -- the host opens the repository again; the server answers the fetch request from the opened repository, which it
+      -- then serves
       pub record SendsFrom (asked : FetchAsked) (goes_on : Bool) (new : Option R) (said : List Packet)
           (goes : Bool) : Type 0 where
         pub found : R
@@ -108,27 +108,27 @@ module _ {A R : Type 0} (server_of : R → Server A) where
         pub same : server_of packer ≡ server_of found
         pub fault : IsFault says host (FetchRefuses (server_of found) (fails_of packer) asked) kept text
 
-      -- the reasons to reject a fetch request: the host cannot open the repository, there is not enough memory, or the
-      -- opened repository cannot answer the request
+      -- the reason to reject a fetch request: the host cannot open the repository, memory runs out, or the opened
+      -- repository cannot answer the request
       abbrev pub CannotSend : R → FetchAsked → Option R → Option ServeFault → Bytes → Type 0
       CannotSend repo asked new kept text =
           ((new ≡ Some repo) × (Opens (Err text) ⊎ LacksMemory says host kept text))
           ⊎ CannotSendFrom asked new kept text
 
-      -- the answer of this repository to a request
+      -- the answer to a request to this repository
       abbrev pub AnswersAsked : R → Asked → Bool → Option R → List Packet → Bool → Type 0
       AnswersAsked repo Empty goes_on new said goes = (new ≡ Some repo) × (said ≡ []) × (goes ≡ false)
       AnswersAsked repo (Ls asked) goes_on new said goes =
           (new ≡ Some repo) × SaysLsAnswer (server_of repo) asked ends goes_on said goes
       AnswersAsked repo (Fetches asked) goes_on new said goes = SendsFrom asked goes_on new said goes
 
-      -- the reasons to reject a request
+      -- the reason to reject a request
       abbrev pub CannotAnswer : R → Asked → Option R → Option ServeFault → Bytes → Type 0
       CannotAnswer repo Empty new kept text = ⊥
       CannotAnswer repo (Ls asked) new kept text = (new ≡ Some repo) × LacksMemory says host kept text
       CannotAnswer repo (Fetches asked) new kept text = CannotSend repo asked new kept text
 
--- the host, and the packets that end each reply, stay the same
+-- the host stays the same, and each reply ends with the same packets
 pub record Stays {A H R : Type 0} (old new : ServerSide A H R) : Type 0 where
   pub host : new.host ≡ old.host
   pub ends : new.ends ≡ old.ends
@@ -146,7 +146,7 @@ OpensFresh side said goes = IsFresh side × SaysNothing said goes
 module _ {A H R : Type 0} (server_of : R → Server A) (packs_of : R → Packs A) (fails_of : R → PackFails A)
     (finds : H → Hello → Result R Bytes → Type 0) (opens : H → R → Result R Bytes → Type 0)
     (says : H → ServeFault → Bytes → Type 0) where
-  -- the packets are a first line, and `said` is an answer for the repository that the host finds for this line
+  -- the packets are a first line, and `said` is an answer to this line
   pub record AnswersFirst (old new : ServerSide A H R) (lines said : List Packet) (goes : Bool) : Type 0 where
     pub asked : Hello
     pub says_so : hello.Says lines asked
@@ -174,7 +174,7 @@ module _ {A H R : Type 0} (server_of : R → Server A) (packs_of : R → Packs A
     pub answers : AnswersBy old.repo old new lines said goes
     pub quiet : (new.fault ≡ old.fault) ⊎ (goes ≡ false)
 
--- the grammar rejects a message: the server sends the host's text for this fault, and stores the fault
+-- the grammar rejects a message with this fault; the server sends the host's text for the fault, and stores the fault
 pub record RefusesMessage {A H R : Type 0} (says : H → ServeFault → Bytes → Type 0) (old : ServerSide A H R)
     (fault : MessageFault) (said : List Packet) (new : ServerSide A H R) : Type 0 where
   pub stays : Stays old new

@@ -15,10 +15,11 @@ const MOST_STEPS: usize = 1024;
 
 /// A reply that is sent in steps of at most one packet.
 pub(crate) trait Cursor {
-    // The packets that may complete the reply, and whether the dialogue then continues.
+    // The relation between the packets that may complete the reply and whether the dialogue then
+    // continues.
     ghost may: { Self → List Packet → Bool → Type 0 };
 
-    // The maximum number of steps left.
+    // The maximum number of remaining steps.
     ghost steps: { Self → ℕ };
 
     /// Queues the next packet of the reply, or no packet.

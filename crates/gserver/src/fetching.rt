@@ -18,8 +18,8 @@ use std::alloc::Allocator;
 /// Returns the reply of a server to a fetch request. The packer starts the pack before any packet
 /// is sent.
 ///
-/// Fails as `ganswer::Server::answer_fetch` does. If `goes_on` is true, the connection accepts
-/// another request after the reply.
+/// Fails for the same reasons as `ganswer::Server::answer_fetch`. If `goes_on` is true, the
+/// connection accepts another request after the reply.
 pub fn speak_fetch<A: Allocator + Copy, R: PartPacker<A> + Drop>(
     server: &Server<A>,
     packer: R,

@@ -21,8 +21,8 @@ pub(crate) enum Piece {
     Failed(PackFault),
 }
 
-/// Queues the next piece of a pack (gitprotocol-pack(5), "Packfile Data"). Each piece except the
-/// last has the maximum size.
+/// Queues the next piece of a pack (gitprotocol-pack(5), "Packfile Data"). Each piece has the
+/// maximum size, except that the last may be shorter.
 pub(crate) fn say_piece<A: Allocator + Copy, B: Allocator + Copy, K: PartPacker<A>>(
     packer: &K,
     parts: &mut K::Parts,
@@ -47,8 +47,8 @@ pub(crate) fn say_piece<A: Allocator + Copy, B: Allocator + Copy, K: PartPacker<
     }
 }
 
-// Fills a buffer with the next bytes of a pack, and returns their number. Fewer bytes than the size
-// of the buffer are returned only at the end of the pack.
+// Fills a buffer with the next bytes of a pack, and returns their number. The buffer is filled
+// completely unless the pack ends.
 fn fill<A: Allocator + Copy, K: PartPacker<A>>(
     packer: &K,
     parts: &mut K::Parts,

@@ -76,7 +76,7 @@ impl<A: Allocator + Copy> Cursor for Greeting<A> {
     }
 }
 
-// Returns the text of a capability, as its packet contains it.
+// Returns the text that the packet of a capability contains.
 fn text_of(capability: Capability<'_>) -> ArrayVec<u8, MAX_TEXT>
     requires key { length capability.key.now ≤ max_capability }
     requires value { IfSome capability.value (λ value. length value.now ≤ max_capability) }

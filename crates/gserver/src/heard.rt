@@ -6,7 +6,7 @@ use gpkt::Packet;
 use grequest::RequestReader;
 use std::alloc::Allocator;
 
-/// A message to a server, of which packets may still be missing.
+/// A message to a server. Some of its packets may not have arrived yet.
 #[derive(Drop)]
 pub enum Heard<A: Allocator + Copy> {
     /// The first line of a connection (gitprotocol-pack(5), "Git Transport").

@@ -25,8 +25,8 @@ pub trait ServedRepository<A: Allocator + Copy> {
 
 /// The owner of the repositories, shared by all connections of a server.
 ///
-/// The members `finds`, `opens` and `says` restrict the results of the three methods. By default
-/// they allow every result.
+/// The specification members `finds`, `opens` and `says` restrict the results of the three methods.
+/// By default they allow every result.
 pub trait Host<A: Allocator + Copy, R> {
     ghost use Rattle.std.specs.Prelude.{Result, ⊤};
     ghost use Rattle.gpkt.specs.Packets.{Bytes};
@@ -44,13 +44,13 @@ pub trait Host<A: Allocator + Copy, R> {
     // The texts that `words` may return for this fault.
     ghost says: { Self → ServeFault → Bytes → Type 0 } = { λ _ _ _. ⊤ };
 
-    /// Returns the repository that the first line asks for. Fails with a text for the client if the
+    /// Returns the repository that the first line requests. Fails with a text for the client if the
     /// host has no such repository.
     fn find(&self, hello: &Hello<A>) -> Result<R, ErrText>
         ensures { finds self.now hello.now result };
 
-    /// Returns the same repository, ready to pack its objects. Fails with a text for the client if
-    /// the repository cannot be read.
+    /// Opens the repository again, so that its objects can be packed. Fails with a text for the
+    /// client if the repository cannot be read.
     fn open(&self, repo: &R) -> Result<R, ErrText>
         ensures { opens self.now repo.now result };
 

@@ -16,7 +16,7 @@ use grequest::LsRefsRequest;
 use gtalk::Outgoing;
 use std::alloc::Allocator;
 
-/// Queues the line with the target of an unborn HEAD, if the request asks for this line.
+/// Queues the line with the target of an unborn HEAD, if the reply must contain this line.
 pub(crate) fn say_unborn<A: Allocator + Copy, B: Allocator + Copy>(
     server: &Server<A>,
     asked: &LsRefsRequest<A>,
@@ -36,7 +36,7 @@ pub(crate) fn say_unborn<A: Allocator + Copy, B: Allocator + Copy>(
     }
 }
 
-/// Queues the line of HEAD, if HEAD has an id and the request asks for HEAD.
+/// Queues the line of HEAD, if HEAD has an id and the request includes HEAD.
 pub(crate) fn say_head<A: Allocator + Copy, B: Allocator + Copy>(
     server: &Server<A>,
     asked: &LsRefsRequest<A>,
@@ -55,8 +55,8 @@ pub(crate) fn say_head<A: Allocator + Copy, B: Allocator + Copy>(
     }
 }
 
-/// Queues the line of the ref at this position, if the request asks for this ref. Returns whether
-/// the server has a ref at this position.
+/// Queues the line of the ref at this position, if the request includes this ref. The result is
+/// whether the server has a ref at this position.
 pub(crate) fn say_ref<A: Allocator + Copy, B: Allocator + Copy>(
     server: &Server<A>,
     asked: &LsRefsRequest<A>,

@@ -17,7 +17,7 @@ use gparts::PartPacker;
 use gtalk::Outgoing;
 use std::alloc::Allocator;
 
-/// The next packet of a reply, and the data for the packets after it.
+/// The next packet of a reply, and the data for all later packets.
 #[derive(Drop)]
 pub(crate) enum Rest<A: Allocator + Copy, R, P> {
     Nothing,
@@ -166,7 +166,8 @@ fn say_flush<A: Allocator + Copy, B: Allocator + Copy, R: PartPacker<A> + Drop>(
     }
 }
 
-// Returns the result after the last packet of a reply, depending on whether the dialogue continues.
+// Returns the result of the call that queues the last packet of a reply, given whether the dialogue
+// then continues.
 fn end_of<A: Allocator + Copy, R, P>(goes_on: bool) -> Stepped<A, R, P>
     ensures { result ≡ end_of goes_on }
 {

@@ -34,7 +34,8 @@ pub const MAX_REQUESTS: u32 = u32::MAX;
 /// The server's end of a connection. The server receives a first line, which names a repository,
 /// and then one request after another.
 ///
-/// A message that is refused or cannot be answered gets an error packet. The connection then ends.
+/// If a message is refused or cannot be answered, the server sends an error packet, and the
+/// connection ends.
 #[derive(Drop)]
 pub struct ServerSide<'h, A: Allocator + Copy, H, R> {
     host: &'h H,
@@ -70,7 +71,7 @@ impl<'h, A: Allocator + Copy, H, R> ServerSide<'h, A, H, R> {
         self.repo.as_ref()
     }
 
-    /// Returns the number of requests that were answered or are being answered. The count stops at
+    /// Returns the number of requests that were answered or are being answered, but at most
     /// [`MAX_REQUESTS`].
     pub fn requests(&self) -> u32
         ensures { result ≡ self.now.requests }
@@ -78,7 +79,7 @@ impl<'h, A: Allocator + Copy, H, R> ServerSide<'h, A, H, R> {
         self.requests
     }
 
-    /// Returns the fault for which this side refused a message, or `None` if no message was
+    /// Returns the fault with which this side refused a message, or `None` if no message was
     /// refused.
     pub fn fault(&self) -> Option<&ServeFault>
         ensures { option_copied result ≡ self.now.fault }
@@ -93,7 +94,7 @@ where
     H: Host<A, R>,
     R: ServedRepository<A> + PartPacker<A> + Drop,
 {
-    // Returns the text for a message of the wrong kind at this stage of the connection.
+    // Returns the host's text for a message of the wrong kind at this stage of the connection.
     fn unexpected_message(&mut self) -> ErrText
         ensures repo { self.new.repo ≡ self.old.repo }
         ensures requests { self.new.requests ≡ self.old.requests }
@@ -213,8 +214,8 @@ where
         }
     }
 
-    // Asks the host to open the repository again, and returns the reply to a fetch request from the
-    // opened repository.
+    // Makes the host open the repository again, and returns the opened repository's reply to a
+    // fetch request.
     fn send(
         &mut self,
         asked: &FetchRequest<A>,
@@ -282,7 +283,7 @@ fn refusal_of<A: Allocator + Copy, R: ServedRepository<A> + PartPacker<A>>(
     Answer::Last(ServerReply::Speech(Speech::refusal_of(text)))
 }
 
-// Returns an answer with the reply, or with an error packet if `reply` is `Err`.
+// Returns an answer with the reply in `Ok`, or an answer with an error packet if `reply` is `Err`.
 fn answer_of<A: Allocator + Copy, R: ServedRepository<A> + PartPacker<A>>(
     answered: Result<ServerReply<A, R, R::Parts>, ErrText>,
     goes_on: bool,

@@ -25,8 +25,8 @@ abbrev pub bytes_in : Option Bytes → Bytes
 bytes_in None = []
 bytes_in (Some bytes) = bytes
 
--- if no packets were queued, the bytes flushed before stay flushed; otherwise all bytes written before the last turn
--- are flushed
+-- if no packets were queued, the previously flushed bytes stay flushed; otherwise all bytes written before the last
+-- turn are flushed
 abbrev pub HasPassed : Bytes → Option Bytes → Change → Change → Type 0
 HasPassed said between written passed_on =
     ((said ≡ []) × KeepsPassed passed_on)
@@ -73,21 +73,21 @@ module _ {C A : Type 0} where
     pub kept : IsKept connection.stopped partial connection.incoming
     pub said : canonical_all talk.said ≡ sent ++ drop connection.sent (bytes_in connection.outgoing)
 
-  -- there are received and sent bytes that match the state of the connection
+  -- the state of the connection matches some received and sent bytes
   abbrev pub IsHeld : (C → Talk → Type 0) → Connection C A → Type 0
   IsHeld holds connection = (received : Bytes) × (sent : Bytes) × Holds holds connection received sent
 
-  -- between the two states, the connection receives the first bytes and sends the second bytes
+  -- the connection changes from the old to the new state by receiving the bytes `more` and sending the bytes `said`
   abbrev pub Moves : (C → Talk → Type 0) → Connection C A → Connection C A → Bytes → Bytes → Type 0
   Moves holds old new more said =
       (received sent : Bytes) → Holds holds old received sent → Holds holds new (received ++ more) (sent ++ said)
 
-  -- if the old state matches its received and sent bytes, the conversation is nearer to its end
+  -- if the old state matches some received and sent bytes, the conversation is nearer to its end in the new state
   abbrev pub Advances : (C → Talk → Type 0) → (C → Turn) → (C → Left) → Connection C A → Connection C A → Type 0
   Advances holds turn left old new =
       IsHeld holds old → IsNearer turn left old.conversation new.conversation
 
-  -- `count` more bytes of a packet are stored, or the conversation is nearer to its end
+  -- the connection stores `count` more bytes of a packet, or the conversation is nearer to its end
   abbrev pub Grows : (C → Talk → Type 0) → (C → Turn) → (C → Left) → Connection C A → Connection C A → ℕ → Type 0
   Grows holds turn left old new count =
       ((new.conversation ≡ old.conversation) × (length new.incoming ≡ length old.incoming + count))
@@ -125,7 +125,7 @@ module _ {C A : Type 0} where
     pub last : SendsSaid holds mid new (record { old = between; new = written.new })
     pub passed : HasPassed before.said between written passed_on
 
--- for each result of `drive`, whether the sink is down before and after the call
+-- for each result of `drive`, whether the sink has failed before and after the call
 abbrev pub LeavesSink : Result Unit TalkFault → Bool → Bool → Type 0
 LeavesSink (Ok done) was_down is_down = is_down ≡ false
 LeavesSink (Err Io) was_down is_down = is_down ≡ true

@@ -20,14 +20,14 @@ pub record Lacks (bytes : Bytes) (missing : ℕ) : Type 0 where
   pub within : (more : Bytes) → length more ≤ missing → IsWithinPacket (bytes ++ more)
   pub room : length bytes + missing ≤ max_packet
 
--- the result of decoding the bytes: a complete packet, `None` for an incomplete packet, or the fault for which the
--- bytes are not a packet
+-- the result of decoding the bytes: a complete packet, `None` for an incomplete packet, or the reason why the bytes are
+-- not a packet
 abbrev pub IsFound : Bytes → Result (Option Packet) PacketFault → Type 0
 IsFound bytes (Ok (Some packet)) = Spells packet bytes
 IsFound bytes (Ok None) = IsPartialPacket bytes
 IsFound bytes (Err fault) = NoPacket fault bytes
 
--- the bytes after the last packet are as the reason for stopping requires; after a failed allocation they may even be a
+-- the bytes after the last packet match the reason why no more packets arrive; after a failed allocation they may be a
 -- whole packet
 abbrev pub IsStopped : Option Stop → Bytes → Type 0
 IsStopped None partial = IsPartialPacket partial
@@ -46,7 +46,7 @@ abbrev pub IsPartial : Option Stop → Bytes → Type 0
 IsPartial None kept = IsPartialPacket kept
 IsPartial (Some why) kept = Unit {0}
 
--- if no more packets arrive, then because received bytes were refused, not because the input ended
+-- if no more packets arrive, the reason is that received bytes were refused, not that the input ended
 abbrev pub IsByBytes : Option Stop → Type 0
 IsByBytes None = Unit {0}
 IsByBytes (Some (stop.Refused Truncated)) = ⊥
@@ -59,8 +59,8 @@ IsByEnd (Some stop.Ended) = Unit {0}
 IsByEnd (Some (stop.Refused Truncated)) = Unit {0}
 IsByEnd other = ⊥
 
--- The unread bytes of the source and whether the source is down, for each reason why no more packets arrive. The source
--- is at its end after `Ended` and `Truncated`, and down exactly after `Failed`.
+-- The unread bytes of the source and whether the source has failed, for each reason why no more packets arrive. The
+-- source is at its end after `Ended` and `Truncated`, and it has failed exactly after `Failed`.
 abbrev pub LeavesSource : Option Stop → Option Bytes → Bool → Type 0
 LeavesSource None remaining down = down ≡ false
 LeavesSource (Some stop.Ended) remaining down = IsAtEnd remaining × (down ≡ false)

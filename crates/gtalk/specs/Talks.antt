@@ -4,8 +4,8 @@ use Rattle.gpkt.specs.Packets.{Bytes, Packet, canonical_all, max_packet}
 use Rattle.gtalk.specs.declared.conversation.Stop.{Stop}
 use Rattle.gtalk.specs.declared.conversation.Turn.{Turn}
 
--- the history of a conversation: the packets received, the reason why no more packets arrive, if any, and the packets
--- queued to send
+-- the history of a conversation: the packets received, the packets queued to send, and the reason why no more packets
+-- arrive, if any
 pub record Talk : Type 0 where
   pub heard : List Packet
   pub stopped : Option Stop
@@ -19,7 +19,7 @@ no_talk = record { heard = []; stopped = None; said = [] }
 abbrev pub talk_after : Talk → Packet → Talk
 talk_after talk packet = record { heard = talk.heard ++ packet ∷ []; stopped = talk.stopped; said = talk.said }
 
--- the history after the news that no more packets arrive, for this reason
+-- the history after the notification that no more packets arrive, with this reason
 abbrev pub stop_talk : Talk → Stop → Talk
 stop_talk talk why = record { heard = talk.heard; stopped = Some why; said = talk.said }
 
@@ -43,7 +43,7 @@ pub record Left : Type 0 where
   pub turns : ℕ
   pub steps : ℕ
 
--- the conversation is nearer to its end: fewer steps remain in its turn, or fewer turns remain
+-- the conversation is nearer to its end: fewer steps remain in the current turn, or fewer turns remain
 abbrev pub IsNearer : {C : Type 0} → (C → Turn) → (C → Left) → C → C → Type 0
 IsNearer turn left old new =
     ((turn new ≡ turn old) × ((left new).turns ≤ (left old).turns) × ((left new).steps < (left old).steps))

@@ -14,8 +14,8 @@ use std::alloc::{Allocator, Global};
 /// call [`speak`](Connection::speak). Send the bytes of [`output`](Connection::output), and report
 /// their number to [`note_sent`](Connection::note_sent).
 ///
-/// The buffer for received bytes is allocated with the first received byte, and the send queue when
-/// the conversation first speaks.
+/// The buffer for received bytes is allocated when the first byte is received. The send queue is
+/// allocated when the conversation first speaks.
 #[derive(Drop)]
 pub struct Connection<C, A: Allocator + Copy = Global> {
     pub(crate) conversation: C,

@@ -16,7 +16,7 @@ pub enum Turn {
     Listens,
     /// This end's turn: the conversation queues packets to send, and receives nothing.
     Speaks,
-    /// Nobody's turn: no more packets are received or queued.
+    /// The end of the conversation: no more packets are received or queued.
     Done,
 }
 
@@ -28,7 +28,7 @@ pub enum Stop {
     /// The received bytes are not a packet, the input ended within a packet, or there was no memory
     /// for the bytes.
     Refused(PacketFault),
-    /// The device failed.
+    /// The source failed.
     Failed,
 }
 
@@ -42,7 +42,7 @@ pub trait Conversation {
     // Which end has the turn.
     ghost turn: { Self → Turn };
 
-    // The histories of received and queued packets that lead to this state.
+    // The histories of received and queued packets that may lead to this state.
     ghost holds: { Self → Talk → Type 0 };
 
     // A bound on the remaining turns and steps.

@@ -181,7 +181,7 @@ fn pass_on<W: Sink>(sink: &mut W) -> Result<(), TalkFault>
     }
 }
 
-// Receives packets until the conversation speaks, or until no more packets arrive.
+// Receives packets until the conversation has the turn, or until no more packets arrive.
 fn listen<C: Conversation, A: Allocator + Copy, S: Source>(
     connection: &mut Connection<C, A>,
     source: &mut S,
@@ -207,7 +207,7 @@ fn listen<C: Conversation, A: Allocator + Copy, S: Source>(
     }
 }
 
-// Makes a single read, which does not go past the end of the current packet.
+// Reads once, and never beyond the end of the current packet.
 #[tactic(auto, using(crate::proofs::Partials::lacks_fewer))]
 fn hear_some<C: Conversation, A: Allocator + Copy, S: Source>(
     connection: &mut Connection<C, A>,

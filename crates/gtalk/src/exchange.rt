@@ -31,7 +31,7 @@ impl<C, A: Allocator + Copy> Connection<C, A> {
         conversation
     }
 
-    /// Returns the pending bytes: the bytes to send next.
+    /// Returns the pending bytes, which are the bytes to send next.
     pub fn output(&self) -> &[u8]
         ensures { result.now ≡ pending_of self.now }
     {
@@ -41,7 +41,7 @@ impl<C, A: Allocator + Copy> Connection<C, A> {
 }
 
 impl<C: Conversation, A: Allocator + Copy> Connection<C, A> {
-    /// Returns a connection on which no byte was received or sent, without allocating.
+    /// Returns a new connection, without allocating. No byte was received or sent on it.
     pub fn new(conversation: C, alloc: A) -> Connection<C, A>
         ensures holds { C.holds conversation no_talk → Holds C.holds result [] [] }
         ensures conversation { conversation_of result ≡ conversation }
@@ -58,8 +58,8 @@ impl<C: Conversation, A: Allocator + Copy> Connection<C, A> {
         }
     }
 
-    /// Returns which end has the turn. Also returns [`Turn::Done`] if the conversation listens but
-    /// no more packets arrive.
+    /// Returns which end has the turn. If the conversation listens but no more packets arrive, the
+    /// turn is [`Turn::Done`].
     pub fn turn(&self) -> Turn
         ensures { IsTurn C.turn self.now result }
     {
@@ -78,7 +78,8 @@ impl<C: Conversation, A: Allocator + Copy> Connection<C, A> {
         self.incoming.lacks()
     }
 
-    /// Receives bytes. There must be at most [`receive_limit`](Connection::receive_limit) bytes.
+    /// Receives bytes. The slice must have at most [`receive_limit`](Connection::receive_limit)
+    /// bytes.
     ///
     /// When the bytes complete a packet, the conversation receives the packet. If the bytes are not
     /// a packet, or there is no memory for them, the conversation is notified that no more packets
@@ -126,7 +127,7 @@ impl<C: Conversation, A: Allocator + Copy> Connection<C, A> {
         self.conversation.stop(why);
     }
 
-    /// Notifies the conversation that the device has failed.
+    /// Notifies the conversation that the source has failed.
     pub fn receive_failure(&mut self)
         requires turn { C.turn (conversation_of self.old) ≡ Turn.Listens }
         requires goes_on { has_stopped self.old ≡ None }

@@ -3,27 +3,26 @@
 //!
 //! A [`Conversation`] is one end of a protocol. A [`Connection`] is a conversation over bytes. The
 //! bytes arrive in pieces of any size, and the caller sends as many pending bytes as it can.
-//! [`drive`] moves the bytes between a connection and two blocking devices. An event loop does the
-//! same for many connections, and serves each connection when its socket is ready.
+//! [`drive`] moves the bytes between a connection, a blocking source and a blocking sink. An event
+//! loop moves the bytes of many connections, whenever a socket is ready.
 //!
 //! # Proved
 //!
-//! - The received bytes encode the packets that the conversation received, followed by a part of
-//!   the next packet. The sent bytes followed by the pending bytes are the canonical encoding of
-//!   the packets that the conversation queued (`Holds` in `specs/Connections.antt`). The contract
-//!   of each call states how these bytes change (`Moves`).
-//! - While more packets may arrive, the connection asks for at least one byte, and no call
-//!   accepts more bytes than the connection asks for. Therefore no byte after the last packet is
-//!   read.
+//! - The received bytes consist of the encodings of the packets that the conversation received, and
+//!   a part of the next packet. The sent bytes followed by the pending bytes are the canonical
+//!   encoding of the packets that the conversation queued (`Holds` in `specs/Connections.antt`).
+//!   The contract of each call states which bytes the call receives and sends (`Moves`).
+//! - While more packets may arrive, [`Connection::receive_limit`] is at least one byte, and no call
+//!   accepts more bytes than this limit. Therefore no byte after the last packet is read.
 //! - A conversation receives the reason why no more packets arrive ([`Stop`]). `Failed` is reported
-//!   only if the source is down, and `Ended` and `Truncated` only if the source is at its end
-//!   (`LeavesSource`). Bytes are refused only if they are not a packet, or if there is no memory
-//!   for them.
-//! - [`drive`] returns if all calls to its devices return. The connection receives all bytes that
-//!   are read, and writes all bytes that it sends, in order. [`drive`] succeeds only if the
-//!   conversation is done, or if no more packets arrive. After success all queued packets are sent
-//!   and flushed.
-//! - [`drive`] fails with `Io` only if the sink is down, and otherwise only if there is not
+//!   only if the source has failed. `Ended` and `Truncated` are reported only if the source is at
+//!   its end (`LeavesSource`). Bytes are refused only if they are not a packet, or if there is no
+//!   memory for them.
+//! - [`drive`] returns if all calls to its source and its sink return. The connection receives all
+//!   bytes that are read, and writes all bytes that it sends, in order. [`drive`] succeeds only if
+//!   the conversation is done, or if no more packets arrive. After success all queued packets are
+//!   sent and flushed.
+//! - [`drive`] fails with `Io` only if the sink has failed, and with `Memory` only if there is not
 //!   enough memory. After a failure all packets of earlier turns were flushed, and a prefix of the
 //!   last turn was written (`BreaksOff`).
 //! - [`Outgoing`] appends each packet in its canonical encoding.
@@ -31,14 +30,14 @@
 //! # What the contracts do not rule out
 //!
 //! - A connection may read and write one byte at a time.
-//! - An allocation may fail at any time, for received bytes and for packets to send.
-//! - Memory may be allocated too early, or freed too late.
+//! - Any allocation may fail, both for received bytes and for packets to send.
+//! - Memory may be allocated before it is needed, or freed late.
 //! - An event loop may drop a connection or its bytes, unless the contract of the event loop
 //!   excludes this.
 //!
 //! # Dependencies
 //!
-//! `gpkt` for packets and devices, and `hex` for the hexadecimal digits of packets.
+//! `gpkt` defines packets, sources and sinks, and `hex` decodes the hexadecimal digits of packets.
 #![tactic(auto)]
 
 mod connection;

@@ -1,4 +1,4 @@
--- The steps of making a server, and of answering fetch and ls-refs.
+-- The steps of creating a server, and of answering fetch and ls-refs.
 use Rattle.std.specs.Prelude.{◌≡◌, ◌≢◌, ◌<◌, ⊤, ℕ, List, [], All, Result, Ok, Err, ◌∷◌, ◌++◌, Option, Some, None, length, slice_get}
 use Rattle.gname.specs.Ids.{Id}
 use Rattle.gname.specs.Names.{Name}
@@ -23,9 +23,9 @@ use Rattle.glsreply.specs.LsReplies.{LsReply}
 use Rattle.glsreply.specs.RefTexts.{RefLine}
 use Rattle.glsreply.specs.declared.lent.LentLine.{LentLine}
 
--- ---- making a server
+-- ---- creating a server
 
--- the first ref whose id the graph does not hold is at this index
+-- this index is that of the first ref whose id the graph does not hold
 abbrev pub DanglesAt : {A : Type 0} → List (Entry A) → RefList → ℕ → Type 0
 DanglesAt g refs place =
     (place < length refs) × ((ref : Name × Id) → slice_get refs place ≡ Some ref → IsFirstDangling g refs ref.0)
@@ -48,7 +48,7 @@ PacksFor server packs fails asked (Err _) = ⊥
 
 -- ---- asking a packer once
 
--- the packer's result, without the bytes of the pack
+-- the packer's recorded result, without the bytes of the pack
 abbrev pub packing_of : {X : Type 0} → Result X PackFault → Packing
 packing_of (Ok pack) = packing.Packed
 packing_of (Err fault) = packing.Failed fault
@@ -71,7 +71,7 @@ pub record IsAnswering {A : Type 0} (server : Server A) (asked : LsRefsAsked) (f
   pub lines : ShowsLines server asked front reply.lines
   pub unborn : reply.unborn ≡ unborn_of server asked
 
--- an unfinished reply to which the line of `ref` is added next
+-- an unfinished reply, before the line of `ref` is added
 pub record IsNextRef {A : Type 0} (server : Server A) (asked : LsRefsAsked) (ref : Name × Id)
     (reply : LsReply) : Type 0 where
   pub front : RefList

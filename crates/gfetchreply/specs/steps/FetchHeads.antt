@@ -6,7 +6,7 @@ use Rattle.gfetchreply.specs.FetchReplies.{FetchReply}
 use Rattle.gfetchreply.specs.FetchReplies as reply
 use Rattle.gfetchreply.specs.FetchHeads.{FetchHead, Acks, Pack, Ready}
 
--- the head of a reply, by whether the reply is direct, whether it has `ready`, and which ids it acknowledges
+-- the head of a reply, given whether the reply is direct, whether it has `ready`, and which ids it acknowledges
 abbrev pub head_by : Bool → Bool → List Id → FetchHead
 head_by direct ready ids = if direct then Pack else if ready then Ready ids else Acks ids
 

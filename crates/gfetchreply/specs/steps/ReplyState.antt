@@ -48,7 +48,7 @@ first_kept format direct = record {
   byte_count = 0;
 }
 
--- the state of the grammar for these values
+-- the state of the grammar that corresponds to the stored values
 abbrev pub state_kept : Kept → State
 state_kept kept = record {
   place = kept.place;
@@ -73,7 +73,7 @@ with_text Acking kept (Ack id) = record kept {
 with_text BeforePack kept Packfile = record kept { place = InPack }
 with_text place kept form = kept
 
--- the values after another packet with this many bytes of the pack
+-- the stored values after another packet that contains this many bytes of the pack
 abbrev pub with_band : Kept → ℕ → Kept
 with_band kept more = record kept { band_count = kept.band_count + 1; byte_count = kept.byte_count + more }
 
@@ -100,7 +100,7 @@ abbrev pub brings_there : Bool → Point → Packet → Bool
 brings_there refuses place (Data payload) = payload_brings refuses place payload
 brings_there refuses place _ = false
 
--- ---- stored values, independent of where they are in memory
+-- ---- the contents of stored values, independent of where they are in memory
 
 abbrev pub place_in : coded.Point → Point
 place_in place.Start = Start
@@ -123,8 +123,8 @@ kept_in sections = record {
 abbrev pub state_in : {A : Type 0} → Sections A → State
 state_in sections = state_kept (kept_in sections)
 
--- Either the packet is accepted as the verdict says, and the first predicate holds. Or the packet is refused, as the
--- verdict says or because memory runs out, and the second predicate holds.
+-- If the packet is accepted, the verdict accepts it and the first predicate is true. If the packet is refused, the
+-- verdict refuses it or memory runs out, and the second predicate is true.
 abbrev pub TakesOr : Verdict → Bool → Type 0 → Type 0 → Result Step Why → Type 0
 TakesOr verdict brings taken left (Ok step.Open) = (verdict ≡ Open) × taken
 TakesOr verdict brings taken left (Ok step.Whole) = (verdict ≡ Whole) × taken
@@ -145,7 +145,8 @@ module _ {S : Type 0} (taken : S → Bytes → Type 0) where
   abbrev pub TakesNone : S → S → Type 0
   TakesNone old new = (before : Bytes) → taken old before → taken new before
 
-  -- if the packet is accepted as the verdict says, the values `wanted` are stored and the sink accepts the bytes `more`
+  -- if the packet is accepted according to the verdict, the values `wanted` are stored and the sink accepts the bytes
+  -- `more`
   abbrev pub TakesBoth : Verdict → Bool → Kept → Kept → Bytes → S → S → Result Step Why → Type 0
   TakesBoth verdict brings wanted kept more old new result =
       TakesOr verdict brings ((kept ≡ wanted) × TakesMore old new more) (TakesNone old new) result

@@ -1,4 +1,5 @@
--- The steps of reading a reply: forms, parameters and values, independent of where their bytes are in memory.
+-- The steps of reading a reply: the contents of texts, parameters and values, independent of where their bytes are in
+-- memory.
 use Rattle.std.specs.Prelude.{Bool, false, Result, Ok, Err}
 use Rattle.gname.specs.declared.formats.Format.{Format}
 use Rattle.ggrammar.specs.declared.ends.Ends.TheVariants.{Plain}

@@ -8,7 +8,7 @@ use Rattle.ggrammar.specs.Texts.{texts_of}
 use Rattle.ggrammar.specs.Capabilities.{Capability, capability_of}
 use Rattle.ghello.specs.Adverts.{capabilities_of, judge_at}
 
--- the minimum number of text lines read: one if the version was read
+-- the minimum number of text lines read, which is one if the version was read
 abbrev pub texts_at_least : Bool → ℕ
 texts_at_least false = 0
 texts_at_least true = 1

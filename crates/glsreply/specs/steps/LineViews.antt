@@ -1,4 +1,4 @@
--- Definitions for the proofs of reading a line: the values of the borrowed parts of a text, without their addresses.
+-- Definitions for the proofs of reading a line: the bytes of the borrowed parts of a text, without their addresses.
 use Rattle.std.specs.Prelude.{List, [], Option, Some, None, Result, Ok, Err}
 use Rattle.std.specs.Borrow.{Bor}
 use Rattle.std.specs.Option.{option_copied}
@@ -38,7 +38,7 @@ abbrev pub form_view : FirstText → FirstForm
 form_view (first.Unborn target) = UnbornForm (target_read target)
 form_view first.Ref = RefForm
 
--- the parts of the rest of a text, or none if there is no rest
+-- the space-separated parts of a text, or no parts if there is no text
 abbrev pub parts_left : Option (Bor Bytes) → List Bytes
 parts_left None = []
 parts_left (Some rest) = parts_of rest.now

@@ -10,7 +10,7 @@ use Rattle.glsreply.specs.RefTexts.{RefLine, line_of, FirstForm, UnbornForm, Ref
 use Rattle.glsreply.specs.LsReplies.{LsReply, is_over, reply_of}
 use Rattle.glsreply.specs.declared.reader.LsReplyReader.{LsReplyReader}
 
--- the state of a reader: whether the flush was read, the number of text lines read, and the reply so far
+-- the state of reading: whether the flush was read, the number of text lines read, and the reply so far
 pub record State : Type 0 where
   pub over : Bool
   pub count : ℕ

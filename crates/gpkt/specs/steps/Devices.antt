@@ -1,10 +1,10 @@
--- The encodings of device models as pairs, which generated contracts use.
+-- The encodings of the models of sources and sinks as pairs, which generated contracts use.
 use Rattle.std.specs.Coded.{Coded, code_by, coded×, coded_bool, coded_list, coded_ℕ}
 use Rattle.std.specs.Prelude.{ℕ, Bool, refl}
 use Rattle.gpkt.specs.Devices.{Device, Written}
 use Rattle.gpkt.specs.Packets.{Bytes}
 
--- the encoding of a device as a pair of its two fields
+-- the encoding of a source or sink as a pair of its two fields
 abbrev pub device_code : {X : Type 0} → Coded X → Coded (Device X)
 device_code {X} code =
     code_by (X × Bool) (coded× code coded_bool) (λ d. (d.inner, d.down))

@@ -1,4 +1,4 @@
--- The reading of one packet: the four digits, which form its head, and the payload.
+-- The reading of one packet: its head, which is the kind of packet that the four digits announce, and its payload.
 use Rattle.std.specs.Prelude.{◌≡◌, ℕ, ◌+◌, ◌<◌, ◌≤◌, Bool, true, false, [], length, take}
 use Rattle.std.specs.Prelude.{Option, Some, None, option_map, Result, Ok, Err}
 use Rattle.std.specs.Io.KnownBytes.{Consumes, IsAtEnd}
@@ -10,7 +10,7 @@ use Rattle.gpkt.specs.Change.{Change}
 use Rattle.gpkt.specs.Packets.{Packet, Data, Flush, Delim, ResponseEnd, digit_count, max_packet, max_payload, number_of}
 use Rattle.gpkt.specs.Packets.{Bytes, flush_len, delim_len, response_end_len, reserved_len}
 
--- the number that the digits of this head encode
+-- the number that the digits of this kind of packet encode
 abbrev pub announced_of : Head → ℕ
 announced_of (head.Data len) = len + digit_count
 announced_of head.Flush = flush_len
@@ -34,11 +34,11 @@ abbrev pub read_in : Bytes → Result (Option Head) PacketFault → Result (Opti
 read_in buffer (Ok found) = Ok (option_map (packet_in buffer) found)
 read_in buffer (Err fault) = Err fault
 
--- the bytes are four digits that announce the head
+-- the bytes are four digits that announce a packet of this kind
 abbrev pub Announces : Bytes → Head → Type 0
 Announces digits found = (number_of digits ≡ Some (announced_of found)) × (payload_len found ≤ max_payload)
 
--- the head that four digits announce, or the fault if they announce no head
+-- the kind of packet that four digits announce, or the fault if the digits are invalid
 abbrev pub Classifies : Bytes → Result Head PacketFault → Type 0
 Classifies digits (Ok found) = Announces digits found
 Classifies digits (Err BadDigits) = number_of digits ≡ None
@@ -55,7 +55,7 @@ abbrev pub EndsBelow : Change → ℕ → Type 0
 EndsBelow bytes limit =
     (taken : Bytes) × Consumes bytes.old bytes.new taken × (length taken < limit) × IsAtEnd bytes.new
 
--- the call consumes four digits; the result is the head that they announce, or their fault
+-- the call consumes four digits, and returns the kind of packet that they announce, or a fault if they are invalid
 abbrev pub ConsumesDigits : Change → Result Head PacketFault → Type 0
 ConsumesDigits bytes result =
     (digits : Bytes) × Consumes bytes.old bytes.new digits × (length digits ≡ digit_count) × Classifies digits result

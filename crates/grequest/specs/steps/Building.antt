@@ -8,7 +8,7 @@ use Rattle.grequest.specs.declared.kept.NotKept.{NotKept}
 use Rattle.grequest.specs.declared.kept.NotKept.TheVariants as not_kept
 use Rattle.grequest.specs.Asked.{FetchAsked}
 
--- the wants and the haves of two requests are the same
+-- the two requests have the same wants and the same haves
 abbrev pub HaveSameIds : FetchAsked → FetchAsked → Type 0
 HaveSameIds one other = (one.wants ≡ other.wants) × (one.haves ≡ other.haves)
 
@@ -21,7 +21,7 @@ KeepsAs well_formed has_room old new built (Err not_kept.NoRoom) =
 KeepsAs well_formed has_room old new built (Err not_kept.NoMemory) =
     (well_formed ≡ true) × (has_room ≡ true) × (new ≡ old)
 
--- the grammar's reason to reject the value, where the first argument is the reason for a wrong form
+-- the grammar's reason to reject the value; the first argument is the reason for a malformed value
 abbrev pub why_not_kept : Why → NotKept → Why
 why_not_kept wrong_form not_kept.WrongForm = wrong_form
 why_not_kept wrong_form not_kept.NoRoom = why.Limit

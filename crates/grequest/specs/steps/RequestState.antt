@@ -1,5 +1,5 @@
--- The steps of reading a request: the state after each accepted packet, the sections, the parts that are stored, and
--- the results.
+-- The steps of reading a request: the state after each accepted packet, the sections, the stored parts, and the
+-- results.
 use Rattle.std.specs.Prelude.{◌+◌, true, [], ◌∷◌, ◌++◌, Some, ◌≡◌, ℕ, Bool, false, List}
 use Rattle.std.specs.Option.{option_to_list}
 use Rattle.gpkt.specs.Packets.{Bytes, Packet, Data, Delim, text}
@@ -80,7 +80,7 @@ with_packet format state _ = state
 
 -- ---- sections of a request
 
--- the section of a request; a request without a command is at its first packet
+-- the section of a request; before the command is read, the next packet is the first
 abbrev pub place_in : Section → Asked → RequestPlace
 place_in section Empty = First
 place_in Capabilities (Ls asked) = InCapabilities LsRefs
@@ -88,7 +88,7 @@ place_in Capabilities (Fetches asked) = InCapabilities Fetch
 place_in Arguments (Ls asked) = InArguments LsRefs
 place_in Arguments (Fetches asked) = InArguments Fetch
 
--- ---- the parts that are stored
+-- ---- the stored parts
 
 -- the part of a request read so far, for a repository with this object format
 pub record RequestSoFar : Type 0 where

@@ -19,13 +19,13 @@ use Rattle.gserve.specs.declared.exchange.ExchangeEnd.{ExchangeEnd}
 use Rattle.gserve.specs.declared.exchange.ExchangeEnd.TheVariants as exchange
 use Rattle.gserve.specs.declared.connection.End.TheVariants as end
 
--- The effect of a call that writes these packets and flushes them. `Passes` assumes, unlike `Sends`, that the bytes
--- written before the call are known. So two such calls in sequence have the effect of one call.
+-- The effect of a call that writes these packets and flushes them. Unlike `Sends`, `Passes` requires that the bytes
+-- written before the call are known. So two calls with this effect, one after the other, have the effect of one call.
 abbrev pub PassesPackets : {E : Type 0} → Output → Result (Unit {0}) E → List Packet → Type 0
 PassesPackets output (Ok done) packets = Passes output (canonical_all packets)
 PassesPackets output (Err fault) packets = SendsSome output (canonical_all packets) × KeepsPassed output.passed_on
 
--- the error packet of the refusal is written and flushed, or the sink fails
+-- the server writes and flushes the error packet of the refusal, or the sink fails
 abbrev pub ReportsRefusal : ServeFault → Output → ExchangeEnd → Type 0
 ReportsRefusal fault output (exchange.Refused reported) =
     (reported ≡ fault) × Passes output (canonical_all (err_packets fault))
@@ -49,12 +49,12 @@ Advertises format output (Err end.WriteFailed) = RefusesFirst serve.Memory outpu
     ⊎ (SendsSome output (canonical_all (advert_packets format)) × KeepsPassed output.passed_on)
 Advertises format output (Err _) = ⊥
 
--- the end of an exchange, by the result of writing and flushing its reply
+-- how an exchange ends, given the result of writing and flushing its reply
 abbrev pub end_of_reply : {E : Type 0} → Result (Unit {0}) E → ExchangeEnd
 end_of_reply (Ok done) = exchange.Answered
 end_of_reply (Err fault) = exchange.WriteFailed
 
--- the end of a connection after an exchange, or `None` if the connection goes on
+-- how a connection ends after an exchange, or `None` if the connection continues
 abbrev pub end_after : ExchangeEnd → Option End
 end_after exchange.Answered = None
 end_after exchange.Closed = Some end.Closed

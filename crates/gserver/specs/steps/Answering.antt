@@ -17,7 +17,7 @@ module _ {A R P : Type 0} (server_of : R → Server A) (gives : R → P → Give
         → (said ≡ text_packets text) × (goes ≡ false)
     pub last : (reply : ServerReply A R P) → result ≢ answer.GoesOn reply
 
-  -- the answer is this reply, after which the dialogue may continue; or, for an `Err`, an error packet with this text
+  -- the answer is the reply in `Ok`, after which the dialogue may continue, or an error packet with the text in `Err`
   abbrev pub AnswersOf : Result (ServerReply A R P) Bytes → Bool → Answer (ServerReply A R P) → Type 0
   AnswersOf (Ok reply) true result = result ≡ answer.GoesOn reply
   AnswersOf (Ok reply) false result = result ≡ answer.Last reply

@@ -1,4 +1,4 @@
--- The filling of a packet with the next bytes of a pack.
+-- Definitions for filling a packet with the next bytes of a pack.
 use Rattle.std.specs.Prelude.{◌≡◌, ◌<◌, ◌≤◌, ◌+◌, ℕ, List, [], ◌∷◌, ◌++◌, length, take, Option, Some, None}
 use Rattle.gobject.specs.declared.fault.PackFault.{PackFault}
 use Rattle.gparts.specs.Parts.{Gives}
@@ -25,13 +25,13 @@ pub record IsFilled (old : Gives) (most_old : ℕ) (new : Gives) (most_new : ℕ
   pub more : (rest : List ℕ) (end : Option PackFault) → new rest end → old (take count out ++ rest) end
   pub few : count + most_new ≤ most_old
 
--- the next bytes of the pack fill the buffer, or the pack ends before the buffer is full
+-- the buffer is full of the next bytes of the pack, or the pack ends before the buffer is full
 pub record Fills (old : Gives) (most_old : ℕ) (new : Gives) (most_new : ℕ) (count : ℕ) (out : List ℕ) : Type 0 where
   pub fits : count ≤ length out
   pub full : count ≡ length out → IsFilled old most_old new most_new count out
   pub whole : count < length out → old (take count out) None
 
--- the next piece of a pack is queued, or the rest of the pack is queued, or the packer fails
+-- the call queues the next piece of a pack, queues the rest of the pack, or fails because the packer fails
 abbrev pub SaysPiece : Gives → ℕ → Gives → ℕ → Bytes → Bytes → Piece → Type 0
 SaysPiece old most_old new most_new before out piece.More =
     (bytes : Bytes) × (out ≡ before ++ canonical_all (data_packet bytes ∷ [])) × (most_new < most_old)

@@ -10,7 +10,7 @@ use Rattle.glsreply.specs.RefTexts.{RefLine}
 use Rattle.ganswer.specs.LsAnswers.{ShowsLines}
 use Rattle.ganswer.specs.Servers.{Server}
 
--- the lines of the requested refs among `refs` are appended to the bytes
+-- the lines of the requested refs among `refs` are appended to the queued bytes
 pub record SaysLines {A : Type 0} (server : Server A) (asked : LsRefsAsked) (refs : RefList)
     (before out : Bytes) : Type 0 where
   pub lines : List RefLine

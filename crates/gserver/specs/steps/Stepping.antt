@@ -15,20 +15,20 @@ use Rattle.gserver.specs.declared.said.Rest.{Rest}
 use Rattle.gserver.specs.declared.said.Stepped.{Stepped}
 use Rattle.gserver.specs.declared.said.Stepped.TheVariants as stepped
 
--- packets of the reply are appended to the bytes, and fewer steps are left
+-- the step appends packets of the reply to the queued bytes, and fewer steps remain
 pub record PutsSome (old new : May) (steps_old steps_new : ℕ) (before out : Bytes) : Type 0 where
   pub said : List Packet
   pub spelt : out ≡ before ++ canonical_all said
   pub goes_on : (rest : List Packet) (goes : Bool) → new rest goes → old (said ++ rest) goes
   pub nearer : steps_new < steps_old
 
--- the last packets of the reply are appended to the bytes
+-- the step appends the last packets of the reply to the queued bytes
 pub record PutsLast (old : May) (goes : Bool) (before out : Bytes) : Type 0 where
   pub said : List Packet
   pub spelt : out ≡ before ++ canonical_all said
   pub all : old said goes
 
--- one step from this state of a reply
+-- one step of a reply from this state
 module _ {A R P : Type 0} (gives : R → P → Gives) (most : R → P → ℕ) (ends : Ends) (goes_on : Bool) where
   abbrev pub StepsFrom : Rest A R P → Bytes → Bytes → Stepped A R P → Type 0
   StepsFrom from before out (stepped.More rest) =
@@ -37,7 +37,7 @@ module _ {A R P : Type 0} (gives : R → P → Gives) (most : R → P → ℕ) (
   StepsFrom from before out stepped.Whole = PutsLast (SaysRest gives ends goes_on from) true before out
   StepsFrom from before out stepped.Last = PutsLast (SaysRest gives ends goes_on from) false before out
 
--- the result after the last packet of a reply, depending on whether the dialogue continues
+-- the result of the call that queues the last packet of a reply, given whether the dialogue then continues
 abbrev pub end_of : {A R P : Type 0} → Bool → Stepped A R P
 end_of true = stepped.Whole
 end_of false = stepped.Last
@@ -55,7 +55,7 @@ FollowsHeading ids pack _ = ⊥
 
 -- ---- several steps
 
--- at least `count` steps were made since the first state, and the queue has room for another packet
+-- since the first state, at least `count` steps were made; the queue still has room for another packet
 pub record HasSaid (first now : May) (steps_first steps_now count : ℕ) (out : Bytes) : Type 0 where
   pub said : List Packet
   pub spelt : out ≡ canonical_all said
@@ -63,7 +63,7 @@ pub record HasSaid (first now : May) (steps_first steps_now count : ℕ) (out : 
   pub nearer : count + steps_now ≤ steps_first
   pub room : length out + max_packet ≤ queue_room
 
--- one step of a reply, for each result
+-- the effect of one step of a reply, for each result
 abbrev pub Advances : May → May → ℕ → ℕ → Bytes → Bytes → Said → Type 0
 Advances old new steps_old steps_new before out said.More = PutsSome old new steps_old steps_new before out
 Advances old new steps_old steps_new before out said.Whole = PutsLast old true before out
