@@ -15,7 +15,8 @@ pub const MAX_INDEX: usize = 4_294_967_296;
 /// The maximum size of `objects/info/alternates`: 1 MiB.
 pub const MAX_ALTERNATES: usize = 1_048_576;
 
-/// The maximum depth of alternates. Git has the same limit.
+/// The maximum depth of an object folder whose alternates are read, with depth 0 for the folder of
+/// the repository. Git has the same limit.
 pub const MAX_DEPTH: usize = 5;
 
 /// The maximum number of object folders: the folder of the repository, and all alternates.
