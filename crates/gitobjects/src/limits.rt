@@ -38,7 +38,8 @@ pub(crate) const MAX_ANSWER: usize = 65_536;
 /// The maximum number of bytes read from a loose object to find its type.
 pub(crate) const MAX_FRONT: usize = 4_096;
 
-/// The maximum number of broken objects in one delta chain that are replaced by other copies.
+/// The maximum number of attempts to read one delta chain. After a failed attempt, another copy
+/// replaces the broken object.
 pub(crate) const MAX_COPIES: usize = 16;
 
 /// The maximum size of a block of a pack in memory: 1 MiB.
