@@ -94,8 +94,9 @@ pub record HaveEnds (edges rows : List (List ℕ)) : Type 0 where
   pub last : (d : List ℕ) → 0 < length edges → mark ≤ number (slice_index_or edges (length edges - 1) d)
   pub begins : All (NamesEdge (length edges)) rows
 
--- The form of a file: ascending ids of 20 bytes, a row of 36 bytes for each id, and edges of 4 bytes. There are at most
--- 0x7000_0000 ids, so no position equals the number for a missing parent.
+-- The form of a file: ascending ids of 20 bytes, a row of 36 bytes for each id, edges of 4 bytes, and checksums of 20
+-- bytes. Each edge list has an end. There are at most 0x7000_0000 ids, so no index of an id equals the number for a
+-- missing parent.
 pub record IsGraphFile (file : GraphFile) : Type 0 where
   pub bases : AreLong 20 file.bases
   pub ids : AreLong 20 file.ids

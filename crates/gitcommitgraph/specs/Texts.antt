@@ -30,7 +30,7 @@ abbrev pub contents : ℕ → List Chunk → List ℕ
 contents offset [] = no_name ++ to_be_bytes w64 offset
 contents offset (c ∷ chunks) = c.name ++ (to_be_bytes w64 offset ++ contents (offset + length c.bytes) chunks)
 
--- each chunk has a name of four bytes, and no two chunks have the same name
+-- each chunk has a name of four bytes that are not all zero, and no two chunks have the same name
 pub record AreNamed (chunks : List Chunk) : Type 0 where
   pub long : All (λ c. length c.name ≡ 4) chunks
   pub named : All (λ c. c.name ≢ no_name) chunks

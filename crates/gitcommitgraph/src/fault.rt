@@ -26,7 +26,7 @@ pub enum CommitGraphFault {
     Order,
     /// The fan-out table does not match the ids.
     FanOut,
-    /// An edge list has no end.
+    /// An edge list has no end, or begins outside the edge table.
     Edges,
     /// The base graphs of the file are not the files that were added earlier.
     Bases,

@@ -3,7 +3,7 @@
 
 ghost use Rattle.gitcommitgraph.specs.Laws.{ChainsAreOne, FilesAreOne};
 
-/// Proves that a text encodes at most one commit-graph file.
+/// Proves that a text of fewer than 2^64 bytes encodes at most one commit-graph file.
 pub fn files_are_one()
     ensures { FilesAreOne }
 {}

@@ -64,7 +64,8 @@ impl<A: Allocator + Copy> Layer<A> {
     ///
     /// Fails with `Header`, `Contents` or `Chunk` if the header, the table of contents or a chunk
     /// is wrong. Fails with `Order` if the ids are not in ascending order, with `FanOut` if the
-    /// fan-out table does not match the ids, and with `Edges` if an edge list has no end.
+    /// fan-out table does not match the ids, and with `Edges` if an edge list has no end, or begins
+    /// outside the edge table.
     pub(crate) fn read(bytes: Vec<u8, A>) -> Result<Layer<A>, CommitGraphFault>
         ensures { MatchResult result (λ file. IsGraphText file bytes.items)
             (λ fault. (old : List GraphFile) → IsRefused old bytes.items fault) }

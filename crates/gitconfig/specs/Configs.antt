@@ -83,7 +83,7 @@ pub record BeginsWithComment (text rest : List ℕ) : Type 0 where
   pub each : All (λ b. b ≢ 10) words
   pub ends : EndsLine rest
 
--- an item of a configuration: a space or a comment, the header of a section, or a variable
+-- an item of a configuration: a byte of white space or a comment, the header of a section, or a variable
 pub data Item : Type 0 where
   Nothing : Item
   Begins : List ℕ → Item

@@ -15,6 +15,6 @@ pub record BeginsWithId (word text : List ℕ) (id : Id) (rest : List ℕ) : Typ
 abbrev pub BeginsWithType : List ℕ → ObjectType → List ℕ → Type 0
 BeginsWithType text kind rest = text ≡ codes "type " ++ (type_name kind ++ 10 ∷ rest)
 
--- the text begins with a line of the word `tag` and a name
+-- the text begins with a line of the word `tag` and a name, which may be empty
 abbrev pub BeginsWithName : List ℕ → Type 0
 BeginsWithName text = (name rest : List ℕ) × (text ≡ codes "tag " ++ (name ++ 10 ∷ rest))

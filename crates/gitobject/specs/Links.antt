@@ -16,7 +16,8 @@ pub record GoesOn (text : List ℕ) : Type 0 where
   pub more : text ≢ []
   pub other : (rest : List ℕ) → ¬ (text ≡ codes "parent " ++ rest)
 
--- the text begins with one line for each parent, followed by text that is not a parent line
+-- the text begins with one line for each parent, followed by text that is not empty and does not begin like a parent
+-- line
 abbrev pub HasParents : List ℕ → List Id → Type 0
 HasParents text [] = GoesOn text
 HasParents text (id ∷ ids) = (rest : List ℕ) × BeginsWithId (codes "parent ") text id rest × HasParents rest ids

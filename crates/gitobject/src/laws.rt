@@ -8,7 +8,7 @@ pub fn links_are_one()
     ensures { LinksAreOne }
 {}
 
-/// Proves that a text encodes at most one object.
+/// Proves that a text encodes at most one object of fewer than 2^64 bytes.
 pub fn texts_are_one()
     ensures { TextsAreOne }
 {}

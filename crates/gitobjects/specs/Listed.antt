@@ -4,7 +4,7 @@ use Rattle.gitobjects.specs.declared.files.FolderTime.{FolderTime}
 use Rattle.gitobjects.specs.declared.listed.Listed.{Listed}
 use Rattle.gitobjects.specs.declared.listed.Listed.TheVariants as listed
 
--- the state of a folder whose names last changed at this time, and which was listed twice since then
+-- the state of a folder whose names last changed at this time, and which was listed at least twice since then
 abbrev pub Twice : Option FolderTime → Listed
 Twice time = listed.Twice time
 

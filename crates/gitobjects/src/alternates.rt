@@ -39,7 +39,7 @@ impl<A: Allocator + Copy> Folder<A> {
     }
 }
 
-/// Returns the object folder of a repository, and its alternates recursively, at most five levels
+/// Returns the object folder of a repository, and its alternates recursively, at most six levels
 /// deep, as in Git. A folder that was already added is skipped, so the recursion ends even if
 /// alternates are cyclic. A missing folder is also skipped.
 pub(crate) fn object_folders<F: ObjectFiles, A: Allocator + Copy>(

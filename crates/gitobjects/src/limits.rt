@@ -15,7 +15,8 @@ pub const MAX_INDEX: usize = 4_294_967_296;
 /// The maximum size of `objects/info/alternates`: 1 MiB.
 pub const MAX_ALTERNATES: usize = 1_048_576;
 
-/// The maximum depth of alternates. Git has the same limit.
+/// The maximum depth of an object folder whose alternates are read, with depth 0 for the folder of
+/// the repository. Git has the same limit.
 pub const MAX_DEPTH: usize = 5;
 
 /// The maximum number of object folders: the folder of the repository, and all alternates.
@@ -37,7 +38,8 @@ pub(crate) const MAX_ANSWER: usize = 65_536;
 /// The maximum number of bytes read from a loose object to find its type.
 pub(crate) const MAX_FRONT: usize = 4_096;
 
-/// The maximum number of broken objects in one delta chain that are replaced by other copies.
+/// The maximum number of attempts to read one delta chain. After a failed attempt, another copy
+/// replaces the broken object.
 pub(crate) const MAX_COPIES: usize = 16;
 
 /// The maximum size of a block of a pack in memory: 1 MiB.

@@ -15,13 +15,13 @@ pub(crate) enum Listed {
     Never,
     /// The folder was listed once.
     Once(Option<FolderTime>),
-    /// The folder was listed twice.
+    /// The folder was listed at least twice.
     Twice(Option<FolderTime>),
 }
 
 impl Listed {
     /// Returns whether the folder must be listed again, if its names last changed at this time.
-    /// Returns false if the folder was listed twice since this change.
+    /// Returns false if the folder was listed at least twice since this change.
     pub(crate) fn is_stale(&self, now: Option<FolderTime>) -> bool
         ensures { IsTrue result ↔ (self.now ≢ Twice now) }
     {

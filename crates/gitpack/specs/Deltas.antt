@@ -66,7 +66,8 @@ pub record BeginsWithInstruction (base text : List ℕ) (i : Instruction) (rest 
   pub fits : Fits base i
   pub parts : text ≡ front ++ rest
 
--- the text encodes these instructions, and the instructions add exactly the bytes of `body`
+-- the text encodes exactly these instructions, each of which copies only within the base; together they add exactly the
+-- bytes of `body`
 abbrev pub Makes : List ℕ → List Instruction → List ℕ → List ℕ → Type 0
 Makes base [] text body = (text ≡ []) × (body ≡ [])
 Makes base (i ∷ is) text body =

@@ -90,8 +90,8 @@ impl<A: Allocator + Copy> Blocks<A> {
     }
 
     /// Returns the first match of at least one block that begins in the target at or after `from`
-    /// and before `to`, or `None` if there is no such match. The match ends where the bytes of the
-    /// target and the base differ.
+    /// and before `to`, or `None` if the search finds no such match. The match ends where the bytes
+    /// of the target and the base differ.
     pub(crate) fn next_match(
         &self,
         base: &[u8],

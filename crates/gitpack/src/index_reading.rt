@@ -24,9 +24,9 @@ struct Tables<'a> {
     long_offsets: &'a [u8],
 }
 
-/// Returns the entries of a pack index, or `None` if there are too few bytes. The argument `bytes`
-/// is the index without its two checksums. The signature, the fan-out table and the order of the
-/// ids are not checked.
+/// Returns the entries of a pack index, or `None` if there are too few bytes or at least 2^31
+/// entries. The argument `bytes` is the index without its two checksums. The signature, the fan-out
+/// table and the order of the ids are not checked.
 ///
 /// Fails only if out of memory.
 pub(crate) fn read_entries<A: Allocator + Copy>(

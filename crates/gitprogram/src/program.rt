@@ -61,8 +61,8 @@ fn refuse_arguments<R: AllocGlobal, W: Write>(rt: &R, kind: ErrorKind, errors: &
     WRONG_USAGE
 }
 
-// Prints the help, version or usage text that was requested instead of a command, and returns the
-// exit status.
+// Prints the answer to arguments that select no command: help, the version, or the usage after a
+// mistake. Returns the exit status.
 fn print_answer<R: Print, W: Write>(rt: &R, answer: &Answer, errors: &mut W) -> u8 {
     if let Answer::Memory = answer {
         return finish(Err(Fault::Memory), errors);

@@ -74,7 +74,7 @@ impl<'d, D> Shared<'d, D> {
     }
 
     /// Returns whether the objects are open, and the pack directory has not changed since they were
-    /// opened.
+    /// opened. Returns false if the modification time `changed` is unknown.
     pub(crate) fn is_open_since(&self, changed: Option<SystemTime>) -> bool {
         self.objects.is_some() && changed.is_some() && self.changed == changed
     }

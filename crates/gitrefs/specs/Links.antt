@@ -5,8 +5,8 @@ use Rattle.std.specs.Prelude.{◌≡◌, ℕ, Bool, List, [], ◌∷◌, ◌++�
 abbrev pub is_line_end : ℕ → Bool
 is_line_end b = (b == 10) || (b == 13)
 
--- the text is the path, followed by any number of line feeds and carriage returns, with which the path itself does not
--- end
+-- the text is a path that is not empty, followed by any number of line feeds and carriage returns; the path itself does
+-- not end with these bytes
 pub record IsPathFile (text path : List ℕ) : Type 0 where
   pub front : List ℕ
   pub last : ℕ

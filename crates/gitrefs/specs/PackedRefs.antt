@@ -21,7 +21,7 @@ pub record BeginsWithRef (text : List ℕ) (line : PackedLine) (rest : List ℕ)
   pub parts : after_id ≡ 32 ∷ (line.name ++ 10 ∷ rest)
 
 -- the text begins with a line of `^` and the peeled id, and `rest` follows the line; if there is no peeled id, `rest`
--- is the whole text
+-- is the whole text, which does not begin with `^`
 abbrev pub BeginsWithPeeled : List ℕ → Option Id → List ℕ → Type 0
 BeginsWithPeeled text None rest = (text ≡ rest) × ((more : List ℕ) → ¬ (text ≡ codes "^" ++ more))
 BeginsWithPeeled text (Some id) rest =
@@ -43,7 +43,7 @@ pub record HasHeader (text words rest : List ℕ) : Type 0 where
   pub clean : All (λ b. b ≢ 10) words
   pub parts : text ≡ codes "# pack-refs with:" ++ (words ++ 10 ∷ rest)
 
--- the text begins with a header that `rest` follows, or has no header and equals `rest`
+-- the text begins with a header that `rest` follows, or does not begin with `#` and equals `rest`
 abbrev pub BeginsWithHeader : List ℕ → List ℕ → Type 0
 BeginsWithHeader text rest = ((words : List ℕ) × HasHeader text words rest)
     ⊎ ((text ≡ rest) × ((more : List ℕ) → ¬ (text ≡ codes "#" ++ more)))

@@ -227,8 +227,9 @@ impl<'r, R: Files, A: Allocator + Copy> GitDirectory<'r, R, A> {
     /// Replaces HEAD with a detached id or a symbolic ref (git-symbolic-ref(1)). HEAD is unchanged
     /// if `head` is `Head::None`.
     ///
-    /// Fails with `Locked` if HEAD is locked, with `System` if a system call fails, or with
-    /// `Memory` if out of memory. After a fault, HEAD is either unchanged or completely replaced.
+    /// Fails with `Locked` if HEAD is locked, with `Symbolic` if HEAD is a symbolic link, and with
+    /// `Malformed` if HEAD is empty. Fails with `System` if a system call fails, or with `Memory`
+    /// if out of memory. After a fault, HEAD is either unchanged or completely replaced.
     pub fn set_head(&self, head: &Head<A>) -> Result<(), RefFault<A>> {
         match head {
             Head::None => Ok(()),
@@ -262,9 +263,10 @@ impl<'r, R: Files, A: Allocator + Copy> GitDirectory<'r, R, A> {
     /// not contain the word `peeled`.
     ///
     /// Fails with `Conflict` if the name of a ref is also a directory of another ref, and with
-    /// `Exists` if `packed-refs` exists. Other possible faults are `Missing`, `Locked`, `System`
-    /// and `Memory`. After a fault, `packed-refs` is either missing or complete, and its lock is
-    /// removed.
+    /// `Exists` if `packed-refs` exists and is not empty. Fails with `Malformed` if `packed-refs`
+    /// is empty, and with `Symbolic` if `packed-refs` is a symbolic link. Other possible faults are
+    /// `Missing`, `Locked`, `System` and `Memory`. After a fault, `packed-refs` is unchanged or
+    /// complete, and its lock is removed.
     pub fn write_packed_refs(
         &self,
         refs: &Refs<A>,

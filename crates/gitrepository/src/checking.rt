@@ -36,7 +36,8 @@ pub struct Checked {
 ///
 /// Fails with `Ref` at the first malformed ref file, or at the first missing or malformed object.
 /// The fault names the object and the ref. Refs are checked in the order of their names. Fails with
-/// `Repository` if the refs cannot be read, or if out of memory.
+/// `Repository` if the refs cannot be read. Fails with `Repository` or `Ref` if there are too many
+/// commits and tags, or if out of memory.
 pub fn check_repository<R: Files, F: ObjectFiles, A: Allocator + Copy>(
     directory: &GitDirectory<'_, R, A>,
     reader: &mut ObjectReader<'_, F, A>,

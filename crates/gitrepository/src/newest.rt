@@ -23,14 +23,15 @@ struct Tip {
     height: usize,
 }
 
-/// Returns the refs, preceded by at most 256 added refs to the newest objects. An object counts as
+/// Returns the refs whose objects the graph holds, preceded by at most 256 added refs to the newest
+/// of these objects. An object counts as
 /// newer than another if its longest chain of parents is longer. If a client sends haves in the
 /// order of ref names, it thus offers the newest objects first. Git orders haves by commit date.
 ///
 /// The names of the added refs begin with `refs/` and 256 bytes of `!`. No file can have a name of
 /// this length, so a Git directory has no ref with this prefix. No ref is added if the name of a
-/// ref already begins with this prefix, or if `more` further refs would exceed the maximum number
-/// of refs. Fails only if out of memory.
+/// ref already begins with this prefix. No ref is added if the refs, 256 added refs and `more`
+/// further refs would exceed the maximum number of refs. Fails only if out of memory.
 pub fn lead_with_newest<A: Allocator + Copy>(
     graph: &Graph<A>,
     refs: &Refs<A>,

@@ -126,7 +126,7 @@ fn peel_target(peel: &Peel) -> Option<Oid> {
     }
 }
 
-// Reads an object that `packed-refs` does not list, and adds it with its peeled object.
+// Reads an object whose peeled object `packed-refs` does not determine, and adds both objects.
 fn add_read<F: ObjectFiles, A: Allocator + Copy>(
     graph: &mut Graph<A>,
     reader: &mut QuickReader<'_, F, A>,

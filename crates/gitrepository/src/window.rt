@@ -65,8 +65,9 @@ impl<A: Allocator + Copy> Window<A> {
         }
     }
 
-    /// Returns the smallest delta found for an object, or `None` if none is small enough. The base
-    /// of this delta becomes the most recently used base.
+    /// Returns the best delta found for an object, or `None` if none is small enough. A delta with
+    /// a shorter chain may be better than a smaller delta. The base of the returned delta becomes
+    /// the most recently used base.
     pub(crate) fn best_delta(
         &mut self,
         object: &Object<A>,
@@ -99,8 +100,8 @@ impl<A: Allocator + Copy> Window<A> {
     }
 
     /// Adds an object that was sent as this delta, or that was sent whole if `delta` is `None`. An
-    /// object of unsuitable size is not added. The oldest objects are removed until the new object
-    /// fits into the window.
+    /// object of unsuitable size, or with a chain of maximum length, is not added. The oldest
+    /// objects are removed until the new object fits into the window.
     pub(crate) fn push(
         &mut self,
         id: &Oid,
