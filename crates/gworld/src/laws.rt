@@ -30,7 +30,7 @@ use std::alloc::Allocator;
 
 /// Proves that each step from a sound world leads to a sound world, and keeps its promises. The
 /// premise is that both ends are connected before and after the step. [`ends_stay_connected`]
-/// proves that a step keeps both ends connected.
+/// proves that a step keeps both ends connected, if refs are sorted and the session is valid.
 pub fn steps_keep<A: Allocator + Copy, K: Packer<A> + Indexer<A>>()
     ensures { (k : K) → StepsKeep (tools_of (K.packs k) (K.pack_fails k) (K.indexes k)
         (K.index_fails k)) }
@@ -169,9 +169,10 @@ pub fn honest_runs_keep_all<A: Allocator + Copy, K: Faithful<A>>(tools: &K)
     faithful_lose_nothing::<A, K>(tools);
 }
 
-/// Proves that each step leaves all refs of the server and of the client connected, if they were
-/// connected before. The other premise is that after the step refs are sorted and the session is
-/// valid. This premise does not follow from the definition of a step.
+/// Proves that each step leaves both ends connected, if both ends were connected before: no object
+/// of the server is missing, and each ref of the client is connected. The other premise is that
+/// after the step refs are sorted and the session is valid. This premise does not follow from the
+/// definition of a step.
 pub fn ends_stay_connected<A: Allocator + Copy, K: Packer<A> + Indexer<A>>()
     ensures { (k : K) → EndsStayConnected (tools_of (K.packs k) (K.pack_fails k) (K.indexes k)
         (K.index_fails k)) }
