@@ -95,7 +95,7 @@ pub record IsRun {A : Type 0} (output : Output) (ending : Ending A) (w : WorldSt
   pub run : RunWith (Promises (plain_tools A)) w events outcomes new
   pub shows : Shows (simulated_text outcomes new.repo.refs) output ending
 
--- some of the events happened, and then memory ran out before the next event
+-- memory ran out before an event, and all earlier events happened
 pub record IsStopped {A : Type 0} (w : WorldState A) (events : List (Event A)) : Type 0 where
   pub outcomes : List Outcome
   pub new : WorldState A
