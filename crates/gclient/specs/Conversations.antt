@@ -84,8 +84,8 @@ pub record Mismatches (format : Format) (input : Input) (cause : MessageFault) :
   pub frame : cause.frame ≡ 0
   pub up : IsUp input
 
--- reading the advertisement fails at its first invalid packet, and the fault reports a failed source exactly if the
--- source failed
+-- reading the advertisement fails at a packet that is unreadable, missing or rejected, and the fault reports a failed
+-- source exactly if the source failed
 pub record RefusesToRead (input : Input) (cause : MessageFault) : Type 0 where
   pub front : List Packet
   pub refused : ReadsRefused advert.judge advert.brings front input.read cause

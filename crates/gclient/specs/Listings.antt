@@ -65,8 +65,8 @@ pub record ReadsReply (format : Format) (input : Input) (reply : ls.LsReply) : T
   pub says : ls.Says format Plain packets reply
   pub up : IsUp input
 
--- reading the reply fails at its first invalid packet, and the fault reports a failed source exactly if the source
--- failed
+-- reading the reply fails at a packet that is unreadable, missing or rejected, and the fault reports a failed source
+-- exactly if the source failed
 pub record RefusesReply (format : Format) (input : Input) (cause : MessageFault) : Type 0 where
   pub front : List Packet
   pub refused : ReadsRefused (ls.judge format Plain) ls.brings front input.read cause

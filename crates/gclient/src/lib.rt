@@ -33,9 +33,9 @@
 //!   the object format that the advertisement names. The request has `unborn` exactly when the
 //!   server offers to report an unborn `HEAD`. The client flushes the request before it reads the
 //!   reply, and reads nothing after the final lone flush packet.
-//! - The first fault ends a listing. The faults are a malformed advertisement, an unsupported
-//!   server, a malformed reply, and a failed sink. The contract states which bytes were read and
-//!   written. The client reports a failed source exactly when the source failed.
+//! - The first fault ends a listing. The faults are out of memory, a malformed advertisement, an
+//!   unsupported server, a malformed reply, and a failed sink. The contract states which bytes were
+//!   read and written. The client reports a failed source exactly when the source failed.
 //! - [`send_request`] writes and flushes one request, for clients that hold a different
 //!   conversation.
 //! - Each fault has the number, the name and the text of its row in `specs/Faults.antt`.

@@ -64,8 +64,8 @@ SetsLocal old name id new (Err (Refs refs.Memory)) =
 SetsLocal old name id new (Err (Graph graph.Memory)) = (new ≡ old) × NeedsWalk old.graph.entries (id ∷ [])
 SetsLocal old name id new (Err _) = ⊥
 
--- the result of settling: the outcome of each requested update, a missing ancestor, refs that can't be set, or out of
--- memory
+-- the result of settling: the outcome of each requested update, an id that is missing in the ancestries of the new ids,
+-- refs that can't be set, or out of memory
 abbrev pub SettlesAsks : {A : Type 0} → RepoState A → List (Ask A) → RepoState A
     → Result (List RefUpdate) (RepoFault A) → Type 0
 SettlesAsks old asks new (Ok updates) =

@@ -1,4 +1,4 @@
--- Settling: all requested updates of refs happen at once. Without force each ref only fast-forwards (gitglossary(7),
+-- Settling: all allowed updates of refs happen at once. Without force each ref only fast-forwards (gitglossary(7),
 -- "fast-forward"). Tags follow this rule too, although git-fetch(1), "<refspec>", has a different rule for tags.
 pub use Rattle.gclientrepo.specs.Asks.{NamesDiffer, asked_ids}
 use Rattle.std.specs.List.{AllZip}

@@ -194,9 +194,10 @@ impl<A: Allocator + Copy> Repo<A> {
     /// object that the id reaches.
     ///
     /// Fails with `UnconnectedId` if the repository does not hold an id that the new id reaches.
-    /// Otherwise fails with `Refs` if the ref is HEAD, if there would be too many refs, or if out
-    /// of memory. If [`Repo::missing`] needs a walk, out of memory for the walk (`Graph`) may be
-    /// reported instead of these faults. A failed call leaves the repository unchanged.
+    /// Otherwise fails with `Refs` if the ref is HEAD or if there would be too many refs, and only
+    /// then if out of memory. If [`Repo::missing`] needs a walk, out of memory for the walk
+    /// (`Graph`) may be reported instead of these faults. A failed call leaves the repository
+    /// unchanged.
     pub fn set_local_ref(&mut self, name: RefName<A>, id: Oid) -> Result<(), RepoFault<A>>
         ensures sets { SetsLocal self.old name id self.new result }
         ensures whole { IsConnectedRepo self.new }
@@ -233,9 +234,10 @@ impl<A: Allocator + Copy> Repo<A> {
     /// Marks every object that the new ids reach before moving any ref.
     ///
     /// Fails with `NotConnected` if the repository does not hold an id that the new ids reach.
-    /// Otherwise fails with `Refs` if an update is for HEAD, if there would be too many refs, or if
-    /// out of memory. If [`Repo::missing`] needs a walk, out of memory for the walk (`Graph`) may
-    /// be reported instead of these faults. A failed call leaves the repository unchanged.
+    /// Otherwise fails with `Refs` if an update is for HEAD or if there would be too many refs, and
+    /// only then if out of memory. If [`Repo::missing`] needs a walk, out of memory for the walk
+    /// (`Graph`) may be reported instead of these faults. A failed call leaves the repository
+    /// unchanged.
     pub fn settle(&mut self, asks: &Asks<A>) -> Result<Vec<RefUpdate, A>, RepoFault<A>>
         ensures settles { MatchResult result
             (λ updates. SettlesAsks self.old asks.now self.new (Ok updates.items))

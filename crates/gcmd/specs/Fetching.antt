@@ -81,8 +81,8 @@ pub record NamesUnconnected (A : Type 0) (file : Bytes) (Cause : History A → R
   pub loadable : IsLoadable Any graph refs (no_head {A = A})
   pub cause : Cause graph refs
 
--- the reasons to reject a client's file: it is not the text of a repository, it has a HEAD, or its repository is not
--- connected
+-- the reasons to reject a client's file: the file is not the text of a repository, it has a HEAD, its repository is not
+-- connected, or memory runs out
 abbrev pub RefusesClient : {A : Type 0} → Bytes → ProgramFault A → Type 0
 RefusesClient {A} file (program.Text cause) =
     StopsAt A Any file cause ⊎ ((line : ℕ) × (cause ≡ load.Text line) × NamesHead A file line)

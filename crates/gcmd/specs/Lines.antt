@@ -64,7 +64,7 @@ ReadsSome input lines =
 
 -- ---- effects
 
--- the sink failed, and only a prefix of the lines is written and flushed
+-- the sink failed before all lines were written and flushed; a prefix of the lines is written, perhaps all of them
 abbrev pub ShowsSome : Input → Output → Type 0
 ShowsSome input output = (lines : List Packet) × ReadsSome input lines × BreaksOff output (shown_lines lines)
 

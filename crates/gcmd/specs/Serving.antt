@@ -34,13 +34,14 @@ pub record NamesServer {A : Type 0} (file : Bytes) (server : Server A) : Type 0 
   pub names : NamesParts file server
   pub whole : IsServer server
 
--- the reasons why a graph, refs and a HEAD do not form a server; no parent is missing in the graph
+-- the reasons why a graph, refs and a HEAD do not form a server, except a missing parent: the object of a ref or of
+-- HEAD is missing, or memory runs out
 abbrev pub MissesPart : {A : Type 0} → Server A → BuildFault A → Type 0
 MissesPart parts (build.NotClosed id) = ⊥
 MissesPart parts cause = IsUnserved parts cause
 
--- the reasons to reject a file: it is not the text of a repository that lists each parent before its children, or the
--- object of a ref or of HEAD is missing
+-- the reasons to reject a file: the file is not the text of a repository that lists each parent before its children,
+-- the object of a ref or of HEAD is missing, or memory runs out
 abbrev pub RefusesFile : {A : Type 0} → Bytes → ProgramFault A → Type 0
 RefusesFile {A} file (program.Text cause) = StopsAt A ParentsFirst file cause
 RefusesFile {A} file (program.Build cause) = (parts : Server A) × NamesParts file parts × MissesPart parts cause

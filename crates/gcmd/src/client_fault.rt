@@ -32,7 +32,7 @@ pub(crate) fn line_in_client<A: Allocator + Copy>(fault: &ClientFault<A>) -> Opt
 }
 
 /// Returns the id that the fault names: a missing id, an id that two objects share, an id of
-/// another object format, or an id that was acknowledged but never offered.
+/// another object format, or an acknowledged id that is not a have of the request.
 pub(crate) fn id_in_client<A: Allocator + Copy>(fault: &ClientFault<A>) -> Option<Oid>
     ensures { result ≡ id_in_client fault.now }
 {

@@ -38,9 +38,10 @@ pub struct FetchRun<A: Allocator + Copy = Global> {
 /// fetched and the server's HEAD is unborn and points at NAME. A fault is printed as one line on
 /// `errors`.
 ///
-/// Returns the exit status. Also returns the new text of the file, unless the conversation failed
-/// or memory for the text ran out. The caller must write this text to the file, and may show the
-/// report only afterwards. If the conversation failed, the file is unchanged.
+/// Returns the exit status. Also returns the new text of the file, unless the file was rejected,
+/// the conversation failed, or memory for the text ran out. The caller must write this text to the
+/// file, and may show the report only afterwards. If the conversation failed, the file is
+/// unchanged.
 pub fn cmd_fetch<A: Allocator + Copy, S: Source, W: Sink, R: Sink, E: Sink>(
     alloc: A,
     file: &[u8],

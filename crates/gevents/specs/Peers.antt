@@ -45,8 +45,9 @@ module _ {C A : Type 0} (holds : C → Talk → Type 0) where
     pub some : OnOk result (((0 < length more) × IsByBytes (has_stopped new)) ⊎ IsByEnd (has_stopped new))
 
 module _ {C A : Type 0} (turn : C → Turn) (connection : Connection C A) where
-  -- The state of a connection at each kind of end. After `Over` and `Silent` all queued packets were sent. A connection
-  -- never ends with `Stalled` while it only waits for the peer to send.
+  -- The state of a connection at each kind of end. After `Over` and `Silent` the conversation is done. After
+  -- `Over`, `Silent` and `Memory` no queued bytes are pending. A connection never ends with `Stalled` while it only
+  -- waits for the peer to send.
   abbrev pub HasEnded : End → Type 0
   HasEnded end.Over = IsDone turn connection × (pending_of connection ≡ [])
   HasEnded end.Silent = IsDone turn connection × (pending_of connection ≡ [])

@@ -1,6 +1,6 @@
 -- The next request of a session. The manual defines the form of a request (gitprotocol-v2(5), "ls-refs" and "fetch").
 -- The manual does not say which haves a client sends, nor when the client sends `done`. This client offers batches of
--- 16, 32, 64, 128 and then 256 ids.
+-- at most 16, 32, 64, 128 and then 256 ids.
 use Rattle.std.specs.Prelude.{◌≡◌, ℕ, ◌+◌, Bool, true, false, List, [], ◌++◌, length, map, nat_le, ◌==◌}
 use Rattle.std.specs.Prelude.{if◌then◌else◌, not, Option, Some, None, Result, Ok, Err}
 use Rattle.gname.specs.Ids.{Id}
@@ -26,7 +26,7 @@ abbrev pub ls_request : List Refspec → Bool → LsRefsAsked
 ls_request specs unborn =
     record (ls_with no_ls_refs Unborn unborn) { prefixes = distinct_of (map (λ spec. spec.source) specs) }
 
--- the number of ids that a request offers after `rounds` rounds
+-- the maximum number of new ids that a request offers after `rounds` rounds
 abbrev pub batch_size : ℕ → ℕ
 batch_size rounds =
     if rounds == 0 then 16

@@ -167,8 +167,8 @@ IsBegun s = (s.stage ≡ Listing) × (s.pending ≡ None)
 abbrev pub tells_unborn : List Capability → Bool
 tells_unborn capabilities = has_feature (codes "ls-refs") (codes "unborn") capabilities
 
--- the result of reading the advertisement: the session stores whether the server reports an unborn HEAD, or fails
--- because it has already made a request
+-- the result of reading the advertisement: the session stores whether the server can report an unborn HEAD, or fails
+-- because the session has already made a request or is over
 abbrev pub Hears : {A : Type 0} → SessionState A → List Capability → SessionState A → Result Unit (ClientFault A)
     → Type 0
 Hears old capabilities new (Ok _) = IsBegun old × (new ≡ record old { offers_unborn = tells_unborn capabilities })

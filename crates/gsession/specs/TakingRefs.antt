@@ -73,7 +73,7 @@ IsRefsFault s g reply _ = ⊥
 abbrev pub ReadsRefs : {A : Type 0} → SessionState A → Change → LsReply → Type 0
 ReadsRefs s change reply = ReadsMessage (judge s.format s.ends) (Says s.format s.ends) change reply
 
--- the session rejects a packet of the reply
+-- the session fails to read the reply: the packet reader fails, the input ends, or a packet is rejected
 abbrev pub RefusesRefs : {A : Type 0} → SessionState A → Change → MessageFault → Type 0
 RefusesRefs s change fault =
     (front : List Packet) × ReadsRefused (judge s.format s.ends) brings front change fault
@@ -82,8 +82,8 @@ RefusesRefs s change fault =
 abbrev pub ReadsUntaken : {A : Type 0} → SessionState A → List (Entry A) → Change → ClientFault A → Type 0
 ReadsUntaken s g change fault = (reply : LsReply) × ReadsRefs s change reply × IsRefsFault s g reply fault
 
--- a reason why reading an ls-refs reply fails: no ls-refs reply is awaited, a packet is malformed, or the refs of a
--- complete reply are rejected
+-- a reason why reading an ls-refs reply fails: no ls-refs reply is awaited, a packet is unreadable or rejected, or the
+-- refs of a complete reply are rejected
 abbrev pub IsLsFault : {A : Type 0} → SessionState A → List (Entry A) → Change → ClientFault A → Type 0
 IsLsFault s g change NoOpenRequest = ¬ (AwaitsRefs s) × (change.new ≡ change.old)
 IsLsFault s g change (Message fault) =

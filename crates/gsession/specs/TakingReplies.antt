@@ -106,8 +106,8 @@ reading_for s asked = record { format = s.format; direct = is_direct asked; limi
 abbrev pub ReadsFetch : Reading → Change → FetchReply → Type 0
 ReadsFetch reading change reply = ReadsMessage (judge reading) (Says reading) change reply
 
--- The session rejects a packet of the reply. The sink for the pack never fails, so memory can run out only for a packet
--- that acknowledges an id.
+-- The session fails to read the reply: the packet reader fails, the input ends, or a packet is rejected. The sink for
+-- the pack never fails, so memory can run out only for a packet that acknowledges an id.
 abbrev pub RefusesFetch : Reading → Change → MessageFault → Type 0
 RefusesFetch reading change fault =
     (front : List Packet) × ReadsRefused (judge reading) (brings_into false reading) front change fault
@@ -128,8 +128,8 @@ module _ {A : Type 0} (indexes : Indexes A) (index_fails : IndexFails) where
       × ((reply : FetchReply) × ReadsFetch (reading_for s asked) change reply
       × IsReplyFault indexes index_fails asked.haves repo reply fault)
 
-  -- a reason why reading a fetch reply fails: no fetch reply is awaited, a packet is malformed, or the content of a
-  -- complete reply is rejected
+  -- a reason why reading a fetch reply fails: no fetch reply is awaited, a packet is unreadable or rejected, or the
+  -- content of a complete reply is rejected
   abbrev pub IsTakeFault : SessionState A → RepoState A → Change → ClientFault A → Type 0
   IsTakeFault s repo change NoOpenRequest = ¬ (AwaitsObjects s) × (change.new ≡ change.old)
   IsTakeFault s repo change (Message fault) =

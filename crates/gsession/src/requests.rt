@@ -17,7 +17,7 @@ use grefs::Spec;
 use grequest::{FetchFlag, FetchRequest, LsRefsFlag, LsRefsRequest, Request};
 use std::alloc::{AllocError, Allocator};
 
-/// Returns the number of new ids that a request offers after `rounds` rounds.
+/// Returns the maximum number of new ids that a request offers after `rounds` rounds.
 pub(crate) fn batch_size(rounds: usize) -> usize
     ensures { result ≡ batch_size rounds }
 {

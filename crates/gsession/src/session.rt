@@ -134,8 +134,8 @@ impl<A: Allocator + Copy> Session<A> {
         })
     }
 
-    /// Reads from the advertisement whether the server reports an unborn `HEAD` (gitprotocol-v2(5),
-    /// "ls-refs"). If called several times, the last advertisement counts.
+    /// Reads from the advertisement whether the server can report an unborn `HEAD`
+    /// (gitprotocol-v2(5), "ls-refs"). If called several times, the last advertisement counts.
     ///
     /// Fails with `NoOpenRequest` after the first request, and leaves the session unchanged.
     pub fn hear(&mut self, advert: &Advert<A>) -> Result<(), ClientFault<A>>
@@ -235,9 +235,9 @@ impl<A: Allocator + Copy> Session<A> {
     /// requested id if the ref is new, or if the update is forced or a fast-forward. Returns the
     /// outcome of each requested update. The call ends the session.
     ///
-    /// Fails with `NoOpenRequest`, and changes nothing, if there are wants and the pack has not
-    /// arrived. Otherwise fails with `Repo`, like `Repo::settle`. The fault `Repo` ends the
-    /// session, and leaves the repository unchanged.
+    /// Fails with `NoOpenRequest`, and changes nothing, if the refs have not arrived, if there are
+    /// wants and the pack has not arrived, or if the session is over. Otherwise fails with `Repo`,
+    /// like `Repo::settle`. The fault `Repo` ends the session, and leaves the repository unchanged.
     pub fn settle(&mut self, repo: &mut Repo<A>) -> Result<Settled<A>, ClientFault<A>>
         ensures { MatchResult result
             (λ settled. SettlesSession self.old repo.old self.new repo.new

@@ -86,7 +86,8 @@ Shows text output (Err (faults.Program program.WriteFailed)) = BreaksOff output 
 Shows text output (Err (faults.Program program.Memory)) = IsUnwritten output
 Shows text output (Err _) = ⊥
 
--- all events happened, each step kept its promises, and the outcomes and the client's final refs are printed
+-- all events happened, each step kept its promises, and `ending` is the result of printing the outcomes and the
+-- client's final refs
 pub record IsRun {A : Type 0} (output : Output) (ending : Ending A) (w : WorldState A) (events : List (Event A))
     : Type 0 where
   pub outcomes : List Outcome
@@ -94,7 +95,7 @@ pub record IsRun {A : Type 0} (output : Output) (ending : Ending A) (w : WorldSt
   pub run : RunWith (Promises (plain_tools A)) w events outcomes new
   pub shows : Shows (simulated_text outcomes new.repo.refs) output ending
 
--- memory ran out before an event, and nothing is printed
+-- memory ran out before an event, and all earlier events happened
 pub record IsStopped {A : Type 0} (w : WorldState A) (events : List (Event A)) : Type 0 where
   pub outcomes : List Outcome
   pub new : WorldState A

@@ -80,7 +80,7 @@ pub record RunsServing (A : Type 0) {E : Type 0} (errors : E → E → Output) (
 
 -- ---- listing
 
--- the result of a listing: the reply of a conversation over a socket, or a fault (too many prefixes, no socket, or a
+-- the result of a listing: the reply of a conversation over a socket, or a fault (refused prefixes, no socket, or a
 -- failed conversation)
 abbrev pub AsksRemote : {A : Type 0} → List Bytes → Hello → Result LsReply (ProgramFault A) → Type 0
 AsksRemote {A} prefixes hello (Ok reply) =
@@ -96,7 +96,7 @@ abbrev pub ShowsReply : {A : Type 0} → LsReply → Output → ProgramOutcome A
 ShowsReply reply output outcome =
     SendsReport (reply_lines reply) output outcome ⊎ ((outcome ≡ Err program.Memory) × IsUnwritten output)
 
--- the effect of `ls --tcp`: the server's reply is shown, or there is a fault and nothing is shown
+-- the effect of `ls --tcp`: the server's reply is shown or its output fails, or there is no reply and nothing is shown
 abbrev pub ListsRemote : {A : Type 0} → List Bytes → Hello → Output → ProgramOutcome A → Type 0
 ListsRemote {A} prefixes hello output outcome =
     ((reply : LsReply) × AsksRemote {A = A} prefixes hello (Ok reply) × ShowsReply reply output outcome)
@@ -114,8 +114,8 @@ FetchesAt {A} old specs limit ends hello new (Err (program.Fetch fault)) =
     FetchesFrom plain_indexes (plain_index_fails A) (start_of old specs limit ends) hello new (Err fault)
 FetchesAt old specs limit ends hello new (Err _) = ⊥
 
--- the outcome after the fetch: after success the whole file is replaced and the report is written; after a failure the
--- file is unchanged and nothing is reported
+-- the outcome after the fetch: after success the whole file is replaced and the report is written, or one of these
+-- steps fails; after a failed fetch the file is unchanged and nothing is reported
 abbrev pub EndsRemote : {A : Type 0} → Bytes → RepoState A → RepoState A → Result (Fetched A) (ProgramFault A)
     → Stored → Output → ProgramOutcome A → Type 0
 EndsRemote old repo new (Ok fetched) stored report outcome =
@@ -177,7 +177,7 @@ module _ {A : Type 0} (old : RepoState A) (specs : List Refspec) (new : RepoStat
   FetchesInPair (Err _) = ⊥
 
 module _ {A : Type 0} (client : Bytes) (specs : List Refspec) where
-  -- the fetch into the repository of the client's file succeeded, and the report is written
+  -- the fetch into the repository of the client's file succeeded, and the outcome is the outcome of its report
   pub record IsMet (output : Output) (outcome : ProgramOutcome A) : Type 0 where
     pub repo : RepoState A
     pub names : NamesClient client repo
@@ -194,6 +194,7 @@ module _ {A : Type 0} (client : Bytes) (specs : List Refspec) where
       ⊎ ((repo : RepoState A) × (new : RepoState A) × NamesClient client repo
       × FetchesInPair repo specs new (Err fault))
 
-  -- the effect of `pair`: the fetch succeeds and is reported, or there is a fault and nothing is reported
+  -- the effect of `pair`: the fetch succeeds and its report is written or fails, or the fetch fails and nothing is
+  -- written
   abbrev pub Meets : Output → ProgramOutcome A → Type 0
   Meets output outcome = IsMet output outcome ⊎ StopsBefore CannotMeet output outcome

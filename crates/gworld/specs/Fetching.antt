@@ -73,14 +73,16 @@ module _ {A : Type 0} (tools : PackTools A) where
 
   -- ---- reasons for an event of a round to fail
 
-  -- the client accepts the complete reply, or rejects it because of a limit or for lack of memory
+  -- the client accepts the complete reply, or rejects it because of a limit, for lack of memory, or because the name of
+  -- a local ref would be invalid
   abbrev pub IsReplyTakenOrDeclined : WorldState A → SessionState A → Reply → Outcome → Type 0
   IsReplyTakenOrDeclined w s Nothing outcome = ⊥
   IsReplyTakenOrDeclined w s (Refs reply) outcome = IsListedOrDeclined w s reply outcome
   IsReplyTakenOrDeclined w s (Fetch reply) outcome = IsTakenOrDeclined tools w.repo reply outcome
 
   -- The three events of a round are the client's request, the server's reply, and the delivery of the reply. Each event
-  -- fails only because of a limit, or for lack of memory.
+  -- fails only because of a limit or for lack of memory. The delivery of an ls-refs reply may also fail because the
+  -- name of a local ref would be invalid.
   pub record StopsByLimits {w new : WorldState A} (tried : IsTried w new) : Type 0 where
     pub asks : IsDone tried.asked ⊎ (tried.asked ≡ outcomes.Fault memory_refused)
     pub serves : IsDone tried.asked →
@@ -89,8 +91,8 @@ module _ {A : Type 0} (tools : PackTools A) where
         (s : SessionState A) × (reply : Reply)
         × IsReplyTakenOrDeclined tried.after_serving s reply tried.brought
 
-  -- an event of a round fails only because of a limit or for lack of memory, if no bytes were forged and the packer and
-  -- the indexer are faithful
+  -- an event of a round fails only for the reasons in `StopsByLimits`, if no bytes were forged and the packer and the
+  -- indexer are faithful
   abbrev pub OnlyLimitsRefuse : Type 0
   OnlyLimitsRefuse =
       (w new : WorldState A) (s : SessionState A) → IsUnforgedAndFaithful tools w → w.session ≡ Some s

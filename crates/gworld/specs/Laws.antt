@@ -31,7 +31,8 @@ pub record AreListed {A : Type 0} (w : WorldState A) : Type 0 where
   pub client : IsRefs w.repo.refs
   pub session : IfSome w.session IsSession
 
--- each step leaves both ends connected
+-- each step leaves both ends connected, if both ends were connected before, and if afterwards the refs are sorted and
+-- the session is valid
 abbrev pub EndsStayConnected : {A : Type 0} → PackTools A → Type 0
 EndsStayConnected {A} tools =
     (w new : WorldState A) (event : Event A) (outcome : Outcome) → AreEndsConnected w → AreListed new

@@ -74,7 +74,7 @@ module _ {A : Type 0} where
   abbrev pub SharesCommons : WorldState A → SessionState A → Type 0
   SharesCommons w s = All (IsHeldByBoth w) s.commons
 
-  -- if no bytes were forged, the server and the client hold each common id of the session
+  -- if no bytes were forged, the server and the client hold each common id of the session, if there is a session
   abbrev pub AreCommonsShared : WorldState A → Type 0
   AreCommonsShared w = w.forged ≡ false → IfSome w.session (SharesCommons w)
 
@@ -172,7 +172,7 @@ module _ {A : Type 0} (tools : PackTools A) where
   IsTakenOrDeclined repo reply (outcomes.Fault number) = MayDecline repo reply number
   IsTakenOrDeclined repo reply outcome = IsTaken reply outcome
 
-  -- the client accepts a complete reply to the open request, or rejects it for one of the allowed reasons
+  -- the client accepts a complete fetch reply to the open request, or rejects the reply for one of the allowed reasons
   abbrev pub TakesAnswers : WorldState A → Event A → Outcome → Type 0
   TakesAnswers w (event.Deliver number count) outcome =
       (reply : FetchReply) → BringsAnswer w number count reply → IsTakenOrDeclined w.repo reply outcome
@@ -189,7 +189,7 @@ module _ {A : Type 0} (tools : PackTools A) where
       ⊎ (number ≡ memory_refused)
   MayRefuse server asked number = number ≡ memory_refused
 
-  -- a reply to the request is kept, or the server rejects the request for one of the allowed reasons
+  -- if there is a request, a reply to it is kept, or the server rejects the request for one of the allowed reasons
   abbrev pub IsServedOrRefused : Server A → Option Asked → Outcome → Type 0
   IsServedOrRefused server None outcome = ⊤
   IsServedOrRefused server (Some asked) (outcomes.Served number) = ⊤
@@ -222,7 +222,8 @@ module _ {A : Type 0} where
       ((number ≡ too_many_refs) × CannotSettle old.refs s.asks) ⊎ (number ≡ memory_refused)
   IsSettledOrRefused old (Some s) _ new = ⊥
 
-  -- a session that accepted the pack of a complete reply to its request (marked by `Deliver` as answered) settles
+  -- a session that accepted the pack of a complete reply to its request (marked by `Deliver` as answered) settles, or
+  -- fails for one of the allowed reasons
   abbrev pub SettlesAnswered : WorldState A → Event A → Outcome → WorldState A → Type 0
   SettlesAnswered w event.Settle outcome new =
       w.answered ≡ true → IsSettledOrRefused w.repo w.session outcome new.repo
@@ -233,7 +234,7 @@ module _ {A : Type 0} where
     pub stage : s.stage ≡ Settling
     pub none : s.wants ≡ []
 
-  -- a session without wants settles
+  -- a session that is ready to settle and has no wants settles, or fails for one of the allowed reasons
   abbrev pub SettlesUpToDate : WorldState A → Event A → Outcome → WorldState A → Type 0
   SettlesUpToDate w event.Settle outcome new =
       IfSome w.session (λ s. IsUpToDate s → IsSettledOrRefused w.repo w.session outcome new.repo)

@@ -41,8 +41,8 @@ NeedsMemory w (event.ServerRef name id) = ⊤
 NeedsMemory w (event.ClientAdd entry) = AgreesWith w.server.graph.entries entry
 NeedsMemory w (event.ClientRef name id) = ⊤
 
--- A run that stopped for lack of memory after some of its events. The next event did not begin, because it needs memory
--- or there is not enough memory for the list of outcomes.
+-- A run that stopped for lack of memory after the events `front`, perhaps none. The next event did not begin, because
+-- it needs memory, or because it is the first event and there is not enough memory for the list of outcomes.
 pub record RunsFront {A : Type 0} (P : WorldState A → Event A → Outcome → WorldState A → Type 0) (w : WorldState A)
     (events : List (Event A)) (outcomes : List Outcome) (new : WorldState A) : Type 0 where
   pub front : List (Event A)

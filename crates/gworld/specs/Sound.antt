@@ -21,7 +21,8 @@ use Rattle.gsession.specs.declared.stage.Stage.TheVariants.{Settling}
 use Rattle.gworld.specs.Worlds.{Kept, PackTools, WorldState}
 
 module _ {A : Type 0} where
-  -- the refs of the server and of the client are connected; the types of server, repository and session guarantee this
+  -- no object of the server is missing, and the client's refs are connected; the types of server, repository and
+  -- session guarantee this
   pub record AreEndsConnected (w : WorldState A) : Type 0 where
     pub server : IsServer w.server
     pub repo : IsConnectedRepo w.repo

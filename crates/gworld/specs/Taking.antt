@@ -22,7 +22,7 @@ use Rattle.gworld.specs.declared.outcome.Outcome.TheVariants as outcomes
 abbrev pub code_of : {A : Type 0} → ClientFault A → ℕ
 code_of fault = (client_fault_row fault).0
 
--- the fault is possible when the client reads from memory, because a source in memory never fails
+-- the fault can occur when the client reads from memory; it is no fault of the source, since memory never fails
 abbrev pub IsAtHand : {A : Type 0} → ClientFault A → Type 0
 IsAtHand (client.Message fault) = IsReadFailure false false fault.why
 IsAtHand _ = ⊤

@@ -30,7 +30,7 @@ use std::alloc::Allocator;
 
 /// Proves that each step from a sound world leads to a sound world, and keeps its promises. The
 /// premise is that both ends are connected before and after the step. [`ends_stay_connected`]
-/// proves that a step keeps both ends connected.
+/// proves that a step keeps both ends connected, if refs are sorted and the session is valid.
 pub fn steps_keep<A: Allocator + Copy, K: Packer<A> + Indexer<A>>()
     ensures { (k : K) → StepsKeep (tools_of (K.packs k) (K.pack_fails k) (K.indexes k)
         (K.index_fails k)) }
@@ -169,8 +169,9 @@ pub fn honest_runs_keep_all<A: Allocator + Copy, K: Faithful<A>>(tools: &K)
     faithful_lose_nothing::<A, K>(tools);
 }
 
-/// Proves that each step leaves all refs of the server and of the client connected. The only
-/// premise is that refs are sorted and the session is valid. The premise does not follow from the
+/// Proves that each step leaves both ends connected, if both ends were connected before: no object
+/// of the server is missing, and each ref of the client is connected. The other premise is that
+/// after the step refs are sorted and the session is valid. This premise does not follow from the
 /// definition of a step.
 pub fn ends_stay_connected<A: Allocator + Copy, K: Packer<A> + Indexer<A>>()
     ensures { (k : K) → EndsStayConnected (tools_of (K.packs k) (K.pack_fails k) (K.indexes k)
@@ -198,8 +199,9 @@ pub fn runs_keep_promises<A: Allocator + Copy, K: Packer<A> + Indexer<A>>()
 }
 
 /// Proves that a new session can settle after at most N + 2 rounds, if its tips reach N ids. The
-/// `Settle` event then makes every allowed update of refs. In a round each reply arrives complete,
-/// and no event fails.
+/// premises are that no bytes were forged, and that the packer and the indexer are faithful. In a
+/// round the reply arrives complete, and no event fails. The `Settle` event then makes every
+/// allowed update of refs, unless there would be too many refs or the client is out of memory.
 pub fn fetches_complete<A: Allocator + Copy, K: Packer<A> + Indexer<A>>()
     ensures { (k : K) → FetchesComplete (tools_of (K.packs k) (K.pack_fails k) (K.indexes k)
         (K.index_fails k)) }
@@ -211,9 +213,9 @@ pub fn fetches_complete<A: Allocator + Copy, K: Packer<A> + Indexer<A>>()
     reached_are_counted::<A>();
 }
 
-/// Proves that an event of a round fails only because of a limit or for lack of memory, if no bytes
-/// were forged and the packer and the indexer are faithful. A fetch therefore fails to complete
-/// only because of a limit or for lack of memory.
+/// Proves that an event of a round fails only because of a limit, for lack of memory, or because
+/// the name of a local ref would be invalid. The premises are that no bytes were forged, and that
+/// the packer and the indexer are faithful.
 pub fn only_limits_refuse<A: Allocator + Copy, K: Packer<A> + Indexer<A>>()
     ensures { (k : K) → OnlyLimitsRefuse (tools_of (K.packs k) (K.pack_fails k) (K.indexes k)
         (K.index_fails k)) }

@@ -43,9 +43,11 @@
 //! - **Honest runs** ([`laws::honest_runs_keep_all`]): each step keeps all promises if no event
 //!   forges bytes and the packer and the indexer are faithful.
 //! - **A fetch completes** ([`laws::fetches_complete`]): a session makes at most N + 2 requests, if
-//!   its tips reach N ids, and can then settle. Settling makes every allowed update of refs. The
-//!   premise is that each reply arrives complete and no event fails. An event of a fetch fails only
-//!   because of a limit or for lack of memory ([`laws::only_limits_refuse`]).
+//!   its tips reach N ids, and can then settle. Settling makes every allowed update of refs,
+//!   unless there would be too many refs or the client is out of memory. The premises are those of
+//!   the promises above, and that each reply arrives complete and no event fails. An event of a
+//!   fetch fails only because of a limit, for lack of memory, or because the name of a local ref
+//!   would be invalid ([`laws::only_limits_refuse`]).
 //! - The promises follow from the definition of a step ([`laws::runs_keep_promises`]). The only
 //!   premise about the worlds of a run is an invariant of their types: refs are sorted by name, and
 //!   sessions are valid.

@@ -117,6 +117,6 @@ abbrev pub start_with : {A : Type 0} → SessionState A → RepoState A → Star
 start_with session repo =
     start_for repo session.refspecs session.limit session.ends session.options
 
--- the session has begun on the repository, and has made no request
+-- the session has begun on the repository, and has neither read an advertisement nor made a request
 abbrev pub HasBegun : {A : Type 0} → SessionState A → RepoState A → Type 0
 HasBegun session repo = session ≡ begin_session (start_with session repo)
