@@ -184,8 +184,8 @@ SendingIsEnough A =
     → IdsDiffer s → IsClosed s → Agree s c → All (Holds s) wants → All (IsConnected c) commons
     → IsListToSend s wants commons tips list → Inserts format c list new → HasAll s wants new
 
--- Let `s` be a closed graph that contains the wants. If `HasAll` holds of the wants in `s` and of `h`, it also holds of
--- the wants in any graph `t` that keeps the nodes of `s`, and of `h`.
+-- Let `s` be a closed graph that contains the wants, and let the graph `t` keep the nodes of `s`. If `HasAll s wants h`
+-- holds, `HasAll t wants h` holds too.
 abbrev pub KeepingHasAll : Type 0 → Type 0
 KeepingHasAll A =
     (s t h : List (Entry A)) (wants : List Id)
