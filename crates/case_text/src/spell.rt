@@ -5,11 +5,10 @@
 //! `{a+1}` is one digit longer than an id, and `{a-4}` is four digits shorter. `{a*64}` is
 //! sixty-four `a`, and `{ab*3}` is `ababab`. `{NAME}` is the text with this name, which has at
 //! least two characters. In a repeated line, `{#4}` is the number of the repetition, counted from
-//! 1, in four digits. `{#4+16}` is the sum of this number and 16, and `{#4*2+16}` is the sum of
-//! twice this number and
-//! 16. Without the digit count, as in `{#}` and `{#+16}`, the number has as many digits as an id.
-//!     `{#=17}` is the number 17 in as many digits as an id. `{@2}` is the index of a packet: 2, or
-//!     3 with SHA-256, because a SHA-256 request has an extra `object-format` line.
+//! 1, in four digits. `{#4+16}` is this number plus 16, and `{#4*2+16}` is twice this
+//! number plus 16. Without the digit count, as in `{#}` and `{#+16}`, the number has as many digits
+//! as an id. `{#=17}` is the number 17 in as many digits as an id. `{@2}` is the index of a packet:
+//! 2, or 3 with SHA-256, because a SHA-256 request has an extra `object-format` line.
 
 use crate::trouble::Trouble;
 use gname::{Format, MAX_ID_TEXT, Oid};

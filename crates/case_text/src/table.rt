@@ -4,7 +4,7 @@
 //! | Line | Meaning |
 //! |---|---|
 //! | `cut 1-17 = OUTCOME` | the input ends after this many bytes |
-//! | `change 18 2-9 a-f = OUTCOME` | the byte at an offset, once per outcome, is one of these |
+//! | `change 18 2-9 a-f = OUTCOME` | the byte at an offset is one of these |
 //! | `change 18 other = OUTCOME` | the same for all other bytes |
 //!
 //! An outcome is `nothing`, `as it stands`, `use NAME` or `TEXT \| FAULT`. `use NAME` stands for

@@ -511,8 +511,8 @@ impl<'a, 'b> Bench<'a, 'b> {
     }
 
     // Tests the row with each allocation refused in turn. The row's memory faults must occur in
-    // order. Once a run has reported a fault to the client, each later run must also report a fault
-    // to the client.
+    // order. Once a run has gone beyond loading a server's repository, no later run may run out of
+    // memory during that loading.
     fn scarce_in_turn(&mut self) -> Result<Option<usize>, Trouble> {
         let mut refusals = Refusals {
             met: 0,

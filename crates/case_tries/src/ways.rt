@@ -68,8 +68,8 @@ impl Way {
         matches!(&self, Way::Changed)
     }
 
-    /// Returns whether the option `--edge` includes this way: it tests a connection or a stored
-    /// file.
+    /// Returns whether the option `--edge` includes this way: the unchanged run, a launch of the
+    /// program, a connection, or a stored file.
     pub fn is_edge(self) -> bool {
         matches!(
             &self,

@@ -3,8 +3,8 @@
 //!
 //! The arguments of the command line name test files. `case_text` parses these files. The first
 //! argument may be an option. `--quick` omits the tests that change bytes, and `--once` runs each
-//! case only with its input unchanged. `--edge` runs only the tests of connections and stored
-//! files.
+//! case only with its input unchanged. `--edge` runs each case unchanged, and the tests of
+//! launches, connections and stored files.
 //!
 //! Each case runs with each of its programs, and with ids of both formats. Cases with replies also
 //! run with response-end packets added. A case may exclude one format or the added packets.

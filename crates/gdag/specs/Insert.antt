@@ -49,7 +49,7 @@ IsCause {A} format g entry (Conflict id) =
 IsCause format g entry TooMany = IsFit format entry × (node_at g entry.id ≡ None) × (length g ≡ max_nodes)
 IsCause format g entry Memory = IsFit format entry × (node_at g entry.id ≡ None) × (length g < max_nodes)
 
--- a list of entries is refused: one of its entries is refused, and each entry before that entry fits
+-- a list of entries is refused: the entries before some entry are inserted, and then that entry is refused
 pub record IsRefused {A : Type 0} (format : Format) (old entries : List (Entry A)) (fault : GraphFault) : Type 0 where
   pub front : List (Entry A)
   pub entry : Entry A
@@ -59,8 +59,8 @@ pub record IsRefused {A : Type 0} (format : Format) (old entries : List (Entry A
   pub comes : Inserts format old front so_far
   pub cause : IsCause format so_far entry fault
 
--- a valid entry fits: the entry is new and the graph has room (`true`), or the graph already contains the entry
--- (`false`)
+-- a valid entry can be added: the entry is new and the graph has room (`true`), or the graph already contains the
+-- entry (`false`)
 abbrev pub Admits : {A : Type 0} → Format → List (Entry A) → Entry A → Bool → Type 0
 Admits format g entry true = IsFit format entry × (node_at g entry.id ≡ None) × (length g < max_nodes)
 Admits format g entry false = IsFit format entry × IsNode g entry.id entry.node

@@ -46,7 +46,8 @@ OneRefusal A =
     → IsRefused format old entries fault → IsRefused format old entries other
     → fault ≢ Memory → other ≢ Memory → fault ≡ other
 
--- a list whose entries all fit is refused only if memory runs out, and the graph after the insertion is unique
+-- a list whose entries can all be inserted is refused only if memory runs out, and the graph after the insertion is
+-- unique
 abbrev pub WholeListsComeIn : Type 0 → Type 0
 WholeListsComeIn A =
     (format : Format) (old entries new : List (Entry A))
@@ -107,7 +108,8 @@ AgreeingStays A =
     (g h entries new : List (Entry A)) (format : Format)
     → Agree g h → All (AgreesWith g) entries → Inserts format h entries new → Agree g new
 
--- if two graphs agree, each refuses entries of the other only with `TooMany` or `Memory`
+-- if two graphs agree, the second refuses entries of the first only with `TooMany` or `Memory`; the entries must form a
+-- valid graph of the second graph's format
 abbrev pub AgreeingEntriesFit : Type 0 → Type 0
 AgreeingEntriesFit A =
     (g h entries : List (Entry A)) (format : Format) (fault : GraphFault)
@@ -119,7 +121,7 @@ AgreeingEntriesFit A =
 abbrev pub PeelsToOne : Type 0 → Type 0
 PeelsToOne A = (g : List (Entry A)) (a b c : Id) → PeelsTo g a b → PeelsTo g a c → b ≡ c
 
--- peeling follows only tags: an id that peels to a commit is that commit itself, or a tag of an id that peels to that
+-- an id that peels to a commit is that commit itself, or a tag of an id that peels to that commit; the id reaches the
 -- commit
 abbrev pub PeelsAlongTags : Type 0 → Type 0
 PeelsAlongTags A =
@@ -130,7 +132,8 @@ PeelsAlongTags A =
 abbrev pub OrderedIsClosed : Type 0 → Type 0
 OrderedIsClosed A = (g : List (Entry A)) → IdsDiffer g → IsOrdered g → IsClosed g
 
--- if each entry of a graph comes after its parents, no id reaches an id at a higher position
+-- if each entry of a graph comes after its parents, each id that an id of the graph reaches is in the graph, at the
+-- same or a lower position
 abbrev pub ReachingGoesDown : Type 0 → Type 0
 ReachingGoesDown A =
     (g : List (Entry A)) (a b : Id) (p : ℕ)
@@ -159,7 +162,8 @@ OneListToSend A =
     (g list other : List (Entry A)) (wants commons tips : List Id)
     → IsListToSend g wants commons tips list → IsListToSend g wants commons tips other → list ≡ other
 
--- the entries of a list to send form a valid graph and a valid pack, and each of them is an entry of the sender's graph
+-- the entries of a list to send form a valid graph of the sender's format and a valid pack, and each of them is an
+-- entry of the sender's graph
 abbrev pub SentAreEntries : Type 0 → Type 0
 SentAreEntries A =
     (g : History A) (list : List (Entry A)) (wants commons tips : List Id)
@@ -172,16 +176,16 @@ abbrev pub HasAll : {A : Type 0} → List (Entry A) → List Id → List (Entry 
 HasAll s wants h = All (λ want. IsConnected h want × ((a : Id) → Reaches s want a → Holds h a)) wants
 
 -- If a client with graph `c` inserts the list that a server with graph `s` sends, each want is connected in the
--- client's new graph. The graph `s` must be closed and contain the wants, the graphs `s` and `c` must agree, and the
--- common ids must be connected in `c`.
+-- client's new graph. The new graph contains every id that the wants reach in `s`. The graph `s` must be closed and
+-- contain the wants, the graphs `s` and `c` must agree, and the common ids must be connected in `c`.
 abbrev pub SendingIsEnough : Type 0 → Type 0
 SendingIsEnough A =
     (s c list new : List (Entry A)) (wants commons tips : List Id) (format : Format)
     → IdsDiffer s → IsClosed s → Agree s c → All (Holds s) wants → All (IsConnected c) commons
     → IsListToSend s wants commons tips list → Inserts format c list new → HasAll s wants new
 
--- if `h` contains all that the wants reach in a closed graph `s`, `h` also contains all that the wants reach in any
--- graph `t` that keeps the nodes of `s`
+-- Let `s` be a closed graph that contains the wants, and let the graph `t` keep the nodes of `s`. If `HasAll s wants h`
+-- holds, `HasAll t wants h` holds too.
 abbrev pub KeepingHasAll : Type 0 → Type 0
 KeepingHasAll A =
     (s t h : List (Entry A)) (wants : List Id)

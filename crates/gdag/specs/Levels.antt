@@ -39,7 +39,7 @@ pub record Depth : Type 0 where
 abbrev pub down_to : Depth → List Id
 down_to depth = depth.before ++ depth.ids
 
--- the next level: the parents of this level's ids, each once, without the ids of earlier levels
+-- the next level: the parents of this level's ids, each once, without the ids of this level and of earlier levels
 abbrev pub next_depth : {A : Type 0} → List (Entry A) → Depth → Depth
 next_depth g depth = record { before = down_to depth; ids = new_ids (down_to depth) (parents_of_each g depth.ids) }
 

@@ -161,7 +161,7 @@ impl<A: Allocator + Copy> Graph<A> {
     }
 
     /// Returns the id and the node at a position in insertion order, counted from 0, or `None`
-    /// after the end.
+    /// after the last node.
     #[tactic(auto, using(crate::proofs::Pairs::at_pair))]
     pub fn at(&self, position: usize) -> Option<(&Oid, &Node<A>)>
         ensures at { MatchOption result (length self.now.entries ≤ position) (λ pair.

@@ -29,8 +29,8 @@ pub fn one_refusal<A: Allocator + Copy>()
     ensures { OneRefusal A }
 {}
 
-/// Proves that a list whose entries all fit is refused only if memory runs out. The graph after the
-/// insertion is unique.
+/// Proves that a list whose entries can all be inserted is refused only if memory runs out. The
+/// graph after the insertion is unique.
 pub fn whole_lists_come_in<A: Allocator + Copy>()
     ensures { WholeListsComeIn A }
 {}
@@ -102,8 +102,8 @@ pub fn agreeing_stays<A: Allocator + Copy>()
     ensures { AgreeingStays A }
 {}
 
-/// Proves that if two graphs agree, each refuses entries of the other only with `TooMany` or
-/// `Memory`.
+/// Proves that if two graphs agree, the second refuses entries of the first only with `TooMany` or
+/// `Memory`. The entries must form a valid graph of the second graph's format.
 pub fn agreeing_entries_fit<A: Allocator + Copy>()
     ensures { AgreeingEntriesFit A }
 {}
@@ -124,8 +124,8 @@ pub fn ordered_is_closed<A: Allocator + Copy>()
     ensures { OrderedIsClosed A }
 {}
 
-/// Proves that if each entry of a graph comes after its parents, no id reaches an id at a higher
-/// position.
+/// Proves that if each entry of a graph comes after its parents, an id of the graph reaches only
+/// ids of the graph, at the same or a lower position.
 #[tactic(auto, using(crate::proofs::Ordering::reaching_down))]
 pub fn reaching_goes_down<A: Allocator + Copy>()
     ensures { ReachingGoesDown A }
@@ -167,7 +167,7 @@ pub fn sending_is_enough<A: Allocator + Copy>()
 
 /// Proves that a client's graph that contains every id that the wants reach in a server's graph
 /// still does so when the server's graph grows. The server's graph must be closed and contain the
-/// wants.
+/// wants. The wants must be connected in the client's graph.
 pub fn keeping_has_all<A: Allocator + Copy>()
     ensures { KeepingHasAll A }
 {}

@@ -12,7 +12,7 @@
 //!   unchanged. The faults of an entry are checked in a fixed order. Both calls report out of
 //!   memory only if an object is new and the graph has room for it. Apart from out of memory, a
 //!   refused list has only one possible fault: that of its first entry that can't be added. A list
-//!   whose entries all fit is refused only if out of memory.
+//!   whose entries can all be added is refused only if out of memory.
 //! - `is_closed` returns whether the graph is closed. `peel` returns the commit at the end of a
 //!   chain of tags, exactly if the chain ends with a commit. Neither `is_closed` nor `peel`
 //!   allocates.

@@ -3,11 +3,11 @@
 //!
 //! The arguments of the program name test files. FORMAT.md describes the lines of these files. A
 //! row states the expected result for a pack, a store or a text. A row is tested with its input
-//! unchanged, with the input truncated after each byte, and with each bit of the input flipped. A
-//! row is also tested with files that change during the run, and with each allocation refused in
-//! turn. Packs and stores are in memory. Refs are files in a folder. Each run creates this folder
-//! anew. The program prints a line for each wrong result. The last lines that it prints count the
-//! runs.
+//! unchanged. A row that is not `large` is also tested with each allocation refused in turn, and
+//! with files that change during the run if the row names such files. A `sweep` row is tested with
+//! each bit of the input flipped, and with a pack truncated after each byte. Packs and stores are
+//! in memory. Refs are files in a folder. Each run creates this folder anew. The program prints a
+//! line for each wrong result. The last lines that it prints count the runs.
 //!
 //! # Proved
 //!

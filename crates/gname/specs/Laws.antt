@@ -13,7 +13,7 @@ use Rattle.gname.specs.declared.faults.NameFault.TheVariants.{Memory}
 abbrev pub IdsHaveTexts : Type 0
 IdsHaveTexts = (id : Id) → IsId id → IsIdText (id_text id) id × IsIdText (upper_id_text id) id
 
--- a text without control characters or spaces
+-- a text whose bytes are all above 32: it has no spaces, and no control characters except perhaps DEL
 abbrev pub IsClean : List ℕ → Type 0
 IsClean text = All (λ b. 32 < b) text
 

@@ -1,5 +1,5 @@
--- Ref names and their prefixes (git-check-ref-format(1)): eight rules and the order in which they are checked. Each
--- rule reports a fault at the first position at which the rule is broken.
+-- Ref names and their prefixes (git-check-ref-format(1)): eight rules and the order in which they are checked. A fault
+-- with a position has the first position at which the rule is broken.
 use Rattle.std.specs.Prelude.{◌≡◌, ◌⊎◌, ℕ, zero, suc, ◌+◌, ◌-◌, ◌==◌, ◌&&◌, ◌||◌, Bool, List, [], ◌∷◌, length, drop}
 use Rattle.std.specs.Prelude.{slice_index, codes, nat_eq, nat_lt, Option, Some, None, Result, MatchResult}
 use Rattle.std.specs.Prelude.{if◌then◌else◌, position}

@@ -71,7 +71,8 @@ pub fn rules_never_report_memory()
     ensures { RulesNeverReportMemory }
 {}
 
-/// Proves that the reported position of a fault is the first position at which the fault occurs.
+/// Proves that `first_place` of the specs finds the first position that passes a test. The faults
+/// `Component`, `DoubleDot` and `AtBrace` report such a position.
 #[tactic(auto, using(crate::proofs::PlaceLemmas::first_places_are_first))]
 pub fn first_places_are_first()
     ensures { FirstPlacesAreFirst }

@@ -4,7 +4,8 @@
 //! # Proved
 //!
 //! - [`Oid::from_hex_in`] accepts exactly the texts of 40 hexadecimal digits, or 64 for SHA-256, in
-//!   either case. For any other text the call reports the fault and its position. [`Oid::to_hex`]
+//!   either case. For any other text the call reports a wrong length, or otherwise the position of
+//!   the first byte that is not a digit. [`Oid::to_hex`]
 //!   writes the text in lower case, which parses back to the same id. [`Oid::push_hex`] appends
 //!   that text to a vector. [`Oid::from_bytes`] accepts exactly 20 or 32 bytes. An id has only one
 //!   [`Format`].

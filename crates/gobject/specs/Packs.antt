@@ -34,9 +34,9 @@ pub record MayPack {A : Type 0} (packs : Packs A) (list : List (Entry A)) (pack 
   pub packed : packs list pack
   pub few : length pack ≤ max_pack
 
--- A lossless packer and indexer. Each list of entries has one image: a sequence of bytes. The packer writes the image,
--- or reports that the image has too many bytes. The indexer reads the image back as the list. Both the packer and the
--- indexer may report out of memory.
+-- A lossless packer and indexer, for lists of entries with distinct, valid ids. Each list has one image: a sequence of
+-- bytes. The packer writes the image, or reports that the image has too many bytes. The indexer reads the image back as
+-- the list. Both the packer and the indexer may report out of memory.
 pub record LosesNothing {A : Type 0} (packs : Packs A) (pack_fails : PackFails A) (indexes : Indexes A)
     (index_fails : IndexFails) (image : List (Entry A) → List ℕ) : Type 0 where
   pub packs_image : (list : List (Entry A)) (pack : List ℕ) → AreEntries list → packs list pack → pack ≡ image list

@@ -132,7 +132,7 @@ IsBadLine A bytes at =
     × (IsWrongLine A bytes lines ⊎ EndsEarly A bytes lines)
 
 -- the bytes contain an entry to store: valid lines, and then the line of an entry or the beginning of such a line up to
--- a parent
+-- the space after a parent
 pub record TakesMemory (A : Type 0) (bytes : List ℕ) : Type 0 where
   pub nodes : List (List ℕ)
   pub list : List (Entry A)

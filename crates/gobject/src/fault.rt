@@ -63,7 +63,7 @@ impl Error for PackFault {}
 pub enum IndexFault {
     /// Out of memory.
     Memory,
-    /// The `line`, counted from 1, is the first malformed line.
+    /// The `line`, counted from 1, is the first that is malformed or missing.
     Bad { line: usize },
     /// A cause that is specific to the indexer.
     Other,

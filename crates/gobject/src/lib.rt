@@ -26,10 +26,10 @@
 //!
 //! A call that makes a copy may report out of memory at any time. So may writing of a list whose
 //! text is not too long, and reading of bytes with an entry. Reading may report out of memory
-//! instead of a bad line if an entry precedes that line. A copy may be allocated from a different
-//! allocator of the same type. A call may take any amount of time, and more memory than it needs.
-//! Formatting a fault may return an error (`fmt::Error`) for no reason. Formatting with options,
-//! such as a width, may write a different text.
+//! instead of a bad line if an entry or a parent precedes the mistake. A copy may be allocated from
+//! a different allocator of the same type. A call may take any amount of time, and more memory than
+//! it needs. Formatting a fault may return an error (`fmt::Error`) for no reason. Formatting with
+//! options, such as a width, may write a different text.
 //!
 //! This crate has no tests of its own. The program `conformance` reads and writes packs, whole and
 //! in pieces, and makes each allocation fail in turn.

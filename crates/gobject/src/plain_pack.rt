@@ -26,9 +26,9 @@ use std::alloc::Allocator;
 ///
 /// `index` accepts exactly the texts of this form, with ids in upper or lower case, and returns the
 /// entries in order. `index` does not check the number of parents, or that ids are distinct.
-/// `index` fails with `Bad` at the first line that is neither an entry nor the correct last line,
-/// or at a line after the last line. If the input ends too early, `Bad` states the line at which
-/// the input ends: the number of line feeds plus one.
+/// `index` fails with `Bad` at the first line that is not the expected first line, an entry or the
+/// correct last line, or at a line after the last line. If the input ends too early, `Bad` states
+/// the line at which the input ends: the number of line feeds plus one.
 ///
 /// `pack` and `index` fail with `Memory` if memory runs out. `pack` never fails with `Memory` for a
 /// list whose pack is too large. `index` fails with `Memory` only if every line so far was valid,

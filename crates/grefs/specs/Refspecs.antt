@@ -60,7 +60,8 @@ pub record IsSpec (text : List ℕ) (spec : Refspec) : Type 0 where
   pub written : text ≡ spec_text spec
   pub sides : IsRefspec spec
 
--- the result of parsing a refspec that satisfies P: the refspec, `BadSpec` if no refspec satisfies P, or `Memory`
+-- the result of parsing a refspec that satisfies P: the refspec or `Memory` if a refspec satisfies P, otherwise
+-- `BadSpec`
 abbrev pub Reads : (Refspec → Type 0) → Result Refspec SpecFault → Type 0
 Reads P (Ok spec) = P spec
 Reads P (Err BadSpec) = (spec : Refspec) → ¬ (P spec)
@@ -84,7 +85,7 @@ abbrev pub destination_of : Refspec → Name → List ℕ
 destination_of spec name = spec.destination ++ drop (length spec.source) name
 
 -- the result of mapping a name to its destination: `None` if the source does not match the name, otherwise the
--- destination, or the reason why the destination is not a ref name
+-- destination, or the first fault of the destination as a ref name, or `Memory` if the destination has no fault
 abbrev pub FindsDestination : Refspec → Name → Result (Option Name) NameFault → Type 0
 FindsDestination spec name (Ok None) = matches spec name ≡ false
 FindsDestination spec name (Ok (Some destination)) =

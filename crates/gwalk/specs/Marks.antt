@@ -9,7 +9,7 @@ use Rattle.gdag.specs.Reach.{Reaches, IsConnected, SomeReaches, Grows}
 use Rattle.gdag.specs.Selecting.{Selects}
 use Rattle.gdag.specs.Walks.{CountsReached}
 
--- each marked id is connected
+-- each marked position is that of a connected id
 abbrev pub AreConnected : {A : Type 0} → List (Entry A) → List Bool → Type 0
 AreConnected {A} g marks =
     (position : ℕ) → slice_index_or marks position false ≡ true →
@@ -37,8 +37,8 @@ pub data ReachesPast {A : Type 0} (g : List (Entry A)) (marks : List Bool) : Id 
 abbrev pub SomeReachesPast : {A : Type 0} → List (Entry A) → List Bool → List Id → Id → Type 0
 SomeReachesPast g marks ids b = (a : Id) × Contains ids a × ReachesPast g marks a b
 
--- the number of ids that the given ids reach without continuing past marked ids, and the number of parents of the
--- unmarked ids among them
+-- the number of ids of the graph that the given ids reach without continuing past marked ids, and the number of parents
+-- of the unmarked ids among them
 pub record CountsPast {A : Type 0} (g : List (Entry A)) (marks : List Bool) (ids : List Id)
     (held parents : ℕ) : Type 0 where
   pub list : List (Entry A)
@@ -57,7 +57,7 @@ StopsAtMarks A =
     × ((ids : List Id) (held parents : ℕ) → IdsDiffer g
     → CountsReached (stop_at marks g) ids held parents → CountsPast g marks ids held parents)
 
--- every id that one of the given ids reaches is now marked, and the other marks are unchanged
+-- every id of the graph that one of the given ids reaches is now marked, and the other marks are unchanged
 pub record MarksReached {A : Type 0} (g : List (Entry A)) (ids : List Id) (old new : List Bool) : Type 0 where
   pub each : (position : ℕ) (entry : Entry A) → slice_get g position ≡ Some entry →
       (slice_index_or new position false ≡ true) ↔ ((slice_index_or old position false ≡ true) ⊎ SomeReaches g ids entry.id)
@@ -67,7 +67,7 @@ pub record MarksReached {A : Type 0} (g : List (Entry A)) (ids : List Id) (old n
 abbrev pub MarksStayConnected : Type 0 → Type 0
 MarksStayConnected A = (g h : List (Entry A)) (marks : List Bool) → Grows g h → AreConnected g marks → AreConnected h marks
 
--- the marks cover the ids: every id that one of the given ids reaches is marked
+-- the marks cover the ids: every id of the graph that one of the given ids reaches is marked
 abbrev pub Covers : {A : Type 0} → List (Entry A) → List Id → List Bool → Type 0
 Covers {A} g ids marks =
     (position : ℕ) (entry : Entry A) → slice_get g position ≡ Some entry → SomeReaches g ids entry.id

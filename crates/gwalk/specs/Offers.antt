@@ -12,7 +12,8 @@ use Rattle.gwalk.specs.Walks.{HasMet, places}
 use Rattle.gwalk.specs.declared.offer.Offers.{Offers}
 
 -- A walk from the tips has met the ids in `ids`, and has visited the first `at` of them. The walk has met all ids of
--- levels 0 to k and some ids of level k + 1. The parents of the unvisited ids of level k complete level k + 1.
+-- levels 0 to k and zero or more ids of level k + 1, but has not visited any id of level k + 1. The parents of the
+-- unvisited ids of levels 0 to k complete level k + 1.
 pub record IsWalked {A : Type 0} (g : List (Entry A)) (tips ids : List Id) (at : ℕ) : Type 0 where
   pub k : ℕ
   pub done : List Id
@@ -23,7 +24,8 @@ pub record IsWalked {A : Type 0} (g : List (Entry A)) (tips ids : List Id) (at :
   pub position : length done ≡ at
   pub ahead : ids ++ new_ids ids (parents_of_each g rest) ≡ levels_below g tips (suc (suc k))
 
--- the state of a walk that has visited the ids of `front`, and has met but not visited the ids of `back`
+-- the state of a walk that has visited the ids of `front`, and has met but not visited the ids of `back`; `at` is the
+-- number of visited ids that the graph contains
 pub record IsUnderway {A : Type 0} (g : List (Entry A)) (tips front back : List Id) (marks : List Bool) (met : List ℕ)
     (lost : Option Id) (parents at : ℕ) : Type 0 where
   pub walked : IsWalked g tips (front ++ back) (length front)

@@ -1,6 +1,6 @@
 //! Passes over a graph in which each object was inserted after all its parents. A pass goes once
-//! down or up the insertion order, so the cost of a fetch depends on the number of new objects, and
-//! not on the size of the history.
+//! down or up the insertion order. The pass down ends as soon as no open position is left, so it
+//! does not visit the whole history.
 
 mod down;
 mod marks;

@@ -1,4 +1,4 @@
--- Definitions for the proofs of refusing a line. Each definition states that a part of the line is malformed.
+-- Definitions for the proofs of refusing a line. Most of them state that a part of the line is malformed.
 use Rattle.std.specs.Prelude.{◌≡◌, ℕ, ◌≤◌, List, ◌∷◌, ◌++◌, length, All, codes}
 use Rattle.gname.specs.Ids.{Id, IsIdOf, id_text}
 use Rattle.gname.specs.Names.{Name}
@@ -11,34 +11,34 @@ use Rattle.grefs.specs.declared.head.Head.{Head}
 use Rattle.grefs.specs.declared.head.Head.TheVariants as head_is
 use Rattle.ggraph.specs.RepositoryText.{IsHead, head_line}
 
--- the text does not begin with an id
+-- the text does not begin with an id of the format
 abbrev pub BeginsWithNoId : Format → List ℕ → Type 0
 BeginsWithNoId format text = (id : Id) (rest : List ℕ) → IsIdOf format id → text ≡ id_text id ++ rest → ⊥
 
--- the text does not begin with a space and an id
+-- the text does not begin with a space and an id of the format
 abbrev pub BeginsWithNoSpacedId : Format → List ℕ → Type 0
 BeginsWithNoSpacedId format text =
     (id : Id) (rest : List ℕ) → IsIdOf format id → text ≡ codes " " ++ (id_text id ++ rest) → ⊥
 
--- the text is not a list of at most the maximum number of parent ids
+-- the text is not a list of at most the maximum number of parent ids of the format
 abbrev pub IsNoParents : Format → List ℕ → Type 0
 IsNoParents format text =
     (ids : List Id) → All (IsIdOf format) ids → length ids ≤ max_parents → text ≡ ids_text ids → ⊥
 
--- the line is not the line of a node
+-- the line does not begin with the letter of a kind of node
 abbrev pub IsNoNode : List ℕ → Type 0
 IsNoNode line = (kind : Kind) (rest : List ℕ) → line ≡ letter kind ∷ rest → ⊥
 
--- the line is not the line of a ref
+-- the line does not begin with `r` and a space
 abbrev pub IsNoRef : List ℕ → Type 0
 IsNoRef line = (rest : List ℕ) → line ≡ codes "r " ++ rest → ⊥
 
--- the text does not begin with an id and a space
+-- the text does not begin with an id of the format and a space
 abbrev pub BeginsWithNoRefId : Format → List ℕ → Type 0
 BeginsWithNoRefId format text =
     (id : Id) (rest : List ℕ) → IsIdOf format id → text ≡ id_text id ++ (codes " " ++ rest) → ⊥
 
--- the text is not the text of an id
+-- the text is not the text of an id of the format
 abbrev pub IsNoIdText : Format → List ℕ → Type 0
 IsNoIdText format text = (id : Id) → IsIdOf format id → text ≡ id_text id → ⊥
 

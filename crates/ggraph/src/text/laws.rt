@@ -4,7 +4,7 @@ ghost use Rattle.ggraph.specs.steps.TextLaws.{TextLaws};
 
 use gname::laws;
 
-/// Proves that the laws of ids and names. The function does nothing at run time, and its contract
+/// Proves the laws of ids and names. The function does nothing at run time, and its contract
 /// states the laws.
 pub(crate) fn text_laws()
     ensures { TextLaws }

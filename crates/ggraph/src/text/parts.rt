@@ -113,7 +113,8 @@ impl<'a> Room<'a> {
         }
     }
 
-    /// Parses the ids of a node's parents, each after a space. Returns `None` for any other text.
+    /// Parses the ids of a node's parents, each after a space. Returns `None` for any other text,
+    /// and for more than `MAX_PARENTS` ids.
     pub(crate) fn read(&mut self, format: Format, text: &[u8]) -> Option<&[Oid]>
         ensures { MatchOption result (IsNoParents format text.now) (λ ids.
             (text.now ≡ ids_text ids.now) × All (IsIdOf format) ids.now

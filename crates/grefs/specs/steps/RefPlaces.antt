@@ -13,7 +13,7 @@ IsFound (ref ∷ refs) name zero = ref.0 ≡ name
 IsFound (ref ∷ refs) name (suc place) = (slice_cmp nat_cmp ref.0 name ≡ Less) × IsFound refs name place
 
 -- the position at which the name would be inserted: all names before the position sort before the name, and the name at
--- the position sorts after it
+-- the position, if there is one, sorts after it
 abbrev pub IsGap : RefList → Name → ℕ → Type 0
 IsGap [] name zero = ⊤
 IsGap [] name (suc place) = ⊥

@@ -120,7 +120,7 @@ pub record HasMarked {A : Type 0} (g : List (Entry A)) (ids : IdList) (marks : L
   pub among : IsPositionOf g ids position
   pub marked : IsMarked marks position
 
--- the marked positions below `n` are exactly those of objects that reach one of the goals
+-- each marked position is that of an object that reaches one of the goals, and each such position below `n` is marked
 pub record MarksReaching {A : Type 0} (g : List (Entry A)) (goals : IdList) (n : ℕ) (marks : List Bool) : Type 0 where
   pub sound : (p : ℕ) → IsMarked marks p → IsReachingAt g goals p
   pub all : (p : ℕ) → p < n → IsReachingAt g goals p → IsMarked marks p
