@@ -38,8 +38,8 @@ Answers server packs (LsAsked asked) (Ls reply) = LsAnswer server asked reply
 Answers server packs (Fetches asked) (Fetch reply) = FetchAnswer server packs asked reply
 Answers server packs asked reply = ⊥
 
--- the possible faults of a fetch request: no wants, a want that the server does not hold, a fault of the packer, or out
--- of memory
+-- the possible faults of a fetch request: no wants, the first want that the server does not hold, a fault of the
+-- packer, or out of memory
 abbrev pub FetchRefuses : {A : Type 0} → Server A → PackFails A → FetchAsked → ServeFault → Type 0
 FetchRefuses server fails asked serve.NoWants = asked.wants ≡ []
 FetchRefuses server fails asked (serve.NotOurs id) = IsFirstAbsent server.graph.entries asked.wants id

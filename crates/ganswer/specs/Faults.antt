@@ -1,4 +1,5 @@
--- The tables of faults. Each row has a fault's number, its name, its text, and the text that is sent to the client.
+-- The tables of faults: the number, the name and the text of each fault. A fault of answering a request also has a text
+-- that is sent to the client.
 use Rattle.std.specs.Prelude.{Bool, true, false, codes}
 use Rattle.gname.specs.Faults.{FaultRow, missing_parent, out_of_memory, out_of_memory_text}
 use Rattle.gpkt.specs.Faults.{packet_fault_row, packet_fault_text}

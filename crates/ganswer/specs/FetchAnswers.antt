@@ -28,7 +28,7 @@ commons_of server asked = common_of server.graph.entries asked.haves
 abbrev pub IsReadyFor : {A : Type 0} → Server A → FetchAsked → Type 0
 IsReadyFor server asked = IsReady server.graph.entries asked.wants (commons_of server asked)
 
--- the ids of the tags that may be added to the pack: with `include-tag` the ids of all refs, otherwise none
+-- the ids from which chains of tags may be added to the pack: with `include-tag` the ids of all refs, otherwise none
 abbrev pub tag_tips : {A : Type 0} → Server A → FetchAsked → List Id
 tag_tips server asked = if fetch_has asked IncludeTag then values_of server.refs else []
 

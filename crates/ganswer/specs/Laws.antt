@@ -71,7 +71,8 @@ LsAnswersAreHeld A =
 
 -- ---- objects
 
--- the client that sent a fetch request can read the answer, if the pack is within the client's limit
+-- the client that sent a fetch request can read the answer, if the pack is within the client's limit and the request
+-- has at most `max_haves` haves
 abbrev pub FetchAnswersFit : (A : Type 0) → Packs A → Type 0
 FetchAnswersFit A packs =
     (server : Server A) (asked : FetchAsked) (reply : FetchReply) (reading : Reading)

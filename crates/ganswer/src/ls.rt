@@ -135,7 +135,7 @@ impl<A: Allocator + Copy> Server<A> {
     }
 
     /// Returns the id of the object that HEAD points at, directly or through a ref, or `None` if
-    /// HEAD is unborn.
+    /// HEAD is unborn or there is no HEAD.
     pub fn head_id(&self) -> Option<Oid>
         ensures { result ≡ head_id self.now.head self.now.refs }
     {

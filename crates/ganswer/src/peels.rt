@@ -54,15 +54,16 @@ pub(crate) fn peeled_if<A: Allocator + Copy>(
     }
 }
 
-// Returns the commit that a tag peels to, or `None` for other objects.
+// Returns the commit that a tag peels to, or `None` for other objects and for a tag that peels to
+// no commit.
 fn peel_tag<A: Allocator + Copy>(graph: &Graph<A>, id: &Oid) -> Option<Oid>
     ensures { IsPeeled graph.now.entries id.now result }
 {
     look_up(graph, id)?
 }
 
-// Returns the commit that a tag peels to, or `Some(None)` for other objects. Returns `None` if the
-// graph does not hold the object.
+// Returns the commit that a tag peels to, or `Some(None)` for other objects and for a tag that
+// peels to no commit. Returns `None` if the graph does not hold the object.
 pub(crate) fn look_up<A: Allocator + Copy>(graph: &Graph<A>, id: &Oid) -> Option<Option<Oid>>
     ensures { MatchOption result (node_at graph.now.entries id.now ≡ None)
         (λ peeled. Holds graph.now.entries id.now × IsPeeled graph.now.entries id.now peeled) }

@@ -22,8 +22,8 @@ reason_of stop.Ended = why.Ended
 reason_of (stop.Refused fault) = why.Line fault
 reason_of stop.Failed = why.Line Io
 
--- the fault of a refused message: the grammar rejects a packet, or the message is incomplete when no more packets
--- arrive
+-- the fault of a refused message: the grammar rejects a packet, memory runs out for its contents, or the message is
+-- incomplete when no more packets arrive
 pub data IsRefused (judge : Judge) (brings : List Packet → Packet → Bool)
     : List Packet → Option Stop → MessageFault → Type 0 where
   packet : (front : List Packet) (packet : Packet) (why : Why) → IsOpen judge front

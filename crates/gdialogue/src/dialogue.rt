@@ -31,7 +31,8 @@ enum DialogueStage<M, R> {
 ///
 /// A dialogue receives one message after another, and sends the answer of its [`Side`] to each
 /// message, until a last answer. A message is refused at the first packet that its grammar rejects,
-/// or if no more packets arrive. The answer to a refused message is the last answer.
+/// if memory runs out for a packet, or if no more packets arrive. The answer to a refused message
+/// is the last answer.
 #[derive(Drop)]
 pub struct Dialogue<S, M, R> {
     side: S,

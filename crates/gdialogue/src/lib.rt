@@ -12,8 +12,8 @@
 //!   sends only answers (`Answered` in `specs/Dialogues.antt`).
 //! - A dialogue ends with a last answer, with a reply that ends the dialogue early, or with a
 //!   refused message (`HasEnded`). A message is refused at the first packet that its grammar
-//!   rejects, with the position of the packet and the reason. An incomplete message is also refused
-//!   if no more packets arrive.
+//!   rejects, with the position of the packet and the reason. A message is also refused if memory
+//!   runs out for a packet, or if no more packets arrive before its end.
 //! - A reply sends only packets that its contract permits, and sends them completely. The reply can
 //!   determine the packets while it is sent (`SaysSome` in `specs/Sides.antt`).
 //! - Each dialogue ends. With every call, the remaining packets of the message, the remaining calls

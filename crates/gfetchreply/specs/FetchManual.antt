@@ -41,7 +41,7 @@ pub record IsPackSection (limit : ℕ) (packets : List Packet) (pack : Bytes) : 
   pub short : length pack ≤ limit
   pub is_data : pack ≡ data_of payloads
 
--- a reply without common ids
+-- a reply of NAK, which acknowledges no ids, with no `ready` and no pack
 pub record IsNakReply (format : Format) (packets : List Packet) : Type 0 where
   pub section : List Packet
   pub nak : Bytes
@@ -49,13 +49,13 @@ pub record IsNakReply (format : Format) (packets : List Packet) : Type 0 where
   pub is_nak : text nak ≡ codes "NAK"
   pub parts : packets ≡ section ++ Data nak ∷ Flush ∷ []
 
--- a reply with common ids but no pack, since at least one want reaches no common id
+-- a reply of acknowledged ids, possibly none, with no NAK, no `ready` and no pack
 pub record IsAckReply (format : Format) (packets : List Packet) (ids : List Id) : Type 0 where
   pub section : List Packet
   pub acks : IsAckSection format section ids
   pub parts : packets ≡ section ++ Flush ∷ []
 
--- a reply with common ids, `ready` and the pack
+-- a reply of acknowledged ids, possibly none, `ready` and the pack
 pub record IsReadyReply (format : Format) (limit : ℕ) (packets : List Packet) (ids : List Id)
     (pack : Bytes) : Type 0 where
   pub section : List Packet

@@ -37,7 +37,7 @@ IsInAnyLimit =
     (reading : Reading) (limit : ℕ) (packets : List Packet) (reply : FetchReply) → Says reading packets reply
     → length (pack_of reply) ≤ limit → Says (record reading { limit = limit }) packets reply
 
--- if a reply is refused for its content when it is read with another limit, its pack exceeds this limit
+-- if a reply is refused for its content when it is read with another limit, the fault is `Limit`
 abbrev pub IsRefusedOverLimit : Type 0
 IsRefusedOverLimit =
     (reading : Reading) (limit : ℕ) (packets front : List Packet) (reply : FetchReply) (bytes new rest : Bytes)
@@ -72,7 +72,8 @@ module _ {S : Type 0} (taken : S → Bytes → Type 0) where
       → (reply : FetchReply) × SaysAtFront (Says reading) bytes new reply
       × HasReadInto new new old sink (Ok head) reply
 
-  -- a written reply reads back, whatever bytes follow
+  -- A well-formed reply that was written reads back, whatever bytes follow. The law does not apply if memory runs out,
+  -- the source fails, or the reader had failed before.
   abbrev pub ReadsBackInto : Bool → Reading → Type 0
   ReadsBackInto refuses reading =
       (rest new : Bytes) (old sink : S) (result : Result FetchHead MessageFault) (reply : FetchReply)

@@ -142,10 +142,10 @@ pub fn reads_back_into<T: PackSink>()
     kinds_are_read::<Replies>();
 }
 
-/// Proves that reading the same packets with other parameters, for another request or with another
-/// limit, returns no other reply. A reply is accepted with every limit that its pack does not
-/// exceed. If a reply is refused because of its content with another limit, its pack exceeds that
-/// limit.
+/// Proves that reading the same packets for another request or with another limit returns no other
+/// reply. The format of the ids and the end of the reply must be the same. A reply is accepted with
+/// every limit that its pack does not exceed. If a reply is refused because of its content with
+/// another limit, the fault is `Limit`.
 pub fn other_readings()
     ensures whatever_reading { OneInWhateverReading }
     ensures any_limit { IsInAnyLimit }

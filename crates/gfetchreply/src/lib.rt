@@ -19,8 +19,8 @@
 //!   [`read_fetch_reply_in`] and [`read_fetch_reply`] store the pack in memory.
 //! - [`Acks`] has at most 4,096 ids of one format. [`PackBytes`] has at most `gname::MAX_PACK`
 //!   bytes, and a [`PackLimit`] is at most `gname::MAX_PACK`. A call that builds a value of these
-//!   types checks the format of ids before the limit. A call that fails changes nothing. Building a
-//!   reply moves existing ids and an existing pack into it, unchanged.
+//!   types checks the format of ids before the limit. A failed [`Acks::push`] changes nothing.
+//!   Building a reply moves existing ids and an existing pack into it, unchanged.
 //! - [`write_fetch_reply`] writes exactly the bytes of a reply's packets (`canonical_reply`), or a
 //!   prefix of the bytes if the sink fails. A payload is never too long. The written reply reads
 //!   back if the pack is within the reader's limit and `direct` in [`FetchReading`] is true exactly

@@ -255,8 +255,8 @@ pub fn read_fetch_reply_into<S: Source, T: PackSink, A: Allocator + Copy, B: All
 /// reported only at an acknowledged id or, if the sink may refuse a piece, at data of the pack.
 ///
 /// If the reply is rejected, the sink has accepted the data of the packets before the rejected
-/// packet, within the limit. After a rejection, the packet reader has failed exactly if it rejected
-/// the packet itself. Whatever the result, `PackSink::same` relates the sink before the call to the
+/// packet, within the limit. After a rejection, the packet reader has failed exactly if the fault
+/// is [`Why::Line`]. Whatever the result, `PackSink::same` relates the sink before the call to the
 /// sink after the call.
 pub fn read_fetch_reply_into_in<S: Source, T: PackSink, A: Allocator + Copy, B: Allocator + Copy>(
     reader: &mut PacketReader<S, A>,

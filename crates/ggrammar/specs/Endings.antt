@@ -17,7 +17,8 @@ abbrev pub at_flush : Ends → Verdict
 at_flush Plain = Whole
 at_flush Response = Open
 
--- the verdict on a packet after the flush: only a response-end, or an error that the peer reports, is allowed
+-- the verdict on a packet after the flush: only a response-end is accepted; an error that the peer reports is rejected
+-- with `RemoteErr`
 abbrev pub after_flush : Packet → Verdict
 after_flush (Data payload) = judge_unless_error (λ bytes. Refused UnexpectedFrame) payload
 after_flush Flush = Refused UnexpectedFrame

@@ -48,7 +48,7 @@ pub record IsFirstMisfit (judge : Judge) (front : List Packet) (packet : Packet)
 abbrev pub HasEndings : Judge → Type 0
 HasEndings judge = (front : List Packet) → IsOpen judge front → Begins judge front
 
--- ---- laws of judges whose open lists can all be completed
+-- ---- laws of judges; the first two laws apply to judges whose open lists can all be completed
 
 -- an open list is the beginning of a message, and no prefix of it is a complete message
 abbrev pub OpenIsUnfinished : Judge → Type 0

@@ -26,7 +26,7 @@ module _ {M : Type 0} where
   abbrev pub AsInManual : Meaning M → Meaning M → Type 0
   AsInManual Says IsMessage = (lines : List Packet) (message : M) → Says lines message ↔ IsMessage lines message
 
-  -- the packets that are written for a message encode the message, and no packet is too long
+  -- the packets that are written for a well-formed message encode the message, and no packet is too long
   abbrev pub CanonicalSays : Meaning M → (M → Type 0) → Meaning M → Type 0
   CanonicalSays Says IsValue IsCanonical = (lines : List Packet) (message : M) → IsValue message
       → IsCanonical lines message → Says lines message × All Fits lines
@@ -58,7 +58,8 @@ module _ {M : Type 0} where
       → ReadsOrRefuses judge brings Says (known_bytes bytes new) result → IfErr result (λ fault. IsOfBytes fault.why)
       → ((result ≡ Ok message) × (new ≡ rest)) ↔ SaysAtFront Says bytes rest message
 
-  -- a written message reads back, whatever bytes follow
+  -- A well-formed message that was written reads back, whatever bytes follow. The law does not apply if memory runs
+  -- out, the source fails, or the reader had failed before.
   abbrev pub ReadsBack : Judge → (List Packet → Packet → Bool) → Meaning M → (M → Type 0) → Meaning M → Type 0
   ReadsBack judge brings Says IsValue IsCanonical =
       (lines : List Packet) (rest new : Bytes) (result : Result M MessageFault) (message : M) → IsValue message
@@ -76,14 +77,16 @@ module _ {M : Type 0} where
   ReadsIfAny judge brings Says change (Err fault) =
       (front : List Packet) × ReadsRefused judge brings front change fault
 
-  -- a message is read exactly if the bytes begin with packets that encode it
+  -- A message is read exactly if the bytes begin with packets that encode it. Nothing after these packets is read. The
+  -- law does not apply if memory runs out, the source fails, or the reader had failed before.
   abbrev pub ReadsExactlyIfAny : Judge → (List Packet → Packet → Bool) → Meaning M → Type 0
   ReadsExactlyIfAny judge brings Says =
       (bytes new rest : Bytes) (result : Result (Option M) MessageFault) (message : M)
       → ReadsIfAny judge brings Says (known_bytes bytes new) result → IfErr result (λ fault. IsOfBytes fault.why)
       → ((result ≡ Ok (Some message)) × (new ≡ rest)) ↔ SaysAtFront Says bytes rest message
 
-  -- a written message reads back, whatever bytes follow
+  -- A well-formed message that was written reads back, whatever bytes follow. The law does not apply if memory runs
+  -- out, the source fails, or the reader had failed before.
   abbrev pub ReadsBackIfAny : Judge → (List Packet → Packet → Bool) → Meaning M → (M → Type 0) → Meaning M → Type 0
   ReadsBackIfAny judge brings Says IsValue IsCanonical =
       (lines : List Packet) (rest new : Bytes) (result : Result (Option M) MessageFault) (message : M)

@@ -84,14 +84,15 @@ IsReadFailure failed down (Line Failed) = failed ≡ true
 IsReadFailure failed down (Line PacketMemory) = ⊥
 IsReadFailure failed down why = (failed ≡ false) × (down ≡ false)
 
--- the reader has failed exactly if the packet was not read
+-- the packet reader has failed exactly if the fault is a fault of the packet reader
 abbrev pub IsFailedBy : Why → Bool → Type 0
 IsFailedBy (Line fault) failed = failed ≡ true
 IsFailedBy why failed = failed ≡ false
 
 -- The state of the packet reader after reading a message. After a complete message, neither the reader nor its source
--- has failed. After a fault, the reader has failed exactly if the packet was not read. The source has failed exactly if
--- the fault is an error of the source. If the reader had failed before, the fault reports packet position 0.
+-- has failed. After a fault, the reader has failed exactly if the fault is a fault of the packet reader. Unless the
+-- reader had failed before, the source has failed exactly if the fault is an error of the source. If the reader had
+-- failed before, the fault reports packet position 0.
 abbrev pub LeavesReader : {S M : Type 0} → (S → Bool) → Reader S → Reader S → Result M MessageFault → Type 0
 LeavesReader is_down old new (Ok message) =
     (old.failed ≡ false) × (new.failed ≡ false) × (is_down new.source ≡ false)

@@ -29,7 +29,7 @@ module _
 
     -- ---- laws
 
-    -- a call whose payload has at most the maximum length writes its packet
+    -- a call that does not fail with `Payload` writes its packet
     abbrev pub WritesPacket : Type 0
     WritesPacket =
         (old new : Writer W) (result : Result Unit WriteFault) (line : Packet)

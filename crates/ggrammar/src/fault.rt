@@ -15,7 +15,7 @@ use std::marker::Model;
 /// The maximum length of the stored part of a peer's error text, in bytes.
 pub const MAX_PEER_TEXT: usize = 256;
 
-/// The first 256 bytes of the text of an error that a peer reports.
+/// At most the first 256 bytes of the text of an error that a peer reports.
 #[derive(Drop)]
 pub struct PeerText {
     text: ArrayVec<u8, MAX_PEER_TEXT>,

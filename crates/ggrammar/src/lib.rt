@@ -21,9 +21,9 @@
 //! - [`capability_of`] splits a text into a key and a value exactly if the text is a capability.
 //!   The function [`id_of_text`] reads an id exactly if the text consists of the hex digits of the
 //!   id.
-//! - The table `why_row` has the number, the name and the text for the peer of each fault. The
-//!   first 256 bytes of a peer's error text are stored. The public constants equal the limits in
-//!   the specifications.
+//! - The table `why_row` has the number, the name and the text for the peer of each fault. At most
+//!   the first 256 bytes of a peer's error text are stored. The public constants equal the limits
+//!   in the specifications.
 //! - The module [`compose`] appends a piece, or the hex digits of an id, to a text of bounded
 //!   length.
 //!

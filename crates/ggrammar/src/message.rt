@@ -45,7 +45,7 @@ pub trait Message {
 
     /// Proves laws of the message for generic callers, and does nothing. If `holds` is true for
     /// some packets, `left` is true for these packets. Each open list of packets can be completed
-    /// to a message. The number of packets in an incomplete message does not overflow.
+    /// to a message. An open list has fewer than 2^60 packets.
     fn laws()
         ensures left { (message : Self) (front : List Packet) → holds message front
             → left message front }
@@ -58,9 +58,9 @@ pub trait Message {
 ///
 /// The fault contains the position of the rejected packet, counted from 0. A fault of the packet
 /// reader takes precedence over the end of the input, which takes precedence over a fault of the
-/// grammar. If the message is rejected, the packet reader has failed exactly if the packet was not
-/// read. If the reader had failed before the call, the call fails at once, and the fault reports
-/// packet position 0.
+/// grammar. If the message is rejected, the packet reader has failed exactly if the fault is a
+/// fault of the packet reader ([`Why::Line`]). If the reader had failed before the call, the call
+/// fails at once, and the fault reports packet position 0.
 pub fn read_message<S: Source, A: Allocator + Copy, M: Message>(
     reader: &mut PacketReader<S, A>,
     message: &mut M,

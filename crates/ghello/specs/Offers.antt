@@ -48,7 +48,8 @@ is_name_of format (Some name) = bytes_eq name (format_name format)
 abbrev pub is_of_format : Format → List Capability → Bool
 is_of_format format capabilities = is_name_of format (named_format (first_with (codes "object-format") capabilities))
 
--- the format of the server's ids, or `None` if the server names a format other than SHA-1 and SHA-256
+-- the format of the server's ids, or `None` if the server names a format other than SHA-1 and SHA-256, or if its
+-- `object-format` has no value
 abbrev pub IsFormatOf : List Capability → Option Format → Type 0
 IsFormatOf capabilities (Some format) = is_of_format format capabilities ≡ true
 IsFormatOf capabilities None = (format : Format) → is_of_format format capabilities ≡ false

@@ -346,11 +346,10 @@ fn is_value_or_none(value: Option<&[u8]>) -> bool
 /// The fault states the position of the refused packet, counted from 0. A fault of the packet
 /// reader takes precedence over the end of the input, which takes precedence over an error that the
 /// peer reports. Otherwise the fault is `UnexpectedFrame` for a delimiter, a response-end, or a
-/// flush at position
-/// 0. The fault is `BadText` for a first line other than `version 2`, and for any later line that
-///    is not a capability. The fault is `Limit` for a 65th capability, and `Memory` only if there
-///    is not enough memory for a capability. After a refusal, the packet reader is unusable exactly
-///    if it refused the packet itself.
+/// flush before the first line. The fault is `BadText` for a first line other than `version 2`, and
+/// for any later line that is not a capability. The fault is `Limit` for a 65th capability, and
+/// `Memory` only if there is not enough memory for a capability. After a refusal, the packet reader
+/// is unusable exactly if the fault is [`Why::Line`].
 pub fn read_advert<S: Source, A: Allocator + Copy, B: Allocator + Copy>(
     reader: &mut PacketReader<S, B>,
     alloc: A,

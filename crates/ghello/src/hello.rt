@@ -130,7 +130,7 @@ pub fn is_host(host: &[u8]) -> bool
 /// of the input. The fault is `UnexpectedFrame` for a flush, a delimiter or a response-end. The
 /// fault is `BadText` for a malformed payload, even if the payload is an `ERR` text, and `Memory`
 /// only if there is not enough memory for the hello. After a refusal, the packet reader is unusable
-/// exactly if it refused the packet itself.
+/// exactly if the fault is [`Why::Line`].
 pub fn read_hello<S: Source, A: Allocator + Copy, B: Allocator + Copy>(
     reader: &mut PacketReader<S, B>,
     alloc: A,

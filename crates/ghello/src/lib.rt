@@ -13,7 +13,7 @@
 //!   reason that the grammar states (`specs/Hello.antt`, `specs/Adverts.antt`). Both functions
 //!   report out of memory only at a packet with contents to store. After a message was read, the
 //!   packet reader is ready for the next message. After a refusal, the packet reader is unusable
-//!   exactly if it refused the packet itself.
+//!   exactly if the fault is a fault of the packet reader.
 //! - [`write_hello`] and [`write_advert`] write the canonical packets of the value, or a prefix of
 //!   them if the sink fails. A reader of the written packets returns the same value.
 //! - The checks of a client on a server's capabilities are specified in `specs/Offers.antt`.

@@ -45,8 +45,8 @@ pub fn read_ls_reply<S: Source, A: Allocator + Copy, B: Allocator + Copy>(
 /// ([`Why::Ended`]) comes second, an error that the peer reports ([`Why::RemoteErr`]) third, and a
 /// refusal by the grammar last. The grammar checks a line from left to right. A well-formed
 /// 65,538th line is refused with [`Why::Limit`]. [`Why::Memory`] is reported only at a line that
-/// the grammar accepts. After a refusal, the packet reader is unusable exactly if it refused the
-/// packet itself.
+/// the grammar accepts. After a refusal, the packet reader is unusable exactly if the fault is
+/// [`Why::Line`].
 pub fn read_ls_reply_in<S: Source, A: Allocator + Copy, B: Allocator + Copy>(
     reader: &mut PacketReader<S, A>,
     format: Format,

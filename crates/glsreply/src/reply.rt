@@ -92,8 +92,8 @@ impl<A: Allocator + Copy> LsReply<A> {
         LsReply { unborn, lines }
     }
 
-    /// Sets the target of an unborn `HEAD`. Fails with `Limit` and changes nothing if the reply has
-    /// no room for another line. Allocates nothing.
+    /// Sets or replaces the target of an unborn `HEAD`. Fails with `Limit` and changes nothing if
+    /// the reply has no target yet and no room for another line. Allocates nothing.
     pub fn set_unborn(&mut self, target: RefName<A>) -> Result<(), MessageFault>
         ensures sets { SetsUnborn self.old target self.new result }
         ensures full { IfErr result (λ fault. fault.why ≡ Limit) }

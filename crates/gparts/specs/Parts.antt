@@ -10,7 +10,7 @@ abbrev pub Gives : Type 1
 Gives = List ℕ → Option PackFault → Type 0
 
 -- the bytes of a complete pack are a pack that `packs` permits for the list; a fault is one that `fails` permits for
--- the list
+-- the list; at most `max_pack` bytes are returned
 pub record Begins {A : Type 0} (packs : Packs A) (fails : PackFails A) (list : List (Entry A)) (gives : Gives)
     (most : ℕ) : Type 0 where
   pub whole : (bytes : List ℕ) → gives bytes None → MayPack packs list bytes

@@ -130,7 +130,8 @@ module _
         (old mid new : Writer W) (bytes more : Bytes) (result : Result Unit WriteFault) → Writes old mid (Ok tt) bytes
         → Writes mid new result more → result ≢ Err write_fault.Payload → Writes old new result (bytes ++ more)
 
-    -- a failed write of some bytes has the outcome of a failed write of the same bytes followed by more bytes
+    -- unless a payload is too long, a failed write of some bytes has the outcome of a failed write of the same bytes
+    -- followed by more bytes
     abbrev pub FailsOfMore : Type 0
     FailsOfMore =
         (old new : Writer W) (bytes more : Bytes) (fault : WriteFault) → Writes old new (Err fault) bytes

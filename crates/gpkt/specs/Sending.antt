@@ -53,7 +53,7 @@ pub record IsUnwritten (output : Output) : Type 0 where
   pub passed_on : output.passed_on.new ≡ output.passed_on.old
   pub down : output.is_down ≡ output.was_down
 
--- the call writes these bytes, and all written bytes are flushed
+-- the call writes these bytes, and all written bytes are flushed if the flushed bytes were known before
 pub record Sends (output : Output) (bytes : Bytes) : Type 0 where
   pub written : Appends output.written.old output.written.new bytes
   pub passed_on : PassesAll output.written.new output.passed_on

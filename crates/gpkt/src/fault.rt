@@ -97,10 +97,10 @@ impl<T: Drop> From<AllocFailed<T>> for PacketFault {
 pub enum WriteFault {
     /// An earlier call had failed. This call writes nothing.
     Failed,
-    /// The payload, with its line feed, has more than 65,516 bytes. Nothing is written, and the
-    /// writer stays usable.
+    /// The payload, with its line feed if any, has more than 65,516 bytes. Nothing is written, and
+    /// the writer stays usable.
     Payload,
-    /// The sink failed in this call. Only a part of the packet was written.
+    /// The sink failed in this call. A call that writes a packet wrote only a part of it.
     Io,
 }
 

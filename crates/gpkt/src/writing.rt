@@ -15,10 +15,10 @@ use std::marker::Model;
 
 /// Writes packets with lower-case digits to a sink, without allocating.
 ///
-/// After [`Io`](WriteFault::Io), only a part of the packet was written. Every later call returns
-/// [`Failed`](WriteFault::Failed) and writes nothing. [`Payload`](WriteFault::Payload) means that
-/// the payload with its line feed has more than 65,516 bytes. After `Payload`, nothing was written,
-/// and the writer stays usable.
+/// After [`Io`](WriteFault::Io) from a write, only a part of the packet was written. After any
+/// `Io`, every later call returns [`Failed`](WriteFault::Failed) and writes nothing.
+/// [`Payload`](WriteFault::Payload) means that the payload, with its line feed if any, has more
+/// than 65,516 bytes. After `Payload`, nothing was written, and the writer stays usable.
 #[derive(Drop)]
 pub struct PacketWriter<W> {
     sink: W,

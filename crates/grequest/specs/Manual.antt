@@ -22,12 +22,13 @@ use Rattle.grequest.specs.Asked.{Asked, Empty, max_prefixes, max_wants, max_have
 use Rattle.grequest.specs.RequestLines.{agents, formats, prefixes, wants, haves, asked_by_command}
 use Rattle.std.specs.Option.{IsSome}
 
--- a client may name its agent, and must name the object format unless it is sha1
+-- a capability that a client may send: its agent, or the object format of the repository
 abbrev pub IsCapability : Format → CapabilityForm → Type 0
 IsCapability format (Agent value) = Unit {0}
 IsCapability format (ObjectFormat value) = value ≡ format_name format
 IsCapability format _ = ⊥
 
+-- the client names the object format at most once, and must name it unless it is sha1
 abbrev pub NamesFormat : Format → List Bytes → Type 0
 NamesFormat Sha1 capabilities = length (formats capabilities) ≤ 1
 NamesFormat Sha256 capabilities = length (formats capabilities) ≡ 1

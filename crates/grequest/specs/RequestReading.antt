@@ -9,7 +9,7 @@ use Rattle.ggrammar.specs.declared.fault.MessageFault.{MessageFault}
 use Rattle.grequest.specs.Asked.{Asked}
 use Rattle.grequest.specs.Requests.{judge, brings, Says}
 
--- the bytes that were read caused the fault, and at least one byte was read
+-- the content of the bytes caused the fault; if the input ended, at least one packet was read before
 abbrev pub IsNotMissing : MessageFault → Type 0
 IsNotMissing fault = IsOfBytes fault.why × (fault.why ≡ Ended → 0 < fault.frame)
 

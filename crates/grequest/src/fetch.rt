@@ -133,8 +133,8 @@ impl<A: Allocator + Copy> FetchRequest<A> {
         self.flags[flag.number()]
     }
 
-    /// Returns a boolean for each flag except `done`, which is written after the ids. The index is
-    /// the number of the flag.
+    /// Returns a boolean for each flag. The index is the number of the flag. The boolean of `done`
+    /// is false, since `done` is written after the ids.
     pub(crate) fn early_flags(&self) -> [bool; MAX_FLAGS]
         ensures { flags_at fetch_number fetch_flags result
             ≡ (fetch_with self.now.asked Done false).flags }

@@ -40,7 +40,7 @@ pub fn read_request<S: Source, A: Allocator + Copy, B: Allocator + Copy>(
 /// after the first packet ([`Why::Ended`]) comes second, and a fault of the grammar third. The
 /// fault [`Why::Memory`] is reported only at an agent, a prefix, a want or a have. All packets that
 /// were read, even a rejected packet, are consumed from the source. After a fault, the packet
-/// reader has failed exactly if it rejected the packet itself. If the reader had failed before the
+/// reader has failed exactly if the fault is [`Why::Line`]. If the reader had failed before the
 /// call, the call fails at once, and the fault reports packet position 0.
 pub fn read_request_in<S: Source, A: Allocator + Copy, B: Allocator + Copy>(
     reader: &mut PacketReader<S, A>,

@@ -27,7 +27,8 @@ impl<A: Allocator + Copy> Request<A> {
     ghost use Rattle.grequest.specs.RequestValues.{IsOfFormat, asked_by_request, ids_format};
     ghost use Rattle.grequest.specs.WellFormed.{IsAsked};
 
-    /// Proves that all ids of a request have the same format.
+    /// Proves that every request is well-formed for the format of its ids. A request without ids is
+    /// well-formed for every format.
     pub fn laws(&self)
         ensures { (format : Format) → IsOfFormat format self.now
             → IsAsked format (asked_by_request self.now) }

@@ -72,8 +72,8 @@ pub record ReadsEnd (input : Input) : Type 0 where
 
 -- ---- a request that is refused
 
--- The request is refused at the first packet that does not fit. The fault is an error of the source exactly if the
--- source has failed. The end of the input is a fault only after the first packet.
+-- The request is refused while it is read. The fault is an error of the source exactly if the source has failed. The
+-- end of the input is a fault only after the first packet.
 pub record RefusesToRead (format : Format) (input : Input) (cause : MessageFault) : Type 0 where
   pub front : List Packet
   pub refused : ReadsRefused (judge format) brings front input.read cause

@@ -28,8 +28,8 @@ pub enum End {
     Closed,
     /// The input ended before a request, or the server answered [`MAX_REQUESTS`] requests.
     Ended,
-    /// A request was refused. The error packet for the request is the last packet written, and was
-    /// flushed.
+    /// A request was refused, or memory ran out at the start. The error packet is the last packet
+    /// written, and was flushed.
     Refused(ServeFault),
     /// The sink failed. A prefix of the next message was written.
     WriteFailed,
@@ -49,9 +49,9 @@ pub struct Served {
 /// after the advertisement, after each reply and after an error packet. The server is unchanged.
 ///
 /// The connection ends if the client sends a lone flush packet, if the input ends before a request,
-/// if a request is refused, or if the sink fails. After a refused request, the server writes an
-/// error packet. If memory runs out at the start, the server only writes an error packet that
-/// reports out of memory, and reads nothing.
+/// if a request is refused, or if the sink fails. The connection also ends after [`MAX_REQUESTS`]
+/// replies. After a refused request, the server writes an error packet. If memory runs out at the
+/// start, the server only writes an error packet that reports out of memory, and reads nothing.
 ///
 /// A fault of the packer is reported as the packer returned it, and ends the connection. The packer
 /// is asked for at most one pack for each request. Any other fault, such as out of memory, is

@@ -25,18 +25,19 @@ pub enum ExchangeEnd {
     Closed,
     /// The input ended before the request. Nothing was written.
     Ended,
-    /// The request was refused. Its error packet was written and flushed.
+    /// The request was refused, or there was no memory for the reader's buffer. The error packet
+    /// was written and flushed.
     Refused(ServeFault),
-    /// The sink failed. A prefix of the reply was written.
+    /// The sink failed. A prefix of the reply or of the error packet was written.
     WriteFailed,
 }
 
 /// Reads one request and writes its reply, without an advertisement (gitprotocol-v2(5), "Command
 /// Request"). Nothing after the request's last packet is read. If memory runs out for the reader's
 /// buffer, nothing is read, and the error packet reports out of memory. The reply to an ls-refs
-/// request needs no memory once the request is read. The error packet reports a fault of the packer
-/// unchanged. The error packet reports any other fault, such as out of memory, only if the packer
-/// was not asked for a pack.
+/// request needs no memory once the request is read. The result contains a fault of the packer
+/// unchanged. The result contains any other fault, such as out of memory, only if the packer was
+/// not asked for a pack.
 ///
 /// If the call ends with `Answered`, `Closed` or `Ended`, the source has not failed.
 pub fn serve_one<S: Source, W: Sink, A: Allocator + Copy, K: Packer<A>>(

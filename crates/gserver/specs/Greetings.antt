@@ -13,7 +13,7 @@ SaysGreeting part.Version capabilities said goes = (said ≡ canonical_advert ca
 SaysGreeting (part.Capability at) capabilities said goes =
     (said ≡ map capability_packet (drop at capabilities) ++ Flush ∷ []) × (goes ≡ true)
 
--- the number of remaining steps; each step sends one packet
+-- the number of steps after the next step; each step sends one packet
 abbrev pub steps_of_greeting : NextPart → List Capability → ℕ
 steps_of_greeting part.Version capabilities = length capabilities + 1
 steps_of_greeting (part.Capability at) capabilities = length capabilities - at

@@ -37,7 +37,7 @@ module _ {A : Type 0} (server : Server A) (asked : LsRefsAsked) (ends : Ends) (g
   SaysListing (next.Ref at) said goes = SaysRefs (drop at server.refs) said goes
   SaysListing next.ResponseEnd said goes = (said ≡ ResponseEnd ∷ []) × (goes ≡ goes_on)
 
--- the maximum number of remaining steps; each step sends at most one packet
+-- the maximum number of steps after the next step; each step sends at most one packet
 abbrev pub steps_of_listing : {A : Type 0} → Server A → NextLine → ℕ
 steps_of_listing server next.Unborn = length server.refs + 4
 steps_of_listing server next.Head = length server.refs + 3

@@ -83,7 +83,7 @@ steps_after_acks most None = 2
 steps_after_acks most (Some pack) = most pack.0 pack.1 + 5
 
 module _ {A R P : Type 0} (most : R → P → ℕ) where
-  -- the maximum number of remaining steps; each step sends at most one packet
+  -- the maximum number of steps after the next step; each step sends at most one packet
   abbrev pub steps_of : Rest A R P → ℕ
   steps_of rest.Nothing = 0
   steps_of (rest.Refusal text) = 0

@@ -31,7 +31,7 @@ max_requests = 4294967295
 abbrev pub goes_on_after : ℕ → Bool
 goes_on_after requests = nat_lt requests max_requests
 
--- the maximum number of further messages to answer: the first line, and the requests
+-- the maximum number of further messages, the first line and requests, that are answered without ending the connection
 abbrev pub messages_of : {R : Type 0} → Option R → ℕ → ℕ
 messages_of None requests = max_requests + 1
 messages_of (Some repo) requests = max_requests - requests
@@ -43,7 +43,7 @@ pub record Refuses (Why : Bytes → Type 0) (said : List Packet) (goes : Bool) :
   pub all : said ≡ text_packets text
   pub ended : goes ≡ false
 
--- the number of answered requests, including the new request unless it is empty
+-- the number of answered requests, including the new request unless it is empty; the count stays at `max_requests`
 abbrev pub count_request : Asked → ℕ → ℕ
 count_request Empty requests = requests
 count_request (Ls asked) requests = min (requests + 1) max_requests

@@ -19,7 +19,7 @@ pub(crate) trait Cursor {
     // continues.
     ghost may: { Self → List Packet → Bool → Type 0 };
 
-    // The maximum number of remaining steps.
+    // The maximum number of further steps that return `Said::More`.
     ghost steps: { Self → ℕ };
 
     /// Queues the next packet of the reply, or no packet.

@@ -25,8 +25,9 @@
 //!   not enough memory, if the repository can't answer the request, or if the host can't open the
 //!   repository (`CannotAnswer`). If the grammar rejects a message, the side sends the host's text
 //!   for that fault (`RefusesMessage`).
-//! - The side stores the fault that it reported ([`ServerSide::fault`]). While the connection
-//!   accepts messages, no fault is stored.
+//! - The side stores the fault with which it refused a message ([`ServerSide::fault`]). No fault is
+//!   stored if the host can't find or open a repository. While the connection accepts messages, no
+//!   fault is stored.
 //! - A connection begins with no repository, no request and no fault (`OpensFresh`). The side
 //!   always uses the host, and the packets that end each reply, that were passed to
 //!   [`ServerSide::new`]. Each ls-refs or fetch request is counted. A connection ends only after an

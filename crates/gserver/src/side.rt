@@ -41,7 +41,7 @@ pub struct ServerSide<'h, A: Allocator + Copy, H, R> {
     host: &'h H,
     alloc: A,
     ends: Ends,
-    // The served repository, or `None` before the first line.
+    // The served repository, or `None` until the host finds a repository for the first line.
     repo: Option<R>,
     requests: u32,
     fault: Option<ServeFault>,
@@ -64,14 +64,15 @@ impl<'h, A: Allocator + Copy, H, R> ServerSide<'h, A, H, R> {
         }
     }
 
-    /// Returns the served repository, or `None` before the first line.
+    /// Returns the served repository, or `None` until the host finds a repository for the first
+    /// line.
     pub fn repo(&self) -> Option<&R>
         ensures { option_copied result ≡ self.now.repo }
     {
         self.repo.as_ref()
     }
 
-    /// Returns the number of requests that were answered or are being answered, but at most
+    /// Returns the number of complete ls-refs and fetch requests so far, but at most
     /// [`MAX_REQUESTS`].
     pub fn requests(&self) -> u32
         ensures { result ≡ self.now.requests }
@@ -79,8 +80,8 @@ impl<'h, A: Allocator + Copy, H, R> ServerSide<'h, A, H, R> {
         self.requests
     }
 
-    /// Returns the fault with which this side refused a message, or `None` if no message was
-    /// refused.
+    /// Returns the fault with which this side refused a message, or `None`. No fault is stored if
+    /// the host can't find or open a repository, or if the packer fails while a pack is sent.
     pub fn fault(&self) -> Option<&ServeFault>
         ensures { option_copied result ≡ self.now.fault }
     {
@@ -283,7 +284,8 @@ fn refusal_of<A: Allocator + Copy, R: ServedRepository<A> + PartPacker<A>>(
     Answer::Last(ServerReply::Speech(Speech::refusal_of(text)))
 }
 
-// Returns an answer with the reply in `Ok`, or an answer with an error packet if `reply` is `Err`.
+// Returns an answer with the reply in `Ok`, or an answer with an error packet if `answered` is
+// `Err`.
 fn answer_of<A: Allocator + Copy, R: ServedRepository<A> + PartPacker<A>>(
     answered: Result<ServerReply<A, R, R::Parts>, ErrText>,
     goes_on: bool,

@@ -25,8 +25,8 @@ abbrev pub bytes_in : Option Bytes → Bytes
 bytes_in None = []
 bytes_in (Some bytes) = bytes
 
--- if no packets were queued, the previously flushed bytes stay flushed; otherwise all bytes written before the last
--- turn are flushed
+-- if no bytes were sent before the last turn, the previously flushed bytes stay flushed; otherwise all bytes written
+-- before the last turn are flushed, if known
 abbrev pub HasPassed : Bytes → Option Bytes → Change → Change → Type 0
 HasPassed said between written passed_on =
     ((said ≡ []) × KeepsPassed passed_on)

@@ -9,10 +9,10 @@ use std::fmt;
 /// The reason why a conversation was aborted.
 #[derive(Clone, Copy, Debug, PartialEq, Eq)]
 pub enum TalkFault {
-    /// The sink failed. Only a prefix of the queued packets was written.
+    /// The sink failed. A prefix of the queued packets was written, perhaps all of them.
     Io,
-    /// There was not enough memory for the packets to send. No packet was queued, and the
-    /// conversation is unchanged.
+    /// There was not enough memory for the packets to send. The failed call queued no packet, and
+    /// left the conversation unchanged.
     Memory,
 }
 

@@ -145,8 +145,8 @@ module _ {S : Type 0} (taken : S → Bytes → Type 0) where
   abbrev pub TakesNone : S → S → Type 0
   TakesNone old new = (before : Bytes) → taken old before → taken new before
 
-  -- if the packet is accepted according to the verdict, the values `wanted` are stored and the sink accepts the bytes
-  -- `more`
+  -- If the packet is accepted according to the verdict, the values `wanted` are stored and the sink accepts the bytes
+  -- `more`. If the packet is refused, the sink accepts no bytes.
   abbrev pub TakesBoth : Verdict → Bool → Kept → Kept → Bytes → S → S → Result Step Why → Type 0
   TakesBoth verdict brings wanted kept more old new result =
       TakesOr verdict brings ((kept ≡ wanted) × TakesMore old new more) (TakesNone old new) result

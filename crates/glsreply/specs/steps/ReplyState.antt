@@ -69,7 +69,7 @@ with_packet format state packet = state
 
 -- ---- the state of the reader
 
--- a text is the line of a ref or of an unborn HEAD
+-- a text is the line of a ref, or its first part is `unborn`
 abbrev pub IsLineText : Format → Bytes → Type 0
 IsLineText format line = ((target : Result Name Why) × (first_form line ≡ UnbornForm target))
     ⊎ ((ref : RefLine) × (line_of format line ≡ Ok ref))
@@ -77,7 +77,7 @@ IsLineText format line = ((target : Result Name Why) × (first_form line ≡ Unb
 abbrev pub AreLineTexts : Format → List Packet → Type 0
 AreLineTexts format packets = All (IsLineText format) (texts_of packets)
 
--- the state of the reader is the state after these packets, and the text of each packet is an accepted line
+-- the state of the reader is the state after these packets, and each text is the line of a ref or begins with `unborn`
 abbrev pub Holds : {A : Type 0} → LsReplyReader A → List Packet → Type 0
 Holds reader packets =
     (state_in reader ≡ state_of reader.format packets) × AreLineTexts reader.format packets

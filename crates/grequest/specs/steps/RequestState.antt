@@ -107,7 +107,7 @@ abbrev pub one : Bool → ℕ
 one true = 1
 one false = 0
 
--- if the capability is an agent, its value contains no space
+-- if the capability is an agent, its value has 1 to 1,000 printable bytes and no space
 abbrev pub CarriesWord : CapabilityForm → Type 0
 CarriesWord (Agent value) = is_word_value value ≡ true
 CarriesWord _ = Unit {0}

@@ -60,7 +60,7 @@ IsDownBy (Ok done) was_down is_down = is_down ≡ was_down
 IsDownBy (Err Io) was_down is_down = is_down ≡ true
 IsDownBy (Err Memory) was_down is_down = is_down ≡ was_down
 
--- the progress of a connection so far: either no packets are queued yet, or all queued packets are flushed
+-- the progress of a connection so far: either no bytes are sent yet, or all written bytes are flushed (if known)
 pub record Driven {C A : Type 0} (holds : C → Talk → Type 0) (passed : Bool) (old new : Connection C A)
     (read written passed_on : Change) (Untouched : Type 0) : Type 0 where
   pub drives : Drives holds old new read written
