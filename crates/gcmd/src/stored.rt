@@ -1,4 +1,4 @@
-//! `gitv2 fetch` into a stored file. The file is replaced as a whole or not at all.
+//! Runs `gitv2 fetch` on a repository file. The file is replaced as a whole or not at all.
 
 ghost use Rattle.std.specs.Prelude.{◌≡◌, Err, Ok, MatchResult, length};
 ghost use Rattle.gpkt.specs.Packets.{Bytes};

@@ -20,8 +20,7 @@ pub record IsFront (lines : List Packet) (bytes rest : Bytes) : Type 0 where
   pub parts : bytes ≡ front ++ rest
   pub spelt : SpellsAll lines front
 
--- the reason to refuse is the content of the bytes, not out of memory, a failed source, or a reader that had failed
--- before
+-- the refusal is due to the content of the bytes: not to lack of memory, a failed source, or a reader that had failed
 abbrev pub IsOfBytes : Why → Type 0
 IsOfBytes (Line Io) = ⊥
 IsOfBytes (Line Failed) = ⊥

@@ -4,8 +4,8 @@
 --   empty-request = flush-pkt
 --   command-request = command capability-list delim-pkt command-args flush-pkt
 --
--- The delimiter may be left out if there are no arguments. Each part is a list of payloads. The text of a payload omits
--- one line feed at its end. The parameter `format` is the object format of the repository.
+-- The delimiter may be left out if there are no arguments. Each part is a list of payloads. The text of a payload is
+-- the payload without one trailing line feed. The parameter `format` is the object format of the repository.
 use Rattle.std.specs.Prelude.{◌≡◌, ◌≤◌, ◌⊎◌, List, [], ◌∷◌, ◌++◌, length, map, codes, All}
 use Rattle.gpkt.specs.Packets.{Bytes, Packet, Data, Flush, Delim, text}
 use Rattle.gname.specs.Names.{IsPrefix}

@@ -83,7 +83,7 @@ fn format_with(value: Option<&[u8]>) -> CapabilityForm<'_>
     }
 }
 
-/// Returns the kind of a text among the arguments of ls-refs.
+/// Returns the ls-refs argument that a text encodes.
 #[tactic(auto, unfolding(crate::specs::Arguments::ls_argument))]
 pub(crate) fn ls_argument(text: &[u8]) -> LsArgument<'_>
     ensures { ls_argument_in result ≡ ls_argument text.now }

@@ -108,7 +108,7 @@ fn parse(text: &[u8]) -> Option<usize>
     }
 }
 
-/// Returns the count of bytes that a word encodes: a number, or `usize::MAX` for `all`.
+/// Parses a byte count: a decimal number, or `all` for `usize::MAX`.
 pub(crate) fn count_of(text: &[u8]) -> Option<usize>
     ensures { MatchOption result (((count : ℕ) → IsCount text.now count → ⊥)) (IsCount text.now) }
 {
