@@ -31,7 +31,8 @@
 //!   have failed.
 //! - [`serve_one`] has the same contract for one request, without an advertisement
 //!   (`specs/Exchanges.antt`).
-//! - [`serve_git`] reads the first line of a `git://` connection, and reads on only after the advertisement is flushed (`specs/GitConnections.antt`). If the line names the served path,
+//! - [`serve_git`] reads the first line of a `git://` connection, and reads on only after the
+//!   advertisement is flushed (`specs/GitConnections.antt`). If the line names the served path,
 //!   byte for byte, the connection continues as for [`serve`]. If the line names another path or is
 //!   refused, the server writes and flushes an error packet instead of the advertisement. Nothing
 //!   after the first line is read. If the sink fails, a prefix of the error packet was written. The
