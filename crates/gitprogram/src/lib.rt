@@ -71,6 +71,11 @@
 //! been removed. `Repositories` may find any repository and report any text. A packer may fail with
 //! any fault.
 //!
+//! Text for a terminal may be written without the removal of control bytes. The bytes that were
+//! read ahead of a request may be read once more, or not at all. A client whose first packet is
+//! malformed may get no error packet. A server may end its replies with a response-end packet.
+//! A pack may lack entries, since the contract of a pack of `gitrepository` allows any pack.
+//!
 //! # Dependencies
 //!
 //! `gitwords` parses arguments and paths. `gitrepository`, `gitobjects` and `gitrefs` read and
