@@ -60,8 +60,8 @@
 //! against Git. No contract covers which files [`GitDirectory`] opens, the precedence of loose
 //! refs, or symbolic refs. No contract covers which updates [`GitDirectory`] refuses, or the
 //! removal of locks. A lockfile is removed when its guard is dropped, but no contract covers this
-//! removal. A replaced file may keep its old contents, since [`GitDirectory`] replaces files without
-//! a contract. A name that is not UTF-8 may be refused for any reason.
+//! removal. A replaced file may keep its old contents, since [`GitDirectory`] replaces files
+//! without a contract. A name that is not UTF-8 may be refused for any reason.
 //!
 //! The contracts let [`PackedPeels`] contain any data. In fact [`PackedPeels`] contains the peeled
 //! ids of `packed-refs`, which may be wrong.
