@@ -78,8 +78,8 @@
 //! - [`check_refs`] might look at objects other than those that the refs reach. [`check_refs`]
 //!   might count the nodes of another graph, and no contract covers the number of objects.
 //! - [`Tips`] might forget an id, [`add_leaves`] might add or remove other nodes, and a repository
-//!   in any format might be opened or refused. The function [`is_bare`] might return any result. The
-//!   names of peeled refs in a new repository might be wrong.
+//!   in any format might be opened or refused. The function [`is_bare`] might return any result.
+//!   The names of peeled refs in a new repository might be wrong.
 //! - The indexer might leave out an entry, or return one for an object that the pack does not have.
 //!   The indexer looks up the named trees and blobs, and compares objects that the store already
 //!   has. No contract covers these look-ups and comparisons, or states when the indexer reads an
