@@ -43,8 +43,8 @@
 //!
 //! If several ids are missing, a call may return any of them. A call may report out of memory
 //! although memory is available, but not when it adds an object that the repository already holds.
-//! If the graph stores an object before one of its parents, a lack of memory for a walk may hide an
-//! unconnected ref or id, or refs that can't be set. A walk may continue past marked objects. A
+//! A graph may store an object before one of its parents. Then a lack of memory for a walk may hide
+//! an unconnected ref or id, or refs that can't be set. A walk may continue past marked objects. A
 //! call may take any time, and more memory than it needs. No clause says which allocator provides
 //! the memory. [`Asks::allocator`] may return any allocator of its type, and [`Asks::ids`] may use
 //! the allocator of the list. Formatting a fault may return `fmt::Error` for no reason. With format
