@@ -17,7 +17,7 @@ BEGIN, END = "<!-- conform.py writes what follows -->\n", "<!-- conform.py wrote
 SERVER = "git upload-pack"
 CLIENT = "git -C {repository} fetch --quiet --no-tags {url} {specs}"
 # How the page names the version of git.
-VERSION = "The script runs Git %s with"
+VERSION = "The script tests Git %s with"
 
 NAME_REASONS = {
     "ok": "`git check-ref-format` accepts names without a slash only with `--allow-onelevel`. Here `HEAD` is a ref name.",
@@ -120,15 +120,14 @@ def section(cases, known, version, server, client, notes):
     yield "%s `--server '%s'` and `--client '%s'`.\n" % (VERSION % version, SERVER, CLIENT)
     yield from answered_alike(server, client)
     yield "\n## What a server answers otherwise\n"
-    yield "Parentheses contain the number of rows, the first row's name, and the differing parts of the answers, ours first.\n"
+    yield "The differing parts of the answers, ours first, follow the first row's name.\n"
     yield from reasons_of(known, "server", server)
     yield "\n## What a client does otherwise\n"
-    yield "Parentheses contain the number of rows, and the first row's name.\n"
     yield from reasons_of(known, "client", client)
     yield "\nGit's requests also have other lines. Numbers count the compared requests with such a line.\n"
     yield from ("- %s" % note for note in notes)
     yield "\n## What both servers refuse\n"
-    yield "Each line has the answer here, the number of rows, and the first row's name.\n"
+    yield "Each line begins with the answer here.\n"
     yield from refused_rows(server)
     yield "\n## Ref names\n\n| Name | Here | git | Why |\n|---|---|---|---|"
     yield from name_rows(cases.names)
