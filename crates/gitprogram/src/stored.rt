@@ -19,7 +19,7 @@ use std::time::SystemTime;
 
 /// The repositories that a server serves.
 #[derive(Clone, Copy)]
-pub(crate) enum Served<'f> {
+pub(crate) enum ServedFrom<'f> {
     /// The repositories below a directory.
     Below(Exports<'f>),
     /// Only this repository, whatever the path that a client sends.
@@ -32,13 +32,13 @@ pub(crate) enum Served<'f> {
 pub(crate) struct Stored<'f, 'r, R: Files, F: ObjectFiles> {
     rt: &'r R,
     files: &'f F,
-    served: Served<'f>,
+    served: ServedFrom<'f>,
     slots: Slots<'f, F>,
 }
 
 impl<'f, 'r, R: Files + AllocGlobal, F: ObjectFiles> Stored<'f, 'r, R, F> {
     /// Returns the served repositories, without open object stores.
-    pub(crate) fn new(rt: &'r R, files: &'f F, served: Served<'f>) -> Stored<'f, 'r, R, F> {
+    pub(crate) fn new(rt: &'r R, files: &'f F, served: ServedFrom<'f>) -> Stored<'f, 'r, R, F> {
         Stored {
             rt,
             files,
@@ -74,8 +74,8 @@ impl<'f, 'r, R: Files + AllocGlobal, F: ObjectFiles> Stored<'f, 'r, R, F> {
 impl<R: Files + AllocGlobal, F: ObjectFiles> Disk for Stored<'_, '_, R, F> {
     fn find(&self, path: &[u8]) -> Result<Option<Directories>, Fault> {
         match self.served {
-            Served::Below(exports) => find_served(self.rt, exports, path),
-            Served::Only(found) => Ok(Some(found.copy_in(self.rt.alloc())?)),
+            ServedFrom::Below(exports) => find_served(self.rt, exports, path),
+            ServedFrom::Only(found) => Ok(Some(found.copy_in(self.rt.alloc())?)),
         }
     }
 

@@ -12,7 +12,7 @@ use crate::refusals::send_error;
 use crate::repositories::Repositories;
 use crate::sentences::Sentence;
 use crate::shared::{Blames, Shared};
-use crate::stored::{Served, Stored};
+use crate::stored::{ServedFrom, Stored};
 use crate::visits::{begin, fault_of_visit};
 use gevents::End;
 use gitobjects::StoredFiles;
@@ -90,7 +90,7 @@ where
     R: Files + AllocGlobal,
 {
     let files = StoredFiles::new(rt);
-    let stored = Stored::new(rt, &files, Served::Only(found));
+    let stored = Stored::new(rt, &files, ServedFrom::Only(found));
     upload_stored(rt.alloc(), &stored, source, sink)
 }
 
