@@ -29,8 +29,8 @@
 //!   `MAX_PACK` bytes. If a pack is returned in parts, the concatenation of the parts is the pack.
 //!   If a later part fails, no contract describes the parts returned before.
 //! - A pack is accepted only if its trailer is the SHA-1 of all preceding bytes. Each entry that
-//!   the indexer returns describes an object, or is a tree or blob that a tag names. The entry of
-//!   the tag is also returned.
+//!   the indexer returns describes an object, or is a tree or blob that a tag names. In the second
+//!   case the entry of the tag is also returned.
 //! - [`install_files`] installs a pack in a [`PackFolder`] before its index. After `Ok` both files
 //!   exist, with the given bytes. A file gets its final name only once both files are written and
 //!   synced. After a fault the folder has neither file, only the pack, or both.
