@@ -63,11 +63,12 @@
 //!
 //! # What the contracts do not rule out
 //!
-//! - The packer might send objects other than the wanted ones, leave out listed commits and tags, or
-//!   send the entry of one object in place of another. The header of an entry may state the wrong
-//!   type or size, a wrong offset of its base, or a base of another type. No contract says which trees and blobs are sent. The stream of an entry may
-//!   be any bytes, and a delta may name a base that is not sent. The reader compares the CRC-32 of
-//!   each copied entry with the index, but no contract covers this comparison.
+//! - The packer might send objects other than the wanted ones, leave out listed commits and tags,
+//!   or send the entry of one object in place of another. The header of an entry may state the
+//!   wrong type or size, a wrong offset of its base, or a base of another type. No contract says
+//!   which trees and blobs are sent. The stream of an entry may be any bytes, and a delta may name
+//!   a base that is not sent. The reader compares the CRC-32 of each copied entry with the index,
+//!   but no contract covers this comparison.
 //! - If a commit-graph is wrong, the graph may be wrong too. The commit-graph is used only for
 //!   commits in the store. No contract covers which commits are looked up in the commit-graph, or
 //!   from which file it is read.
@@ -76,9 +77,9 @@
 //! - [`open_tips`] might find objects other than those of the refs, or peel a tag to the wrong
 //!   object. [`open_tips`] trusts the peeled ids in `packed-refs`, as Git does. The function
 //!   [`lead_with_newest`] might leave refs out or put other refs first.
-//! - [`check_refs`] might accept a repository whose objects are missing or malformed. [`check_refs`]
-//!   might count the nodes of another graph, and no contract covers the number of objects. The
-//!   function [`check_repository`] has no contract.
+//! - [`check_refs`] might accept a repository whose objects are missing or malformed.
+//!   [`check_refs`] might count the nodes of another graph, and no contract covers the number of
+//!   objects. The function [`check_repository`] has no contract.
 //! - [`Tips`] might forget an id, [`add_leaves`] might add or remove other nodes, and a repository
 //!   in any format might be opened or refused. The function [`is_bare`] might return any result.
 //!   The names of peeled refs in a new repository might be wrong.
