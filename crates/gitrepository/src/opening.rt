@@ -1,6 +1,6 @@
 //! Opening a repository: its refs, HEAD, and the graph of everything they reach.
 
-ghost use Rattle.std.specs.Prelude.{◌≡◌, IfOk, OnOk};
+ghost use Rattle.std.specs.Prelude.{◌≡◌, ◌↔◌, IfOk, IsTrue, OnOk};
 ghost use Rattle.gdag.specs.Graphs.{Holds};
 ghost use Rattle.gitcommitgraph.specs.Chains.{graph_commits};
 ghost use Rattle.gitrepository.specs.Repositories.{AreHeld, IsHistory};
@@ -91,7 +91,7 @@ fn is_there<F: ObjectFiles, A: Allocator + Copy>(
     }
 }
 
-/// Returns the refs whose objects the graph holds.
+/// Returns the refs whose objects the graph holds. Usually these are all refs.
 pub(crate) fn held_refs<A: Allocator + Copy>(
     alloc: A,
     graph: &Graph<A>,
@@ -99,6 +99,9 @@ pub(crate) fn held_refs<A: Allocator + Copy>(
 ) -> Result<Refs<A>, RepositoryFault<A>>
     ensures { IfOk result (λ refs. AreHeld graph.now refs) }
 {
+    if are_held(graph, listed) {
+        return Ok(listed.copy_in(alloc)?);
+    }
     let mut refs = Refs::new(alloc);
     for pair in listed.as_slice() {
         if graph.contains(&pair.1) {
@@ -107,6 +110,13 @@ pub(crate) fn held_refs<A: Allocator + Copy>(
         }
     }
     Ok(refs)
+}
+
+// Returns whether the graph holds the object of each ref.
+fn are_held<A: Allocator + Copy>(graph: &Graph<A>, listed: &Refs<A>) -> bool
+    ensures { IsTrue result ↔ AreHeld graph.now listed.now }
+{
+    listed.as_slice().iter().all(|pair| graph.contains(&pair.1))
 }
 
 /// Adds a ref that points to an object of the graph.
