@@ -102,6 +102,17 @@ pub(crate) fn held_refs<A: Allocator + Copy>(
     if are_held(graph, listed) {
         return Ok(listed.copy_in(alloc)?);
     }
+    only_held(alloc, graph, listed)
+}
+
+// Returns the refs whose objects the graph holds, one by one.
+fn only_held<A: Allocator + Copy>(
+    alloc: A,
+    graph: &Graph<A>,
+    listed: &Refs<A>,
+) -> Result<Refs<A>, RepositoryFault<A>>
+    ensures { IfOk result (λ refs. AreHeld graph.now refs) }
+{
     let mut refs = Refs::new(alloc);
     for pair in listed.as_slice() {
         if graph.contains(&pair.1) {
