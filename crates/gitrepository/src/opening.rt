@@ -1,6 +1,6 @@
 //! Opening a repository: its refs, HEAD, and the graph of everything they reach.
 
-ghost use Rattle.std.specs.Prelude.{◌≡◌, ◌↔◌, IfOk, IsTrue, OnOk};
+ghost use Rattle.std.specs.Prelude.{◌≡◌, IfOk, OnOk};
 ghost use Rattle.gdag.specs.Graphs.{Holds};
 ghost use Rattle.gitcommitgraph.specs.Chains.{graph_commits};
 ghost use Rattle.gitrepository.specs.Repositories.{AreHeld, IsHistory};
@@ -91,22 +91,8 @@ fn is_there<F: ObjectFiles, A: Allocator + Copy>(
     }
 }
 
-/// Returns the refs whose objects the graph holds. Usually these are all refs.
+/// Returns the refs whose objects the graph holds.
 pub(crate) fn held_refs<A: Allocator + Copy>(
-    alloc: A,
-    graph: &Graph<A>,
-    listed: &Refs<A>,
-) -> Result<Refs<A>, RepositoryFault<A>>
-    ensures { IfOk result (λ refs. AreHeld graph.now refs) }
-{
-    if are_held(graph, listed) {
-        return Ok(listed.copy_in(alloc)?);
-    }
-    only_held(alloc, graph, listed)
-}
-
-// Returns the refs whose objects the graph holds, one by one.
-fn only_held<A: Allocator + Copy>(
     alloc: A,
     graph: &Graph<A>,
     listed: &Refs<A>,
@@ -121,13 +107,6 @@ fn only_held<A: Allocator + Copy>(
         }
     }
     Ok(refs)
-}
-
-// Returns whether the graph holds the object of each ref.
-fn are_held<A: Allocator + Copy>(graph: &Graph<A>, listed: &Refs<A>) -> bool
-    ensures { IsTrue result ↔ AreHeld graph.now listed.now }
-{
-    listed.as_slice().iter().all(|pair| graph.contains(&pair.1))
 }
 
 /// Adds a ref that points to an object of the graph.
