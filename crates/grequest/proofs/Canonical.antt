@@ -95,8 +95,10 @@ fetch_count : (limits : Limits) (asked : FetchAsked) → length asked.wants ≤ 
 fetch_count limits asked few many =
     count_both _ _ (length fetch_flags + max_wants limits + max_haves limits) 1
     (count_both _ _ (length fetch_flags + max_wants limits) (max_haves limits)
-    (count_both _ _ (length fetch_flags) (max_wants limits) (flags_count fetch_flags (fetch_with asked Done false).flags)
-    (count_values want_text asked.wants (max_wants limits) few)) (count_values have_text asked.haves (max_haves limits) many))
+    (count_both _ _ (length fetch_flags) (max_wants limits)
+    (flags_count fetch_flags (fetch_with asked Done false).flags)
+    (count_values want_text asked.wants (max_wants limits) few))
+    (count_values have_text asked.haves (max_haves limits) many))
     (flag_count (codes "done") (fetch_has asked Done))
 
 ls_request : (limits : Limits) (format : Format) (asked : LsRefsAsked) → IsLsRefsAsked limits asked → IsCommandRequest limits format (command_packets format LsRefs asked.agent (ls_argument_packets asked)) (Ls asked)
@@ -170,7 +172,8 @@ is_short_row row = nat_le (length row.1) longest
 short_flags : {F : Type 0} (table : Table F) (flags : FlagsOf table) → list_all is_short_row table ≡ true → All IsShort (flags_texts table flags)
 short_flags table flags h = flags_are is_short_row IsShort (λ row is. leb-true (length row.1) longest is) table flags h
 
-short_ls : PrefixesAreClean → (limits : Limits) (asked : LsRefsAsked) → IsLsRefsAsked limits asked → All IsShort (ls_texts asked)
+short_ls : PrefixesAreClean → (limits : Limits) (asked : LsRefsAsked) → IsLsRefsAsked limits asked
+    → All IsShort (ls_texts asked)
 short_ls clean limits asked h =
     let short : (prefix : List ℕ) → IsPrefix prefix → IsShort (prefix_text prefix) =
     λ prefix well. omega (arith, length-append (codes "ref-prefix ") prefix, (clean prefix well).within) in

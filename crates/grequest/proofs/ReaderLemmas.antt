@@ -5,7 +5,7 @@ use Rattle.std.proofs.Common.{length, map, Option, Some, None, inl, inr, arith}
 use Rattle.gpkt.specs.Packets.{Packet, Data, Flush, SpellsAll, text}
 use Rattle.gname.specs.declared.formats.Format.{Format}
 use Rattle.gname.specs.declared.formats.Format.TheVariants.{Sha1, Sha256}
-use Rattle.ggrammar.specs.Grammar.{Judge, Open, Whole, Refused}
+use Rattle.ggrammar.specs.Grammar.{Judge, Open, Whole, Refused, IsWhole}
 use Rattle.ggrammar.specs.declared.limits.Limits.{Limits}
 use Rattle.ggrammar.specs.PeerErrors.{after_word}
 use Rattle.ggrammar.specs.declared.fault.Why.TheVariants.{Format as WrongFormat}
@@ -78,7 +78,8 @@ sha256_refuses limits = refl
 differ : (one other : Limits) → judge one Sha1 ≡ judge other Sha256 → ⊥
 differ one other same = let both = sym (sha1_takes one) ∙ (ap (λ (j : Judge). j unnamed Flush) same ∙ sha256_refuses other) in cc
 
-format_of_judge : (limits more : Limits) (format other : Format) → judge limits format ≡ judge more other → format ≡ other
+format_of_judge : (limits more : Limits) (format other : Format) → judge limits format ≡ judge more other
+    → format ≡ other
 format_of_judge limits more Sha1 Sha1 same = refl
 format_of_judge limits more Sha1 Sha256 same = absurd (differ limits more same)
 format_of_judge limits more Sha256 Sha1 same = absurd (differ more limits (sym same))
@@ -89,7 +90,7 @@ format_of_judge limits more Sha256 Sha256 same = refl
 abbrev IsStart : Limits → Format → RequestSoFar → Type 0
 IsStart limits format reading = reading ≡ record { limits = limits; format = format; state = state_of format [] }
 
-pub judge_of_start : (limits : Limits) (format : Format) (reading : RequestSoFar) → IsStart limits format reading → judge reading.limits reading.format ≡ judge limits format
+judge_of_start : (limits : Limits) (format : Format) (reading : RequestSoFar) → IsStart limits format reading → judge reading.limits reading.format ≡ judge limits format
 judge_of_start limits format reading start = ap (λ (r : RequestSoFar). judge r.limits r.format) start
 
 -- the format stays with the judge
@@ -98,8 +99,17 @@ pub format_of_later : (limits : Limits) (format : Format) (first reading : Reque
 format_of_later limits format first reading start same =
     format_of_judge reading.limits limits reading.format format (same ∙ judge_of_start limits format first start)
 
-pub lines_ask : (format : Format) (reading : RequestSoFar) (lines : List Packet) → HoldsPackets reading lines → reading.format ≡ format → reading.state.asked ≡ asked_by_lines format lines
+lines_ask : (format : Format) (reading : RequestSoFar) (lines : List Packet) → HoldsPackets reading lines → reading.format ≡ format → reading.state.asked ≡ asked_by_lines format lines
 lines_ask format reading lines held same = ap (λ (state : State). state.asked) held ∙ ap (λ (f : Format). asked_by_lines f lines) same
+
+-- the whole list that a reader takes says what the reader holds
+pub read_says : (limits : Limits) (format : Format) (first reading : RequestSoFar) (lines : List Packet) (asked : Asked) → IsStart limits format first
+    → judge reading.limits reading.format ≡ judge first.limits first.format → IsWhole (judge first.limits first.format) lines → HoldsPackets reading lines
+    → asked ≡ reading.state.asked → Says limits format lines asked
+read_says limits format first reading lines asked start same whole held is = record {
+  whole = subst (λ (j : Judge). IsWhole j lines) (judge_of_start limits format first start) whole;
+  asks = is ∙ lines_ask format reading lines held (format_of_later limits format first reading start same);
+}
 
 -- the lists of a request of the manual are within its limits
 lists_within : (limits : Limits) (format : Format) (command : Command) (capabilities arguments : List (List ℕ)) → AreFew limits format command arguments
@@ -110,7 +120,8 @@ lists_within limits format Fetch capabilities arguments few = few
 pub asked_within : (limits : Limits) (format : Format) (lines : List Packet) (asked : Asked) → IsRequest limits format lines asked → IsWithin limits asked
 asked_within limits format lines asked (inl h) = subst (IsWithin limits) (sym h.1) tt
 asked_within limits format lines asked (inr h) =
-    subst (IsWithin limits) (sym h.asks) (lists_within limits format h.command (map text h.capabilities) (map text h.arguments) h.few)
+    subst (IsWithin limits) (sym h.asks)
+    (lists_within limits format h.command (map text h.capabilities) (map text h.arguments) h.few)
 
 -- ---- a request that is missing
 
@@ -166,7 +177,8 @@ module _ (four : HasFourBytes) (limits : Limits) (format : Format) where
       no_reason mid new fault.why left.1 certain (λ ended. let some = later ended in omega (arith, at, some))
       (subst (λ (lines : List Packet). IsReasonAfter (judge limits format) brings lines (known_bytes mid new) fault.why) left.0 h)
 
-  empty_is_missing : LawsOfBytes (judge limits format) → (bytes new : List ℕ) (result : Result (Option Asked) MessageFault)
+  empty_is_missing : LawsOfBytes (judge limits format)
+      → (bytes new : List ℕ) (result : Result (Option Asked) MessageFault)
       → ReadsIfAny (judge limits format) brings (Says limits format) (known_bytes bytes new) result → IfErr result IsNotMissing → bytes ≡ [] → result ≡ Ok None
   empty_is_missing laws bytes new (Ok None) read certain empty = refl
   empty_is_missing laws bytes new (Ok (Some asked)) read certain empty =
@@ -177,6 +189,7 @@ module _ (four : HasFourBytes) (limits : Limits) (format : Format) where
 
   pub is_missing_where_empty : LawsOfBytes (judge limits format) → IsMissingWhereEmpty limits format
   is_missing_where_empty laws bytes new result read certain = (
-    λ missing. (subst (ReadsIfAny (judge limits format) brings (Says limits format) (known_bytes bytes new)) missing read).0,
+    λ missing.
+    (subst (ReadsIfAny (judge limits format) brings (Says limits format) (known_bytes bytes new)) missing read).0,
     empty_is_missing laws bytes new result read certain,
   )

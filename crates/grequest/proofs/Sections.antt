@@ -197,7 +197,8 @@ ls_found limits lines (RefPrefix prefix) few e =
     record { form = is_none-None (prefix_fault prefix) h.0; room = h.1; few = omega (arith, h.2) }
 ls_found limits lines UnknownLsArgument few e = absurd cc
 
-ls_taken : (limits : Limits) (lines : List (List ℕ)) (form : LsArgument) → IsLsArgument form → length lines < max_arguments
+ls_taken : (limits : Limits) (lines : List (List ℕ)) (form : LsArgument) → IsLsArgument form
+    → length lines < max_arguments
     → length (prefixes lines) + length (option_to_list (prefix_value form)) ≤ max_prefixes limits
     → judge_ls_argument limits (length lines) (prefixes lines) form ≡ Open
 ls_taken limits lines (KnownLsFlag flag) h room few = room_for (nat_lt (length lines) max_arguments) (lt-ltb (length lines) max_arguments room)
@@ -236,7 +237,8 @@ fetch_taken limits format lines (Have id) h room few =
     (omega (arith, few.1, one_of (id_of_text format id) h))
 fetch_taken limits format lines UnknownFetchArgument h room few = absurd h
 
-pub AreArguments-push : (limits : Limits) (format : Format) (command : Command) (capabilities lines : List (List ℕ)) (line : List ℕ)
+pub AreArguments-push : (limits : Limits) (format : Format) (command : Command)
+    (capabilities lines : List (List ℕ)) (line : List ℕ)
     → AreArguments limits format command lines → TakesArgument limits format command capabilities lines line → AreArguments limits format command (lines ++ line ∷ [])
 AreArguments-push limits format LsRefs capabilities lines line h takes =
     let found = ls_found limits lines (ls_argument line) h.few takes in

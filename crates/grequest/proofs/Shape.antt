@@ -139,13 +139,15 @@ listed_state format front h = ap (state_of format) h.parts ∙ state_of-listing 
 pub argued_state : (limits : Limits) (format : Format) (front : List Packet) (h : IsArgued limits format front) → state_of format front ≡ state_at format (InArguments h.command) (map text h.capabilities) (map text h.arguments)
 argued_state limits format front h = ap (state_of format) h.parts ∙ state_of-arguing format h.command h.first h.capabilities h.arguments h.is_command
 
-first_push : (limits : Limits) (format : Format) (packet : Packet) → judge limits format [] packet ≡ Open → Shape limits format (packet ∷ [])
+first_push : (limits : Limits) (format : Format) (packet : Packet) → judge limits format [] packet ≡ Open
+    → Shape limits format (packet ∷ [])
 unfolding capability_texts argument_texts
 first_push limits format (Data payload) goes =
     let h = known_command (command_form (text payload)) (text-open limits format (state_of format []) payload goes) in
     inr (inl (record { command = h.0; first = payload; capabilities = []; parts = refl; is_command = h.1; are_capabilities = AreCapabilities-nil format }))
 first_push limits format Flush goes = absurd (flush-never_open limits format (state_of format []) goes)
-first_push limits format Delim goes = absurd (let refuses = sym (judge-delim limits format (state_of format [])) ∙ goes in cc)
+first_push limits format Delim goes =
+    absurd (let refuses = sym (judge-delim limits format (state_of format [])) ∙ goes in cc)
 first_push limits format ResponseEnd goes = absurd (response_end-never_open limits format (state_of format []) goes)
 
 listed_push : (limits : Limits) (format : Format) (front : List Packet) (packet : Packet) → IsListed format front → judge limits format front packet ≡ Open → Shape limits format (front ++ packet ∷ [])
@@ -175,7 +177,8 @@ listed_push limits format front Delim h goes =
       named = names_format format h.command (map text h.capabilities) [] Open (λ why e. cc) h.are_capabilities.one_format ends;
       are_arguments = AreArguments-nil limits format h.command;
     }))
-listed_push limits format front ResponseEnd h goes = absurd (response_end-never_open limits format (state_of format front) goes)
+listed_push limits format front ResponseEnd h goes =
+    absurd (response_end-never_open limits format (state_of format front) goes)
 
 argued_push : (limits : Limits) (format : Format) (front : List Packet) (packet : Packet) → IsArgued limits format front → judge limits format front packet ≡ Open → Shape limits format (front ++ packet ∷ [])
 argued_push limits format front (Data payload) h goes =
@@ -196,7 +199,8 @@ argued_push limits format front Flush h goes = absurd (flush-never_open limits f
 argued_push limits format front Delim h goes =
     let state = state_at format (InArguments h.command) (map text h.capabilities) (map text h.arguments) in
     absurd (let refuses = sym (judge-delim limits format state) ∙ subst (λ s. judge_at limits format s Delim ≡ Open) (argued_state limits format front h) goes in cc)
-argued_push limits format front ResponseEnd h goes = absurd (response_end-never_open limits format (state_of format front) goes)
+argued_push limits format front ResponseEnd h goes =
+    absurd (response_end-never_open limits format (state_of format front) goes)
 
 shape_push : (limits : Limits) (format : Format) (front : List Packet) (packet : Packet) → Shape limits format front → judge limits format front packet ≡ Open → Shape limits format (front ++ packet ∷ [])
 shape_push limits format front packet (inl e) goes =
@@ -223,7 +227,8 @@ pub listing-is_open : ((j : Judge) → LawsOf j) → (limits : Limits) (format :
 listing-is_open laws limits format command first capabilities is =
     let exact = laws (judge limits format) in
     let start = exact.goes_on [] (Data first) exact.nothing (first_open limits format command first is) in
-    by_pushes (λ (xs : List (List ℕ)). AreCapabilities format (map text xs) → IsOpen (judge limits format) (listing first xs))
+    by_pushes
+    (λ (xs : List (List ℕ)). AreCapabilities format (map text xs) → IsOpen (judge limits format) (listing first xs))
     (λ xs x before h.
     let all = subst (AreCapabilities format) (map_push text xs x) h in
     let parts = AreCapabilities-parts format command (map text xs) [] (text x) all in
@@ -254,15 +259,18 @@ arguing-is_open laws limits format command first capabilities arguments is are n
     let last = (All-parts (IsArgument format command) (map text xs) (text x) all.are).1 in
     let state = state_at format (InArguments command) (map text capabilities) (map text xs) in
     let goes : judge limits format (arguing first capabilities xs) (Data x) ≡ Open =
-    subst (λ s. judge_at limits format s (Data x) ≡ Open) (sym (state_of-arguing format command first capabilities xs known))
-    (open-text limits format state x (no_error x (λ rest. argument_no_error format command (text x) rest last)) parts.1) in
+    subst (λ s. judge_at limits format s (Data x) ≡ Open)
+    (sym (state_of-arguing format command first capabilities xs known))
+    (open-text limits format state x
+    (no_error x (λ rest. argument_no_error format command (text x) rest last)) parts.1) in
     subst (IsOpen (judge limits format)) (arguing-push first capabilities xs x) (exact.goes_on _ (Data x) (before parts.0) goes))
     [] arguments (λ _. start)
 
 -- ---- how long it gets
 
 -- a command, two capabilities, a delimiter and the arguments at most
-bounded : (limits : Limits) (format : Format) (front : List Packet) → Shape limits format front → length front ≤ max_arguments + 4
+bounded : (limits : Limits) (format : Format) (front : List Packet) → Shape limits format front
+    → length front ≤ max_arguments + 4
 bounded limits format front (inl e) = let none : length front ≡ 0 = ap length e in omega arith
 bounded limits format front (inr (inl h)) =
     let long : length front ≡ suc (length h.capabilities) = ap length h.parts ∙ ap suc (length-map h.capabilities Data) in
@@ -275,4 +283,5 @@ bounded limits format front (inr (inr h)) =
     omega (arith, few_capabilities format (map text h.capabilities) h.are_capabilities, length-map h.capabilities text, length-map h.arguments text)
 
 pub open_is_bounded : ((j : Judge) → LawsOf j) → (limits : Limits) (format : Format) (front : List Packet) → IsOpen (judge limits format) front → length front ≤ max_arguments + 4
-open_is_bounded laws limits format front opened = bounded limits format front (shape_of_open laws limits format front opened)
+open_is_bounded laws limits format front opened =
+    bounded limits format front (shape_of_open laws limits format front opened)

@@ -181,7 +181,8 @@ no_text format place capabilities arguments =
     ap (λ (xs : List (List ℕ)). state_at format place xs (arguments ++ [])) (append-nil capabilities)
     ∙ ap (λ (xs : List (List ℕ)). state_at format place capabilities xs) (append-nil arguments)
 
-text_adds : (limits : Limits) (format : Format) (place : RequestPlace) (capabilities arguments : List (List ℕ)) (payload : List ℕ)
+text_adds : (limits : Limits) (format : Format) (place : RequestPlace)
+    (capabilities arguments : List (List ℕ)) (payload : List ℕ)
     → (place ≡ First → capabilities ≡ []) → (place ≡ First → arguments ≡ [])
     → IsAccepted (judge_text limits format place (state_at format place capabilities arguments) (text payload))
     → state_more format place capabilities arguments (Data payload) ≡ with_text format place (state_at format place capabilities arguments) (text payload)
@@ -197,7 +198,8 @@ text_adds limits format (InArguments command) capabilities arguments payload no_
     ap (λ (xs : List (List ℕ)). state_at format (InArguments command) xs (arguments ++ text payload ∷ [])) (append-nil capabilities)
     ∙ argument_adds format command capabilities arguments (text payload)
 
-packet_adds : (limits : Limits) (format : Format) (place : RequestPlace) (capabilities arguments : List (List ℕ)) (packet : Packet)
+packet_adds : (limits : Limits) (format : Format) (place : RequestPlace)
+    (capabilities arguments : List (List ℕ)) (packet : Packet)
     → (place ≡ First → capabilities ≡ []) → (place ≡ First → arguments ≡ [])
     → IsAccepted (judge_at limits format (state_at format place capabilities arguments) packet)
     → state_more format place capabilities arguments packet ≡ with_packet format (state_at format place capabilities arguments) packet
@@ -218,16 +220,21 @@ state_of-more format front packet =
     ∙ ap (λ (xs : List (List ℕ)). state_at format (next_place (place_of front) packet) (capability_texts front ++ capability_there (place_of front) packet) xs) (argument_texts-push front packet)
 
 -- a packet that is taken adds this
-pub state_of-push : (limits : Limits) (format : Format) (front : List Packet) (packet : Packet) → IsAccepted (judge limits format front packet)
+pub state_of-push : (limits : Limits) (format : Format) (front : List Packet) (packet : Packet)
+    → IsAccepted (judge limits format front packet)
     → state_of format (front ++ packet ∷ []) ≡ with_packet format (state_of format front) packet
 state_of-push limits format front packet h =
     state_of-more format front packet
     ∙ packet_adds limits format (place_of front) (capability_texts front) (argument_texts front) packet (capability_texts-first front) (argument_texts-first front) h
 
-pub state_of-open : (limits : Limits) (format : Format) (front : List Packet) (packet : Packet) → judge limits format front packet ≡ Open
+pub state_of-open : (limits : Limits) (format : Format) (front : List Packet) (packet : Packet)
+    → judge limits format front packet ≡ Open
     → state_of format (front ++ packet ∷ []) ≡ with_packet format (state_of format front) packet
-state_of-open limits format front packet goes = state_of-push limits format front packet (subst IsAccepted (sym goes) tt)
+state_of-open limits format front packet goes =
+    state_of-push limits format front packet (subst IsAccepted (sym goes) tt)
 
-pub state_of-whole : (limits : Limits) (format : Format) (front : List Packet) (packet : Packet) → judge limits format front packet ≡ Whole
+pub state_of-whole : (limits : Limits) (format : Format) (front : List Packet) (packet : Packet)
+    → judge limits format front packet ≡ Whole
     → state_of format (front ++ packet ∷ []) ≡ with_packet format (state_of format front) packet
-state_of-whole limits format front packet ends = state_of-push limits format front packet (subst IsAccepted (sym ends) tt)
+state_of-whole limits format front packet ends =
+    state_of-push limits format front packet (subst IsAccepted (sym ends) tt)

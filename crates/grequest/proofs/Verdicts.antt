@@ -75,7 +75,8 @@ of_ls_argument limits arguments prefixes (RefPrefix prefix) =
     of_few_fits (is_none (prefix_fault prefix)) arguments prefixes (max_prefixes limits) (Refused BadName) tt
 of_ls_argument limits arguments prefixes UnknownLsArgument = tt
 
-of_fetch_argument : (limits : Limits) (format : Format) (arguments : ℕ) (wants haves : List (List ℕ)) (argument : FetchArgument)
+of_fetch_argument : (limits : Limits) (format : Format) (arguments : ℕ) (wants haves : List (List ℕ))
+    (argument : FetchArgument)
     → IsForText (judge_fetch_argument limits format arguments wants haves argument)
 of_fetch_argument limits format arguments wants haves (KnownFetchFlag flag) = by_room (has_room arguments)
 of_fetch_argument limits format arguments wants haves (Want id) =
@@ -90,7 +91,8 @@ of_text limits format (InCapabilities command) state line = of_capability format
 of_text limits format (InArguments LsRefs) state line =
     of_ls_argument limits state.argument_lines (prefixes_of state.asked) (ls_argument line)
 of_text limits format (InArguments Fetch) state line =
-    of_fetch_argument limits format state.argument_lines (wants_of state.asked) (haves_of state.asked) (fetch_argument line)
+    of_fetch_argument limits format state.argument_lines (wants_of state.asked) (haves_of state.asked)
+    (fetch_argument line)
 
 -- ---- packets
 
@@ -104,7 +106,8 @@ of_delim Sha256 (InCapabilities command) state = by_test (state.format_lines == 
 of_delim Sha1 (InCapabilities command) state = tt
 of_delim format _ state = tt
 
-of_packet : (limits : Limits) (format : Format) (state : State) (packet : Packet) → IsForPacket (judge_at limits format state packet)
+of_packet : (limits : Limits) (format : Format) (state : State) (packet : Packet)
+    → IsForPacket (judge_at limits format state packet)
 unfolding judge_at
 of_packet limits format state (Data payload) =
     past_error (peer_error payload) (judge_text limits format state.place state (text payload))
@@ -134,15 +137,18 @@ known_command _ e = cc
 
 -- ---- delimiter, flush and response-end
 
-pub judge-delim : (limits : Limits) (format : Format) (state : State) → judge_at limits format state Delim ≡ judge_delim format state.place state
+pub judge-delim : (limits : Limits) (format : Format) (state : State)
+    → judge_at limits format state Delim ≡ judge_delim format state.place state
 unfolding judge_at
 judge-delim limits format state = refl
 
-pub judge-flush : (limits : Limits) (format : Format) (state : State) → judge_at limits format state Flush ≡ judge_flush format state.place state
+pub judge-flush : (limits : Limits) (format : Format) (state : State)
+    → judge_at limits format state Flush ≡ judge_flush format state.place state
 unfolding judge_at
 judge-flush limits format state = refl
 
-pub response_end-never_open : (limits : Limits) (format : Format) (state : State) → judge_at limits format state ResponseEnd ≡ Open → ⊥
+pub response_end-never_open : (limits : Limits) (format : Format) (state : State)
+    → judge_at limits format state ResponseEnd ≡ Open → ⊥
 unfolding judge_at
 response_end-never_open limits format state e = cc
 
@@ -155,7 +161,8 @@ flush_at Sha256 (InCapabilities command) state e = unnamed_never (state.format_l
 flush_at Sha1 (InCapabilities command) state e = cc
 flush_at format _ state e = cc
 
-pub flush-never_open : (limits : Limits) (format : Format) (state : State) → judge_at limits format state Flush ≡ Open → ⊥
+pub flush-never_open : (limits : Limits) (format : Format) (state : State) → judge_at limits format state Flush ≡ Open
+    → ⊥
 flush-never_open limits format state e = flush_at format state.place state (sym (judge-flush limits format state) ∙ e)
 
 -- ---- the packet that ends the capabilities

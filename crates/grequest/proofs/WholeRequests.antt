@@ -71,7 +71,8 @@ named_ends limits command lines =
 listed_ends : ((j : Judge) → LawsOf j) → (limits : Limits) (format : Format) (front : List Packet) → IsOpen (judge limits format) front → IsListed format front → Begins (judge limits format) front
 listed_ends laws limits Sha1 front opened h =
     let state = state_at Sha1 (InCapabilities h.command) (map text h.capabilities) [] in
-    ended_by_flush limits Sha1 front opened (flush_of limits Sha1 front state (listed_state Sha1 front h) ∙ judge-flush limits Sha1 state)
+    ended_by_flush limits Sha1 front opened
+    (flush_of limits Sha1 front state (listed_state Sha1 front h) ∙ judge-flush limits Sha1 state)
 listed_ends laws limits Sha256 front opened h =
     let state = state_at Sha256 (InCapabilities h.command) (map text h.capabilities) [] in
     let is = listed_state Sha256 front h in
@@ -104,7 +105,8 @@ open_is_short laws limits format front opened = omega (arith, open_is_bounded la
 -- it adds nothing to what is asked
 asked_by_lines-flush : (limits : Limits) (format : Format) (front : List Packet) → judge limits format front Flush ≡ Whole → asked_by_lines format (front ++ Flush ∷ []) ≡ asked_by_lines format front
 unfolding with_packet
-asked_by_lines-flush limits format front ends = ap (λ (s : State). s.asked) (state_of-whole limits format front Flush ends)
+asked_by_lines-flush limits format front ends =
+    ap (λ (s : State). s.asked) (state_of-whole limits format front Flush ends)
 
 -- ---- from the judge to the manual
 
@@ -181,7 +183,8 @@ one_at_most Sha1 lines h = h
 one_at_most Sha256 lines h = omega (arith, h)
 
 says_by_section : ((j : Judge) → LawsOf j) → (limits : Limits) (format : Format) (lines : List Packet) (asked : Asked) (h : IsCommandRequest limits format lines asked)
-    → (h.section ≡ Delim ∷ map Data h.arguments) ⊎ ((h.arguments ≡ []) × (h.section ≡ [])) → Says limits format lines asked
+    → (h.section ≡ Delim ∷ map Data h.arguments) ⊎ ((h.arguments ≡ []) × (h.section ≡ []))
+    → Says limits format lines asked
 says_by_section laws limits format lines asked h (inl e) =
     let known = command_form-line (text h.first) h.command h.is_command in
     let are : AreCapabilities format (map text h.capabilities) = record { are = h.are_capabilities; one_agent = h.one_agent; one_format = one_at_most format (map text h.capabilities) h.one_format } in
@@ -191,7 +194,8 @@ says_by_section laws limits format lines asked h (inl e) =
     let is = state_of-arguing format h.command h.first h.capabilities h.arguments known in
     says limits format lines (arguing h.first h.capabilities h.arguments) asked
     (h.parts ∙ ap (λ (xs : List Packet). Data h.first ∷ (map Data h.capabilities ++ xs ++ Flush ∷ [])) e)
-    (arguing-is_open laws limits format h.command h.first h.capabilities h.arguments h.is_command are h.one_format arguments)
+    (arguing-is_open laws limits format h.command h.first h.capabilities h.arguments h.is_command are h.one_format
+    arguments)
     (flush_of limits format (arguing h.first h.capabilities h.arguments) state is ∙ judge-flush limits format state)
     (h.asks ∙ ap (λ (s : State). s.asked) (sym is))
 says_by_section laws limits format lines asked h (inr e) =

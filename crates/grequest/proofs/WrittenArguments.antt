@@ -165,7 +165,8 @@ pub record SaysLs (format : Format) (asked : LsRefsAsked) : Type 0 where
   pub flags : ls_flags_among (ls_texts asked) ≡ asked.flags
   pub prefixes : prefixes (ls_texts asked) ≡ asked.prefixes
 
-pub says_ls : (limits : Limits) (format : Format) (asked : LsRefsAsked) → IsLsRefsAsked limits asked → SaysLs format asked
+pub says_ls : (limits : Limits) (format : Format) (asked : LsRefsAsked) → IsLsRefsAsked limits asked
+    → SaysLs format asked
 says_ls limits format asked h =
     let flags = flags_texts ls_flags asked.flags in
     let values = map prefix_text asked.prefixes in

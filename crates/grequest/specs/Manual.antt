@@ -82,4 +82,5 @@ pub record IsCommandRequest (limits : Limits) (format : Format) (lines : List Pa
 
 -- the packets encode a request with these contents
 abbrev pub IsRequest : Limits → Format → List Packet → Asked → Type 0
-IsRequest limits format lines asked = ((lines ≡ Flush ∷ []) × (asked ≡ Empty)) ⊎ IsCommandRequest limits format lines asked
+IsRequest limits format lines asked =
+    ((lines ≡ Flush ∷ []) × (asked ≡ Empty)) ⊎ IsCommandRequest limits format lines asked

@@ -1,6 +1,6 @@
 //! Fetch requests (gitprotocol-v2(5), "fetch").
 
-ghost use Rattle.std.specs.Prelude.{ℕ, All, ◌≡◌, ◌↔◌, ◌≤◌, ◌<◌, ◌++◌, ◌∷◌, [], true, false, length, nat_lt, IfOk, IfSome, IsTrue, OnOk, OnErr, Some};
+ghost use Rattle.std.specs.Prelude.{ℕ, All, ◌≡◌, ◌↔◌, ◌≤◌, ◌<◌, ◌&&◌, ◌++◌, ◌∷◌, [], true, false, length, nat_lt, IfOk, IfSome, IsTrue, OnOk, OnErr, Some};
 ghost use Rattle.std.specs.Option.{option_copied};
 ghost use Rattle.gname.specs.Ids.{IsIdOf, has_format};
 ghost use Rattle.ggrammar.specs.Building.{Builds};
@@ -14,7 +14,7 @@ ghost use Rattle.grequest.specs.Arguments.{Have, Want, fetch_argument, fetch_fla
 ghost use Rattle.grequest.specs.Asked.{Fetches, fetch_has, fetch_number, fetch_with, is_direct, max_wants, max_haves, max_arguments};
 ghost use Rattle.grequest.specs.steps.Building.{HaveSameIds, IsWithin, KeepsAs};
 ghost use Rattle.grequest.specs.Building.{no_fetch};
-ghost use Rattle.grequest.specs.Requests.{judge_fetch_argument, fetch_argument_brings};
+ghost use Rattle.grequest.specs.Requests.{fetch_argument_brings, has_room, judge_fetch_argument};
 ghost use Rattle.grequest.specs.steps.RequestState.{with_fetch_argument};
 ghost use Rattle.grequest.specs.WellFormed.{IsFetchAsked};
 
@@ -332,7 +332,7 @@ impl<A: Allocator + Copy> FetchRequest<A> {
         ensures format { self.new.format ≡ self.old.format }
         ensures limits { self.new.limits ≡ self.old.limits }
     {
-        let has_room = arguments < MAX_ARGUMENTS && self.wants.len() < max_wants(self.limits);
+        let has_room = has_room(arguments, self.wants.len(), max_wants(self.limits));
         let Some(id) = id_in(self.format, text) else {
             return Err(Why::BadId);
         };
@@ -350,12 +350,21 @@ impl<A: Allocator + Copy> FetchRequest<A> {
         ensures format { self.new.format ≡ self.old.format }
         ensures limits { self.new.limits ≡ self.old.limits }
     {
-        let has_room = arguments < MAX_ARGUMENTS && self.haves.len() < max_haves(self.limits);
+        let has_room = has_room(arguments, self.haves.len(), max_haves(self.limits));
         let Some(id) = id_in(self.format, text) else {
             return Err(Why::BadId);
         };
         keep_id(self.format, &mut self.haves, has_room, id).map_err(|reason| reason.why(Why::BadId))
     }
+}
+
+// Returns whether a request with `arguments` arguments has room for another argument, and a list
+// with `len` values has room for another value.
+fn has_room(arguments: u32, len: usize, most: usize) -> bool
+    ensures room { result ≡ (has_room arguments && nat_lt len most) }
+    ensures few { result ≡ true → len < most }
+{
+    arguments < MAX_ARGUMENTS && len < most
 }
 
 // Appends the id if it has this format and `has_room` is true.

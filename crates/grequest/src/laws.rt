@@ -27,11 +27,12 @@ pub fn limits_are_the_constants()
     ensures haves { MAX_HAVES ≡ max_haves profile }
 {}
 
-/// Proves that a list of packets is read as a request exactly if Git's manual allows the list, and
-/// with the meaning that the manual states (gitprotocol-v2(5), "Command Request", "ls-refs" and
-/// "fetch").
+/// Proves that a list of packets is read as a request exactly if Git's manual and the limits allow
+/// the list, and with the meaning that the manual states (gitprotocol-v2(5), "Command Request",
+/// "ls-refs" and "fetch").
 pub fn manual()
-    ensures { (limits : Limits) (format : Format) → AsInManual (Says limits format) (IsRequest limits format) }
+    ensures { (limits : Limits) (format : Format)
+        → AsInManual (Says limits format) (IsRequest limits format) }
 {
     grammars_are_exact();
 }
@@ -40,14 +41,16 @@ pub fn manual()
 /// request.
 pub fn one_meaning()
     ensures one { (limits : Limits) (format : Format) → OneMeaning (Says limits format) }
-    ensures whole { (limits : Limits) (format : Format) → SaysWhole (judge limits format) (Says limits format) }
+    ensures whole { (limits : Limits) (format : Format)
+        → SaysWhole (judge limits format) (Says limits format) }
 {}
 
 /// Proves that no request is a prefix of another, as packets or as bytes. A reader therefore finds
 /// the end of a request without reading further.
 pub fn prefix_free()
     ensures packets { (limits : Limits) (format : Format) → IsPrefixFree (judge limits format) }
-    ensures spellings { (limits : Limits) (format : Format) → SpellingsPrefixFree (judge limits format) }
+    ensures spellings { (limits : Limits) (format : Format)
+        → SpellingsPrefixFree (judge limits format) }
 {
     grammars_are_exact();
     messages_are_read();
@@ -57,7 +60,8 @@ pub fn prefix_free()
 /// rejected packet is the first that does not fit.
 pub fn endings()
     ensures each { (limits : Limits) (format : Format) → HasEndings (judge limits format) }
-    ensures first { (limits : Limits) (format : Format) → RefusesFirstMisfits (judge limits format) }
+    ensures first { (limits : Limits) (format : Format)
+        → RefusesFirstMisfits (judge limits format) }
 {
     grammars_are_exact();
 }
@@ -66,7 +70,8 @@ pub fn endings()
 /// request, or is rejected because of its content.
 pub fn every_input()
     ensures packets { (limits : Limits) (format : Format) → RefusesPackets (judge limits format) }
-    ensures bytes { (limits : Limits) (format : Format) → BeginsOrIsRefused (judge limits format) brings }
+    ensures bytes { (limits : Limits) (format : Format)
+        → BeginsOrIsRefused (judge limits format) brings }
 {
     endings();
     messages_are_read();
@@ -87,7 +92,8 @@ pub fn canonical_says()
 /// Proves that a request is read exactly if the bytes begin with packets that encode it. Nothing
 /// after these packets is read. `None` is returned exactly if there are no bytes.
 pub fn reads_exactly()
-    ensures request { (limits : Limits) (format : Format) → ReadsExactlyIfAny (judge limits format) brings (Says limits format) }
+    ensures request { (limits : Limits) (format : Format)
+        → ReadsExactlyIfAny (judge limits format) brings (Says limits format) }
     ensures missing { (limits : Limits) (format : Format) → IsMissingWhereEmpty limits format }
 {
     one_meaning();
@@ -96,7 +102,8 @@ pub fn reads_exactly()
     kinds_are_read::<Requests>();
 }
 
-/// Proves that a written request reads back as the same request, whatever bytes follow.
+/// Proves that a written request, read with its limits, reads back as the same request, whatever
+/// bytes follow.
 pub fn reads_back()
     ensures { (limits : Limits) (format : Format)
         → ReadsBackIfAny (judge limits format) brings (Says limits format) (IsAsked limits format)
