@@ -203,7 +203,7 @@ packet_adds : (limits : Limits) (format : Format) (place : RequestPlace)
     → (place ≡ First → capabilities ≡ []) → (place ≡ First → arguments ≡ [])
     → IsAccepted (judge_at limits format (state_at format place capabilities arguments) packet)
     → state_more format place capabilities arguments packet ≡ with_packet format (state_at format place capabilities arguments) packet
-unfolding state_more judge_at limits with_packet
+unfolding state_more judge_at with_packet
 packet_adds limits format place capabilities arguments (Data payload) no_capability no_argument h =
     text_adds limits format place capabilities arguments payload no_capability no_argument (accepted_unless (peer_error payload) _ h)
 packet_adds limits format (InCapabilities command) capabilities arguments Flush no_capability no_argument h = no_text format (InCapabilities command) capabilities arguments
