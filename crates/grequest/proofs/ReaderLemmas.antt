@@ -76,21 +76,22 @@ unfolding judge_at command_form after_word capability_texts argument_texts
 sha256_refuses limits = refl
 
 differ : (one other : Limits) → judge one Sha1 ≡ judge other Sha256 → ⊥
-differ one other same = let both = sym (sha1_takes one) ∙ (ap (λ (j : Judge). j unnamed Flush) same ∙ sha256_refuses other) in cc
+differ one other same =
+    let both = sym (sha1_takes one) ∙ (ap (λ (j : Judge). j unnamed Flush) same ∙ sha256_refuses other) in cc
 
-format_of_judge : (limits more : Limits) (format other : Format) → judge limits format ≡ judge more other
-    → format ≡ other
-format_of_judge limits more Sha1 Sha1 same = refl
-format_of_judge limits more Sha1 Sha256 same = absurd (differ limits more same)
-format_of_judge limits more Sha256 Sha1 same = absurd (differ more limits (sym same))
-format_of_judge limits more Sha256 Sha256 same = refl
+format_of_judge : (one other : Limits) (format asked : Format) → judge one format ≡ judge other asked → format ≡ asked
+format_of_judge one other Sha1 Sha1 same = refl
+format_of_judge one other Sha1 Sha256 same = absurd (differ one other same)
+format_of_judge one other Sha256 Sha1 same = absurd (differ other one (sym same))
+format_of_judge one other Sha256 Sha256 same = refl
 
 -- ---- the limits, the format, and what was asked
 
 abbrev IsStart : Limits → Format → RequestSoFar → Type 0
 IsStart limits format reading = reading ≡ record { limits = limits; format = format; state = state_of format [] }
 
-judge_of_start : (limits : Limits) (format : Format) (reading : RequestSoFar) → IsStart limits format reading → judge reading.limits reading.format ≡ judge limits format
+judge_of_start : (limits : Limits) (format : Format) (reading : RequestSoFar) → IsStart limits format reading
+    → judge reading.limits reading.format ≡ judge limits format
 judge_of_start limits format reading start = ap (λ (r : RequestSoFar). judge r.limits r.format) start
 
 -- the format stays with the judge
@@ -103,21 +104,23 @@ lines_ask : (format : Format) (reading : RequestSoFar) (lines : List Packet) →
 lines_ask format reading lines held same = ap (λ (state : State). state.asked) held ∙ ap (λ (f : Format). asked_by_lines f lines) same
 
 -- the whole list that a reader takes says what the reader holds
-pub read_says : (limits : Limits) (format : Format) (first reading : RequestSoFar) (lines : List Packet) (asked : Asked) → IsStart limits format first
-    → judge reading.limits reading.format ≡ judge first.limits first.format → IsWhole (judge first.limits first.format) lines → HoldsPackets reading lines
-    → asked ≡ reading.state.asked → Says limits format lines asked
+pub read_says : (limits : Limits) (format : Format) (first reading : RequestSoFar) (lines : List Packet) (asked : Asked)
+    → IsStart limits format first → judge reading.limits reading.format ≡ judge first.limits first.format
+    → IsWhole (judge first.limits first.format) lines → HoldsPackets reading lines → asked ≡ reading.state.asked
+    → Says limits format lines asked
 read_says limits format first reading lines asked start same whole held is = record {
   whole = subst (λ (j : Judge). IsWhole j lines) (judge_of_start limits format first start) whole;
   asks = is ∙ lines_ask format reading lines held (format_of_later limits format first reading start same);
 }
 
 -- the lists of a request of the manual are within its limits
-lists_within : (limits : Limits) (format : Format) (command : Command) (capabilities arguments : List (List ℕ)) → AreFew limits format command arguments
-    → IsWithin limits (asked_by_command format command capabilities arguments)
+lists_within : (limits : Limits) (format : Format) (command : Command) (capabilities arguments : List (List ℕ))
+    → AreFew limits format command arguments → IsWithin limits (asked_by_command format command capabilities arguments)
 lists_within limits format LsRefs capabilities arguments few = few
 lists_within limits format Fetch capabilities arguments few = few
 
-pub asked_within : (limits : Limits) (format : Format) (lines : List Packet) (asked : Asked) → IsRequest limits format lines asked → IsWithin limits asked
+pub asked_within : (limits : Limits) (format : Format) (lines : List Packet) (asked : Asked)
+    → IsRequest limits format lines asked → IsWithin limits asked
 asked_within limits format lines asked (inl h) = subst (IsWithin limits) (sym h.1) tt
 asked_within limits format lines asked (inr h) =
     subst (IsWithin limits) (sym h.asks)
@@ -190,6 +193,6 @@ module _ (four : HasFourBytes) (limits : Limits) (format : Format) where
   pub is_missing_where_empty : LawsOfBytes (judge limits format) → IsMissingWhereEmpty limits format
   is_missing_where_empty laws bytes new result read certain = (
     λ missing.
-    (subst (ReadsIfAny (judge limits format) brings (Says limits format) (known_bytes bytes new)) missing read).0,
+        (subst (ReadsIfAny (judge limits format) brings (Says limits format) (known_bytes bytes new)) missing read).0,
     empty_is_missing laws bytes new result read certain,
   )
