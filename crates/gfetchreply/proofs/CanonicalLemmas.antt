@@ -127,7 +127,8 @@ module _ (line_is : TextOfLine) (ids_have : IdsHaveTexts) (one_format : IdsHaveO
       ∙ (ap (λ (xs : List (List ℕ)). xs ++ acks_of format (map text (map ack_payload ids))) one
       ∙ ap (λ (xs : List (List ℕ)). id ∷ xs) (sym (acks_say format ids (All-tail (IsIdOf format) id ids are)))))
 
-  ack_section : (limits : Limits) (format : Format) (ids : List (List ℕ)) → AreAcks limits format ids → IsAckSection limits format (heading_packet ∷ map ack_packet ids) ids
+  ack_section : (limits : Limits) (format : Format) (ids : List (List ℕ)) → AreAcks limits format ids
+      → IsAckSection limits format (heading_packet ∷ map ack_packet ids) ids
   ack_section limits format ids are = record {
     heading = codes "acknowledgments" ++ line_feed ∷ [];
     acks = map ack_payload ids;
@@ -152,7 +153,8 @@ module _ (line_is : TextOfLine) (ids_have : IdsHaveTexts) (one_format : IdsHaveO
     is_data = pieces_join (length pack) pack (omega arith);
   }
 
-  acks_body : (reading : Reading) (ids : List (List ℕ)) → reading.direct ≡ false → AreAcks reading.limits reading.format ids → IsBody reading (body_packets (Acks ids)) (Acks ids)
+  acks_body : (reading : Reading) (ids : List (List ℕ)) → reading.direct ≡ false
+      → AreAcks reading.limits reading.format ids → IsBody reading (body_packets (Acks ids)) (Acks ids)
   acks_body reading [] direct are = (
     direct,
     inl (
@@ -166,8 +168,14 @@ module _ (line_is : TextOfLine) (ids_have : IdsHaveTexts) (one_format : IdsHaveO
       },
     ),
   )
-  acks_body reading (id ∷ ids) direct are =
-      (direct, inr (record { section = heading_packet ∷ map ack_packet (id ∷ ids); acks = ack_section reading.limits reading.format (id ∷ ids) are; parts = refl }))
+  acks_body reading (id ∷ ids) direct are = (
+    direct,
+    inr (record {
+      section = heading_packet ∷ map ack_packet (id ∷ ids);
+      acks = ack_section reading.limits reading.format (id ∷ ids) are;
+      parts = refl;
+    }),
+  )
 
   body_is : (reading : Reading) (reply : FetchReply) → reading.limit ≤ max_pack → IsReplyIn reading reply → IsBody reading (body_packets reply) reply
   body_is reading (Acks ids) within fit = acks_body reading ids fit.0 fit.1

@@ -1,5 +1,6 @@
 -- Replies that are read another way: as the answer to another request, or with other limits.
-use Rattle.std.proofs.Common.{◌≡◌, ℕ, ◌+◌, ◌≤◌, Bool, true, false, List, [], ◌∷◌, ◌++◌, length, map, cond, inl, inr, Option, Some, None, Result, Ok, Err, refl, sym, subst, ap, ◌∙◌, arith}
+use Rattle.std.proofs.Common.{◌≡◌, ℕ, ◌+◌, ◌≤◌, Bool, true, false, List, [], ◌∷◌, ◌++◌, length, map, cond, inl, inr}
+use Rattle.std.proofs.Common.{Option, Some, None, Result, Ok, Err, refl, sym, subst, ap, ◌∙◌, arith}
 use Rattle.std.specs.Prelude.{◌⊎◌, ◌&&◌, is_some, nat_le, nat_lt}
 use Rattle.std.proofs.lemmas.Bool.{and_parts, and_from, leb-true, le-leb, ltb-true, lt-ltb}
 use Rattle.std.proofs.lemmas.List.{length-map}
@@ -22,11 +23,13 @@ use Rattle.ggrammar.proofs.VerdictLemmas.{room_goes_on}
 use Rattle.gfetchreply.specs.FetchManual.{IsAckSection, IsBody, IsPackSection}
 use Rattle.gfetchreply.specs.FetchReplies.{Reading, State, Point, Start, Acking, AfterNak, AfterReady, BeforePack, InPack}
 use Rattle.gfetchreply.specs.FetchReplies.{FetchReply, Acks, Ready, Pack, Says, brings, judge, judge_at, judge_band, judge_there, state_of, first_place}
-use Rattle.gfetchreply.specs.FetchReplies.{ReplyForm, Ack, Acknowledgments, Packfile, reply_form, judge_acking, max_acks}
+use Rattle.gfetchreply.specs.FetchReplies.{ReplyForm, Ack, Acknowledgments, Packfile, reply_form}
+use Rattle.gfetchreply.specs.FetchReplies.{judge_acking, max_acks}
 use Rattle.gfetchreply.specs.FetchHeads.{acknowledged_by, pack_of}
 use Rattle.gfetchreply.specs.Laws.{IsInAnyLimit, IsInAnyLimits, IsRefusedOverLimit, OneInWhateverReading}
 use Rattle.gfetchreply.proofs.ReplyEndings.{HasEndings-judge}
-use Rattle.gfetchreply.proofs.ReplyManual.{acks_count, manual_from_says, one_reply_begins, says_from_manual, whole_at_start}
+use Rattle.gfetchreply.proofs.ReplyManual.{acks_count, manual_from_says, one_reply_begins, says_from_manual}
+use Rattle.gfetchreply.proofs.ReplyManual.{whole_at_start}
 use Rattle.gfetchreply.proofs.ReplySections.{data_goes, refused}
 use Rattle.gfetchreply.proofs.ReplyVerdicts.{at_place, before_open, IsWholeAt, start, start_open}
 

@@ -135,7 +135,8 @@ move_step reading state from to here within less =
     let same : due state.place ≡ due from = ap due here in record { fewer = omega arith; within = record { ack_count = within.ack_count; band_count = within.band_count; byte_count = within.byte_count } }
 
 acking_step : (reading : Reading) (state : State) (payload : List ℕ) (form : ReplyForm) → state.place ≡ Acking → Within reading state → reply_form (text payload) ≡ form
-    → AckingOn reading.limits reading.format state form → Step reading state (next_state reading.format state (Data payload))
+    → AckingOn reading.limits reading.format state form
+    → Step reading state (next_state reading.format state (Data payload))
 unfolding due
 acking_step reading state payload (Ack digits) here within is (an_ack d id spells few) =
     let same : due state.place ≡ due Acking = ap due here in
@@ -176,7 +177,8 @@ step_at reading state Start (Data payload) here within goes =
     let form : reply_form (text payload) ≡ Acknowledgments = start_open _ (data_open reading state Start payload here goes) in
     as_step reading state _ _ (next-heading reading.format state payload here form) (move_step reading state Start Acking here within (omega arith))
 step_at reading state Acking (Data payload) here within goes =
-    acking_step reading state payload _ here within refl (acking_open reading.limits reading.format state _ (data_open reading state Acking payload here goes))
+    acking_step reading state payload _ here within refl
+    (acking_open reading.limits reading.format state _ (data_open reading state Acking payload here goes))
 step_at reading state AfterNak (Data payload) here within goes = absurd (late_not_open _ (data_open reading state AfterNak payload here goes))
 step_at reading state AfterReady (Data payload) here within goes = absurd (late_not_open _ (data_open reading state AfterReady payload here goes))
 step_at reading state BeforePack (Data payload) here within goes =

@@ -94,19 +94,22 @@ heading_there : (heading : List ℕ) → text heading ≡ codes "acknowledgments
 heading_there heading e = ap (after_text Start) (word_there (text heading) Acknowledgments tt e)
 
 -- the packets from the heading of the acknowledgments on
-module _ (limits : Limits) (format : Format) (section : List Packet) (ids : List (List ℕ)) (is : IsAckSection limits format section ids) (tail : List Packet) where
-  headed_parts : section ++ tail ≡ Data is.heading ∷ (map Data is.acks ++ tail)
-  headed_parts = ap (λ (xs : List Packet). xs ++ tail) is.parts
+module _
+    (limits : Limits) (format : Format) (section : List Packet) (ids : List (List ℕ))
+    (is : IsAckSection limits format section ids) (tail : List Packet)
+  where
+    headed_parts : section ++ tail ≡ Data is.heading ∷ (map Data is.acks ++ tail)
+    headed_parts = ap (λ (xs : List Packet). xs ++ tail) is.parts
 
-  headed_texts : texts Start (section ++ tail) ≡ map text is.acks ++ texts Acking tail
-  headed_texts =
-      ap (texts Start) headed_parts
-      ∙ (ap (λ (p : Point). texts p (map Data is.acks ++ tail)) (heading_there is.heading is.is_heading) ∙ acks_texts format is.acks tail is.are_acks)
+    headed_texts : texts Start (section ++ tail) ≡ map text is.acks ++ texts Acking tail
+    headed_texts =
+        ap (texts Start) headed_parts
+        ∙ (ap (λ (p : Point). texts p (map Data is.acks ++ tail)) (heading_there is.heading is.is_heading) ∙ acks_texts format is.acks tail is.are_acks)
 
-  headed_bands : bands Start (section ++ tail) ≡ bands Acking tail
-  headed_bands =
-      ap (bands Start) headed_parts
-      ∙ (ap (λ (p : Point). bands p (map Data is.acks ++ tail)) (heading_there is.heading is.is_heading) ∙ acks_bands format is.acks tail is.are_acks)
+    headed_bands : bands Start (section ++ tail) ≡ bands Acking tail
+    headed_bands =
+        ap (bands Start) headed_parts
+        ∙ (ap (λ (p : Point). bands p (map Data is.acks ++ tail)) (heading_there is.heading is.is_heading) ∙ acks_bands format is.acks tail is.are_acks)
 
 -- ---- what texts say
 
@@ -151,7 +154,8 @@ record Gives (reading : Reading) (packets : List Packet) (reply : FetchReply) : 
 -- acknowledged ids, and packets after them that acknowledge none
 module _
     (reading : Reading) (body section more : List Packet) (ids lines payloads : List (List ℕ)) (ready : Bool)
-    (direct : reading.direct ≡ false) (is : IsAckSection reading.limits reading.format section ids) (parts : body ≡ section ++ more)
+    (direct : reading.direct ≡ false) (is : IsAckSection reading.limits reading.format section ids)
+    (parts : body ≡ section ++ more)
     (are_texts : texts Acking (more ++ ends_with reading.ends) ≡ lines)
     (are_bands : bands Acking (more ++ ends_with reading.ends) ≡ payloads)
     (none : acks_of reading.format lines ≡ []) (is_so : is_ready lines ≡ ready)
@@ -173,7 +177,8 @@ module _
           payloads = payloads;
           are_texts = texts_at reading false (body ++ ends_with reading.ends) (acks ++ lines) direct
               (ap (texts Start) all
-              ∙ (headed_texts reading.limits reading.format section ids is tail ∙ ap (λ (xs : List (List ℕ)). acks ++ xs) are_texts));
+              ∙ (headed_texts reading.limits reading.format section ids is tail
+              ∙ ap (λ (xs : List (List ℕ)). acks ++ xs) are_texts));
           are_bands = bands_at reading false (body ++ ends_with reading.ends) payloads direct
               (ap (bands Start) all ∙ (headed_bands reading.limits reading.format section ids is tail ∙ are_bands));
           value = cond-false reading.direct _ _ direct
@@ -250,7 +255,8 @@ whole_acks reading body section more ids direct is parts last =
     let tail = more ++ ends_with reading.ends in
     subst (IsWholeAt reading (start reading))
     (sym (ap (λ (xs : List Packet). xs ++ ends_with reading.ends) parts
-    ∙ (append_assoc section more (ends_with reading.ends) ∙ headed_parts reading.limits reading.format section ids is tail)))
+    ∙ (append_assoc section more (ends_with reading.ends)
+    ∙ headed_parts reading.limits reading.format section ids is tail)))
     (part_ack reading (start reading) is.heading (map Data is.acks ++ tail) (start_place reading false direct) is.is_heading
     (rest_acks reading (moved (start reading) Acking) is.acks tail refl is.are_acks (omega arith) last))
 

@@ -297,7 +297,8 @@ more_acks reading state ack rest is more =
 
 ack_by : (reading : Reading) (state : State) (payload : List ℕ) (rest : List Packet) (form : ReplyForm) → reply_form (text payload) ≡ form → IsAcking state
     → state.ack_count ≤ max_acks reading.limits → AckingOn reading.limits reading.format state form
-    → ((new : State) → IsAcking new → new.ack_count ≤ max_acks reading.limits → IsWholeAt reading new rest → IsAckRest reading new rest)
+    → ((new : State) → IsAcking new → new.ack_count ≤ max_acks reading.limits → IsWholeAt reading new rest
+    → IsAckRest reading new rest)
     → IsWholeAt reading (next_state reading.format state (Data payload)) rest → IsAckRest reading state (Data payload ∷ rest)
 ack_by reading state payload rest (Ack digits) is here few (an_ack d id spells less) next h =
     more_acks reading state payload rest (ap is_some (ap (ack_id reading.format) is ∙ spells))
@@ -327,7 +328,8 @@ ack_by reading state payload rest Readiness is here few a_readiness next h =
     }
 ack_by reading state payload rest form is here few on next h = elim on [ ]
 
-pub ack_rest : (reading : Reading) (packets : List Packet) (state : State) → IsAcking state → state.ack_count ≤ max_acks reading.limits → IsWholeAt reading state packets → IsAckRest reading state packets
+pub ack_rest : (reading : Reading) (packets : List Packet) (state : State) → IsAcking state
+    → state.ack_count ≤ max_acks reading.limits → IsWholeAt reading state packets → IsAckRest reading state packets
 ack_rest reading [] state here few h = absurd h
 ack_rest reading (Data payload ∷ rest) state here few h =
     let goes = data_goes reading state Acking payload rest here.place h in
@@ -360,15 +362,24 @@ pub ack_is : (format : Format) (form : ReplyForm) → is_some (ack_id format for
 ack_is format (Ack digits) e = let some = some_id format digits _ refl e in record { digits = digits; id = some.0; is = refl; spells = some.1 }
 ack_is format form e = cc
 
+open_text : (reading : Reading) (state : State) (payload : List ℕ) (form : ReplyForm) → reply_form (text payload) ≡ form
+    → AckingOn reading.limits reading.format state form
+    → judge_acking reading.limits reading.format state (reply_form (text payload)) ≡ Open
+open_text reading state payload form is on =
+    ap (judge_acking reading.limits reading.format state) is
+    ∙ open_acking reading.limits reading.format state form on
+
 -- a text of the acknowledgments goes on
 pub open_ack : (reading : Reading) (state : State) (payload : List ℕ) (form : ReplyForm) → state.place ≡ Acking → reply_form (text payload) ≡ form
     → AckingOn reading.limits reading.format state form → judge_at reading state (Data payload) ≡ Open
 open_ack reading state payload Nak here is on =
-    open_data reading state Acking payload here (form_reports_none payload Nak is tt) (ap (judge_acking reading.limits reading.format state) is ∙ open_acking reading.limits reading.format state Nak on)
+    open_data reading state Acking payload here (form_reports_none payload Nak is tt) (open_text reading state payload Nak is on)
 open_ack reading state payload Readiness here is on =
-    open_data reading state Acking payload here (form_reports_none payload Readiness is tt) (ap (judge_acking reading.limits reading.format state) is ∙ open_acking reading.limits reading.format state Readiness on)
+    open_data reading state Acking payload here (form_reports_none payload Readiness is tt)
+    (open_text reading state payload Readiness is on)
 open_ack reading state payload (Ack digits) here is on =
-    open_data reading state Acking payload here (form_reports_none payload (Ack digits) is tt) (ap (judge_acking reading.limits reading.format state) is ∙ open_acking reading.limits reading.format state (Ack digits) on)
+    open_data reading state Acking payload here (form_reports_none payload (Ack digits) is tt)
+    (open_text reading state payload (Ack digits) is on)
 open_ack reading state payload form here is on = elim on [ ]
 
 pub rest_acks : (reading : Reading) (state : State) (acks : List (List ℕ)) (tail : List Packet) → state.place ≡ Acking → All (IsAck reading.format) (map text acks)
@@ -411,7 +422,8 @@ pub record IsAckPart (reading : Reading) (state : State) (packets : List Packet)
   pub is_heading : text heading ≡ codes "acknowledgments"
   pub are : IsAckRest reading (moved state Acking) rest
 
-pub ack_part : (reading : Reading) (state : State) (packets : List Packet) → state.place ≡ Start → state.ack_count ≤ max_acks reading.limits → state.band_count ≡ 0 → state.byte_count ≡ 0
+pub ack_part : (reading : Reading) (state : State) (packets : List Packet) → state.place ≡ Start
+    → state.ack_count ≤ max_acks reading.limits → state.band_count ≡ 0 → state.byte_count ≡ 0
     → IsWholeAt reading state packets → IsAckPart reading state packets
 ack_part reading state [] here few none empty h = absurd h
 ack_part reading state (Data heading ∷ rest) here few none empty h =

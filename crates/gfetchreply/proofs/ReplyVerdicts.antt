@@ -184,9 +184,11 @@ part_start : (form : ReplyForm) → IsPart (judge_start form)
 part_start Packfile = tt
 part_start form = tt
 
-part_acking : (limits : Limits) (format : Format) (state : State) (form : ReplyForm) → IsPart (judge_acking limits format state form)
+part_acking : (limits : Limits) (format : Format) (state : State) (form : ReplyForm)
+    → IsPart (judge_acking limits format state form)
 part_acking limits format state Nak = part_test (nat_lt 0 state.ack_count) (Refused why.WrongSection) Open tt tt
-part_acking limits format state (Ack id) = part_test (is_some (id_of_text format id)) _ (Refused why.BadId) (part_room _) tt
+part_acking limits format state (Ack id) =
+    part_test (is_some (id_of_text format id)) _ (Refused why.BadId) (part_room _) tt
 part_acking limits format state form = tt
 
 part_late : (form : ReplyForm) → IsPart (judge_late form)
@@ -257,7 +259,8 @@ before_open form e = cc
 
 -- the forms that the acknowledgments go on with
 pub data AckingOn (limits : Limits) (format : Format) (state : State) : ReplyForm → Type 0 where
-  an_ack : (digits id : List ℕ) → id_of_text format digits ≡ Some id → state.ack_count < max_acks limits → AckingOn limits format state (Ack digits)
+  an_ack : (digits id : List ℕ) → id_of_text format digits ≡ Some id → state.ack_count < max_acks limits
+      → AckingOn limits format state (Ack digits)
   a_nak : state.ack_count ≡ 0 → AckingOn limits format state Nak
   a_readiness : AckingOn limits format state Readiness
 
@@ -265,22 +268,30 @@ nak_open : (state : State) (test : Bool) → nat_lt 0 state.ack_count ≡ test �
 nak_open state true is e = cc
 nak_open state false is e = omega (arith, ltb-false 0 state.ack_count is)
 
-ack_open : (limits : Limits) (format : Format) (state : State) (digits : List ℕ) (id : Option (List ℕ)) → id_of_text format digits ≡ id
-    → cond (is_some id) (if_room (nat_lt state.ack_count (max_acks limits))) (Refused why.BadId) ≡ Open → AckingOn limits format state (Ack digits)
+ack_open : (limits : Limits) (format : Format) (state : State) (digits : List ℕ) (id : Option (List ℕ))
+    → id_of_text format digits ≡ id
+    → cond (is_some id) (if_room (nat_lt state.ack_count (max_acks limits))) (Refused why.BadId) ≡ Open
+    → AckingOn limits format state (Ack digits)
 ack_open limits format state digits None is e = cc
-ack_open limits format state digits (Some id) is e = an_ack digits id is (ltb-true state.ack_count (max_acks limits) (room_left _ e))
+ack_open limits format state digits (Some id) is e =
+    an_ack digits id is (ltb-true state.ack_count (max_acks limits) (room_left _ e))
 
-pub acking_open : (limits : Limits) (format : Format) (state : State) (form : ReplyForm) → judge_acking limits format state form ≡ Open → AckingOn limits format state form
+pub acking_open : (limits : Limits) (format : Format) (state : State) (form : ReplyForm)
+    → judge_acking limits format state form ≡ Open → AckingOn limits format state form
 acking_open limits format state Nak e = a_nak (nak_open state _ refl e)
 acking_open limits format state Readiness e = a_readiness
 acking_open limits format state (Ack digits) e = ack_open limits format state digits _ refl e
 acking_open limits format state form e = cc
 
-pub open_acking : (limits : Limits) (format : Format) (state : State) (form : ReplyForm) → AckingOn limits format state form → judge_acking limits format state form ≡ Open
+pub open_acking : (limits : Limits) (format : Format) (state : State) (form : ReplyForm)
+    → AckingOn limits format state form → judge_acking limits format state form ≡ Open
 open_acking limits format state (Ack digits) (an_ack d id is few) =
-    ap (λ (o : Option (List ℕ)). cond (is_some o) (if_room (nat_lt state.ack_count (max_acks limits))) (Refused why.BadId)) is
+    ap
+    (λ (o : Option (List ℕ)). cond (is_some o) (if_room (nat_lt state.ack_count (max_acks limits))) (Refused why.BadId))
+    is
     ∙ room_goes_on _ (lt-ltb state.ack_count (max_acks limits) few)
-open_acking limits format state Nak (a_nak none) = ap (λ (n : ℕ). cond (nat_lt 0 n) (Refused why.WrongSection) Open) none
+open_acking limits format state Nak (a_nak none) =
+    ap (λ (n : ℕ). cond (nat_lt 0 n) (Refused why.WrongSection) Open) none
 open_acking limits format state Readiness a_readiness = refl
 open_acking limits format state form on = elim on [ ]
 

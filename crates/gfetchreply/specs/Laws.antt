@@ -49,9 +49,10 @@ IsInAnyLimits =
 abbrev pub IsRefusedOverLimit : Type 0
 IsRefusedOverLimit =
     (reading : Reading) (limit : ℕ) (limits : Limits) (packets front : List Packet) (reply : FetchReply)
-    (bytes new rest : Bytes) (fault : MessageFault) → Says (record reading { limit = limit; limits = limits }) packets reply
-    → IsFront packets bytes rest → ReadsRefused (judge reading) (brings reading) front (known_bytes bytes new) fault
-    → IsOfBytes fault.why → fault.why ≡ Limit
+    (bytes new rest : Bytes) (fault : MessageFault)
+    → Says (record reading { limit = limit; limits = limits }) packets reply → IsFront packets bytes rest
+    → ReadsRefused (judge reading) (brings reading) front (known_bytes bytes new) fault → IsOfBytes fault.why
+    → fault.why ≡ Limit
 
 -- ---- reading into a sink
 

@@ -17,14 +17,17 @@
 //!   refuse pieces. Each implementation of [`PackSink`] states whether it may refuse pieces; a
 //!   vector may. [`read_fetch_reply_into`] has the same contract for SHA-1 ids. The functions
 //!   [`read_fetch_reply_in`] and [`read_fetch_reply`] store the pack in memory.
-//! - [`Acks`] has at most 4,096 ids of one format. [`PackBytes`] has at most `gname::MAX_PACK`
-//!   bytes, and a [`PackLimit`] is at most `gname::MAX_PACK`. A call that builds a value of these
-//!   types checks the format of ids before the limit. A failed [`Acks::push`] changes nothing.
-//!   Building a reply moves existing ids and an existing pack into it, unchanged.
+//! - [`Acks`] has ids of one format. Their number is within the limit on haves of its
+//!   [`ggrammar::Limits`], which is 4,096 by default, and never exceeds 4,294,967,295. The
+//!   acknowledgments of a reply that is read have the limits of [`FetchReading`]. [`PackBytes`] has
+//!   at most `gname::MAX_PACK` bytes, and a [`PackLimit`] is at most `gname::MAX_PACK`. A call that
+//!   builds a value of these types checks the format of ids before the limit. A failed
+//!   [`Acks::push`] changes nothing. Building a reply moves existing ids and an existing pack into
+//!   it, unchanged.
 //! - [`write_fetch_reply`] writes exactly the bytes of a reply's packets (`canonical_reply`), or a
 //!   prefix of the bytes if the sink fails. A payload is never too long. The written reply reads
-//!   back if the pack is within the reader's limit and `direct` in [`FetchReading`] is true exactly
-//!   for a direct reply.
+//!   back if the pack is within the reader's limit, the reader has the limits of the
+//!   acknowledgments, and `direct` in [`FetchReading`] is true exactly for a direct reply.
 //! - By [`laws`], a list of packets is a reply exactly if Git's manual allows the list, and with
 //!   the meaning that the manual states (`specs/FetchManual.antt`). A list of packets encodes at
 //!   most one reply, and no reply is a prefix of another, as packets or as bytes. Each unfinished
@@ -32,9 +35,9 @@
 //!   not fit. The packets written for a reply encode it, and it reads back, whatever bytes follow.
 //!   A reply is read exactly if the bytes begin with packets that encode it. Every byte sequence
 //!   begins with a reply or is rejected because of its content. If the same bytes are read for
-//!   another request, the result is the same reply or no reply. If they are read with another
-//!   limit, the result is the same reply or a rejection because of the limit. The constant
-//!   `MAX_ACKS` equals the limit in the specifications.
+//!   another request, the result is the same reply or no reply. If they are read with other
+//!   limits, the result is the same reply or a rejection because of a limit. The constant
+//!   `MAX_ACKS` equals the default limit in the specifications.
 //!
 //! # Only tested
 //!

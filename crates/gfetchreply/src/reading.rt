@@ -89,7 +89,8 @@ impl<'s, T: PackSink, A: Allocator + Copy, L: Lent<T>> ReplyReader<'s, T, A, L> 
         ensures in_place { result.sink.ghost_name ≡ sink.entry.ghost_name }
         ensures sink { result.sink.now ≡ sink.old }
         ensures reading { result.reading ≡ reading }
-        ensures kept { kept_in result.sections ≡ first_kept reading.limits reading.format reading.direct }
+        ensures kept { kept_in result.sections
+            ≡ first_kept reading.limits reading.format reading.direct }
     {
         ReplyReader {
             reading,

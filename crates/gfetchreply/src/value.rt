@@ -26,8 +26,8 @@ pub const MAX_ACKS: usize = 4_096;
 const MAX_COUNT: usize = 4_294_967_295;
 
 /// The ids that a server acknowledges: the haves of a request that the server holds. All ids have
-/// the same format. The list contains at most as many ids as its limits allow haves, and at most
-/// 4,294,967,295 ids.
+/// the same format. The limit on haves is also the limit on the number of ids. A limit above
+/// 4,294,967,295 counts as 4,294,967,295.
 #[derive(Debug, Drop)]
 pub struct Acks<A: Allocator + Copy> {
     limits: Limits,
