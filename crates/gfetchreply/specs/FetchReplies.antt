@@ -46,7 +46,7 @@ pub record Reading : Type 0 where
 abbrev pub max_packets : ℕ
 max_packets = 4294967295
 
--- the maximum number of ids that a reply acknowledges
+-- the maximum number of ids that a reply acknowledges with these limits
 abbrev pub max_acks : Limits → ℕ
 max_acks limits = min limits.haves max_packets
 

@@ -5,29 +5,29 @@
 //! # Proved
 //!
 //! - [`read_fetch_reply_into_in`] reads a reply exactly to its end, however its bytes are split
-//!   into pieces. The call returns the head of the reply, whose ids have the requested format. The
-//!   sink has accepted the reply's pack after its previous bytes. The length of the pack is within
-//!   the limit. Any other input is rejected at the first packet that does not fit, for the reason
-//!   that the grammar states (`judge` in `specs/FetchReplies.antt`). The sink has then accepted
-//!   exactly the data of the packets before the rejected packet, which does not exceed the limit.
-//!   Whatever the result, `PackSink::same` relates the sink before the call to the sink after the
-//!   call. The reader never passes an empty piece to the sink.
+//!   into pieces. The call returns the head of the reply, whose acknowledgments have the requested
+//!   format and limits. The sink has accepted the reply's pack after its previous bytes. The length
+//!   of the pack is within the limit. Any other input is rejected at the first packet that does not
+//!   fit, for the reason that the grammar states (`judge` in `specs/FetchReplies.antt`). The sink
+//!   has then accepted exactly the data of the packets before the rejected packet, which does not
+//!   exceed the limit. Whatever the result, `PackSink::same` relates the sink before the call to the
+//!   sink after the call. The reader never passes an empty piece to the sink.
 //! - Out of memory never replaces another fault, and is reported only at a packet that the grammar
 //!   accepts. The packet contains an acknowledged id, or a piece of the pack if the sink's type may
 //!   refuse pieces. Each implementation of [`PackSink`] states whether it may refuse pieces; a
-//!   vector may. [`read_fetch_reply_into`] has the same contract for SHA-1 ids. The functions
-//!   [`read_fetch_reply_in`] and [`read_fetch_reply`] store the pack in memory.
+//!   vector may. [`read_fetch_reply_into`] has the same contract for SHA-1 ids and the default
+//!   limits. The functions [`read_fetch_reply_in`] and [`read_fetch_reply`] store the pack in
+//!   memory.
 //! - [`Acks`] has ids of one format. Their number is within the limit on haves of its
-//!   [`ggrammar::Limits`], which is 4,096 by default, and never exceeds 4,294,967,295. The
-//!   acknowledgments of a reply that is read have the limits of [`FetchReading`]. [`PackBytes`] has
-//!   at most `gname::MAX_PACK` bytes, and a [`PackLimit`] is at most `gname::MAX_PACK`. A call that
-//!   builds a value of these types checks the format of ids before the limit. A failed
-//!   [`Acks::push`] changes nothing. Building a reply moves existing ids and an existing pack into
-//!   it, unchanged.
+//!   [`ggrammar::Limits`], which is 4,096 by default. With any limits, the number is at most
+//!   4,294,967,295. [`PackBytes`] has at most `gname::MAX_PACK` bytes, and a [`PackLimit`] is at
+//!   most `gname::MAX_PACK`. A call that builds a value of these types checks the format of ids
+//!   before the limit. A failed [`Acks::push`] changes nothing. Building a reply moves existing ids
+//!   and an existing pack into it, unchanged.
 //! - [`write_fetch_reply`] writes exactly the bytes of a reply's packets (`canonical_reply`), or a
 //!   prefix of the bytes if the sink fails. A payload is never too long. The written reply reads
-//!   back if the pack is within the reader's limit, the reader has the limits of the
-//!   acknowledgments, and `direct` in [`FetchReading`] is true exactly for a direct reply.
+//!   back with the limits of its acknowledgments, if the pack is within the reader's size limit.
+//!   The field `direct` of [`FetchReading`] must be true exactly for a direct reply.
 //! - By [`laws`], a list of packets is a reply exactly if Git's manual allows the list, and with
 //!   the meaning that the manual states (`specs/FetchManual.antt`). A list of packets encodes at
 //!   most one reply, and no reply is a prefix of another, as packets or as bytes. Each unfinished

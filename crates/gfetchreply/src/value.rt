@@ -157,7 +157,7 @@ impl<A: Allocator + Copy> Acks<A> {
     }
 }
 
-// Returns the maximum number of ids that a reply acknowledges.
+// Returns the maximum number of ids that a reply acknowledges with these limits.
 fn max_acks(limits: Limits) -> usize
     ensures { result ≡ max_acks limits }
 {

@@ -25,9 +25,9 @@ use std::slice::Chunks;
 ///
 /// Fails with `Io` if the sink fails, after writing a prefix of the reply. Fails with `Failed` if
 /// the writer failed before the call. Every reply meets the conditions of
-/// [`reads_back`](crate::laws::reads_back). So a written reply reads back, if the pack is within
-/// the reader's limit, the reader has the limits of the acknowledgments, and `direct` in
-/// [`FetchReading`](crate::FetchReading) is true exactly for a direct reply.
+/// [`reads_back`](crate::laws::reads_back). So a written reply reads back with the limits of its
+/// acknowledgments, if the pack is within the reader's size limit. The field `direct` of
+/// [`FetchReading`](crate::FetchReading) must be true exactly for a direct reply.
 #[tactic(auto, unfolding(crate::specs::FetchReplies::canonical_reply))]
 pub fn write_fetch_reply<A: Allocator + Copy, W: Sink>(
     reply: &FetchReply<A>,
