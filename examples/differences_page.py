@@ -16,10 +16,12 @@ README = os.path.join(FOLDER, "..", "README.md")
 BEGIN, END = "<!-- conform.py writes what follows -->\n", "<!-- conform.py wrote what precedes -->\n"
 SERVER = "git upload-pack"
 CLIENT = "git -C {repository} fetch --quiet --no-tags {url} {specs}"
+# How the page names the version of git.
+VERSION = "The script tests Git %s with"
 
 NAME_REASONS = {
-    "ok": "`git check-ref-format` takes names of one part only with `--allow-onelevel`. HEAD is a ref's name.",
-    "11 TooLong": "Names have at most 1,000 bytes here.",
+    "ok": "`git check-ref-format` accepts names without a slash only with `--allow-onelevel`. Here `HEAD` is a ref name.",
+    "11 TooLong": "Ref names have at most 1,000 bytes here.",
 }
 
 
@@ -27,7 +29,7 @@ def write(cases, known, is_compared):
     """Writes the section between the two marks, and the two lines of README; or compares them. Answers the exit status."""
     version = subprocess.check_output(["git", "version"], env=PROGRAM_ENV).decode().split()[2]
     with open(PAGE) as file:
-        if is_compared and "With git %s." % version not in file.read():
+        if is_compared and VERSION % version not in file.read():
             print("docs/DIFFERENCES.md is not compared: it is of another git than %s" % version)
             return 0
     server, client, notes = outcomes_of_git(cases)
@@ -115,15 +117,17 @@ def differing(outcomes):
 
 def section(cases, known, version, server, client, notes):
     """The lines of the section."""
-    yield "With git %s. `--server '%s'`, `--client '%s'`.\n" % (version, SERVER, CLIENT)
+    yield "%s `--server '%s'` and `--client '%s'`.\n" % (VERSION % version, SERVER, CLIENT)
     yield from answered_alike(server, client)
-    yield "\n## What a server answers otherwise\n\nThe number of rows is in brackets, then the first row, and the answer here and of git.\n"
+    yield "\n## What a server answers otherwise\n"
+    yield "The differing parts of the answers, ours first, follow the first row's name.\n"
     yield from reasons_of(known, "server", server)
     yield "\n## What a client does otherwise\n"
     yield from reasons_of(known, "client", client)
-    yield "\nGit's requests have other lines, too. A number says in how many requests of the rows that were compared.\n"
+    yield "\nGit's requests also have other lines. Numbers count the compared requests with such a line.\n"
     yield from ("- %s" % note for note in notes)
-    yield "\n## What both servers refuse\n\nEach line is the answer here.\n"
+    yield "\n## What both servers refuse\n"
+    yield "Each line begins with the answer here.\n"
     yield from refused_rows(server)
     yield "\n## Ref names\n\n| Name | Here | git | Why |\n|---|---|---|---|"
     yield from name_rows(cases.names)
@@ -143,11 +147,11 @@ def answered_alike(server, client):
     """The table of counts."""
     yield "| Rows | Server | Client |\n|---|---|---|"
     lines = [
-        ("answered the same, or accepted by both", ("same", "accepted alike")),
+        ("answered the same, or accepted by both clients", ("same", "accepted alike")),
         ("refused by both", ("refused alike",)),
         ("different", ("differs",)),
-        ("not comparable, since the client makes other requests", ("asks otherwise",)),
-        ("not plain, so not replayed", ("not plain",)),
+        ("not comparable: Git's client makes other requests", ("asks otherwise",)),
+        ("not replayed: not plain requests and replies", ("not plain",)),
     ]
     for text, kinds in lines:
         counts = [sum(it.kind in kinds and it.row.place != ADVERTISEMENT for it in side) for side in (server, client)]

@@ -1,8 +1,8 @@
-//! Checks of facts. A fact is the expected result of parsing a text, of searching a history, of a
-//! query about a client's objects, or of printing a fault.
+//! Checks of facts. A fact is the expected result of a call. The call parses a text, searches a
+//! history, queries a client's objects, or prints a fault.
 //!
-//! [`answer`] returns the actual result for one fact, in the same form as the expected result in a
-//! test file.
+//! [`actual_result`] returns the actual result for one fact, in the same form as the expected
+//! result in a test file.
 //!
 //! # Proved
 //!
@@ -15,18 +15,19 @@
 //!
 //! # Dependencies
 //!
-//! `case_text` defines facts and an allocator that fails. `gname`, `grefs`, `ghello`, `gpkt`,
-//! `gscenario` and `ggraph` parse texts. `gclient` defines clients and the objects that they know,
-//! and `gcmd` prints faults. `ganswer`, `gclient`, `ggrammar` and other crates define the faults.
+//! `case_text` defines facts and an allocator that refuses an allocation. `gname`, `grefs`,
+//! `ghello`, `gpkt`, `gscenario` and `ggraph` parse texts. `gclient` defines clients and the
+//! objects that they know, and `gcmd` prints faults. `ganswer`, `gclient`, `ggrammar` and other
+//! crates define the faults.
 #![tactic(auto)]
 
+mod checking;
+mod client_objects;
+mod formatting;
 mod history;
-mod known;
-mod large;
-mod looking;
-mod made;
-mod shown;
-mod text;
-mod told;
+mod parsing;
+mod printed_faults;
+mod repository_text;
+mod size_limits;
 
-pub use crate::looking::{Finding, Limits, answer};
+pub use crate::checking::{ActualResult, Limits, actual_result};

@@ -7,27 +7,27 @@ use std::io;
 use std::io::{Read, Seek, SeekFrom, Write};
 
 // The maximum number of bytes that one write accepts.
-const MOST_TAKEN: usize = 16;
+const MAX_WRITE_LEN: usize = 16;
 
 /// A real file, with the path under which it was opened.
 #[derive(Drop)]
-pub(crate) struct NotedFile<'a, F> {
+pub(crate) struct RecordedFile<'a, F> {
     pub(crate) file: F,
     pub(crate) name: String,
     pub(crate) journal: &'a Journal<'a>,
 }
 
-impl<F: Read> Read for NotedFile<'_, F> {
+impl<F: Read> Read for RecordedFile<'_, F> {
     fn read(&mut self, buf: &mut [u8]) -> io::Result<usize> {
         self.file.read(buf)
     }
 }
 
-// A write accepts at most `MOST_TAKEN` bytes.
-impl<F: Write> Write for NotedFile<'_, F> {
+// A write accepts at most `MAX_WRITE_LEN` bytes.
+impl<F: Write> Write for RecordedFile<'_, F> {
     fn write(&mut self, buf: &[u8]) -> io::Result<usize> {
-        self.journal.note_file("write", self.name.as_str())?;
-        let count = buf.len().min(MOST_TAKEN);
+        self.journal.record_file_step("write", self.name.as_str())?;
+        let count = buf.len().min(MAX_WRITE_LEN);
         self.file.write(&buf[..count])
     }
 
@@ -36,34 +36,35 @@ impl<F: Write> Write for NotedFile<'_, F> {
     }
 }
 
-impl<F: Seek> Seek for NotedFile<'_, F> {
+impl<F: Seek> Seek for RecordedFile<'_, F> {
     fn seek(&mut self, to: SeekFrom) -> io::Result<u64> {
         self.file.seek(to)
     }
 }
 
-impl<F: OpenFile> OpenFile for NotedFile<'_, F> {
+impl<F: OpenFile> OpenFile for RecordedFile<'_, F> {
     fn metadata(&self) -> io::Result<Metadata> {
         self.file.metadata()
     }
 
     fn set_len(&self, size: u64) -> io::Result<()> {
-        self.journal.note_file("cut", self.name.as_str())?;
+        self.journal.record_file_step("cut", self.name.as_str())?;
         self.file.set_len(size)
     }
 
     fn sync_all(&self) -> io::Result<()> {
-        self.journal.note_file("sync", self.name.as_str())?;
+        self.journal.record_file_step("sync", self.name.as_str())?;
         self.file.sync_all()
     }
 
     fn sync_data(&self) -> io::Result<()> {
-        self.journal.note_file("sync data", self.name.as_str())?;
+        self.journal
+            .record_file_step("sync data", self.name.as_str())?;
         self.file.sync_data()
     }
 
     fn set_permissions(&self, perm: Permissions) -> io::Result<()> {
-        self.journal.note_file("mode", self.name.as_str())?;
+        self.journal.record_file_step("mode", self.name.as_str())?;
         self.file.set_permissions(perm)
     }
 }

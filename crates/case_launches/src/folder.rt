@@ -1,7 +1,7 @@
 //! The folder in which the launched program runs.
 
 use crate::system::System;
-use case_text::{Found, Script, Trouble};
+use case_text::{InitialItem, Script, Trouble};
 use std::fs::Permissions;
 use std::os::unix::fs::{PermissionsExt, symlink};
 use std::{env, fs};
@@ -10,43 +10,46 @@ use std::{env, fs};
 pub(crate) const FOLDER: &str = "launch";
 
 /// The permissions with which the owner can read and remove an item.
-const ALL: u32 = 0o700;
+const OWNER_ALL: u32 = 0o700;
 
 /// Creates an empty folder, and makes it the current directory.
-pub(crate) fn enter<R: System>(rt: &R) -> Result<(), Trouble> {
+pub(crate) fn enter_folder<R: System>(rt: &R) -> Result<(), Trouble> {
     let _ = fs::remove_dir_all(rt, FOLDER);
     fs::create_dir(rt, FOLDER)?;
     Ok(env::set_current_dir(rt, FOLDER)?)
 }
 
 /// Returns to the parent directory, and removes the folder with all its contents.
-pub(crate) fn leave<R: System>(rt: &R) -> Result<(), Trouble> {
+pub(crate) fn leave_folder<R: System>(rt: &R) -> Result<(), Trouble> {
     env::set_current_dir(rt, "..")?;
     Ok(fs::remove_dir_all(rt, FOLDER)?)
 }
 
 /// Creates the items that exist before the launch.
-pub(crate) fn fill<R: System>(
+pub(crate) fn create_items<R: System>(
     rt: &R,
     script: &Script<'_>,
-    found: &[Found<'_>],
+    initial_items: &[InitialItem<'_>],
 ) -> Result<(), Trouble> {
-    for one in found {
-        match one {
-            Found::File { name, text } => fs::write(rt, *name, script.text(text)?)?,
-            Found::Folder { name } => fs::create_dir(rt, *name)?,
-            Found::Link { name, target } => symlink(rt, *target, *name)?,
-            Found::Mode { name, mode } => set_mode(rt, name, *mode)?,
+    for item in initial_items {
+        match item {
+            InitialItem::File { name, text } => fs::write(rt, *name, script.text(text)?)?,
+            InitialItem::Folder { name } => fs::create_dir(rt, *name)?,
+            InitialItem::Link { name, target } => symlink(rt, *target, *name)?,
+            InitialItem::Mode { name, mode } => set_mode(rt, name, *mode)?,
         }
     }
     Ok(())
 }
 
 /// Restores the permissions that the owner needs to read and remove each item.
-pub(crate) fn unlock<R: System>(rt: &R, found: &[Found<'_>]) -> Result<(), Trouble> {
-    for one in found {
-        if let Found::Mode { name, mode: _ } = one {
-            let _ = set_mode(rt, name, ALL);
+pub(crate) fn restore_permissions<R: System>(
+    rt: &R,
+    initial_items: &[InitialItem<'_>],
+) -> Result<(), Trouble> {
+    for item in initial_items {
+        if let InitialItem::Mode { name, mode: _ } = item {
+            let _ = set_mode(rt, name, OWNER_ALL);
         }
     }
     Ok(())
@@ -57,7 +60,7 @@ fn set_mode<R: System>(rt: &R, name: &str, mode: u32) -> Result<(), Trouble> {
 }
 
 /// Returns whether this process ignores file permissions, as the superuser does.
-pub(crate) fn passes_permissions<R: System>(rt: &R) -> Result<bool, Trouble> {
+pub(crate) fn ignores_permissions<R: System>(rt: &R) -> Result<bool, Trouble> {
     let name = "probe";
     fs::write(rt, name, "")?;
     set_mode(rt, name, 0)?;

@@ -12,48 +12,49 @@ pub(crate) struct Journal<'a> {
     // The absolute path of the folder in which the program runs.
     folder: String,
     // The operation that fails whenever the program performs it, if any.
-    failing: Option<&'a str>,
+    failing_step: Option<&'a str>,
     steps: RefCell<String>,
 }
 
 impl<'a> Journal<'a> {
-    /// Returns an empty journal for a program in this folder. The operation `failing` fails
+    /// Returns an empty journal for a program in this folder. The operation `failing_step` fails
     /// whenever the program performs it.
-    pub(crate) fn new(alloc: Global, folder: String, failing: Option<&'a str>) -> Journal<'a> {
+    pub(crate) fn new(alloc: Global, folder: String, failing_step: Option<&'a str>) -> Journal<'a> {
         Journal {
             alloc,
             folder,
-            failing,
+            failing_step,
             steps: RefCell::new(String::new(alloc)),
         }
     }
 
-    /// Records an operation. Fails if the operation is `failing`.
-    pub(crate) fn note(&self, step: &str) -> io::Result<()> {
+    /// Records an operation. Fails if the operation is `failing_step`.
+    pub(crate) fn record(&self, step: &str) -> io::Result<()> {
         if let Ok(mut steps) = self.steps.try_borrow_mut() {
             add_step(&mut steps, step)?;
         }
-        self.permit(step)
+        self.fail_if_chosen(step)
     }
 
-    /// Records an operation unless it repeats the last one. Fails if the operation is `failing`.
-    pub(crate) fn note_once(&self, step: &str) -> io::Result<()> {
-        if self.is_last(step) {
-            return self.permit(step);
+    /// Records an operation unless it repeats the last one. Fails if the operation is
+    /// `failing_step`.
+    pub(crate) fn record_once(&self, step: &str) -> io::Result<()> {
+        if self.is_last_step(step) {
+            return self.fail_if_chosen(step);
         }
-        self.note(step)
+        self.record(step)
     }
 
     /// Records an operation on a file unless it repeats the last one. Fails if the operation is
-    /// `failing`.
-    pub(crate) fn note_file(&self, step: &str, path: &str) -> io::Result<()> {
+    /// `failing_step`.
+    pub(crate) fn record_file_step(&self, step: &str, path: &str) -> io::Result<()> {
         let name = match path.strip_prefix(self.folder.as_str()) {
             Some("") => ".",
             Some(name) => name.trim_start_matches('/'),
             None => path,
         };
         let line = format!(in self.alloc; "{step} {name}")?;
-        self.note_once(line.as_str())
+        self.record_once(line.as_str())
     }
 
     /// Returns all recorded operations.
@@ -64,15 +65,15 @@ impl<'a> Journal<'a> {
         }
     }
 
-    fn is_last(&self, step: &str) -> bool {
+    fn is_last_step(&self, step: &str) -> bool {
         match self.steps.try_borrow() {
             Ok(steps) => steps.as_str().rsplit(", ").next() == Some(step),
             Err(_) => false,
         }
     }
 
-    fn permit(&self, step: &str) -> io::Result<()> {
-        if self.failing == Some(step) {
+    fn fail_if_chosen(&self, step: &str) -> io::Result<()> {
+        if self.failing_step == Some(step) {
             Err(io::Error::from(ErrorKind::PermissionDenied))
         } else {
             Ok(())

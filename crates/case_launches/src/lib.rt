@@ -22,20 +22,20 @@
 //! `gtcp` defines locations.
 #![tactic(auto)]
 
+mod arguments;
 mod file;
+mod file_checks;
 mod folder;
-mod host;
 mod journal;
-mod look;
+mod launch_runtime;
 mod network;
 mod peers;
 mod plan;
 mod run;
 mod streams;
 mod system;
-mod words;
 
+pub use crate::arguments::{can_launch, push_arguments};
 pub use crate::plan::Plan;
 pub use crate::run::launch;
 pub use crate::system::System;
-pub use crate::words::{add_split, is_launched};

@@ -1,7 +1,7 @@
 //! The sockets of a launch.
 
-use crate::host::Host;
 use crate::journal::Journal;
+use crate::launch_runtime::LaunchRuntime;
 use crate::peers::Peers;
 use crate::system::System;
 use std::io;
@@ -14,7 +14,7 @@ use std::time::Duration;
 const TWO_ADDRESSES: &str = "two";
 
 // Returns the first of the two addresses. No server listens there.
-fn nobody() -> IpAddr {
+fn unused_address() -> IpAddr {
     IpAddr::V4(Ipv4Addr::new(127, 0, 0, 2))
 }
 
@@ -37,8 +37,8 @@ impl OpenListener for Listener<'_> {
     type Stream = TcpStream;
 
     fn accept(&self) -> io::Result<(TcpStream, SocketAddr)> {
-        self.journal.note("accept")?;
-        if self.peers.take_waiting() {
+        self.journal.record("accept")?;
+        if self.peers.take_waiting_connection() {
             self.listener.accept()
         } else {
             Err(io::Error::from(ErrorKind::WouldBlock))
@@ -50,15 +50,15 @@ impl OpenListener for Listener<'_> {
     }
 }
 
-impl<'a, R: System> Net for Host<'a, R> {
+impl<'a, R: System> Net for LaunchRuntime<'a, R> {
     type Stream = TcpStream;
 
     type Listener = Listener<'a>;
 
     fn bind(&self, addr: SocketAddr) -> io::Result<Listener<'a>> {
-        self.journal.note("bind")?;
+        self.journal.record("bind")?;
         let listener = TcpListener::bind(self.rt, addr)?;
-        self.peers.note_listener(&listener);
+        self.peers.record_port(&listener);
         Ok(Listener {
             listener,
             journal: self.journal,
@@ -67,15 +67,15 @@ impl<'a, R: System> Net for Host<'a, R> {
     }
 
     fn connect(&self, addr: SocketAddr) -> io::Result<TcpStream> {
-        self.journal.note("connect")?;
+        self.journal.record("connect")?;
         self.peers.connect(self.rt, addr)
     }
 
     fn connect_timeout(&self, addr: SocketAddr, timeout: Duration) -> io::Result<TcpStream> {
         let seconds = timeout.as_secs();
         let step = format!(in self.rt.alloc(); "connect within {seconds}")?;
-        self.journal.note(step.as_str())?;
-        if addr.ip() == nobody() {
+        self.journal.record(step.as_str())?;
+        if addr.ip() == unused_address() {
             return Err(io::Error::from(ErrorKind::ConnectionRefused));
         }
         self.peers.connect(self.rt, addr)
@@ -83,16 +83,21 @@ impl<'a, R: System> Net for Host<'a, R> {
 
     // Every host name resolves to the local host. The name `two` first resolves to an address at
     // which no server listens.
-    fn lookup_host(&self, host: &str, port: u16, found: &mut [SocketAddr]) -> io::Result<usize> {
-        let here = SocketAddr::from((Ipv4Addr::LOCALHOST, port));
-        match found {
+    fn lookup_host(
+        &self,
+        host: &str,
+        port: u16,
+        addresses: &mut [SocketAddr],
+    ) -> io::Result<usize> {
+        let local_address = SocketAddr::from((Ipv4Addr::LOCALHOST, port));
+        match addresses {
             [first, second, ..] if host == TWO_ADDRESSES => {
-                *first = SocketAddr::new(nobody(), port);
-                *second = here;
+                *first = SocketAddr::new(unused_address(), port);
+                *second = local_address;
                 Ok(2)
             }
             [first, ..] => {
-                *first = here;
+                *first = local_address;
                 Ok(1)
             }
             [] => Ok(0),

@@ -10,16 +10,16 @@ use std::net::{Shutdown, SocketAddr, TcpListener, TcpStream};
 /// The bytes that a peer sends, and the bytes that the peer must receive.
 #[derive(Drop)]
 pub struct Exchange {
-    pub says: Vec<u8>,
-    pub hears: Vec<u8>,
+    pub sent_bytes: Vec<u8>,
+    pub expected_bytes: Vec<u8>,
 }
 
 impl Exchange {
     /// Returns an exchange without bytes.
     pub(crate) fn new(alloc: Global) -> Exchange {
         Exchange {
-            says: Vec::new(alloc),
-            hears: Vec::new(alloc),
+            sent_bytes: Vec::new(alloc),
+            expected_bytes: Vec::new(alloc),
         }
     }
 }
@@ -32,7 +32,7 @@ pub(crate) struct Peers<'a> {
     // The port at which the program listens, or 0 if the program does not listen.
     port: Cell<u16>,
     // The number of connections that the program has not yet accepted.
-    waiting: Cell<usize>,
+    waiting_connections: Cell<usize>,
 }
 
 impl<'a> Peers<'a> {
@@ -42,7 +42,7 @@ impl<'a> Peers<'a> {
             exchanges,
             streams: RefCell::new(Vec::new(alloc)),
             port: Cell::new(0),
-            waiting: Cell::new(0),
+            waiting_connections: Cell::new(0),
         }
     }
 
@@ -52,18 +52,18 @@ impl<'a> Peers<'a> {
     }
 
     /// Records the port of the program's listener.
-    pub(crate) fn note_listener(&self, listener: &TcpListener) {
+    pub(crate) fn record_port(&self, listener: &TcpListener) {
         if let Ok(address) = listener.local_addr() {
             self.port.set(address.port());
         }
     }
 
     /// Connects all clients to this port.
-    pub(crate) fn visit<R: System>(&self, rt: &R, port: u16) -> io::Result<()> {
+    pub(crate) fn connect_clients<R: System>(&self, rt: &R, port: u16) -> io::Result<()> {
         for exchange in self.exchanges {
             let stream = TcpStream::connect(rt, ("127.0.0.1", port))?;
-            self.note_waiting();
-            self.keep(stream, exchange)?;
+            self.count_waiting_connection();
+            self.send_and_store(stream, exchange)?;
         }
         Ok(())
     }
@@ -73,33 +73,35 @@ impl<'a> Peers<'a> {
     pub(crate) fn connect<R: System>(&self, rt: &R, address: SocketAddr) -> io::Result<TcpStream> {
         if address.port() == self.port() {
             let stream = TcpStream::connect(rt, address)?;
-            self.note_waiting();
+            self.count_waiting_connection();
             return Ok(stream);
         }
-        let Some(exchange) = self.exchanges.get(self.count()) else {
+        let Some(exchange) = self.exchanges.get(self.connected_count()) else {
             return Err(io::Error::from(ErrorKind::ConnectionRefused));
         };
         let listener = TcpListener::bind(rt, "127.0.0.1:0")?;
-        let near = TcpStream::connect(rt, listener.local_addr()?)?;
-        let (far, _) = listener.accept()?;
-        self.keep(far, exchange)?;
-        Ok(near)
+        let program_stream = TcpStream::connect(rt, listener.local_addr()?)?;
+        let (peer_stream, _) = listener.accept()?;
+        self.send_and_store(peer_stream, exchange)?;
+        Ok(program_stream)
     }
 
-    fn note_waiting(&self) {
-        self.waiting.set(self.waiting.get().saturating_add(1));
+    fn count_waiting_connection(&self) {
+        self.waiting_connections
+            .set(self.waiting_connections.get().saturating_add(1));
     }
 
     /// Returns whether a connection is waiting to be accepted. If so, counts that connection as
     /// accepted.
-    pub(crate) fn take_waiting(&self) -> bool {
-        let waiting = self.waiting.get();
-        self.waiting.set(waiting.saturating_sub(1));
-        waiting > 0
+    pub(crate) fn take_waiting_connection(&self) -> bool {
+        let waiting_connections = self.waiting_connections.get();
+        self.waiting_connections
+            .set(waiting_connections.saturating_sub(1));
+        waiting_connections > 0
     }
 
     // Returns the number of connected peers.
-    fn count(&self) -> usize {
+    fn connected_count(&self) -> usize {
         match self.streams.try_borrow() {
             Ok(streams) => streams.len(),
             Err(_) => 0,
@@ -107,9 +109,9 @@ impl<'a> Peers<'a> {
     }
 
     // Sends the bytes of a peer, shuts down writing, and stores the stream.
-    fn keep(&self, stream: TcpStream, exchange: &Exchange) -> io::Result<()> {
+    fn send_and_store(&self, stream: TcpStream, exchange: &Exchange) -> io::Result<()> {
         let mut stream = stream;
-        stream.write_all(exchange.says.as_slice())?;
+        stream.write_all(exchange.sent_bytes.as_slice())?;
         stream.shutdown(Shutdown::Write)?;
         match self.streams.try_borrow_mut() {
             Ok(mut streams) => Ok(streams.push(stream)?),
@@ -119,22 +121,22 @@ impl<'a> Peers<'a> {
 
     /// Returns whether every peer was connected and received its expected bytes. If a connection
     /// was reset, its peer may have received only a prefix of these bytes.
-    pub(crate) fn have_heard(&self, alloc: Global) -> bool {
+    pub(crate) fn have_received_expected(&self, alloc: Global) -> bool {
         let Ok(mut streams) = self.streams.try_borrow_mut() else {
             return false;
         };
         let mut is_right = streams.len() == self.exchanges.len();
         for (stream, exchange) in streams.as_mut_slice().iter_mut().zip(self.exchanges) {
-            is_right = is_right && has_heard(alloc, stream, exchange.hears.as_slice());
+            is_right = is_right && has_received(alloc, stream, exchange.expected_bytes.as_slice());
         }
         is_right
     }
 }
 
-fn has_heard(alloc: Global, stream: &mut TcpStream, due: &[u8]) -> bool {
+fn has_received(alloc: Global, stream: &mut TcpStream, expected: &[u8]) -> bool {
     let mut bytes = Vec::new(alloc);
     match stream.read_to_end(&mut bytes) {
-        Ok(_) => bytes.as_slice() == due,
-        Err(_) => due.starts_with(bytes.as_slice()),
+        Ok(_) => bytes.as_slice() == expected,
+        Err(_) => expected.starts_with(bytes.as_slice()),
     }
 }

@@ -1,25 +1,25 @@
 //! The streams of a program that carry the messages of a case.
 
-use case_text::Who;
+use case_text::Speaker;
 
 /// A stream of the program.
 #[derive(Clone, Copy, PartialEq, Eq)]
 pub(crate) enum Stream {
     /// The input from the peer: standard input, or a socket.
-    Read,
+    PeerInput,
     /// The output to the peer: standard output, or a socket.
-    Written,
+    PeerOutput,
     /// Standard output.
-    Output,
+    StandardOutput,
     /// Standard error.
-    Errors,
+    StandardError,
 }
 
 /// The streams of a command.
 #[derive(Clone, Copy)]
-pub(crate) struct Streams {
+pub(crate) struct CommandStreams {
     /// Whether the command reads the messages of a client.
-    reads_client: bool,
+    reads_client_messages: bool,
     /// Whether the peers are connected over sockets.
     pub(crate) is_remote: bool,
     /// Whether the command writes its report to standard error, because standard output carries its
@@ -27,35 +27,35 @@ pub(crate) struct Streams {
     reports_on_errors: bool,
 }
 
-impl Streams {
+impl CommandStreams {
     /// Returns the streams of the command with these arguments.
-    pub(crate) fn of(words: &str) -> Streams {
-        let is_fetch = has_word(words, "--stdio");
-        let asks = has_word(words, "--tcp");
-        Streams {
-            reads_client: !is_fetch && !asks,
-            is_remote: asks || has_word(words, "--listen"),
+    pub(crate) fn of_command(arguments: &str) -> CommandStreams {
+        let is_fetch = has_option(arguments, "--stdio");
+        let connects = has_option(arguments, "--tcp");
+        CommandStreams {
+            reads_client_messages: !is_fetch && !connects,
+            is_remote: connects || has_option(arguments, "--listen"),
             reports_on_errors: is_fetch,
         }
     }
 
     /// Returns the stream for the messages of this speaker.
-    pub(crate) fn stream_of(self, who: Who) -> Stream {
-        match who {
-            Who::Client if self.reads_client => Stream::Read,
-            Who::Server if !self.reads_client => Stream::Read,
-            Who::Client | Who::Server => Stream::Written,
-            Who::Output => Stream::Output,
-            Who::Errors => Stream::Errors,
-            Who::Report if self.reports_on_errors => Stream::Errors,
-            Who::Report => Stream::Output,
+    pub(crate) fn stream_of(self, speaker: Speaker) -> Stream {
+        match speaker {
+            Speaker::Client if self.reads_client_messages => Stream::PeerInput,
+            Speaker::Server if !self.reads_client_messages => Stream::PeerInput,
+            Speaker::Client | Speaker::Server => Stream::PeerOutput,
+            Speaker::Output => Stream::StandardOutput,
+            Speaker::Errors => Stream::StandardError,
+            Speaker::Report if self.reports_on_errors => Stream::StandardError,
+            Speaker::Report => Stream::StandardOutput,
         }
     }
 }
 
-fn has_word(words: &str, word: &str) -> bool {
-    for other in words.split(' ') {
-        if other == word {
+fn has_option(arguments: &str, option: &str) -> bool {
+    for other in arguments.split(' ') {
+        if other == option {
             return true;
         }
     }

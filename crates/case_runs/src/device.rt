@@ -1,128 +1,135 @@
 //! In-memory sources and sinks that transfer a limited number of bytes in each call, and fail at a
-//! chosen call. `AsStd` turns a source into a std reader, and a sink into a std writer.
+//! chosen call. `StdAdapter` turns a source into a std reader, and a sink into a std writer.
 
 ghost use Rattle.std.specs.Prelude.{◌≡◌, is_err, None, []};
 ghost use Rattle.gpkt.specs.Devices.{AnswersDown};
 
-use crate::watch::Watch;
+use crate::indexer_check::IndexerCheck;
 use gpkt::{Down, Sink, Source};
 use std::alloc::{AllocError, Global};
 use std::io;
 use std::io::{ErrorKind, Read, Write};
 
-/// The limits of a source or sink: the maximum number of bytes in a call, and the number of the
-/// call that fails, counted from 1.
+/// The limits of a source or sink. A call transfers at most `max_per_call` bytes. The call with the
+/// number `failing_call`, counted from 1, fails; no call fails for 0.
 #[derive(Clone, Copy)]
-pub struct Hindrance {
-    most: usize,
-    fails_at: usize,
+pub struct DeviceLimits {
+    max_per_call: usize,
+    failing_call: usize,
 }
 
-impl Hindrance {
+impl DeviceLimits {
     /// No limit on the bytes of a call, and no failure.
-    pub const NONE: Hindrance = Hindrance {
-        most: usize::MAX,
-        fails_at: 0,
+    pub const NONE: DeviceLimits = DeviceLimits {
+        max_per_call: usize::MAX,
+        failing_call: 0,
     };
 
-    /// Returns limits of `most` bytes per call, without a failure.
-    pub fn pieces(most: usize) -> Hindrance {
-        Hindrance { most, fails_at: 0 }
+    /// Returns limits of `max_per_call` bytes per call, without a failure.
+    pub fn with_max_per_call(max_per_call: usize) -> DeviceLimits {
+        DeviceLimits {
+            max_per_call,
+            failing_call: 0,
+        }
     }
 
     /// Returns limits of one byte per call, with a failure at the call with this number.
-    pub fn fail_call(call: usize) -> Hindrance {
-        Hindrance {
-            most: 1,
-            fails_at: call,
+    pub fn with_failing_call(call: usize) -> DeviceLimits {
+        DeviceLimits {
+            max_per_call: 1,
+            failing_call: call,
         }
     }
 }
 
 // A counter of calls that fails at the chosen call and at each later call.
 #[derive(Drop)]
-struct Turns {
-    hindrance: Hindrance,
+struct CallCounter {
+    limits: DeviceLimits,
     calls: usize,
-    down: bool,
+    is_down: bool,
     // Whether a call followed a failed call, or a read had an empty buffer.
-    again: bool,
+    was_misused: bool,
 }
 
-impl Turns {
-    fn new(hindrance: Hindrance) -> Turns {
-        Turns {
-            hindrance,
+impl CallCounter {
+    fn new(limits: DeviceLimits) -> CallCounter {
+        CallCounter {
+            limits,
             calls: 0,
-            down: false,
-            again: false,
+            is_down: false,
+            was_misused: false,
         }
     }
 
-    fn take_turn(&mut self) -> Result<(), Down>
-        ensures down { self.new.down ≡ is_err result }
-        ensures stays_down { AnswersDown self.old.down result }
+    fn count_call(&mut self) -> Result<(), Down>
+        ensures is_down { self.new.is_down ≡ is_err result }
+        ensures stays_down { AnswersDown self.old.is_down result }
     {
         self.calls = self.calls.saturating_add(1);
-        self.again = self.again || self.down;
-        self.down = self.down || self.calls == self.hindrance.fails_at;
-        if self.down { Err(Down) } else { Ok(()) }
+        self.was_misused = self.was_misused || self.is_down;
+        self.is_down = self.is_down || self.calls == self.limits.failing_call;
+        if self.is_down { Err(Down) } else { Ok(()) }
     }
 }
 
 /// A source of bytes in memory.
 #[derive(Drop)]
 pub struct Reader<'a, 'w> {
-    rest: &'a [u8],
-    watch: &'w Watch,
-    turns: Turns,
+    unread: &'a [u8],
+    indexer_check: &'w IndexerCheck,
+    call_counter: CallCounter,
 }
 
 impl<'a, 'w> Reader<'a, 'w> {
     /// Returns a source that yields these bytes.
-    pub fn new(bytes: &'a [u8], hindrance: Hindrance, watch: &'w Watch) -> Reader<'a, 'w> {
+    pub fn new(
+        bytes: &'a [u8],
+        limits: DeviceLimits,
+        indexer_check: &'w IndexerCheck,
+    ) -> Reader<'a, 'w> {
         Reader {
-            rest: bytes,
-            watch,
-            turns: Turns::new(hindrance),
+            unread: bytes,
+            indexer_check,
+            call_counter: CallCounter::new(limits),
         }
     }
 
     /// Returns the number of bytes not yet read.
-    pub fn bytes_left(&self) -> usize {
-        self.rest.len()
+    pub fn unread_len(&self) -> usize {
+        self.unread.len()
     }
 
     /// Returns whether a call of the source failed.
     pub fn has_failed(&self) -> bool {
-        self.turns.down
+        self.call_counter.is_down
     }
 
     /// Returns whether a read followed a failed read, or a read had an empty buffer.
-    pub fn was_called_again(&self) -> bool {
-        self.turns.again
+    pub fn was_misused(&self) -> bool {
+        self.call_counter.was_misused
     }
 }
 
 impl Source for Reader<'_, '_> {
     ghost remaining = { λ _. None };
 
-    ghost is_down = { λ s. s.turns.down };
+    ghost is_down = { λ s. s.call_counter.is_down };
 
     ghost loans = { λ _. [] };
 
     fn read(&mut self, buf: &mut [u8]) -> Result<usize, Down> {
-        self.turns.again = self.turns.again || buf.is_empty();
-        self.turns.take_turn()?;
+        self.call_counter.was_misused = self.call_counter.was_misused || buf.is_empty();
+        self.call_counter.count_call()?;
         let count = self
-            .rest
+            .unread
             .len()
             .min(buf.len())
-            .min(self.turns.hindrance.most);
-        let (part, rest) = self.rest.split_at(count);
+            .min(self.call_counter.limits.max_per_call);
+        let (part, unread) = self.unread.split_at(count);
         buf[..count].copy_from_slice(part);
-        self.rest = rest;
-        self.watch.give(count);
+        self.unread = unread;
+        self.indexer_check.note_read(count);
         Ok(count)
     }
 }
@@ -131,34 +138,26 @@ impl Source for Reader<'_, '_> {
 #[derive(Drop)]
 pub struct Writer {
     written: Vec<u8>,
-    passed_on: usize,
-    turns: Turns,
+    flushed_len: usize,
+    call_counter: CallCounter,
 }
 
 impl Writer {
     /// Returns a sink without any bytes.
-    pub fn new(alloc: Global, hindrance: Hindrance) -> Writer {
+    pub fn new(alloc: Global, limits: DeviceLimits) -> Writer {
         Writer {
             written: Vec::new(alloc),
-            passed_on: 0,
-            turns: Turns::new(hindrance),
+            flushed_len: 0,
+            call_counter: CallCounter::new(limits),
         }
     }
 
-    /// Returns a sink that already holds these bytes. The bytes count as flushed if `is_passed_on`
+    /// Returns a sink that already holds these bytes. The bytes count as flushed if `is_flushed`
     /// is set.
-    pub fn with_bytes(
-        alloc: Global,
-        bytes: &[u8],
-        is_passed_on: bool,
-    ) -> Result<Writer, AllocError> {
-        let mut writer = Writer::new(alloc, Hindrance::NONE);
+    pub fn with_bytes(alloc: Global, bytes: &[u8], is_flushed: bool) -> Result<Writer, AllocError> {
+        let mut writer = Writer::new(alloc, DeviceLimits::NONE);
         writer.written.extend_from_slice(bytes)?;
-        writer.passed_on = if is_passed_on {
-            bytes.len()
-        } else {
-            usize::MAX
-        };
+        writer.flushed_len = if is_flushed { bytes.len() } else { usize::MAX };
         Ok(writer)
     }
 
@@ -168,18 +167,18 @@ impl Writer {
     }
 
     /// Returns whether all written bytes are flushed.
-    pub fn is_passed_on(&self) -> bool {
-        self.passed_on == self.written.len()
+    pub fn is_flushed(&self) -> bool {
+        self.flushed_len == self.written.len()
     }
 
     /// Returns whether a call of the sink failed.
     pub fn has_failed(&self) -> bool {
-        self.turns.down
+        self.call_counter.is_down
     }
 
     /// Returns whether a call followed a failed call.
-    pub fn was_called_again(&self) -> bool {
-        self.turns.again
+    pub fn was_misused(&self) -> bool {
+        self.call_counter.was_misused
     }
 }
 
@@ -188,25 +187,25 @@ impl Sink for Writer {
 
     ghost passed_on = { λ _. None };
 
-    ghost is_down = { λ s. s.turns.down };
+    ghost is_down = { λ s. s.call_counter.is_down };
 
     ghost loans = { λ _. [] };
 
     fn write(&mut self, buf: &[u8]) -> Result<usize, Down> {
-        self.turns.take_turn()?;
-        let count = buf.len().min(self.turns.hindrance.most.max(1));
+        self.call_counter.count_call()?;
+        let count = buf.len().min(self.call_counter.limits.max_per_call.max(1));
         match self.written.extend_from_slice(&buf[..count]) {
             Ok(()) => Ok(count),
             Err(_) => {
-                self.turns.down = true;
+                self.call_counter.is_down = true;
                 Err(Down)
             }
         }
     }
 
     fn flush(&mut self) -> Result<(), Down> {
-        self.turns.take_turn()?;
-        self.passed_on = self.written.len();
+        self.call_counter.count_call()?;
+        self.flushed_len = self.written.len();
         Ok(())
     }
 }
@@ -219,15 +218,15 @@ enum Failure {
     WouldBlock,
     UnexpectedEof,
     // A write that returns 0.
-    TakesNone,
+    WritesZero,
 }
 
 impl Failure {
     // Returns the form of failure for these limits. The four forms alternate with the number of the
     // failing call.
-    fn of(hindrance: Hindrance) -> Failure {
-        match hindrance.fails_at % 4 {
-            0 => Failure::TakesNone,
+    fn for_limits(limits: DeviceLimits) -> Failure {
+        match limits.failing_call % 4 {
+            0 => Failure::WritesZero,
             1 => Failure::Interrupted,
             2 => Failure::WouldBlock,
             _ => Failure::UnexpectedEof,
@@ -236,7 +235,7 @@ impl Failure {
 
     fn error(self) -> io::Error {
         match self {
-            Failure::Interrupted | Failure::TakesNone => io::Error::from(ErrorKind::Interrupted),
+            Failure::Interrupted | Failure::WritesZero => io::Error::from(ErrorKind::Interrupted),
             Failure::WouldBlock => io::Error::from(ErrorKind::WouldBlock),
             Failure::UnexpectedEof => io::Error::from(ErrorKind::UnexpectedEof),
         }
@@ -246,28 +245,28 @@ impl Failure {
 /// A std reader over a source, or a std writer over a sink, that reports failures in one of four
 /// forms.
 #[derive(Drop)]
-pub struct AsStd<D> {
+pub struct StdAdapter<D> {
     device: D,
     failure: Failure,
 }
 
-impl<D> AsStd<D> {
+impl<D> StdAdapter<D> {
     /// Wraps a source or sink that has these limits.
-    pub fn new(device: D, hindrance: Hindrance) -> AsStd<D> {
-        AsStd {
+    pub fn new(device: D, limits: DeviceLimits) -> StdAdapter<D> {
+        StdAdapter {
             device,
-            failure: Failure::of(hindrance),
+            failure: Failure::for_limits(limits),
         }
     }
 
     /// Returns the wrapped source or sink.
     pub fn into_inner(self) -> D {
-        let AsStd { device, failure: _ } = self;
+        let StdAdapter { device, failure: _ } = self;
         device
     }
 }
 
-impl<D: Source> Read for AsStd<D> {
+impl<D: Source> Read for StdAdapter<D> {
     fn read(&mut self, buf: &mut [u8]) -> io::Result<usize> {
         match self.device.read(buf) {
             Ok(count) => Ok(count),
@@ -276,11 +275,11 @@ impl<D: Source> Read for AsStd<D> {
     }
 }
 
-impl<D: Sink> Write for AsStd<D> {
+impl<D: Sink> Write for StdAdapter<D> {
     fn write(&mut self, buf: &[u8]) -> io::Result<usize> {
         match (self.device.write(buf), self.failure) {
             (Ok(count), _) => Ok(count),
-            (Err(_), Failure::TakesNone) => Ok(0),
+            (Err(_), Failure::WritesZero) => Ok(0),
             (Err(_), failure) => Err(failure.error()),
         }
     }

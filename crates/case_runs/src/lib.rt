@@ -1,10 +1,10 @@
 //! Runs of the commands in `gcmd` and of their network calls, for tests. The sources and sinks
-//! limit the bytes of each call, and fail at a chosen call. An allocation may fail. Packers and
-//! indexers may break their contracts, and the calls of each indexer are checked.
+//! limit the bytes of each call, and fail at a chosen call. An allocation may be refused. Packers
+//! and indexers may break their contracts, and the calls of each indexer are checked.
 //!
-//! [`run_command`] runs the command of a [`Job`] on the sources and sinks in [`Devices`]. The
-//! function can also serve a connection with its first line, or list refs, as `gitv2` does over the
-//! network. If the packer or the indexer is not `PlainPack`, code of this crate replaces the
+//! [`run_command`] runs the command of a [`CommandRun`] on the sources and sinks in [`Devices`].
+//! The function can also serve a connection with its first line, or list refs, as `gitv2` does over
+//! the network. If the packer or the indexer is not `PlainPack`, code of this crate replaces the
 //! command of `gcmd`.
 //!
 //! # Proved
@@ -19,26 +19,28 @@
 //!
 //! # Dependencies
 //!
-//! `case_text` defines commands, packers, indexers and an allocator that fails. `gcmd` defines the
-//! programs, and `gserve` and `gclient` define their network calls. `gpkt` defines sources and
-//! sinks, and `ggraph` defines packs and the texts of repositories. `ghello`, `grequest`,
-//! `glsreply` and `gname` define the messages of a connection.
+//! `case_text` defines commands, packers, indexers and an allocator that refuses an allocation.
+//! `gcmd` defines the programs, and `gserve` and `gclient` define their network calls. `gpkt`
+//! defines sources and sinks, and `ggraph` defines packs and the texts of repositories. `ghello`,
+//! `grequest`, `glsreply` and `gname` define the messages of a connection.
 #![tactic(auto)]
 
-mod connected;
+mod checked_tool;
 mod device;
-mod files;
-mod handed;
-mod lying;
+mod indexer_check;
+mod inputs;
+mod network_commands;
 mod program;
 mod report;
 mod stored;
-mod watch;
+mod tool_runs;
 
-pub use crate::connected::{end_listing, prefixes_of};
-pub use crate::device::{AsStd, Hindrance, Reader, Writer};
-pub use crate::files::{client_of, server_of, specs_of};
-pub use crate::lying::{end_fetch, end_with_fault};
-pub use crate::program::{Devices, Job, Ran, limit_of, ran_without_file, run_command};
-pub use crate::stored::{Mishap, Stored, fetch_into_stored};
-pub use crate::watch::Watch;
+pub use crate::device::{DeviceLimits, Reader, StdAdapter, Writer};
+pub use crate::indexer_check::IndexerCheck;
+pub use crate::inputs::{parse_client, parse_server, parse_specs};
+pub use crate::network_commands::{conclude_listing, parse_prefixes};
+pub use crate::program::{
+    CommandRun, Devices, RunOutcome, outcome_without_file, pack_limit_of, run_command,
+};
+pub use crate::stored::{FileProblem, StoredFetch, fetch_into_stored_file};
+pub use crate::tool_runs::{conclude_fetch, end_with_fault};

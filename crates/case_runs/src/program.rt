@@ -1,10 +1,10 @@
 //! Runs of the commands in `gcmd`: a command line, the text of a repository, and the input.
 
-use crate::connected::{list_refs, serve_connection};
-use crate::files::specs_of;
-use crate::lying::{fetch_with, serve_with, tools_of};
-use crate::watch::Watch;
-use case_text::{Invocation, Program, Scarce, Trouble, words_of};
+use crate::indexer_check::IndexerCheck;
+use crate::inputs::parse_specs;
+use crate::network_commands::{list_refs, serve_connection};
+use crate::tool_runs::{fetch_with_indexer, make_checked_tool, serve_with_tool};
+use case_text::{Invocation, Program, RefusingAllocator, Trouble, split_words};
 use gcmd::{
     FetchRun, PackLimit, Spec, cmd_check, cmd_failed, cmd_fetch, cmd_lines, cmd_ls, cmd_upload,
 };
@@ -14,29 +14,29 @@ use std::alloc::{Allocator, Global};
 
 /// A command to run, the text of its repository, its input, and its allocators.
 #[derive(Clone, Copy)]
-pub struct Job<'b, 'i, 'm, A: Allocator + Copy> {
+pub struct CommandRun<'b, 'i, 'm, A: Allocator + Copy> {
     pub alloc: Global,
-    /// The allocator of the command. `scarce` is the same allocator, and determines which
-    /// allocation fails.
-    pub memory: A,
-    pub scarce: &'m Scarce<Global>,
-    pub watch: &'m Watch,
+    /// The allocator of the command. `refusing_alloc` is the same allocator, and determines which
+    /// allocation is refused.
+    pub tested_alloc: A,
+    pub refusing_alloc: &'m RefusingAllocator<Global>,
+    pub indexer_check: &'m IndexerCheck,
     pub command: Invocation<'b>,
-    pub file: &'b [u8],
+    pub repository_text: &'b [u8],
     pub input: &'i [u8],
-    /// The number of the allocation that fails, counted from 1. No allocation fails for 0.
-    pub refused: u64,
+    /// The number of the allocation to refuse, counted from 1. No allocation is refused for 0.
+    pub refused_allocation: u64,
 }
 
 /// The result of a command.
 #[derive(Drop)]
-pub struct Ran {
+pub struct RunOutcome {
     pub status: u8,
     /// The new text of the client's file, if the command writes the file.
-    pub file: Option<Vec<u8>>,
+    pub new_file: Option<Vec<u8>>,
     /// The text of the client's repository at the end, if it is known.
-    pub state: Option<Vec<u8>>,
-    /// Whether the run reached the allocation that fails.
+    pub final_repository_text: Option<Vec<u8>>,
+    /// Whether the run reached the allocation to refuse.
     pub was_refused: bool,
 }
 
@@ -51,159 +51,169 @@ pub struct Devices<I, O, R, E> {
 
 /// Runs any command except a simulation.
 pub fn run_command<A: Allocator + Copy, I: Source, O: Sink, R: Sink, E: Sink>(
-    job: &Job<'_, '_, '_, A>,
+    run: &CommandRun<'_, '_, '_, A>,
     devices: &mut Devices<I, O, R, E>,
-) -> Result<Ran, Trouble> {
-    match job.command.program {
-        Program::Fetch => fetch(job, devices),
-        Program::List => list_prefixes(job, devices),
-        _ => Ok(run_without_words(job, devices)),
+) -> Result<RunOutcome, Trouble> {
+    match run.command.program {
+        Program::Fetch => run_fetch(run, devices),
+        Program::LsClient => run_ls_client(run, devices),
+        _ => Ok(run_without_arguments(run, devices)),
     }
 }
 
-fn list_prefixes<A: Allocator + Copy, I: Source, O: Sink, R: Sink, E: Sink>(
-    job: &Job<'_, '_, '_, A>,
+fn run_ls_client<A: Allocator + Copy, I: Source, O: Sink, R: Sink, E: Sink>(
+    run: &CommandRun<'_, '_, '_, A>,
     devices: &mut Devices<I, O, R, E>,
-) -> Result<Ran, Trouble> {
-    let words = words_of(job.memory, job.command.specs)?;
-    job.scarce.refuse(job.refused);
-    let status = list_refs(job, words.as_slice(), devices);
-    Ok(ran_without_file(job, status))
+) -> Result<RunOutcome, Trouble> {
+    let arguments = split_words(run.tested_alloc, run.command.operands)?;
+    run.refusing_alloc.refuse_allocation(run.refused_allocation);
+    let status = list_refs(run, arguments.as_slice(), devices);
+    Ok(outcome_without_file(run, status))
 }
 
-fn run_without_words<A: Allocator + Copy, I: Source, O: Sink, R: Sink, E: Sink>(
-    job: &Job<'_, '_, '_, A>,
+fn run_without_arguments<A: Allocator + Copy, I: Source, O: Sink, R: Sink, E: Sink>(
+    run: &CommandRun<'_, '_, '_, A>,
     devices: &mut Devices<I, O, R, E>,
-) -> Ran {
-    job.scarce.refuse(job.refused);
-    let status = match job.command.liar {
-        Some(liar) => serve_with(job, liar, devices),
-        None => run_plainly(job, devices),
+) -> RunOutcome {
+    run.refusing_alloc.refuse_allocation(run.refused_allocation);
+    let status = match run.command.pack_tool {
+        Some(pack_tool) => serve_with_tool(run, pack_tool, devices),
+        None => run_with_plain_pack(run, devices),
     };
-    ran_without_file(job, status)
+    outcome_without_file(run, status)
 }
 
 /// Returns the result of a command that writes no file.
-pub fn ran_without_file<A: Allocator + Copy>(job: &Job<'_, '_, '_, A>, status: u8) -> Ran {
-    Ran {
+pub fn outcome_without_file<A: Allocator + Copy>(
+    run: &CommandRun<'_, '_, '_, A>,
+    status: u8,
+) -> RunOutcome {
+    RunOutcome {
         status,
-        file: None,
-        state: None,
-        was_refused: !job.scarce.is_due(),
+        new_file: None,
+        final_repository_text: None,
+        was_refused: !run.refusing_alloc.awaits_refusal(),
     }
 }
 
 // Runs a command that does not change its file, and that uses `PlainPack`.
-fn run_plainly<A: Allocator + Copy, I: Source, O: Sink, R: Sink, E: Sink>(
-    job: &Job<'_, '_, '_, A>,
+fn run_with_plain_pack<A: Allocator + Copy, I: Source, O: Sink, R: Sink, E: Sink>(
+    run: &CommandRun<'_, '_, '_, A>,
     devices: &mut Devices<I, O, R, E>,
 ) -> u8 {
-    match job.command.program {
-        Program::Ls => list(job, devices),
-        Program::Upload => upload(job, devices),
-        Program::Check => check(job, devices),
-        Program::Serve => serve_connection(job, &PlainPack, devices),
-        Program::Lines | Program::Fetch | Program::Simulate | Program::List => show(job, devices),
+    match run.command.program {
+        Program::LsStdioServer => run_ls_stdio_server(run, devices),
+        Program::Upload => run_upload(run, devices),
+        Program::Check => run_check(run, devices),
+        Program::Serve => serve_connection(run, &PlainPack, devices),
+        Program::Lines | Program::Fetch | Program::Simulate | Program::LsClient => run_lines(
+            run, devices,
+        ),
     }
 }
 
-fn list<A: Allocator + Copy, I: Source, O: Sink, R: Sink, E: Sink>(
-    job: &Job<'_, '_, '_, A>,
+fn run_ls_stdio_server<A: Allocator + Copy, I: Source, O: Sink, R: Sink, E: Sink>(
+    run: &CommandRun<'_, '_, '_, A>,
     devices: &mut Devices<I, O, R, E>,
 ) -> u8 {
     cmd_ls(
-        job.memory,
-        job.file,
+        run.tested_alloc,
+        run.repository_text,
         &mut devices.input,
         &mut devices.output,
         &mut devices.errors,
     )
 }
 
-fn upload<A: Allocator + Copy, I: Source, O: Sink, R: Sink, E: Sink>(
-    job: &Job<'_, '_, '_, A>,
+fn run_upload<A: Allocator + Copy, I: Source, O: Sink, R: Sink, E: Sink>(
+    run: &CommandRun<'_, '_, '_, A>,
     devices: &mut Devices<I, O, R, E>,
 ) -> u8 {
     cmd_upload(
-        job.memory,
-        job.file,
-        job.command.ends,
+        run.tested_alloc,
+        run.repository_text,
+        run.command.reply_ends,
         &mut devices.input,
         &mut devices.output,
         &mut devices.errors,
     )
 }
 
-fn check<A: Allocator + Copy, I: Source, O: Sink, R: Sink, E: Sink>(
-    job: &Job<'_, '_, '_, A>,
+fn run_check<A: Allocator + Copy, I: Source, O: Sink, R: Sink, E: Sink>(
+    run: &CommandRun<'_, '_, '_, A>,
     devices: &mut Devices<I, O, R, E>,
 ) -> u8 {
     cmd_check(
-        job.memory,
-        job.file,
+        run.tested_alloc,
+        run.repository_text,
         &mut devices.output,
         &mut devices.errors,
     )
 }
 
-fn show<A: Allocator + Copy, I: Source, O: Sink, R: Sink, E: Sink>(
-    job: &Job<'_, '_, '_, A>,
+fn run_lines<A: Allocator + Copy, I: Source, O: Sink, R: Sink, E: Sink>(
+    run: &CommandRun<'_, '_, '_, A>,
     devices: &mut Devices<I, O, R, E>,
 ) -> u8 {
     cmd_lines(
-        job.memory,
+        run.tested_alloc,
         &mut devices.input,
         &mut devices.output,
         &mut devices.errors,
     )
 }
 
-fn fetch<A: Allocator + Copy, I: Source, O: Sink, R: Sink, E: Sink>(
-    job: &Job<'_, '_, '_, A>,
+fn run_fetch<A: Allocator + Copy, I: Source, O: Sink, R: Sink, E: Sink>(
+    run: &CommandRun<'_, '_, '_, A>,
     devices: &mut Devices<I, O, R, E>,
-) -> Result<Ran, Trouble> {
-    let words = words_of(job.memory, job.command.specs)?;
-    job.scarce.refuse(job.refused);
-    match specs_of(job.memory, words.as_slice()) {
-        Ok(specs) => fetch_by(job, specs.as_slice(), devices),
-        Err(fault) => Ok(ran_without_file(job, cmd_failed(fault, &mut devices.errors))),
+) -> Result<RunOutcome, Trouble> {
+    let arguments = split_words(run.tested_alloc, run.command.operands)?;
+    run.refusing_alloc.refuse_allocation(run.refused_allocation);
+    match parse_specs(run.tested_alloc, arguments.as_slice()) {
+        Ok(specs) => fetch_specs(run, specs.as_slice(), devices),
+        Err(fault) => Ok(outcome_without_file(run, cmd_failed(fault, &mut devices.errors))),
     }
 }
 
-fn fetch_by<A: Allocator + Copy, I: Source, O: Sink, R: Sink, E: Sink>(
-    job: &Job<'_, '_, '_, A>,
+fn fetch_specs<A: Allocator + Copy, I: Source, O: Sink, R: Sink, E: Sink>(
+    run: &CommandRun<'_, '_, '_, A>,
     specs: &[Spec<A>],
     devices: &mut Devices<I, O, R, E>,
-) -> Result<Ran, Trouble> {
-    match job.command.liar {
-        Some(liar) => fetch_with(job, &tools_of(job, liar), specs, devices),
-        None if job.command.has_hello() => fetch_with(job, &PlainPack, specs, devices),
-        None => fetch_plainly(job, specs, devices),
+) -> Result<RunOutcome, Trouble> {
+    match run.command.pack_tool {
+        Some(pack_tool) => fetch_with_indexer(
+            run,
+            &make_checked_tool(run, pack_tool),
+            specs,
+            devices,
+        ),
+        None if run.command.has_hello() => fetch_with_indexer(run, &PlainPack, specs, devices),
+        None => fetch_with_plain_pack(run, specs, devices),
     }
 }
 
-fn fetch_plainly<A: Allocator + Copy, I: Source, O: Sink, R: Sink, E: Sink>(
-    job: &Job<'_, '_, '_, A>,
+fn fetch_with_plain_pack<A: Allocator + Copy, I: Source, O: Sink, R: Sink, E: Sink>(
+    run: &CommandRun<'_, '_, '_, A>,
     specs: &[Spec<A>],
     devices: &mut Devices<I, O, R, E>,
-) -> Result<Ran, Trouble> {
-    let run = fetch_file(job, specs, devices);
-    let mut ran = ran_without_file(job, run.status);
-    ran.file = copy_text(job.alloc, &run.file)?;
-    Ok(ran)
+) -> Result<RunOutcome, Trouble> {
+    let fetch = run_cmd_fetch(run, specs, devices);
+    let mut run_outcome = outcome_without_file(run, fetch.status);
+    run_outcome.new_file = copy_text(run.alloc, &fetch.file)?;
+    Ok(run_outcome)
 }
 
-fn fetch_file<A: Allocator + Copy, I: Source, O: Sink, R: Sink, E: Sink>(
-    job: &Job<'_, '_, '_, A>,
+fn run_cmd_fetch<A: Allocator + Copy, I: Source, O: Sink, R: Sink, E: Sink>(
+    run: &CommandRun<'_, '_, '_, A>,
     specs: &[Spec<A>],
     devices: &mut Devices<I, O, R, E>,
 ) -> FetchRun<A> {
     cmd_fetch(
-        job.memory,
-        job.file,
+        run.tested_alloc,
+        run.repository_text,
         specs,
-        limit_of(job.command.limit),
-        job.command.ends,
+        pack_limit_of(run.command.pack_limit),
+        run.command.reply_ends,
         &mut devices.input,
         &mut devices.output,
         &mut devices.report,
@@ -212,7 +222,7 @@ fn fetch_file<A: Allocator + Copy, I: Source, O: Sink, R: Sink, E: Sink>(
 }
 
 /// Returns a pack size limit of `limit` bytes, or the default limit if `limit` is too large.
-pub fn limit_of(limit: usize) -> PackLimit {
+pub fn pack_limit_of(limit: usize) -> PackLimit {
     match PackLimit::new(limit) {
         Some(limit) => limit,
         None => PackLimit::default(),

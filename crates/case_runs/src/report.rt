@@ -7,7 +7,7 @@ use std::alloc::{Allocator, Global};
 
 /// Returns one line for each requested ref update. If the server's `HEAD` is unborn, adds a line
 /// for its target.
-pub(crate) fn report_of<A: Allocator + Copy>(
+pub(crate) fn format_report<A: Allocator + Copy>(
     alloc: Global,
     fetched: &Fetched<A>,
 ) -> Result<Vec<u8>, Trouble> {

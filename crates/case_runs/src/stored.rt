@@ -1,62 +1,63 @@
-//! A fetch into an in-memory file that fails or stops at a chosen call.
+//! A fetch of a client whose repository is in a file. The file is in memory. At a chosen call to
+//! the file, the call fails or the run stops.
 
 ghost use Rattle.std.specs.Prelude.{◌≡◌, IfOk};
 ghost use Rattle.glockfile.specs.declared.storage.Lockfile.TheVariants.{Absent};
 
-use crate::files::specs_of;
-use crate::program::{Devices, Job, limit_of};
-use case_text::{Trouble, words_of};
+use crate::inputs::parse_specs;
+use crate::program::{CommandRun, Devices, pack_limit_of};
+use case_text::{Trouble, split_words};
 use gcmd::{FetchOptions, Spec, cmd_failed, cmd_fetch_stored};
 use glockfile::MemoryFile;
 use gpkt::{Sink, Source};
 use std::alloc::{Allocator, Global};
 
-/// A problem with the stored file during a fetch.
+/// A problem with the client's file during a fetch.
 #[derive(Clone, Copy, PartialEq, Eq)]
-pub enum Mishap {
+pub enum FileProblem {
     /// No failure.
     None,
     /// Another process holds the lock on the file.
-    Locked,
+    LockedByOther,
     /// The call with this number, counted from 1, fails.
-    Fails(usize),
+    FailedCall(usize),
     /// The run stops before this call: this call and all later calls fail without effect.
-    Stops(usize),
+    StopBefore(usize),
     /// The run stops after this call: the call takes effect but fails, and each later call fails.
-    StopsAfter(usize),
+    StopAfter(usize),
 }
 
-/// The result of a fetch into a stored file.
+/// The result of a fetch, and the client's file afterwards.
 #[derive(Drop)]
-pub struct Stored {
+pub struct StoredFetch {
     pub status: u8,
     pub file: MemoryFile<Global>,
-    /// Whether the run reached the allocation that fails.
+    /// Whether the run reached the allocation to refuse.
     pub was_refused: bool,
 }
 
-/// Fetches with `PlainPack` into a stored file that holds the job's repository.
-pub fn fetch_into_stored<A: Allocator + Copy, I: Source, O: Sink, R: Sink, E: Sink>(
-    job: &Job<'_, '_, '_, A>,
-    mishap: Mishap,
+/// Fetches with `PlainPack` into a file in memory that holds the client's repository.
+pub fn fetch_into_stored_file<A: Allocator + Copy, I: Source, O: Sink, R: Sink, E: Sink>(
+    run: &CommandRun<'_, '_, '_, A>,
+    file_problem: FileProblem,
     devices: &mut Devices<I, O, R, E>,
-) -> Result<Stored, Trouble> {
-    let words = words_of(job.memory, job.command.specs)?;
-    let mut file = file_with(job.alloc, job.file, mishap)?;
-    job.scarce.refuse(job.refused);
-    let status = match specs_of(job.memory, words.as_slice()) {
-        Ok(specs) => store(job, specs.as_slice(), &mut file, devices),
+) -> Result<StoredFetch, Trouble> {
+    let arguments = split_words(run.tested_alloc, run.command.operands)?;
+    let mut file = file_with_problem(run.alloc, run.repository_text, file_problem)?;
+    run.refusing_alloc.refuse_allocation(run.refused_allocation);
+    let status = match parse_specs(run.tested_alloc, arguments.as_slice()) {
+        Ok(specs) => fetch_into_file(run, specs.as_slice(), &mut file, devices),
         Err(fault) => cmd_failed(fault, &mut devices.errors),
     };
-    Ok(Stored {
+    Ok(StoredFetch {
         status,
         file,
-        was_refused: !job.scarce.is_due(),
+        was_refused: !run.refusing_alloc.awaits_refusal(),
     })
 }
 
-fn store<A: Allocator + Copy, I: Source, O: Sink, R: Sink, E: Sink>(
-    job: &Job<'_, '_, '_, A>,
+fn fetch_into_file<A: Allocator + Copy, I: Source, O: Sink, R: Sink, E: Sink>(
+    run: &CommandRun<'_, '_, '_, A>,
     specs: &[Spec<A>],
     file: &mut MemoryFile<Global>,
     devices: &mut Devices<I, O, R, E>,
@@ -65,11 +66,11 @@ fn store<A: Allocator + Copy, I: Source, O: Sink, R: Sink, E: Sink>(
 {
     let fetch = FetchOptions {
         specs,
-        limit: limit_of(job.command.limit),
-        ends: job.command.ends,
+        limit: pack_limit_of(run.command.pack_limit),
+        ends: run.command.reply_ends,
     };
     cmd_fetch_stored(
-        job.memory,
+        run.tested_alloc,
         file,
         &fetch,
         &mut devices.input,
@@ -78,17 +79,21 @@ fn store<A: Allocator + Copy, I: Source, O: Sink, R: Sink, E: Sink>(
     )
 }
 
-fn file_with(alloc: Global, text: &[u8], mishap: Mishap) -> Result<MemoryFile<Global>, Trouble>
+fn file_with_problem(
+    alloc: Global,
+    text: &[u8],
+    file_problem: FileProblem,
+) -> Result<MemoryFile<Global>, Trouble>
     ensures { IfOk result (λ file. file.lockfile ≡ Absent) }
 {
     let Ok(file) = MemoryFile::new(alloc, text) else {
         return Err(Trouble::Memory);
     };
-    Ok(match mishap {
-        Mishap::None => file,
-        Mishap::Locked => file.locked_by_another(),
-        Mishap::Fails(call) => file.fail_call(call),
-        Mishap::Stops(call) => file.stop_from(call),
-        Mishap::StopsAfter(call) => file.stopping_after(call),
+    Ok(match file_problem {
+        FileProblem::None => file,
+        FileProblem::LockedByOther => file.locked_by_another(),
+        FileProblem::FailedCall(call) => file.fail_call(call),
+        FileProblem::StopBefore(call) => file.stop_from(call),
+        FileProblem::StopAfter(call) => file.stopping_after(call),
     })
 }

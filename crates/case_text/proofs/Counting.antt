@@ -1,4 +1,4 @@
--- What a caller of `ends_now` hands over, a look at the count, and what it has back: the same look, and a word of yes
+-- What a caller of `count_allocation` hands over, a look at the count, and what it has back: the same look, and a word of yes
 -- or no, of which nothing more is said.
 use Rattle.std.proofs.Common.{◌≡◌, ℕ, List, [], ◌∷◌, refl, ap, Bool}
 use seplogic.Ra.Ura.{Ura}
@@ -17,14 +17,14 @@ use denote.Steps.{nothing, only}
 use denote.Triple.Statement.{Contract}
 use denote.Triple.Spec.{triple_of}
 use Rattle.std.specs.contracts.cell.Cell as cell
-use Rattle.case_text.specs.contracts.scarce.ends_now as f
+use Rattle.case_text.specs.contracts.refusing_allocator.count_allocation as f
 
 -- the type of the count
 abbrev pub Count : RattleType
 Count = cell.the_row u64
 
 module _ {M : Type 1} {𝓤 : Ura M} (𝓛 : Logic 𝓤) (at_mem : Memory → SProp 𝓤) (run : Routine → Fun 𝓤) where
-  -- the contract of `ends_now`
+  -- the contract of `count_allocation`
   abbrev pub Counts : Contract 𝓤
   Counts = triple_of 𝓛 f.signature (f.spec 𝓛 at_mem run)
 

@@ -2,15 +2,15 @@
 
 use crate::kind::FactKind;
 use crate::launch::Launch;
-use crate::liars::Liar;
+use crate::pack_tools::PackTool;
 use crate::table::TableLine;
 use crate::trouble::Trouble;
 use gname::Format;
 use std::alloc::Global;
 
-/// The sender of a test message, or the stream on which the program prints that message.
+/// The end that sends a packet, or the stream on which the program prints a line.
 #[derive(Clone, Copy, PartialEq, Eq)]
-pub enum Who {
+pub enum Speaker {
     Client,
     Server,
     /// The standard output of the program, for lines that are not packets.
@@ -21,98 +21,116 @@ pub enum Who {
     Report,
 }
 
-impl Who {
+impl Speaker {
     /// Returns whether this is the client or the server.
     pub fn is_peer(self) -> bool {
         match self {
-            Who::Client | Who::Server => true,
-            Who::Output | Who::Errors | Who::Report => false,
+            Speaker::Client | Speaker::Server => true,
+            Speaker::Output | Speaker::Errors | Speaker::Report => false,
         }
     }
 }
 
-/// The bytes that one speaker sends or prints.
+/// A packet that the client or the server sends, or a line that the program prints.
 #[derive(Drop)]
-pub struct Said {
-    pub who: Who,
+pub struct TranscriptEntry {
+    pub speaker: Speaker,
     pub bytes: Vec<u8>,
 }
 
 /// A case of a test file.
 #[derive(Drop)]
 pub struct Case<'a> {
-    pub source: &'a str,
-    pub line: usize,
+    /// The test file, and the line in which the case begins.
+    pub file_name: &'a str,
+    pub line_number: usize,
     pub name: &'a str,
-    pub runs: Vec<&'a str>,
+    /// The command lines, each of which runs one end of the conversation.
+    pub commands: Vec<&'a str>,
     /// The arguments and files of a launch, for a case that launches the program itself.
     pub launch: Option<Launch<'a>>,
-    pub said: Vec<Said>,
-    pub file: Option<&'a str>,
-    /// The packer or indexer under test that replaces `PlainPack`, if any.
-    pub liar: Option<Liar>,
-    /// The fault lines expected when an allocation fails, in order.
-    pub memory: Vec<Vec<u8>>,
+    /// The packets that the peers send and the lines that the program prints, in order.
+    pub transcript: Vec<TranscriptEntry>,
+    /// The name of the text that the client's file holds afterwards, if the file changes.
+    pub new_file: Option<&'a str>,
+    /// The packer or indexer that the program uses instead of `PlainPack`, if any.
+    pub pack_tool: Option<PackTool>,
+    /// The fault lines expected when an allocation is refused, in order.
+    pub memory_faults: Vec<Vec<u8>>,
     /// The offsets at which packets begin in the last message that the program reads. The list is
     /// empty if the case lists no offsets.
-    pub packets: Vec<usize>,
+    pub packet_offsets: Vec<usize>,
     /// The expected results when the request is truncated or one of its bytes is changed.
     pub table: Vec<TableLine<'a>>,
+    /// Whether the case is tested only with the whole input and with the input in pieces.
     pub is_long: bool,
+    /// Whether each byte of the input is changed to every other value.
     pub is_deep: bool,
+    /// Whether the case is also tested with a late peer, and over a socket while each allocation is
+    /// refused in turn.
     pub is_late: bool,
-    pub is_plain: bool,
+    /// Whether no response-end packets may be added to the replies.
+    pub forbids_response_ends: bool,
 }
 
 impl<'a> Case<'a> {
     /// Returns a case before any of its lines is read.
-    pub(crate) fn new(alloc: Global, source: &'a str, line: usize, name: &'a str) -> Case<'a> {
+    pub(crate) fn new(
+        alloc: Global,
+        file_name: &'a str,
+        line_number: usize,
+        name: &'a str,
+    ) -> Case<'a> {
         Case {
-            source,
-            line,
+            file_name,
+            line_number,
             name,
-            runs: Vec::new(alloc),
+            commands: Vec::new(alloc),
             launch: None,
-            said: Vec::new(alloc),
-            file: None,
-            liar: None,
-            memory: Vec::new(alloc),
-            packets: Vec::new(alloc),
+            transcript: Vec::new(alloc),
+            new_file: None,
+            pack_tool: None,
+            memory_faults: Vec::new(alloc),
+            packet_offsets: Vec::new(alloc),
             table: Vec::new(alloc),
             is_long: false,
             is_deep: false,
             is_late: false,
-            is_plain: false,
+            forbids_response_ends: false,
         }
     }
 
     /// Reads a line of the file, and returns whether the line belongs to a case.
-    pub(crate) fn take_word(
+    pub(crate) fn read_line(
         &mut self,
         alloc: Global,
-        word: &str,
-        rest: &'a str,
+        keyword: &str,
+        value: &'a str,
     ) -> Result<bool, Trouble> {
-        match word {
-            "run" => self.runs.push(rest)?,
-            "words" => self.launch = Some(Launch::new(alloc, rest)),
-            "file" => self.file = Some(rest),
-            "packer" => self.liar = Some(Liar::packer(rest).ok_or(Trouble::NoLiar)?),
-            "indexer" => self.liar = Some(Liar::indexer(rest).ok_or(Trouble::NoLiar)?),
+        match keyword {
+            "run" => self.commands.push(value)?,
+            "words" => self.launch = Some(Launch::new(alloc, value)),
+            "file" => self.new_file = Some(value),
+            "packer" => self.pack_tool = Some(PackTool::packer_named(value).ok_or(
+                Trouble::UnknownPackTool,
+            )?),
+            "indexer" => self.pack_tool = Some(PackTool::indexer_named(value).ok_or(
+                Trouble::UnknownPackTool,
+            )?),
             "long" => self.is_long = true,
             "deep" => self.is_deep = true,
             "late" => self.is_late = true,
-            "plain" => self.is_plain = true,
-            _ => return self.take_launch_word(word, rest),
+            "plain" => self.forbids_response_ends = true,
+            _ => return self.read_launch_line(keyword, value),
         }
         Ok(true)
     }
 
     // Reads a line about a launch of the program.
-    fn take_launch_word(&mut self, word: &str, rest: &'a str) -> Result<bool, Trouble> {
-        let said = self.said.len();
+    fn read_launch_line(&mut self, keyword: &str, value: &'a str) -> Result<bool, Trouble> {
+        let entry_count = self.transcript.len();
         match &mut self.launch {
-            Some(launch) => launch.take_word(word, rest, said),
+            Some(launch) => launch.read_line(keyword, value, entry_count),
             None => Ok(false),
         }
     }
@@ -121,14 +139,15 @@ impl<'a> Case<'a> {
 /// A fact: a call on a text or on ids of a graph, with the expected result of the call.
 #[derive(Drop)]
 pub struct Fact<'a> {
-    pub source: &'a str,
-    pub line: usize,
+    pub file_name: &'a str,
+    pub line_number: usize,
     pub kind: FactKind,
     /// The first word of the fact's line in the file.
-    pub word: &'a str,
+    pub keyword: &'a str,
     pub format: Format,
     /// The name of the text block that holds the graph.
-    pub graph: &'a str,
-    pub due: Vec<u8>,
+    pub graph_name: &'a str,
+    /// The expected result, and the text on which the call runs.
+    pub expected: Vec<u8>,
     pub text: Vec<u8>,
 }

@@ -1,6 +1,6 @@
 //! Parsing of the command lines in test cases.
 
-use crate::liars::Liar;
+use crate::pack_tools::PackTool;
 use crate::trouble::Trouble;
 use ggrammar::Ends;
 use gname::{Format, MAX_PACK};
@@ -9,7 +9,8 @@ use std::alloc::Allocator;
 /// A program that a case runs.
 #[derive(Clone, Copy, PartialEq, Eq)]
 pub enum Program {
-    Ls,
+    /// A server that answers one request.
+    LsStdioServer,
     Upload,
     Fetch,
     Check,
@@ -18,41 +19,47 @@ pub enum Program {
     /// A server that answers one connection, including its first line.
     Serve,
     /// A client that lists the refs of a server.
-    List,
+    LsClient,
 }
 
 impl Program {
     /// Returns whether the program reads the client's messages.
-    pub fn reads_client(self) -> bool {
+    pub fn reads_client_messages(self) -> bool {
         match self {
-            Program::Ls | Program::Upload | Program::Lines | Program::Serve => true,
-            Program::Fetch | Program::Check | Program::Simulate | Program::List => false,
+            Program::LsStdioServer | Program::Upload | Program::Lines | Program::Serve => true,
+            Program::Fetch | Program::Check | Program::Simulate | Program::LsClient => false,
         }
     }
 
     /// Returns whether the program reports a rejected request to the client.
-    pub fn serves(self) -> bool {
+    pub fn is_server(self) -> bool {
         match self {
-            Program::Ls | Program::Upload | Program::Serve => true,
-            Program::Fetch | Program::Check | Program::Lines | Program::Simulate | Program::List =>
-                false,
+            Program::LsStdioServer | Program::Upload | Program::Serve => true,
+            Program::Fetch
+            | Program::Check
+            | Program::Lines
+            | Program::Simulate
+            | Program::LsClient => false,
         }
     }
 
     /// Returns whether the replies in the conversation may end with a response-end packet.
-    pub fn has_ends(self) -> bool {
+    pub fn may_have_response_ends(self) -> bool {
         match self {
             Program::Upload | Program::Fetch | Program::Serve => true,
-            Program::Ls | Program::Check | Program::Lines | Program::Simulate | Program::List =>
-                false,
+            Program::LsStdioServer
+            | Program::Check
+            | Program::Lines
+            | Program::Simulate
+            | Program::LsClient => false,
         }
     }
 
     /// Returns whether the program prints a report.
-    pub fn reports(self) -> bool {
+    pub fn has_report(self) -> bool {
         match self {
-            Program::Fetch | Program::List => true,
-            Program::Ls
+            Program::Fetch | Program::LsClient => true,
+            Program::LsStdioServer
             | Program::Upload
             | Program::Check
             | Program::Lines
@@ -62,16 +69,16 @@ impl Program {
     }
 
     /// Returns whether the program reads each packet as a separate message.
-    pub fn reads_lines(self) -> bool {
+    pub fn reads_single_packets(self) -> bool {
         match self {
             Program::Lines => true,
-            Program::Ls
+            Program::LsStdioServer
             | Program::Upload
             | Program::Fetch
             | Program::Check
             | Program::Simulate
             | Program::Serve
-            | Program::List => false,
+            | Program::LsClient => false,
         }
     }
 }
@@ -81,23 +88,23 @@ impl Program {
 pub struct Invocation<'a> {
     pub program: Program,
     /// The name of the text block that holds the repository, or an empty string.
-    pub repository: &'a str,
+    pub repository_name: &'a str,
     /// The host and the path in the first line of a client's connection, or the path that a server
     /// serves. Host and path are empty if the connection has no first line.
     pub host: &'a str,
     pub path: &'a str,
-    /// The refspecs of a fetch, or the ref prefixes of a listing. For a simulation, the names of
-    /// the client's text and of the scenario.
-    pub specs: &'a str,
+    /// The arguments after the repository: the refspecs of a fetch, or the ref prefixes of a
+    /// listing. For a simulation, the names of the client's text and of the scenario.
+    pub operands: &'a str,
     /// The maximum size of a pack in bytes.
-    pub limit: usize,
-    pub ends: Ends,
+    pub pack_limit: usize,
+    pub reply_ends: Ends,
     pub format: Format,
-    /// The packer or indexer under test that replaces `PlainPack`, if any.
-    pub liar: Option<Liar>,
+    /// The packer or indexer that the program uses instead of `PlainPack`, if any.
+    pub pack_tool: Option<PackTool>,
     /// The client's text and the scenario of a simulation; both are empty for other programs.
-    pub client: &'a [u8],
-    pub scenario: &'a [u8],
+    pub client_text: &'a [u8],
+    pub scenario_text: &'a [u8],
 }
 
 impl Invocation<'_> {
@@ -108,42 +115,42 @@ impl Invocation<'_> {
 }
 
 /// Parses a command line. The result uses `PlainPack` as its packer and as its indexer.
-pub fn command_of(line: &str, format: Format) -> Result<Invocation<'_>, Trouble> {
-    let (name, words) = first_of(line);
-    let words = after(words, "--stdio-server ");
-    let words = after(words, "--stdio ");
-    let (host, words) = option_of(words, "--host ");
-    let (path, words) = option_of(words, "--path ");
-    let program = program_of(name, !host.is_empty())?;
-    let (ends, words) = match words.strip_prefix("--response-end ") {
+pub fn parse_command(line: &str, format: Format) -> Result<Invocation<'_>, Trouble> {
+    let (name, words) = split_first_word(line);
+    let words = without_option(words, "--stdio-server ");
+    let words = without_option(words, "--stdio ");
+    let (host, words) = take_option_value(words, "--host ");
+    let (path, words) = take_option_value(words, "--path ");
+    let program = program_named(name, !host.is_empty())?;
+    let (reply_ends, words) = match words.strip_prefix("--response-end ") {
         Some(words) => (Ends::Response, words),
         None => (Ends::Plain, words),
     };
-    let (limit, words) = limit_of(words)?;
-    let (repository, specs) = match program {
-        Program::List => ("", words),
-        _ => first_of(words),
+    let (pack_limit, words) = take_pack_limit(words)?;
+    let (repository_name, operands) = match program {
+        Program::LsClient => ("", words),
+        _ => split_first_word(words),
     };
     Ok(Invocation {
         program,
-        repository,
+        repository_name,
         host,
         path,
-        specs,
-        limit,
-        ends,
+        operands,
+        pack_limit,
+        reply_ends,
         format,
-        liar: None,
-        client: b"",
-        scenario: b"",
+        pack_tool: None,
+        client_text: b"",
+        scenario_text: b"",
     })
 }
 
-fn program_of(name: &str, has_host: bool) -> Result<Program, Trouble> {
+fn program_named(name: &str, has_host: bool) -> Result<Program, Trouble> {
     match name {
-        "ls" if has_host => Ok(Program::List),
+        "ls" if has_host => Ok(Program::LsClient),
         "serve" => Ok(Program::Serve),
-        "ls" => Ok(Program::Ls),
+        "ls" => Ok(Program::LsStdioServer),
         "upload" => Ok(Program::Upload),
         "fetch" => Ok(Program::Fetch),
         "check" => Ok(Program::Check),
@@ -153,19 +160,19 @@ fn program_of(name: &str, has_host: bool) -> Result<Program, Trouble> {
     }
 }
 
-fn limit_of(words: &str) -> Result<(usize, &str), Trouble> {
+fn take_pack_limit(words: &str) -> Result<(usize, &str), Trouble> {
     let Some(words) = words.strip_prefix("--limit ") else {
         return Ok((MAX_PACK, words));
     };
-    let (number, words) = first_of(words);
+    let (number, words) = split_first_word(words);
     match number.parse::<usize>() {
-        Ok(limit) => Ok((limit, words)),
-        Err(_) => Err(Trouble::BadLimit),
+        Ok(pack_limit) => Ok((pack_limit, words)),
+        Err(_) => Err(Trouble::InvalidLimit),
     }
 }
 
 /// Returns the first word of the text and the words after it.
-pub fn first_of(words: &str) -> (&str, &str) {
+pub fn split_first_word(words: &str) -> (&str, &str) {
     match words.split_once(' ') {
         Some((first, rest)) => (first, rest),
         None => (words, ""),
@@ -173,26 +180,29 @@ pub fn first_of(words: &str) -> (&str, &str) {
 }
 
 /// Returns the words of a text, each as a separate string.
-pub fn words_of<A: Allocator + Copy>(memory: A, text: &str) -> Result<Vec<String<A>, A>, Trouble> {
-    let mut words = Vec::new(memory);
+pub fn split_words<A: Allocator + Copy>(
+    alloc: A,
+    text: &str,
+) -> Result<Vec<String<A>, A>, Trouble> {
+    let mut words = Vec::new(alloc);
     for word in text.split(' ') {
-        words.push(String::from_str(memory, word)?)?;
+        words.push(String::from_str(alloc, word)?)?;
     }
     Ok(words)
 }
 
 // If `words` begins with the option, returns the option's value and the words after the value.
 // Otherwise returns an empty value and all words.
-fn option_of<'a>(words: &'a str, option: &'static str) -> (&'a str, &'a str) {
+fn take_option_value<'a>(words: &'a str, option: &'static str) -> (&'a str, &'a str) {
     match words.strip_prefix(option) {
-        Some(words) => first_of(words),
+        Some(words) => split_first_word(words),
         None => ("", words),
     }
 }
 
 // Returns `words` without the option with which they begin, or all words if they do not begin with
 // the option.
-fn after<'a>(words: &'a str, option: &'static str) -> &'a str {
+fn without_option<'a>(words: &'a str, option: &'static str) -> &'a str {
     match words.strip_prefix(option) {
         Some(rest) => rest,
         None => words,

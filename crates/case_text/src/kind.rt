@@ -4,38 +4,41 @@
 #[derive(Clone, Copy, PartialEq, Eq)]
 pub enum FactKind {
     /// The result of parsing a text: a value or a fault.
-    Text,
+    ParsedText,
     /// The results of searches in a history of commits.
-    History,
+    HistorySearch,
     /// The objects of a history that a client knows to be connected.
-    Client,
+    ClientObjects,
     /// The line printed for a fault.
-    Shown,
+    PrintedFault,
     /// The results of calls with inputs near the size limits.
-    Large,
+    SizeLimits,
     /// The request to which a command line parses.
-    Asked,
+    CommandLine,
     /// The results of random simulations.
-    Random,
+    RandomSimulation,
 }
 
 impl FactKind {
-    /// Returns the kind of a fact whose line begins with this word, or `None` for any other line.
-    pub(crate) fn of(word: &str) -> Option<FactKind> {
-        match word {
+    /// Returns the kind of a fact whose line begins with this keyword, or `None` for any other
+    /// line.
+    pub(crate) fn from_keyword(keyword: &str) -> Option<FactKind> {
+        match keyword {
             "name" | "prefix" | "id" | "id64" | "spec" | "hello" | "put" | "band" => Some(
-                FactKind::Text,
+                FactKind::ParsedText,
             ),
             "load" | "load-parents-first" | "pack" | "scenario" | "name-text" => Some(
-                FactKind::Text,
+                FactKind::ParsedText,
             ),
-            "missing" | "counted" | "sent" | "sent-tags" | "sent-count" => Some(FactKind::History),
-            "common" | "ready" | "reaches" | "offered" | "peeled" => Some(FactKind::History),
-            "known" | "unheld" | "counted-past" => Some(FactKind::Client),
-            "shown" => Some(FactKind::Shown),
-            "grown" | "packed" => Some(FactKind::Large),
-            "asked" => Some(FactKind::Asked),
-            "random" => Some(FactKind::Random),
+            "missing" | "counted" | "sent" | "sent-tags" | "sent-count" => Some(
+                FactKind::HistorySearch,
+            ),
+            "common" | "ready" | "reaches" | "offered" | "peeled" => Some(FactKind::HistorySearch),
+            "known" | "unheld" | "counted-past" => Some(FactKind::ClientObjects),
+            "shown" => Some(FactKind::PrintedFault),
+            "grown" | "packed" => Some(FactKind::SizeLimits),
+            "asked" => Some(FactKind::CommandLine),
+            "random" => Some(FactKind::RandomSimulation),
             _ => None,
         }
     }

@@ -1,12 +1,12 @@
 //! Launches of the program itself, with their arguments, files and standard streams.
 
-use crate::command::first_of;
+use crate::command::split_first_word;
 use crate::trouble::Trouble;
 use std::alloc::Global;
 
 /// A file, folder or link that the test creates before a launch.
 #[derive(Clone, Copy)]
-pub enum Found<'a> {
+pub enum InitialItem<'a> {
     /// A file that holds the named text of the test file.
     File { name: &'a str, text: &'a str },
     /// A folder.
@@ -20,17 +20,17 @@ pub enum Found<'a> {
 /// An item that is expected in the folder after a launch. A file that existed before the launch
 /// must keep its contents unless an item names it.
 #[derive(Clone, Copy)]
-pub enum Left<'a> {
+pub enum FinalItem<'a> {
     /// A file that holds the named text of the test file.
     File { name: &'a str, text: &'a str },
     /// The absence of an item with this name.
-    Nothing { name: &'a str },
+    Absent { name: &'a str },
     /// A file or a folder with these permissions.
     Mode { name: &'a str, mode: u32 },
     /// A symbolic link.
     Link { name: &'a str },
     /// A file that still has the inode from before the launch, because it was not replaced.
-    Same { name: &'a str },
+    SameFile { name: &'a str },
 }
 
 /// The arguments of a launch, and the files and exit status expected afterwards. The messages of
@@ -38,86 +38,98 @@ pub enum Left<'a> {
 #[derive(Drop)]
 pub struct Launch<'a> {
     /// The arguments after the program's name, separated by spaces; `""` is the empty argument.
-    pub words: &'a str,
-    pub found: Vec<Found<'a>>,
-    pub left: Vec<Left<'a>>,
+    pub arguments: &'a str,
+    pub initial_items: Vec<InitialItem<'a>>,
+    pub final_items: Vec<FinalItem<'a>>,
     /// The expected exit status, if the case states it.
     pub status: Option<u8>,
     /// The expected operations on files, sockets and standard streams, in order, if the case lists
     /// them.
     pub steps: Option<&'a str>,
-    /// The index of each message that starts a new connection.
-    pub breaks: Vec<usize>,
+    /// The index of each transcript entry that starts a new connection.
+    pub connection_starts: Vec<usize>,
     /// The operation that fails whenever the program performs it, if any.
-    pub failing: Option<&'a str>,
+    pub failing_step: Option<&'a str>,
 }
 
 impl<'a> Launch<'a> {
     /// Returns a launch with these arguments, in an empty folder.
-    pub(crate) fn new(alloc: Global, words: &'a str) -> Launch<'a> {
+    pub(crate) fn new(alloc: Global, arguments: &'a str) -> Launch<'a> {
         Launch {
-            words,
-            found: Vec::new(alloc),
-            left: Vec::new(alloc),
+            arguments,
+            initial_items: Vec::new(alloc),
+            final_items: Vec::new(alloc),
             status: None,
             steps: None,
-            breaks: Vec::new(alloc),
-            failing: None,
+            connection_starts: Vec::new(alloc),
+            failing_step: None,
         }
     }
 
-    /// Reads a line, and returns whether the line is about the launch. `said` is the number of
-    /// messages of the case before this line.
-    pub(crate) fn take_word(
+    /// Reads a line, and returns whether the line is about the launch. `entry_count` is the number
+    /// of transcript entries before this line.
+    pub(crate) fn read_line(
         &mut self,
-        word: &str,
-        rest: &'a str,
-        said: usize,
+        keyword: &str,
+        value: &'a str,
+        entry_count: usize,
     ) -> Result<bool, Trouble> {
-        match word {
-            "next" => self.breaks.push(said)?,
-            "status" => self.status = Some(status_of(rest)?),
-            "steps" => self.steps = Some(rest),
-            "failing" => self.failing = Some(rest),
-            _ => return self.take_name(word, rest),
+        match keyword {
+            "next" => self.connection_starts.push(entry_count)?,
+            "status" => self.status = Some(parse_status(value)?),
+            "steps" => self.steps = Some(value),
+            "failing" => self.failing_step = Some(value),
+            _ => return self.read_initial_item(keyword, value),
         }
         Ok(true)
     }
 
     // Reads a line that names an item of the folder.
-    fn take_name(&mut self, word: &str, rest: &'a str) -> Result<bool, Trouble> {
-        let (name, rest) = first_of(rest);
-        match word {
-            "found" => self.found.push(Found::File { name, text: rest })?,
-            "found-folder" => self.found.push(Found::Folder { name })?,
-            "found-link" => self.found.push(Found::Link { name, target: rest })?,
-            "found-mode" => self.found.push(Found::Mode {
+    fn read_initial_item(&mut self, keyword: &str, value: &'a str) -> Result<bool, Trouble> {
+        let (name, value) = split_first_word(value);
+        match keyword {
+            "found" => self
+                .initial_items
+                .push(InitialItem::File { name, text: value })?,
+            "found-folder" => self.initial_items.push(InitialItem::Folder { name })?,
+            "found-link" => self.initial_items.push(InitialItem::Link {
                 name,
-                mode: mode_of(rest)?,
+                target: value,
             })?,
-            _ => return self.take_left(word, name, rest),
+            "found-mode" => self.initial_items.push(InitialItem::Mode {
+                name,
+                mode: parse_mode(value)?,
+            })?,
+            _ => return self.read_final_item(keyword, name, value),
         }
         Ok(true)
     }
 
     // Reads a line about an item expected after the launch.
-    fn take_left(&mut self, word: &str, name: &'a str, rest: &'a str) -> Result<bool, Trouble> {
-        match word {
-            "left" => self.left.push(Left::File { name, text: rest })?,
-            "left-nothing" => self.left.push(Left::Nothing { name })?,
-            "left-mode" => self.left.push(Left::Mode {
+    fn read_final_item(
+        &mut self,
+        keyword: &str,
+        name: &'a str,
+        value: &'a str,
+    ) -> Result<bool, Trouble> {
+        match keyword {
+            "left" => self
+                .final_items
+                .push(FinalItem::File { name, text: value })?,
+            "left-nothing" => self.final_items.push(FinalItem::Absent { name })?,
+            "left-mode" => self.final_items.push(FinalItem::Mode {
                 name,
-                mode: mode_of(rest)?,
+                mode: parse_mode(value)?,
             })?,
-            "left-link" => self.left.push(Left::Link { name })?,
-            "left-same" => self.left.push(Left::Same { name })?,
+            "left-link" => self.final_items.push(FinalItem::Link { name })?,
+            "left-same" => self.final_items.push(FinalItem::SameFile { name })?,
             _ => return Ok(false),
         }
         Ok(true)
     }
 }
 
-fn status_of(text: &str) -> Result<u8, Trouble> {
+fn parse_status(text: &str) -> Result<u8, Trouble> {
     match text.parse::<u8>() {
         Ok(status) => Ok(status),
         Err(_) => Err(Trouble::UnknownLine),
@@ -125,7 +137,7 @@ fn status_of(text: &str) -> Result<u8, Trouble> {
 }
 
 // Parses permissions from octal digits.
-fn mode_of(text: &str) -> Result<u32, Trouble> {
+fn parse_mode(text: &str) -> Result<u32, Trouble> {
     match u32::from_str_radix(text, 8) {
         Ok(mode) => Ok(mode),
         Err(_) => Err(Trouble::UnknownLine),

@@ -3,9 +3,10 @@
 //!
 //! A [`Script`] parses files in sequence, for ids of one format. A [`Case`] is a row of a file. A
 //! [`Fact`] is the expected result of one call. An [`Invocation`] is the command line of a row. A
-//! [`Talk`] holds the input and the expected output of a program. A [`Launch`] holds the arguments
-//! and files of a row that launches the program itself. A [`TableLine`] is a line of a row's table.
-//! A [`Liar`] is a packer or an indexer that fails, or that breaks its contract.
+//! [`Conversation`] holds the input and the expected output of a program. A [`Launch`] holds the
+//! arguments and files of a row that launches the program itself. A [`TableLine`] is a line of a
+//! row's table. A [`PackTool`] is a packer or an indexer for tests, which may fail or break its
+//! contract.
 //!
 //! # Proved
 //!
@@ -24,28 +25,32 @@
 
 mod case;
 mod command;
+mod conversation;
+mod escapes;
 mod kind;
 mod launch;
-mod liars;
-mod long;
+mod line_parser;
+mod long_texts;
+mod pack_tools;
 mod packets;
-mod scarce;
+mod refusing_allocator;
 mod script;
-mod speech;
-mod spell;
 mod table;
-mod talk;
 mod trouble;
 
-pub use crate::case::{Case, Fact, Said, Who};
-pub use crate::command::{Invocation, Program, command_of, first_of, words_of};
+pub use crate::case::{Case, Fact, Speaker, TranscriptEntry};
+pub use crate::command::{Invocation, Program, parse_command, split_first_word, split_words};
+pub use crate::conversation::{
+    Conversation, PacketStart, fault_text, has_replies_without_response_end,
+};
+pub use crate::escapes::{add_padded_number, id_text, parse_number};
 pub use crate::kind::FactKind;
-pub use crate::launch::{Found, Launch, Left};
-pub use crate::liars::{Liar, Pieces};
-pub use crate::packets::{packet, text_line};
-pub use crate::scarce::Scarce;
+pub use crate::launch::{FinalItem, InitialItem, Launch};
+pub use crate::pack_tools::{PackTool, ReceivedPack};
+pub use crate::packets::{packet, text_packet};
+pub use crate::refusing_allocator::RefusingAllocator;
 pub use crate::script::Script;
-pub use crate::spell::{add_number, id_text, number_of};
-pub use crate::table::{Change, Due, Ending, TableLine, error_packet, is_error};
-pub use crate::talk::{PacketStart, Talk, fault_text, has_open_replies};
+pub use crate::table::{
+    Change, ExpectedOutcome, OutcomeKind, TableLine, error_packet, is_error_packet,
+};
 pub use crate::trouble::Trouble;

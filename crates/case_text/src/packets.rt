@@ -1,50 +1,50 @@
 //! Packets from the lines of a test case.
 
-use crate::case::Who;
+use crate::case::Speaker;
 use crate::trouble::Trouble;
 use std::alloc::Global;
 
 /// The maximum number of side-band bytes in one packet.
-const MAX_ON_BAND: usize = 65_515;
+const MAX_SIDE_BAND_BYTES: usize = 65_515;
 
-/// Returns the speaker and the bytes of a line that begins with this word.
-pub(crate) fn read_said(
+/// Returns the speaker and the bytes of a line with this keyword.
+pub(crate) fn read_entry(
     alloc: Global,
-    word: &str,
+    keyword: &str,
     bytes: &[u8],
-) -> Result<Option<(Who, Vec<u8>)>, Trouble> {
-    let (who, form) = match word.as_bytes() {
-        [b'C', form] => (Who::Client, *form),
-        [b'S', form] => (Who::Server, *form),
-        [b'|'] => (Who::Output, b'|'),
-        [b'!'] => (Who::Errors, b'|'),
-        b"report" => (Who::Report, b'|'),
+) -> Result<Option<(Speaker, Vec<u8>)>, Trouble> {
+    let (speaker, form) = match keyword.as_bytes() {
+        [b'C', form] => (Speaker::Client, *form),
+        [b'S', form] => (Speaker::Server, *form),
+        [b'|'] => (Speaker::Output, b'|'),
+        [b'!'] => (Speaker::Errors, b'|'),
+        b"report" => (Speaker::Report, b'|'),
         _ => return Ok(None),
     };
-    let written = match form {
-        b':' => text_line(alloc, bytes)?,
+    let entry_bytes = match form {
+        b':' => text_packet(alloc, bytes)?,
         b'.' => packet(alloc, b"", bytes, b"")?,
         b'1' => packet(alloc, b"\x01", bytes, b"")?,
         b'2' => packet(alloc, b"\x02", bytes, b"")?,
         b'3' => packet(alloc, b"\x03", bytes, b"")?,
-        b'=' => join_lines(alloc, bytes, b"")?,
-        b'|' => join_lines(alloc, bytes, b"\n")?,
+        b'=' => concatenate(alloc, bytes, b"")?,
+        b'|' => concatenate(alloc, bytes, b"\n")?,
         _ => return Ok(None),
     };
-    Ok(Some((who, written)))
+    Ok(Some((speaker, entry_bytes)))
 }
 
 /// Returns a packet of side band 1 with as many of the bytes as fit, and the remaining bytes.
 pub(crate) fn full_packet(alloc: Global, bytes: &[u8]) -> Result<(Vec<u8>, &[u8]), Trouble> {
-    let (part, rest) = bytes.split_at(bytes.len().min(MAX_ON_BAND));
+    let (part, rest) = bytes.split_at(bytes.len().min(MAX_SIDE_BAND_BYTES));
     Ok((packet(alloc, b"\x01", part, b"")?, rest))
 }
 
 /// Returns the flush, delimiter or response-end packet with this text, or otherwise a pkt-line of
 /// the text and a line feed.
-pub fn text_line(alloc: Global, text: &[u8]) -> Result<Vec<u8>, Trouble> {
+pub fn text_packet(alloc: Global, text: &[u8]) -> Result<Vec<u8>, Trouble> {
     match text {
-        b"0000" | b"0001" | b"0002" => join_lines(alloc, text, b""),
+        b"0000" | b"0001" | b"0002" => concatenate(alloc, text, b""),
         _ => packet(alloc, b"", text, b"\n"),
     }
 }
@@ -76,7 +76,7 @@ fn hex_digit(number: usize) -> u8 {
     }
 }
 
-fn join_lines(alloc: Global, text: &[u8], last: &[u8]) -> Result<Vec<u8>, Trouble> {
+fn concatenate(alloc: Global, text: &[u8], last: &[u8]) -> Result<Vec<u8>, Trouble> {
     let mut bytes = Vec::new(alloc);
     bytes.extend_from_slice(text)?;
     bytes.extend_from_slice(last)?;

@@ -2,13 +2,13 @@
 //!
 //! `crates/conformance/FORMAT.md` describes the format of rows, facts, texts and talks.
 
-use crate::case::{Case, Fact, Said};
-use crate::command::first_of;
+use crate::case::{Case, Fact, TranscriptEntry};
+use crate::command::split_first_word;
+use crate::escapes::{EscapeContext, NamedText, expand_escapes, find_text, parse_number};
 use crate::kind::FactKind;
-use crate::long::long_text;
-use crate::speech::{Speech, in_format};
-use crate::spell::{Form, Text, number_of, spell_line, text_named};
-use crate::table::{Due, TableLine};
+use crate::line_parser::{LineParser, adapt_to_format};
+use crate::long_texts::long_text;
+use crate::table::{ExpectedOutcome, TableLine};
 use crate::trouble::Trouble;
 use gname::Format;
 use std::alloc::Global;
@@ -20,31 +20,31 @@ pub struct Script<'a> {
     pub cases: Vec<Case<'a>>,
     pub facts: Vec<Fact<'a>>,
     /// The file and the number of the most recently parsed line.
-    pub source: &'a str,
-    pub line: usize,
-    texts: Vec<Text<'a>>,
-    talks: Vec<Shared<'a>>,
-    open: Open,
-    times: usize,
+    pub file_name: &'a str,
+    pub line_number: usize,
+    texts: Vec<NamedText<'a>>,
+    talks: Vec<Talk<'a>>,
+    open_block: OpenBlock,
+    repetitions: usize,
     // The name of the text block that holds the graph for the facts after this line.
-    graph: &'a str,
+    graph_name: &'a str,
     // Whether the cases after this line run with ids of both formats.
-    is_both: bool,
+    runs_both_formats: bool,
     // Whether the following lines are skipped because their case runs only with SHA-1 ids.
-    is_skipped: bool,
+    skips_case: bool,
 }
 
 // A named list of lines that cases can refer to.
 #[derive(Drop)]
-struct Shared<'a> {
+struct Talk<'a> {
     name: &'a str,
     lines: Vec<&'a str>,
 }
 
 // The kind of block that continues until an empty line: a text or a talk.
 #[derive(Clone, Copy)]
-enum Open {
-    Nothing,
+enum OpenBlock {
+    None,
     Text,
     Talk,
 }
@@ -56,29 +56,34 @@ impl<'a> Script<'a> {
             format,
             cases: Vec::new(alloc),
             facts: Vec::new(alloc),
-            source: "",
-            line: 0,
+            file_name: "",
+            line_number: 0,
             texts: Vec::new(alloc),
             talks: Vec::new(alloc),
-            open: Open::Nothing,
-            times: 1,
-            graph: "",
-            is_both: true,
-            is_skipped: false,
+            open_block: OpenBlock::None,
+            repetitions: 1,
+            graph_name: "",
+            runs_both_formats: true,
+            skips_case: false,
         }
     }
 
     /// Parses the text of the file with this name.
-    pub fn read(&mut self, alloc: Global, source: &'a str, text: &'a str) -> Result<(), Trouble> {
-        self.source = source;
-        self.line = 0;
-        self.is_both = true;
+    pub fn read_file(
+        &mut self,
+        alloc: Global,
+        file_name: &'a str,
+        text: &'a str,
+    ) -> Result<(), Trouble> {
+        self.file_name = file_name;
+        self.line_number = 0;
+        self.runs_both_formats = true;
         for line in text.lines() {
-            self.line = self.line.saturating_add(1);
-            self.take_line(alloc, line)?;
+            self.line_number = self.line_number.saturating_add(1);
+            self.read_line(alloc, line)?;
         }
-        self.open = Open::Nothing;
-        self.end_case()
+        self.open_block = OpenBlock::None;
+        self.check_last_case()
     }
 
     /// Returns the text with this name, or an empty text for an empty name.
@@ -86,93 +91,98 @@ impl<'a> Script<'a> {
         if name.is_empty() {
             return Ok(b"");
         }
-        match text_named(self.texts.as_slice(), name.as_bytes()) {
+        match find_text(self.texts.as_slice(), name.as_bytes()) {
             Some(text) => Ok(text),
-            None => Err(Trouble::NoName),
+            None => Err(Trouble::UnknownName),
         }
     }
 
-    fn take_line(&mut self, alloc: Global, line: &'a str) -> Result<(), Trouble> {
+    fn read_line(&mut self, alloc: Global, line: &'a str) -> Result<(), Trouble> {
         if line.is_empty() {
-            self.open = Open::Nothing;
+            self.open_block = OpenBlock::None;
             return Ok(());
         }
-        match self.open {
-            Open::Text => self.add_to_text(alloc, line),
-            Open::Talk => self.add_to_talk(line),
-            Open::Nothing if line.starts_with('#') => Ok(()),
-            Open::Nothing => self.begin(alloc, line),
+        match self.open_block {
+            OpenBlock::Text => self.add_to_text(alloc, line),
+            OpenBlock::Talk => self.add_to_talk(line),
+            OpenBlock::None if line.starts_with('#') => Ok(()),
+            OpenBlock::None => self.read_outer_line(alloc, line),
         }
     }
 
     // Parses a line outside a text or a talk.
-    fn begin(&mut self, alloc: Global, line: &'a str) -> Result<(), Trouble> {
-        let (word, rest) = first_of(line);
-        match word {
-            "text" => self.begin_text(alloc, rest),
-            "talk" => self.begin_talk(alloc, rest),
-            "row" => self.begin_case(alloc, rest),
-            "both" => self.set_both(true),
-            "single" => self.set_both(false),
-            "graph" => self.set_graph(rest),
-            "long" if !rest.is_empty() => self.add_long_text(alloc, rest),
-            _ => self.begin_other(alloc, word, rest),
+    fn read_outer_line(&mut self, alloc: Global, line: &'a str) -> Result<(), Trouble> {
+        let (keyword, value) = split_first_word(line);
+        match keyword {
+            "text" => self.begin_text(alloc, value),
+            "talk" => self.begin_talk(alloc, value),
+            "row" => self.begin_case(alloc, value),
+            "both" => self.set_runs_both_formats(true),
+            "single" => self.set_runs_both_formats(false),
+            "graph" => self.set_graph(value),
+            "long" if !value.is_empty() => self.add_long_text(alloc, value),
+            _ => self.read_fact_or_case_line(alloc, keyword, value),
         }
     }
 
     // Parses a line of a fact or of a case.
-    fn begin_other(&mut self, alloc: Global, word: &'a str, rest: &'a str) -> Result<(), Trouble> {
-        match FactKind::of(word) {
-            Some(kind) => self.add_fact(alloc, kind, word, rest),
-            None if self.is_skipped => Ok(()),
-            None if word == "use" => self.use_talk(alloc, rest),
-            None => self.add_to_case(alloc, word, rest),
+    fn read_fact_or_case_line(
+        &mut self,
+        alloc: Global,
+        keyword: &'a str,
+        value: &'a str,
+    ) -> Result<(), Trouble> {
+        match FactKind::from_keyword(keyword) {
+            Some(kind) => self.add_fact(alloc, kind, keyword, value),
+            None if self.skips_case => Ok(()),
+            None if keyword == "use" => self.use_talk(alloc, value),
+            None => self.add_to_case(alloc, keyword, value),
         }
     }
 
-    fn set_both(&mut self, is_both: bool) -> Result<(), Trouble> {
-        self.is_both = is_both;
+    fn set_runs_both_formats(&mut self, runs_both_formats: bool) -> Result<(), Trouble> {
+        self.runs_both_formats = runs_both_formats;
         Ok(())
     }
 
     fn set_graph(&mut self, name: &'a str) -> Result<(), Trouble> {
-        self.graph = name;
+        self.graph_name = name;
         Ok(())
     }
 
     // Returns whether the rows after this line run only with ids of the other format.
-    fn is_for_others(&self) -> bool {
-        self.format == Format::Sha256 && !self.is_both
+    fn excludes_format(&self) -> bool {
+        self.format == Format::Sha256 && !self.runs_both_formats
     }
 
-    fn form(&self, time: usize) -> Form {
-        Form {
+    fn escape_context(&self, repetition: usize) -> EscapeContext {
+        EscapeContext {
             format: self.format,
-            time,
+            repetition,
         }
     }
 
     fn use_talk(&mut self, alloc: Global, name: &str) -> Result<(), Trouble> {
-        let speech = Speech {
+        let line_parser = LineParser {
             texts: self.texts.as_slice(),
             format: self.format,
-            time: 1,
+            repetition: 1,
         };
         let Some(case) = self.cases.last_mut() else {
-            return Err(Trouble::NoRow);
+            return Err(Trouble::NoCurrentRow);
         };
-        let Some(lines) = lines_named(self.talks.as_slice(), name) else {
-            return Err(Trouble::NoName);
+        let Some(lines) = talk_lines(self.talks.as_slice(), name) else {
+            return Err(Trouble::UnknownName);
         };
         for line in lines {
-            speech.say(alloc, line, &mut case.said)?;
+            line_parser.add_entries(alloc, line, &mut case.transcript)?;
         }
         Ok(())
     }
 
     fn add_long_text(&mut self, alloc: Global, name: &'a str) -> Result<(), Trouble> {
         let bytes = long_text(alloc, name, self.format)?;
-        self.texts.push(Text {
+        self.texts.push(NamedText {
             name: name.as_bytes(),
             bytes,
         })?;
@@ -180,8 +190,8 @@ impl<'a> Script<'a> {
     }
 
     fn begin_text(&mut self, alloc: Global, name: &'a str) -> Result<(), Trouble> {
-        self.open = Open::Text;
-        self.texts.push(Text {
+        self.open_block = OpenBlock::Text;
+        self.texts.push(NamedText {
             name: name.as_bytes(),
             bytes: Vec::new(alloc),
         })?;
@@ -189,8 +199,8 @@ impl<'a> Script<'a> {
     }
 
     fn begin_talk(&mut self, alloc: Global, name: &'a str) -> Result<(), Trouble> {
-        self.open = Open::Talk;
-        self.talks.push(Shared {
+        self.open_block = OpenBlock::Talk;
+        self.talks.push(Talk {
             name,
             lines: Vec::new(alloc),
         })?;
@@ -206,14 +216,19 @@ impl<'a> Script<'a> {
     }
 
     fn add_to_text(&mut self, alloc: Global, line: &'a str) -> Result<(), Trouble> {
-        if let Some(times) = line.strip_prefix("times ") {
-            self.times = number_of(times.as_bytes());
+        if let Some(repetitions) = line.strip_prefix("times ") {
+            self.repetitions = parse_number(repetitions.as_bytes());
             return Ok(());
         }
-        let line = in_format(self.format, line);
-        for time in 1..=self.take_times() {
-            let form = self.form(time);
-            let bytes = spell_line(alloc, self.texts.as_slice(), line.as_bytes(), form)?;
+        let line = adapt_to_format(self.format, line);
+        for repetition in 1..=self.take_repetitions() {
+            let escape_context = self.escape_context(repetition);
+            let bytes = expand_escapes(
+                alloc,
+                self.texts.as_slice(),
+                line.as_bytes(),
+                escape_context,
+            )?;
             if let Some(text) = self.texts.last_mut() {
                 text.bytes.extend_from_slice(bytes.as_slice())?;
                 text.bytes.push(b'\n')?;
@@ -223,29 +238,31 @@ impl<'a> Script<'a> {
     }
 
     // Returns how many times the next line is repeated, and resets that number to 1.
-    fn take_times(&mut self) -> usize {
-        let times = self.times;
-        self.times = 1;
-        times
+    fn take_repetitions(&mut self) -> usize {
+        let repetitions = self.repetitions;
+        self.repetitions = 1;
+        repetitions
     }
 
-    // Fails with `NoRun` if the last case names no program.
-    fn end_case(&self) -> Result<(), Trouble> {
+    // Fails with `RowWithoutProgram` if the last case names no program.
+    fn check_last_case(&self) -> Result<(), Trouble> {
         match self.cases.last() {
-            Some(case) if case.runs.is_empty() && case.launch.is_none() => Err(Trouble::NoRun),
+            Some(case) if case.commands.is_empty() && case.launch.is_none() => Err(
+                Trouble::RowWithoutProgram,
+            ),
             _ => Ok(()),
         }
     }
 
     fn begin_case(&mut self, alloc: Global, name: &'a str) -> Result<(), Trouble> {
-        self.end_case()?;
-        self.times = 1;
-        self.is_skipped = self.is_for_others();
-        if self.is_skipped {
+        self.check_last_case()?;
+        self.repetitions = 1;
+        self.skips_case = self.excludes_format();
+        if self.skips_case {
             return Ok(());
         }
         self.cases
-            .push(Case::new(alloc, self.source, self.line, name))?;
+            .push(Case::new(alloc, self.file_name, self.line_number, name))?;
         Ok(())
     }
 
@@ -253,26 +270,31 @@ impl<'a> Script<'a> {
         &mut self,
         alloc: Global,
         kind: FactKind,
-        word: &'a str,
-        rest: &'a str,
+        keyword: &'a str,
+        value: &'a str,
     ) -> Result<(), Trouble> {
-        let Some((due, text)) = rest.split_once(": ") else {
+        let Some((expected, text)) = value.split_once(": ") else {
             return Err(Trouble::UnknownLine);
         };
-        if self.is_for_others() {
+        if self.excludes_format() {
             return Ok(());
         }
-        let form = self.form(1);
-        let due = spell_line(alloc, self.texts.as_slice(), due.as_bytes(), form)?;
+        let escape_context = self.escape_context(1);
+        let expected = expand_escapes(
+            alloc,
+            self.texts.as_slice(),
+            expected.as_bytes(),
+            escape_context,
+        )?;
         let text = self.fact_text(alloc, text)?;
         self.facts.push(Fact {
-            source: self.source,
-            line: self.line,
+            file_name: self.file_name,
+            line_number: self.line_number,
             kind,
-            word,
+            keyword,
             format: self.format,
-            graph: self.graph,
-            due,
+            graph_name: self.graph_name,
+            expected,
             text,
         })?;
         Ok(())
@@ -281,136 +303,170 @@ impl<'a> Script<'a> {
     // Returns the text of a fact. The first line of a repository's text is adapted to the script's
     // object format.
     fn fact_text(&self, alloc: Global, line: &str) -> Result<Vec<u8>, Trouble> {
-        let form = self.form(1);
+        let escape_context = self.escape_context(1);
         let mut text = Vec::new(alloc);
         let rest = match line.strip_prefix("gitv2 1\\n") {
             Some(rest) => {
-                text.extend_from_slice(in_format(self.format, "gitv2 1").as_bytes())?;
+                text.extend_from_slice(adapt_to_format(self.format, "gitv2 1").as_bytes())?;
                 text.push(b'\n')?;
                 rest
             }
             None => line,
         };
-        let rest = spell_line(alloc, self.texts.as_slice(), rest.as_bytes(), form)?;
+        let rest = expand_escapes(
+            alloc,
+            self.texts.as_slice(),
+            rest.as_bytes(),
+            escape_context,
+        )?;
         text.extend_from_slice(rest.as_slice())?;
         Ok(text)
     }
 
-    fn add_to_case(&mut self, alloc: Global, word: &'a str, rest: &'a str) -> Result<(), Trouble> {
-        match word {
-            "times" => self.times = number_of(rest.as_bytes()),
-            "memory" => return self.add_memory(alloc, rest),
-            "packets" => return self.add_packets(rest),
-            "cut" | "change" => return self.add_outcome(alloc, word == "cut", rest),
+    fn add_to_case(
+        &mut self,
+        alloc: Global,
+        keyword: &'a str,
+        value: &'a str,
+    ) -> Result<(), Trouble> {
+        match keyword {
+            "times" => self.repetitions = parse_number(value.as_bytes()),
+            "memory" => return self.add_memory_fault(alloc, value),
+            "packets" => return self.add_packet_offsets(value),
+            "cut" | "change" => return self.add_table_line(alloc, keyword == "cut", value),
             _ => {
-                if !self.take_word(alloc, word, rest)? {
-                    return self.say_times(alloc, word, rest);
+                if !self.read_case_line(alloc, keyword, value)? {
+                    return self.add_repeated_entries(alloc, keyword, value);
                 }
             }
         }
         Ok(())
     }
 
-    fn take_word(&mut self, alloc: Global, word: &str, rest: &'a str) -> Result<bool, Trouble> {
+    fn read_case_line(
+        &mut self,
+        alloc: Global,
+        keyword: &str,
+        value: &'a str,
+    ) -> Result<bool, Trouble> {
         match self.cases.last_mut() {
-            Some(case) => case.take_word(alloc, word, rest),
-            None => Err(Trouble::NoRow),
+            Some(case) => case.read_line(alloc, keyword, value),
+            None => Err(Trouble::NoCurrentRow),
         }
     }
 
-    // Appends the message of a line once for each repetition of the line.
-    fn say_times(&mut self, alloc: Global, word: &'a str, rest: &'a str) -> Result<(), Trouble> {
-        let times = self.take_times();
+    // Appends the transcript entries of a line once for each repetition of the line.
+    fn add_repeated_entries(
+        &mut self,
+        alloc: Global,
+        keyword: &'a str,
+        value: &'a str,
+    ) -> Result<(), Trouble> {
+        let repetitions = self.take_repetitions();
         let Some(case) = self.cases.last_mut() else {
-            return Err(Trouble::NoRow);
+            return Err(Trouble::NoCurrentRow);
         };
-        for time in 1..=times {
-            let speech = Speech {
+        for repetition in 1..=repetitions {
+            let line_parser = LineParser {
                 texts: self.texts.as_slice(),
                 format: self.format,
-                time,
+                repetition,
             };
-            speech.say_by(alloc, word, rest, &mut case.said)?;
+            line_parser.add_keyword_entries(alloc, keyword, value, &mut case.transcript)?;
         }
         Ok(())
     }
 
-    fn add_memory(&mut self, alloc: Global, line: &str) -> Result<(), Trouble> {
-        let form = self.form(1);
-        let fault = spell_line(alloc, self.texts.as_slice(), line.as_bytes(), form)?;
+    fn add_memory_fault(&mut self, alloc: Global, line: &str) -> Result<(), Trouble> {
+        let escape_context = self.escape_context(1);
+        let fault = expand_escapes(
+            alloc,
+            self.texts.as_slice(),
+            line.as_bytes(),
+            escape_context,
+        )?;
         match self.cases.last_mut() {
-            Some(case) => Ok(case.memory.push(fault)?),
-            None => Err(Trouble::NoRow),
+            Some(case) => Ok(case.memory_faults.push(fault)?),
+            None => Err(Trouble::NoCurrentRow),
         }
     }
 
-    fn add_packets(&mut self, places: &str) -> Result<(), Trouble> {
+    fn add_packet_offsets(&mut self, offsets: &str) -> Result<(), Trouble> {
         let Some(case) = self.cases.last_mut() else {
-            return Err(Trouble::NoRow);
+            return Err(Trouble::NoCurrentRow);
         };
-        for place in places.split(' ') {
-            case.packets.push(number_of(place.as_bytes()))?;
+        for offset in offsets.split(' ') {
+            case.packet_offsets.push(parse_number(offset.as_bytes()))?;
         }
         Ok(())
     }
 
     // Adds a line to the table of results for a truncated or changed request.
-    fn add_outcome(&mut self, alloc: Global, is_cut: bool, line: &'a str) -> Result<(), Trouble> {
-        let Some((places, due)) = line.split_once(" = ") else {
+    fn add_table_line(
+        &mut self,
+        alloc: Global,
+        is_cut: bool,
+        line: &'a str,
+    ) -> Result<(), Trouble> {
+        let Some((offsets, expected)) = line.split_once(" = ") else {
             return Err(Trouble::UnknownLine);
         };
-        let due = self.due_of(alloc, due)?;
+        let expected = self.parse_expected_outcome(alloc, expected)?;
         let Some(case) = self.cases.last_mut() else {
-            return Err(Trouble::NoRow);
+            return Err(Trouble::NoCurrentRow);
         };
-        case.table.push(TableLine::new(is_cut, places, due))?;
+        case.table.push(TableLine::new(is_cut, offsets, expected))?;
         Ok(())
     }
 
-    fn due_of(&self, alloc: Global, due: &'a str) -> Result<Due<'a>, Trouble> {
-        if due == "as it stands" {
-            return Ok(Due::as_it_stands(alloc));
+    fn parse_expected_outcome(
+        &self,
+        alloc: Global,
+        expected: &'a str,
+    ) -> Result<ExpectedOutcome<'a>, Trouble> {
+        if expected == "as it stands" {
+            return Ok(ExpectedOutcome::unchanged(alloc));
         }
-        if due == "nothing" {
-            return Ok(Due::due_bytes(Vec::new(alloc)));
+        if expected == "nothing" {
+            return Ok(ExpectedOutcome::with_output(Vec::new(alloc)));
         }
-        if let Some(name) = due.strip_prefix("use ") {
-            return Ok(Due::due_bytes(self.talk_bytes(alloc, name)?));
+        if let Some(name) = expected.strip_prefix("use ") {
+            return Ok(ExpectedOutcome::with_output(self.talk_bytes(alloc, name)?));
         }
-        match due.split_once(" | ") {
-            Some((text, fault)) => Ok(Due::due_fault(alloc, text, fault)),
+        match expected.split_once(" | ") {
+            Some((text, fault)) => Ok(ExpectedOutcome::with_error_packet(alloc, text, fault)),
             None => Err(Trouble::UnknownLine),
         }
     }
 
-    // Returns the bytes of all messages in the talk with this name.
+    // Returns the bytes of all entries in the talk with this name.
     fn talk_bytes(&self, alloc: Global, name: &str) -> Result<Vec<u8>, Trouble> {
-        let Some(lines) = lines_named(self.talks.as_slice(), name) else {
-            return Err(Trouble::NoName);
+        let Some(lines) = talk_lines(self.talks.as_slice(), name) else {
+            return Err(Trouble::UnknownName);
         };
-        let speech = Speech {
+        let line_parser = LineParser {
             texts: self.texts.as_slice(),
             format: self.format,
-            time: 1,
+            repetition: 1,
         };
-        let mut said = Vec::new(alloc);
+        let mut transcript = Vec::new(alloc);
         for line in lines {
-            speech.say(alloc, line, &mut said)?;
+            line_parser.add_entries(alloc, line, &mut transcript)?;
         }
-        all_bytes(alloc, said.as_slice())
+        bytes_of_entries(alloc, transcript.as_slice())
     }
 }
 
-fn all_bytes(alloc: Global, said: &[Said]) -> Result<Vec<u8>, Trouble> {
+fn bytes_of_entries(alloc: Global, transcript: &[TranscriptEntry]) -> Result<Vec<u8>, Trouble> {
     let mut bytes = Vec::new(alloc);
-    for one in said {
-        bytes.extend_from_slice(one.bytes.as_slice())?;
+    for entry in transcript {
+        bytes.extend_from_slice(entry.bytes.as_slice())?;
     }
     Ok(bytes)
 }
 
 // Returns the lines of the talk with this name.
-fn lines_named<'b, 'a>(talks: &'b [Shared<'a>], name: &str) -> Option<&'b [&'a str]> {
+fn talk_lines<'b, 'a>(talks: &'b [Talk<'a>], name: &str) -> Option<&'b [&'a str]> {
     for talk in talks {
         if talk.name == name {
             return Some(talk.lines.as_slice());

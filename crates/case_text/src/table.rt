@@ -12,8 +12,8 @@
 //! `FAULT` the printed line of the fault. In `TEXT` and `FAULT`, `{}` stands for the input bytes at
 //! the line's positions, in lower case.
 
+use crate::escapes::{hex_value, parse_number};
 use crate::packets::packet;
-use crate::spell::{digit, number_of};
 use crate::trouble::Trouble;
 use std::alloc::Global;
 
@@ -28,51 +28,55 @@ pub enum Change {
 
 /// The kind of result expected for a changed input.
 #[derive(Clone, Copy, PartialEq, Eq)]
-pub enum Ending {
+pub enum OutcomeKind {
     /// The same result as for the unchanged input.
-    AsItStands,
+    Unchanged,
     /// Exactly the listed bytes as output, and no fault.
-    Said,
+    Output,
     /// An error packet with this text, and the printed line of this fault.
-    Refused,
+    ErrorPacket,
 }
 
 /// The expected output for a changed request, without the output before the request.
 #[derive(Drop)]
-pub struct Due<'a> {
-    pub ending: Ending,
-    pub bytes: Vec<u8>,
-    pub text: &'a str,
+pub struct ExpectedOutcome<'a> {
+    pub kind: OutcomeKind,
+    pub output: Vec<u8>,
+    pub error_text: &'a str,
     pub fault: &'a str,
 }
 
-impl<'a> Due<'a> {
+impl<'a> ExpectedOutcome<'a> {
     /// Returns the expectation that the result is the same as for the unchanged row.
-    pub(crate) fn as_it_stands(alloc: Global) -> Due<'a> {
-        Due {
-            ending: Ending::AsItStands,
-            bytes: Vec::new(alloc),
-            text: "",
+    pub(crate) fn unchanged(alloc: Global) -> ExpectedOutcome<'a> {
+        ExpectedOutcome {
+            kind: OutcomeKind::Unchanged,
+            output: Vec::new(alloc),
+            error_text: "",
             fault: "",
         }
     }
 
     /// Returns the expectation that the output consists of these bytes.
-    pub(crate) fn due_bytes(bytes: Vec<u8>) -> Due<'a> {
-        Due {
-            ending: Ending::Said,
-            bytes,
-            text: "",
+    pub(crate) fn with_output(output: Vec<u8>) -> ExpectedOutcome<'a> {
+        ExpectedOutcome {
+            kind: OutcomeKind::Output,
+            output,
+            error_text: "",
             fault: "",
         }
     }
 
     /// Returns the expectation of an error for the client and a printed fault.
-    pub(crate) fn due_fault(alloc: Global, text: &'a str, fault: &'a str) -> Due<'a> {
-        Due {
-            ending: Ending::Refused,
-            bytes: Vec::new(alloc),
-            text,
+    pub(crate) fn with_error_packet(
+        alloc: Global,
+        text: &'a str,
+        fault: &'a str,
+    ) -> ExpectedOutcome<'a> {
+        ExpectedOutcome {
+            kind: OutcomeKind::ErrorPacket,
+            output: Vec::new(alloc),
+            error_text: text,
             fault,
         }
     }
@@ -82,56 +86,65 @@ impl<'a> Due<'a> {
 #[derive(Drop)]
 pub struct TableLine<'a> {
     is_cut: bool,
-    first: usize,
-    last: usize,
+    first_offset: usize,
+    last_offset: usize,
     // The new values of the byte that the line covers, or `other`.
-    bytes: &'a str,
-    pub due: Due<'a>,
+    byte_list: &'a str,
+    pub expected: ExpectedOutcome<'a>,
 }
 
 impl<'a> TableLine<'a> {
     /// Parses the positions and bytes of a line.
-    pub(crate) fn new(is_cut: bool, places: &'a str, due: Due<'a>) -> TableLine<'a> {
-        let (places, bytes) = match places.split_once(' ') {
-            Some((places, bytes)) => (places, bytes),
-            None => (places, ""),
+    pub(crate) fn new(
+        is_cut: bool,
+        offsets: &'a str,
+        expected: ExpectedOutcome<'a>,
+    ) -> TableLine<'a> {
+        let (offsets, bytes) = match offsets.split_once(' ') {
+            Some((offsets, bytes)) => (offsets, bytes),
+            None => (offsets, ""),
         };
-        let (first, last) = match places.split_once('-') {
+        let (first, last) = match offsets.split_once('-') {
             Some((first, last)) => (first, last),
-            None => (places, places),
+            None => (offsets, offsets),
         };
         TableLine {
             is_cut,
-            first: number_of(first.as_bytes()),
-            last: number_of(last.as_bytes()),
-            bytes,
-            due,
+            first_offset: parse_number(first.as_bytes()),
+            last_offset: parse_number(last.as_bytes()),
+            byte_list: bytes,
+            expected,
         }
     }
 
     /// Returns whether the table's line covers this change.
-    pub fn is_of(&self, change: Change) -> bool {
+    pub fn covers(&self, change: Change) -> bool {
         match change {
-            Change::Cut(place) => self.is_cut && self.has_place(place),
-            Change::Byte(place, byte) => {
-                !self.is_cut && self.has_place(place) && has_byte(self.bytes, byte)
+            Change::Cut(offset) => self.is_cut && self.covers_offset(offset),
+            Change::Byte(offset, byte) => {
+                !self.is_cut && self.covers_offset(offset) && lists_byte(self.byte_list, byte)
             }
         }
     }
 
-    fn has_place(&self, place: usize) -> bool {
-        self.first <= place && place <= self.last
+    fn covers_offset(&self, offset: usize) -> bool {
+        self.first_offset <= offset && offset <= self.last_offset
     }
 
     /// Returns the text, with `{}` replaced by the input bytes at the line's positions.
-    pub fn fill_in(&self, alloc: Global, text: &str, input: &[u8]) -> Result<Vec<u8>, Trouble> {
+    pub fn fill_placeholder(
+        &self,
+        alloc: Global,
+        text: &str,
+        input: &[u8],
+    ) -> Result<Vec<u8>, Trouble> {
         let mut bytes = Vec::new(alloc);
         let Some((before, after)) = text.split_once("{}") else {
             bytes.extend_from_slice(text.as_bytes())?;
             return Ok(bytes);
         };
         bytes.extend_from_slice(before.as_bytes())?;
-        if let Some(part) = input.get(self.first..self.last.saturating_add(1)) {
+        if let Some(part) = input.get(self.first_offset..self.last_offset.saturating_add(1)) {
             for byte in part {
                 bytes.push(byte.to_ascii_lowercase())?;
             }
@@ -143,13 +156,13 @@ impl<'a> TableLine<'a> {
 
 // Returns whether the list contains `byte`. A list is `other`, or consists of bytes and ranges of
 // bytes. Each byte is a character, or `x` with two hexadecimal digits.
-fn has_byte(bytes: &str, byte: u8) -> bool {
-    for token in bytes.split(' ') {
+fn lists_byte(byte_list: &str, byte: u8) -> bool {
+    for token in byte_list.split(' ') {
         let (first, last) = match token.split_once('-') {
             Some((first, last)) => (first, last),
             None => (token, token),
         };
-        if token == "other" || (byte_of(first) <= byte && byte <= byte_of(last)) {
+        if token == "other" || (parse_byte(first) <= byte && byte <= parse_byte(last)) {
             return true;
         }
     }
@@ -157,10 +170,12 @@ fn has_byte(bytes: &str, byte: u8) -> bool {
 }
 
 // Parses a single character, or `x` and two hexadecimal digits.
-fn byte_of(token: &str) -> u8 {
+fn parse_byte(token: &str) -> u8 {
     match token.as_bytes() {
         [byte] => *byte,
-        [b'x', high, low] => digit(*high).wrapping_mul(16).wrapping_add(digit(*low)),
+        [b'x', high, low] => hex_value(*high)
+            .wrapping_mul(16)
+            .wrapping_add(hex_value(*low)),
         _ => 0,
     }
 }
@@ -171,13 +186,13 @@ pub fn error_packet(alloc: Global, text: &[u8]) -> Result<Vec<u8>, Trouble> {
 }
 
 /// Returns whether the bytes are exactly one error packet.
-pub fn is_error(written: &[u8]) -> bool {
+pub fn is_error_packet(written: &[u8]) -> bool {
     let Some(digits) = written.get(..4) else {
         return false;
     };
     let mut len = 0usize;
     for letter in digits {
-        let value = usize::from(digit(*letter));
+        let value = usize::from(hex_value(*letter));
         len = len.saturating_mul(16).saturating_add(value);
     }
     len == written.len()

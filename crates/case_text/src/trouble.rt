@@ -6,34 +6,34 @@ use std::io;
 /// The reason why the cases can't run.
 #[derive(Clone, Copy)]
 pub enum Trouble {
-    /// The harness itself is out of memory.
+    /// The test program itself is out of memory.
     Memory,
     /// A brace is not closed.
     OpenBrace,
     /// A line names a text or talk that does not exist.
-    NoName,
+    UnknownName,
     /// A line of a row precedes the first row.
-    NoRow,
+    NoCurrentRow,
     /// A row names no program.
-    NoRun,
+    RowWithoutProgram,
     /// A line has no known form.
     UnknownLine,
     /// A `run` line names an unknown program.
     UnknownProgram,
     /// A line names an unknown packer or indexer.
-    NoLiar,
+    UnknownPackTool,
     /// The limit of a pack is not a number.
-    BadLimit,
+    InvalidLimit,
     /// The text of a fact's graph is not a repository.
-    NoGraph,
+    InvalidGraph,
     /// The text is not an id.
-    NoId,
+    InvalidId,
     /// The two texts do not describe a server and a client of one simulated world.
-    NoWorld,
+    InvalidWorld,
     /// The text is not a scenario.
-    NoScenario,
+    InvalidScenario,
     /// A socket or a file of the test itself failed.
-    NoSocket,
+    TestIo,
 }
 
 impl Trouble {
@@ -42,18 +42,18 @@ impl Trouble {
         match self {
             Trouble::Memory => "out of memory",
             Trouble::OpenBrace => "a brace is not closed",
-            Trouble::NoName => "no text or talk has this name",
-            Trouble::NoRow => "there is no row yet",
-            Trouble::NoRun => "the row before names no program",
+            Trouble::UnknownName => "no text or talk has this name",
+            Trouble::NoCurrentRow => "there is no row yet",
+            Trouble::RowWithoutProgram => "the row before names no program",
             Trouble::UnknownLine => "no line begins so",
             Trouble::UnknownProgram => "no program has this name",
-            Trouble::NoLiar => "no packer or indexer has this name",
-            Trouble::BadLimit => "the limit is no number",
-            Trouble::NoGraph => "the graph is no repository",
-            Trouble::NoId => "a word is no id",
-            Trouble::NoWorld => "there is no such world",
-            Trouble::NoScenario => "the text is no scenario",
-            Trouble::NoSocket => "a socket or a file of the test failed",
+            Trouble::UnknownPackTool => "no packer or indexer has this name",
+            Trouble::InvalidLimit => "the limit is no number",
+            Trouble::InvalidGraph => "the graph is no repository",
+            Trouble::InvalidId => "a word is no id",
+            Trouble::InvalidWorld => "there is no such world",
+            Trouble::InvalidScenario => "the text is no scenario",
+            Trouble::TestIo => "a socket or a file of the test failed",
         }
     }
 }
@@ -66,7 +66,7 @@ impl From<AllocError> for Trouble {
 
 impl From<io::Error> for Trouble {
     fn from(_error: io::Error) -> Trouble {
-        Trouble::NoSocket
+        Trouble::TestIo
     }
 }
 

@@ -1,31 +1,31 @@
 //! Checks of the result of a run against the expected results of its row.
 
-use crate::play::Played;
-use case_runs::{Hindrance, Writer};
+use crate::memory_runs::RunResults;
+use case_runs::{DeviceLimits, Writer};
 use case_text::{
-    Change, Ending, Invocation, PacketStart, Program, TableLine, Talk, Trouble, error_packet,
-    fault_text, is_error, number_of,
+    Change, Conversation, Invocation, OutcomeKind, PacketStart, Program, TableLine, Trouble,
+    error_packet, fault_text, is_error_packet, parse_number,
 };
 use gcmd::cmd_check;
 use std::alloc::Global;
 
-const NOTHING: &[u8] = b"";
+const NO_BYTES: &[u8] = b"";
 
-const ENDED_EARLY: &[u8] = b"0024ERR upload-pack: unexpected end\n";
+const UNEXPECTED_END_PACKET: &[u8] = b"0024ERR upload-pack: unexpected end\n";
 
-const READ_FAILED: &[u8] = b"0021ERR upload-pack: read failed\n";
+const READ_FAILED_PACKET: &[u8] = b"0021ERR upload-pack: read failed\n";
 
-const NO_MEMORY: &[u8] = b"0023ERR upload-pack: out of memory\n";
+const OUT_OF_MEMORY_PACKET: &[u8] = b"0023ERR upload-pack: out of memory\n";
 
-const PACK_FAILED: &[u8] = b"0021ERR upload-pack: pack failed\n";
+const PACK_FAILED_PACKET: &[u8] = b"0021ERR upload-pack: pack failed\n";
 
-const WRITE_FAILED: &[u8] = b"gitv2: fault 27 Io\n";
+const WRITE_FAULT_LINE: &[u8] = b"gitv2: fault 27 Io\n";
 
-/// The numbers of two out-of-memory faults. `NO_MEMORY_FAULT` may occur before a connection is
-/// served, and `PACK_FAULT` while a pack is created.
-const NO_MEMORY_FAULT: usize = 64;
+/// The numbers of two out-of-memory faults. `LOAD_MEMORY_FAULT` may occur before a connection is
+/// served, and `PACK_MEMORY_FAULT` while a pack is created.
+const LOAD_MEMORY_FAULT: usize = 64;
 
-const PACK_FAULT: usize = 65;
+const PACK_MEMORY_FAULT: usize = 65;
 
 /// The numbers of the faults that a run may report after a refused allocation.
 const MEMORY_FAULTS: [usize; 7] = [18, 28, 53, 64, 65, 66, 91];
@@ -35,20 +35,20 @@ const MEMORY_FAULTS: [usize; 7] = [18, 28, 53, 64, 65, 66, 91];
 pub struct Row<'b> {
     pub command: Invocation<'b>,
     /// The text of the server's or client's repository.
-    pub file: &'b [u8],
+    pub repository_text: &'b [u8],
     /// The expected new text of the client's file, if the file changes.
     pub new_file: Option<&'b [u8]>,
-    pub talk: Talk,
-    /// The fault lines expected when an allocation fails, in order. The list is empty if the row
-    /// lists no fault lines.
-    pub memory: &'b [Vec<u8>],
+    pub conversation: Conversation,
+    /// The fault lines expected when an allocation is refused, in order. The list is empty if the
+    /// row lists no fault lines.
+    pub memory_faults: &'b [Vec<u8>],
     /// The packet offsets in the last message that the program reads. The list is empty if the row
     /// lists no offsets.
-    pub packets: &'b [usize],
+    pub packet_offsets: &'b [usize],
     /// The expected results of a truncated or changed request. The list is empty if the row has no
     /// table.
     pub table: &'b [TableLine<'b>],
-    pub reach: Reach,
+    pub byte_changes: ByteChanges,
     /// Whether the row is also tested with a late peer, and over a socket while each allocation is
     /// refused in turn.
     pub is_late: bool,
@@ -58,96 +58,121 @@ pub struct Row<'b> {
 
 /// The changes that are made to each byte of the input.
 #[derive(Clone, Copy, PartialEq, Eq)]
-pub enum Reach {
+pub enum ByteChanges {
     /// Each byte is changed to every other value.
-    Deep,
+    EveryValue,
     /// Each bit of each byte is flipped.
-    Bits,
+    EveryBit,
     /// One bit of each byte is flipped. From byte to byte, the position of the bit moves by one.
     OneBit,
 }
 
 /// The two ways in which an input can stop early.
 #[derive(Clone, Copy, PartialEq, Eq)]
-pub enum Stop {
+pub enum InputStop {
     /// The input ends.
-    Ended,
+    End,
     /// A read fails.
-    Failed,
+    ReadFailure,
 }
 
 /// Returns whether the run had exactly the row's expected results, and flushed its output.
-pub fn is_as_due(row: &Row<'_>, played: &Played) -> bool {
-    (played.status == 1) != row.talk.errors.is_empty()
-        && has_written(&played.output, row.talk.output.as_slice(), NOTHING)
-        && has_reported(row, played)
-        && has_written(&played.errors, row.talk.errors.as_slice(), NOTHING)
-        && has_file(played, row.new_file)
+pub fn is_as_expected(row: &Row<'_>, results: &RunResults) -> bool {
+    (results.status == 1) != row.conversation.errors.is_empty()
+        && wrote_exactly(
+            &results.output,
+            row.conversation.output.as_slice(),
+            NO_BYTES,
+        )
+        && has_expected_report(row, results)
+        && wrote_exactly(
+            &results.errors,
+            row.conversation.errors.as_slice(),
+            NO_BYTES,
+        )
+        && has_expected_file(results, row.new_file)
 }
 
 // Returns whether the run wrote exactly the row's expected report, or nothing for programs without
 // a report.
-fn has_reported(row: &Row<'_>, played: &Played) -> bool {
-    let due = if row.command.program.reports() {
-        row.talk.report.as_slice()
+fn has_expected_report(row: &Row<'_>, results: &RunResults) -> bool {
+    let expected = if row.command.program.has_report() {
+        row.conversation.report.as_slice()
     } else {
-        NOTHING
+        NO_BYTES
     };
-    has_written(&played.report, due, NOTHING)
+    wrote_exactly(&results.report, expected, NO_BYTES)
 }
 
 /// Returns whether the run ended as expected for an input that stops after `len` bytes.
-pub fn is_stopped(
+pub fn is_as_expected_after_input_stop(
     alloc: Global,
     row: &Row<'_>,
-    played: &Played,
+    results: &RunResults,
     len: usize,
-    stop: Stop,
+    input_stop: InputStop,
 ) -> Result<bool, Trouble> {
-    let Some(place) = row.talk.place_at(len) else {
+    let Some(packet_start) = row.conversation.packet_at(len) else {
         return Ok(false);
     };
-    let Some(before) = row.talk.output.as_slice().get(..place.before) else {
+    let Some(output_before) = row
+        .conversation
+        .output
+        .as_slice()
+        .get(..packet_start.output_before)
+    else {
         return Ok(false);
     };
     let program = row.command.program;
-    let is_between = place.start == len;
-    let is_hello = row.command.has_hello() && place.start == 0;
-    let may_end = program.reads_client() && place.frame == 0 && !is_hello;
-    if stop == Stop::Ended && is_between && may_end {
-        return Ok(is_done(played, before));
+    let is_between = packet_start.start == len;
+    let is_hello = row.command.has_hello() && packet_start.start == 0;
+    let may_end = program.reads_client_messages() && packet_start.frame == 0 && !is_hello;
+    if input_stop == InputStop::End && is_between && may_end {
+        return Ok(has_succeeded_with(results, output_before));
     }
-    let (fault, refusal) = fault_at(stop, is_between);
-    let told = if program.serves() { refusal } else { NOTHING };
-    let line = fault_line(alloc, program, fault, place)?;
-    Ok(is_refused(played, before, told, line.as_bytes()))
+    let (fault, refusal) = expected_fault_after_stop(input_stop, is_between);
+    let sent_error = if program.is_server() {
+        refusal
+    } else {
+        NO_BYTES
+    };
+    let line = fault_line(alloc, program, fault, packet_start)?;
+    Ok(has_failed_with(results, output_before, sent_error, line.as_bytes()))
 }
 
 // Returns the expected fault and the expected error for the client if the input stops. The input
 // stops between packets if `is_between` is set, otherwise within a packet.
-fn fault_at(stop: Stop, is_between: bool) -> (&'static str, &'static [u8]) {
-    match stop {
-        Stop::Failed => ("24 Io", READ_FAILED),
-        Stop::Ended if is_between => ("54 Ended", ENDED_EARLY),
-        Stop::Ended => ("23 Truncated", ENDED_EARLY),
+fn expected_fault_after_stop(
+    input_stop: InputStop,
+    is_between: bool,
+) -> (&'static str, &'static [u8]) {
+    match input_stop {
+        InputStop::ReadFailure => ("24 Io", READ_FAILED_PACKET),
+        InputStop::End if is_between => ("54 Ended", UNEXPECTED_END_PACKET),
+        InputStop::End => ("23 Truncated", UNEXPECTED_END_PACKET),
     }
 }
 
 // Returns whether the run succeeded with exactly this output.
-fn is_done(played: &Played, written: &[u8]) -> bool {
-    played.status == 0
-        && has_written(&played.output, written, NOTHING)
-        && has_printed(played, NOTHING)
-        && played.file.is_none()
+fn has_succeeded_with(results: &RunResults, written: &[u8]) -> bool {
+    results.status == 0
+        && wrote_exactly(&results.output, written, NO_BYTES)
+        && printed_exactly(results, NO_BYTES)
+        && results.new_file.is_none()
 }
 
 // Returns whether the run failed with exactly this output, this error for the client and this fault
 // line.
-fn is_refused(played: &Played, written: &[u8], told: &[u8], printed: &[u8]) -> bool {
-    played.status == 1
-        && has_written(&played.output, written, told)
-        && has_printed(played, printed)
-        && played.file.is_none()
+fn has_failed_with(
+    results: &RunResults,
+    written: &[u8],
+    sent_error: &[u8],
+    printed_line: &[u8],
+) -> bool {
+    results.status == 1
+        && wrote_exactly(&results.output, written, sent_error)
+        && printed_exactly(results, printed_line)
+        && results.new_file.is_none()
 }
 
 // Returns the line that reports a fault at a packet.
@@ -155,10 +180,10 @@ fn fault_line(
     alloc: Global,
     program: Program,
     fault: &str,
-    place: PacketStart,
+    packet_start: PacketStart,
 ) -> Result<String, Trouble> {
-    let frame = place.frame;
-    if program.reads_lines() {
+    let frame = packet_start.frame;
+    if program.reads_single_packets() {
         Ok(format!(in alloc; "gitv2: fault {fault}\n")?)
     } else {
         Ok(format!(in alloc; "gitv2: fault {fault} frame {frame}\n")?)
@@ -166,162 +191,188 @@ fn fault_line(
 }
 
 /// Returns whether the run stopped at a failed write.
-pub fn is_write_failed(row: &Row<'_>, played: &Played) -> bool {
-    played.status == 1
-        && row.talk.output.starts_with(played.output.written_bytes())
-        && played.errors.written_bytes() == WRITE_FAILED
-        && played.file.is_none()
+pub fn is_as_expected_after_failed_write(row: &Row<'_>, results: &RunResults) -> bool {
+    results.status == 1
+        && row
+            .conversation
+            .output
+            .starts_with(results.output.written_bytes())
+        && results.errors.written_bytes() == WRITE_FAULT_LINE
+        && results.new_file.is_none()
 }
 
 /// Returns whether the run had all expected results, except that it wrote only a prefix of the
 /// report.
-pub(crate) fn is_report_failed(row: &Row<'_>, played: &Played) -> bool {
-    played.status == 1
-        && has_written(&played.output, row.talk.output.as_slice(), NOTHING)
-        && row.talk.report.starts_with(played.report.written_bytes())
-        && has_written(&played.errors, WRITE_FAILED, NOTHING)
-        && has_file(played, row.new_file)
+pub(crate) fn is_as_expected_after_failed_report(row: &Row<'_>, results: &RunResults) -> bool {
+    results.status == 1
+        && wrote_exactly(
+            &results.output,
+            row.conversation.output.as_slice(),
+            NO_BYTES,
+        )
+        && row
+            .conversation
+            .report
+            .starts_with(results.report.written_bytes())
+        && wrote_exactly(&results.errors, WRITE_FAULT_LINE, NO_BYTES)
+        && has_expected_file(results, row.new_file)
 }
 
 /// Returns whether the run had all expected results, except that it printed only a prefix of the
 /// fault line.
-pub(crate) fn is_errors_failed(row: &Row<'_>, played: &Played) -> bool {
-    played.status == 1
-        && has_written(&played.output, row.talk.output.as_slice(), NOTHING)
-        && has_reported(row, played)
-        && row.talk.errors.starts_with(played.errors.written_bytes())
-        && has_file(played, row.new_file)
+pub(crate) fn is_as_expected_after_failed_stderr(row: &Row<'_>, results: &RunResults) -> bool {
+    results.status == 1
+        && wrote_exactly(
+            &results.output,
+            row.conversation.output.as_slice(),
+            NO_BYTES,
+        )
+        && has_expected_report(row, results)
+        && row
+            .conversation
+            .errors
+            .starts_with(results.errors.written_bytes())
+        && has_expected_file(results, row.new_file)
 }
 
 /// Returns whether the run succeeded, or ended as expected after a refused allocation. A run that
 /// stops writes only complete messages of the expected output, and then reports the fault. A server
 /// also reports the fault to the client.
-pub fn is_scarce(row: &Row<'_>, played: &Played) -> bool {
-    is_as_due(row, played)
-        || is_unserved(row, played)
-        || has_event_without_memory(row, played)
-        || (is_out_of_memory(played) && has_stopped(row, played))
+pub fn is_as_expected_after_refusal(row: &Row<'_>, results: &RunResults) -> bool {
+    is_as_expected(row, results)
+        || ran_out_of_memory_at_load(row, results)
+        || has_event_memory_fault(row, results)
+        || (has_printed_memory_fault(results) && has_stopped_at_message_end(row, results))
 }
 
 // Returns whether the run is a simulation whose outcomes match those of the row up to an
 // out-of-memory fault.
-fn has_event_without_memory(row: &Row<'_>, played: &Played) -> bool {
-    if row.command.program != Program::Simulate || played.status != 0 {
+fn has_event_memory_fault(row: &Row<'_>, results: &RunResults) -> bool {
+    if row.command.program != Program::Simulate || results.status != 0 {
         return false;
     }
-    let written = played.output.written_bytes().split(|byte| *byte == b'\n');
-    let due = row.talk.output.as_slice().split(|byte| *byte == b'\n');
-    for (line, due) in written.zip(due) {
-        if line != due {
-            return is_refusal_of_memory(line);
+    let written = results.output.written_bytes().split(|byte| *byte == b'\n');
+    let expected = row
+        .conversation
+        .output
+        .as_slice()
+        .split(|byte| *byte == b'\n');
+    for (line, expected) in written.zip(expected) {
+        if line != expected {
+            return is_memory_fault_line(line);
         }
     }
     false
 }
 
-fn is_refusal_of_memory(line: &[u8]) -> bool {
+fn is_memory_fault_line(line: &[u8]) -> bool {
     match line.strip_prefix(b"fault ") {
-        Some(digits) => MEMORY_FAULTS.contains(&number_of(digits)),
+        Some(digits) => MEMORY_FAULTS.contains(&parse_number(digits)),
         None => false,
     }
 }
 
 /// Returns whether memory ran out while the server loaded the repository, before the server wrote
 /// any output.
-pub(crate) fn is_unserved(row: &Row<'_>, played: &Played) -> bool {
-    row.command.program.serves()
-        && is_out_of_memory(played)
-        && played.output.written_bytes().is_empty()
-        && fault_of(played.errors.written_bytes()) == NO_MEMORY_FAULT
+pub(crate) fn ran_out_of_memory_at_load(row: &Row<'_>, results: &RunResults) -> bool {
+    row.command.program.is_server()
+        && has_printed_memory_fault(results)
+        && results.output.written_bytes().is_empty()
+        && printed_fault_number(results.errors.written_bytes()) == LOAD_MEMORY_FAULT
 }
 
 // Returns whether the run printed only one out-of-memory fault, and wrote no report.
-fn is_out_of_memory(played: &Played) -> bool {
-    let errors = played.errors.written_bytes();
-    played.status == 1
-        && MEMORY_FAULTS.contains(&fault_of(errors))
+fn has_printed_memory_fault(results: &RunResults) -> bool {
+    let errors = results.errors.written_bytes();
+    results.status == 1
+        && MEMORY_FAULTS.contains(&printed_fault_number(errors))
         && errors.ends_with(b"\n")
         && errors.split(|byte| *byte == b'\n').count() == 2
-        && played.errors.is_passed_on()
-        && has_written(&played.report, NOTHING, NOTHING)
+        && results.errors.is_flushed()
+        && wrote_exactly(&results.report, NO_BYTES, NO_BYTES)
 }
 
 // Returns whether the run wrote complete messages of the expected output, followed by the error for
 // the client if the program is a server. If the run wrote a new file, the output must be complete,
 // because only the report can have failed.
-fn has_stopped(row: &Row<'_>, played: &Played) -> bool {
-    let told = if row.command.program.serves() {
-        refusal_of(fault_of(played.errors.written_bytes()))
+fn has_stopped_at_message_end(row: &Row<'_>, results: &RunResults) -> bool {
+    let sent_error = if row.command.program.is_server() {
+        memory_error_packet(printed_fault_number(results.errors.written_bytes()))
     } else {
-        NOTHING
+        NO_BYTES
     };
-    let Some(kept) = played.output.written_bytes().strip_suffix(told) else {
+    let Some(messages) = results.output.written_bytes().strip_suffix(sent_error) else {
         return false;
     };
-    let is_kept = match &played.file {
-        Some(_) => has_file(played, row.new_file) && kept == row.talk.output.as_slice(),
-        None => row.talk.output.starts_with(kept) && row.talk.is_end(kept.len()),
+    let is_prefix = match &results.new_file {
+        Some(_) => has_expected_file(results, row.new_file)
+            && messages == row.conversation.output.as_slice(),
+        None => row.conversation.output.starts_with(messages)
+            && row.conversation.is_message_end(messages.len()),
     };
-    is_kept && played.output.is_passed_on()
+    is_prefix && results.output.is_flushed()
 }
 
 // Returns the error packet for the client after an out-of-memory fault.
-fn refusal_of(fault: usize) -> &'static [u8] {
-    if fault == PACK_FAULT {
-        PACK_FAILED
+fn memory_error_packet(fault: usize) -> &'static [u8] {
+    if fault == PACK_MEMORY_FAULT {
+        PACK_FAILED_PACKET
     } else {
-        NO_MEMORY
+        OUT_OF_MEMORY_PACKET
     }
 }
 
 /// Returns whether the run had the result that the row's table lists for the changed input.
-pub(crate) fn is_in_table(
+pub(crate) fn is_as_table_lists(
     alloc: Global,
     row: &Row<'_>,
-    played: &Played,
+    results: &RunResults,
     input: &[u8],
     change: Change,
 ) -> Result<bool, Trouble> {
-    let Some(before) = written_before(row) else {
+    let Some(output_before) = output_before_request(row) else {
         return Ok(false);
     };
-    for outcome in row.table {
-        if outcome.is_of(change) {
-            return is_outcome(alloc, row, played, (before, input), outcome);
+    for table_line in row.table {
+        if table_line.covers(change) {
+            return has_table_outcome(alloc, row, results, (output_before, input), table_line);
         }
     }
     Ok(false)
 }
 
 // Returns the output that is expected before the program reads the request.
-fn written_before<'b>(row: &'b Row<'_>) -> Option<&'b [u8]> {
-    let place = row.talk.place_at(0)?;
-    row.talk.output.as_slice().get(..place.before)
+fn output_before_request<'b>(row: &'b Row<'_>) -> Option<&'b [u8]> {
+    let packet_start = row.conversation.packet_at(0)?;
+    row.conversation
+        .output
+        .as_slice()
+        .get(..packet_start.output_before)
 }
 
-fn is_outcome(
+fn has_table_outcome(
     alloc: Global,
     row: &Row<'_>,
-    played: &Played,
-    (before, input): (&[u8], &[u8]),
-    outcome: &TableLine<'_>,
+    results: &RunResults,
+    (output_before, input): (&[u8], &[u8]),
+    table_line: &TableLine<'_>,
 ) -> Result<bool, Trouble> {
-    let due = &outcome.due;
-    match due.ending {
-        Ending::AsItStands => Ok(is_as_due(row, played)),
-        Ending::Said => Ok(
-            played.status == 0
-                && has_written(&played.output, before, due.bytes.as_slice())
-                && has_printed(played, NOTHING),
+    let expected = &table_line.expected;
+    match expected.kind {
+        OutcomeKind::Unchanged => Ok(is_as_expected(row, results)),
+        OutcomeKind::Output => Ok(
+            results.status == 0
+                && wrote_exactly(&results.output, output_before, expected.output.as_slice())
+                && printed_exactly(results, NO_BYTES),
         ),
-        Ending::Refused => {
-            let text = outcome.fill_in(alloc, due.text, input)?;
-            let fault = outcome.fill_in(alloc, due.fault, input)?;
+        OutcomeKind::ErrorPacket => {
+            let text = table_line.fill_placeholder(alloc, expected.error_text, input)?;
+            let fault = table_line.fill_placeholder(alloc, expected.fault, input)?;
             let packet = error_packet(alloc, text.as_slice())?;
             Ok(
-                played.status == 1
-                    && has_written(&played.output, before, packet.as_slice())
-                    && fault_text(played.errors.written_bytes()) == Some(fault.as_slice()),
+                results.status == 1
+                    && wrote_exactly(&results.output, output_before, packet.as_slice())
+                    && fault_text(results.errors.written_bytes()) == Some(fault.as_slice()),
             )
         }
     }
@@ -333,41 +384,42 @@ pub(crate) fn is_memory_fault(fault: usize) -> bool {
 }
 
 /// Returns the number of the printed fault, or 0 if no fault is printed.
-pub(crate) fn fault_of(errors: &[u8]) -> usize {
+pub(crate) fn printed_fault_number(errors: &[u8]) -> usize {
     let Some(text) = fault_text(errors) else {
         return 0;
     };
     match text.split(|byte| *byte == b' ').next() {
-        Some(digits) => number_of(digits),
+        Some(digits) => parse_number(digits),
         None => 0,
     }
 }
 
 /// Returns whether a run with a changed input printed a fault exactly if the run failed. A server's
 /// output must also begin with the advertisement.
-pub(crate) fn is_sound(row: &Row<'_>, played: &Played) -> bool {
-    let is_told = (played.status == 1)
-        == played.errors.written_bytes().starts_with(b"gitv2: fault ");
-    is_told && advertises(row, played)
+pub(crate) fn is_valid_for_changed_input(row: &Row<'_>, results: &RunResults) -> bool {
+    let prints_fault_if_failed = (results.status == 1)
+        == results.errors.written_bytes().starts_with(b"gitv2: fault ");
+    prints_fault_if_failed && advertises_or_refuses(row, results)
 }
 
 // Returns whether the output of a server begins with the row's advertisement, if any. A connection
 // with a first line may have an error packet instead.
-fn advertises(row: &Row<'_>, played: &Played) -> bool {
+fn advertises_or_refuses(row: &Row<'_>, results: &RunResults) -> bool {
     match row.command.program {
-        Program::Upload => has_advert(row, played),
-        Program::Serve => has_advert(row, played) || is_error(played.output.written_bytes()),
+        Program::Upload => has_advertisement(row, results),
+        Program::Serve => has_advertisement(row, results)
+            || is_error_packet(results.output.written_bytes()),
         _ => true,
     }
 }
 
-fn has_advert(row: &Row<'_>, played: &Played) -> bool {
-    let len = match row.talk.ends.first() {
+fn has_advertisement(row: &Row<'_>, results: &RunResults) -> bool {
+    let len = match row.conversation.message_ends.first() {
         Some(end) => *end,
         None => 0,
     };
-    match row.talk.output.as_slice().get(..len) {
-        Some(advert) => played.output.written_bytes().starts_with(advert),
+    match row.conversation.output.as_slice().get(..len) {
+        Some(advertisement) => results.output.written_bytes().starts_with(advertisement),
         None => false,
     }
 }
@@ -375,69 +427,75 @@ fn has_advert(row: &Row<'_>, played: &Played) -> bool {
 /// Returns whether the client's repository still holds all its objects, and each ref is connected.
 /// If the file has a new text, that text must equal the final state in memory. Otherwise the state
 /// may have new objects, but the refs must be unchanged.
-pub fn is_kept(alloc: Global, row: &Row<'_>, played: &Played) -> bool {
-    match (&played.state, &played.file) {
+pub fn keeps_repository(alloc: Global, row: &Row<'_>, results: &RunResults) -> bool {
+    match (&results.final_repository_text, &results.new_file) {
         (Some(state), Some(text)) => {
-            state.as_slice() == text.as_slice() && is_grown(alloc, row, text.as_slice())
+            state.as_slice() == text.as_slice() && keeps_objects(alloc, row, text.as_slice())
         }
         (Some(state), None) => {
-            has_same_refs(row, state.as_slice()) && is_grown(alloc, row, state.as_slice())
+            has_same_refs(row, state.as_slice()) && keeps_objects(alloc, row, state.as_slice())
         }
-        (None, Some(text)) => is_grown(alloc, row, text.as_slice()),
+        (None, Some(text)) => keeps_objects(alloc, row, text.as_slice()),
         (None, None) => true,
     }
 }
 
 // Returns whether a repository's text has the same refs as the row's text.
 fn has_same_refs(row: &Row<'_>, text: &[u8]) -> bool {
-    let (_, old_refs) = parts_of(row.file);
-    let (_, refs) = parts_of(text);
+    let (_, old_refs) = split_refs(row.repository_text);
+    let (_, refs) = split_refs(text);
     refs == old_refs
 }
 
 // Returns whether a repository's text has connected refs and all objects of the row's text.
-fn is_grown(alloc: Global, row: &Row<'_>, text: &[u8]) -> bool {
-    let (objects, _) = parts_of(row.file);
-    text.starts_with(objects) && is_safe(alloc, text)
+fn keeps_objects(alloc: Global, row: &Row<'_>, text: &[u8]) -> bool {
+    let (objects, _) = split_refs(row.repository_text);
+    text.starts_with(objects) && has_connected_refs(alloc, text)
 }
 
 // Returns whether each ref of a repository's text is connected.
-fn is_safe(alloc: Global, file: &[u8]) -> bool {
-    let mut output = Writer::new(alloc, Hindrance::NONE);
-    let mut errors = Writer::new(alloc, Hindrance::NONE);
-    check(alloc, file, &mut output, &mut errors) == 0
+fn has_connected_refs(alloc: Global, repository_text: &[u8]) -> bool {
+    let mut output = Writer::new(alloc, DeviceLimits::NONE);
+    let mut errors = Writer::new(alloc, DeviceLimits::NONE);
+    run_check(alloc, repository_text, &mut output, &mut errors) == 0
         && output.written_bytes().ends_with(b" safe yes\n")
 }
 
-fn check(alloc: Global, file: &[u8], output: &mut Writer, errors: &mut Writer) -> u8 {
-    cmd_check(alloc, file, output, errors)
+fn run_check(
+    alloc: Global,
+    repository_text: &[u8],
+    output: &mut Writer,
+    errors: &mut Writer,
+) -> u8 {
+    cmd_check(alloc, repository_text, output, errors)
 }
 
 // Splits a repository's text after the lines of its objects.
-fn parts_of(file: &[u8]) -> (&[u8], &[u8]) {
+fn split_refs(repository_text: &[u8]) -> (&[u8], &[u8]) {
     let mut len = 0usize;
-    for line in file.split_inclusive(|byte| *byte == b'\n') {
+    for line in repository_text.split_inclusive(|byte| *byte == b'\n') {
         if line.starts_with(b"r ") || line.starts_with(b"h ") {
             break;
         }
         len = len.saturating_add(line.len());
     }
-    file.split_at(len.min(file.len()))
+    repository_text.split_at(len.min(repository_text.len()))
 }
 
 // Returns whether the output consists of `first` and `last`, and is completely flushed.
-fn has_written(output: &Writer, first: &[u8], last: &[u8]) -> bool {
-    output.is_passed_on() && output.written_bytes().strip_prefix(first) == Some(last)
+fn wrote_exactly(output: &Writer, first: &[u8], last: &[u8]) -> bool {
+    output.is_flushed() && output.written_bytes().strip_prefix(first) == Some(last)
 }
 
 // Returns whether the run printed exactly `errors`, and wrote no report.
-fn has_printed(played: &Played, errors: &[u8]) -> bool {
-    has_written(&played.report, NOTHING, NOTHING) && has_written(&played.errors, errors, NOTHING)
+fn printed_exactly(results: &RunResults, errors: &[u8]) -> bool {
+    wrote_exactly(&results.report, NO_BYTES, NO_BYTES)
+        && wrote_exactly(&results.errors, errors, NO_BYTES)
 }
 
-fn has_file(played: &Played, due: Option<&[u8]>) -> bool {
-    match (&played.file, due) {
-        (Some(text), Some(due)) => text.as_slice() == due,
+fn has_expected_file(results: &RunResults, expected: Option<&[u8]>) -> bool {
+    match (&results.new_file, expected) {
+        (Some(text), Some(expected)) => text.as_slice() == expected,
         (None, None) => true,
         (Some(_), None) | (None, Some(_)) => false,
     }

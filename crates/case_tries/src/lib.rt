@@ -1,7 +1,7 @@
 //! Tests of one row on sources and sinks in memory, with checks of the results.
 //!
-//! A [`Row`] is a program with its input and its expected results. A [`Bench`] tests the row in
-//! each [`Way`].
+//! A [`Row`] is a program with its input and its expected results. A [`RowTest`] tests the row with
+//! each [`Variation`].
 //!
 //! - The input is unchanged, and is read whole or in pieces. The row also runs on std readers and
 //!   writers.
@@ -10,9 +10,9 @@
 //! - Each call to each source and sink fails in turn.
 //! - The input is truncated after each byte, or one of its bytes is changed.
 //! - Each allocation is refused in turn.
-//! - A stored file fails or stops at each of its calls.
+//! - Each call to the client's file fails in turn, or the run stops there.
 //!
-//! A [`Played`] is the result of a run. Most of the checks also apply to runs over sockets.
+//! A [`RunResults`] holds the results of a run. Most of the checks also apply to runs over sockets.
 //!
 //! # Proved
 //!
@@ -25,21 +25,22 @@
 //!
 //! # Dependencies
 //!
-//! `case_text` defines rows, their messages, and an allocator that fails. `case_runs` runs programs
-//! on sources and sinks in memory, and `case_worlds` runs simulations. `gsimulate` is the program
-//! for simulations, and `gcmd` checks a repository. `glockfile` defines stored files, and `gpkt`
-//! defines sources and sinks.
+//! `case_text` defines rows, their messages, and an allocator that refuses an allocation.
+//! `case_runs` runs programs on sources and sinks in memory, and `case_worlds` runs simulations.
+//! `gsimulate` is the program for simulations, and `gcmd` checks a repository. `glockfile` defines
+//! files that are replaced whole, and `gpkt` defines sources and sinks.
 #![tactic(auto)]
 
 mod judge;
-mod play;
-mod stored;
-mod vary;
-mod ways;
+mod memory_runs;
+mod row_tests;
+mod stored_fetch;
+mod variations;
 
 pub use crate::judge::{
-    Reach, Row, Stop, is_as_due, is_kept, is_scarce, is_stopped, is_write_failed,
+    ByteChanges, InputStop, Row, is_as_expected, is_as_expected_after_failed_write,
+    is_as_expected_after_input_stop, is_as_expected_after_refusal, keeps_repository,
 };
-pub use crate::play::Played;
-pub use crate::vary::Bench;
-pub use crate::ways::Way;
+pub use crate::memory_runs::RunResults;
+pub use crate::row_tests::RowTest;
+pub use crate::variations::Variation;

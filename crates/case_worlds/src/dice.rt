@@ -22,7 +22,7 @@ impl Dice {
     }
 
     /// Returns `true` in one of `sides` calls on average.
-    pub(crate) fn is_one_of(&mut self, sides: usize) -> bool {
+    pub(crate) fn is_one_in(&mut self, sides: usize) -> bool {
         self.roll(sides) == 0
     }
 }

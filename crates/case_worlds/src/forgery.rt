@@ -1,7 +1,7 @@
 //! Generation of random forged replies, random requests from other clients, and random objects.
 
 use crate::dice::Dice;
-use case_text::{packet, text_line};
+use case_text::{packet, text_packet};
 use gname::Format;
 use std::alloc::{AllocError, Global};
 
@@ -14,7 +14,7 @@ pub(crate) struct Forger {
     /// The ids of objects to choose from.
     pub(crate) ids: Vec<String>,
     /// Whether the client has read the server's refs and now waits for objects.
-    pub(crate) awaits_objects: bool,
+    pub(crate) expects_fetch_reply: bool,
 }
 
 impl Forger {
@@ -29,7 +29,7 @@ impl Forger {
 
     /// Appends a random object as a line of a plain pack.
     pub(crate) fn add_entry(&mut self, text: &mut String) -> Result<(), AllocError> {
-        let is_tag = self.dice.is_one_of(5);
+        let is_tag = self.dice.is_one_in(5);
         let count = if is_tag { 1 } else { self.dice.roll(3) };
         text.push(if is_tag { 't' } else { 'c' })?;
         for _ in 0..=count {
@@ -41,27 +41,27 @@ impl Forger {
 
     /// Appends a random reply, which usually has the form that the client expects.
     pub(crate) fn add_reply(&mut self, bytes: &mut Vec<u8>) -> Result<(), AllocError> {
-        if self.dice.is_one_of(8) {
-            self.add_noise(bytes)?;
-        } else if self.awaits_objects {
-            self.add_reply_of_objects(bytes)?;
+        if self.dice.is_one_in(8) {
+            self.add_random_bytes(bytes)?;
+        } else if self.expects_fetch_reply {
+            self.add_fetch_reply(bytes)?;
         } else {
-            self.add_reply_of_refs(bytes)?;
+            self.add_ls_refs_reply(bytes)?;
         }
-        self.spoil(bytes);
+        self.corrupt(bytes);
         Ok(())
     }
 
-    fn add_reply_of_refs(&mut self, bytes: &mut Vec<u8>) -> Result<(), AllocError> {
+    fn add_ls_refs_reply(&mut self, bytes: &mut Vec<u8>) -> Result<(), AllocError> {
         let mut line = String::new(self.alloc);
         self.add_ref(&mut line)?;
-        self.add_lines(&[line.as_str(), "0000"], bytes)
+        self.add_packets(&[line.as_str(), "0000"], bytes)
     }
 
     // Appends an id and a ref name.
     fn add_ref(&mut self, line: &mut String) -> Result<(), AllocError> {
         self.add_id(line)?;
-        let name = if self.dice.is_one_of(3) {
+        let name = if self.dice.is_one_in(3) {
             " refs/heads/x"
         } else {
             " refs/heads/main"
@@ -69,33 +69,33 @@ impl Forger {
         line.push_str(name)
     }
 
-    fn add_reply_of_objects(&mut self, bytes: &mut Vec<u8>) -> Result<(), AllocError> {
+    fn add_fetch_reply(&mut self, bytes: &mut Vec<u8>) -> Result<(), AllocError> {
         match self.dice.roll(4) {
             0 => self.add_pack(bytes)?,
-            1 => self.add_answer(bytes)?,
+            1 => self.add_acknowledgments(bytes)?,
             _ => {
-                self.add_lines(&["acknowledgments", "ready", "0001"], bytes)?;
+                self.add_packets(&["acknowledgments", "ready", "0001"], bytes)?;
                 self.add_pack(bytes)?;
             }
         }
-        self.add_lines(&["0000"], bytes)
+        self.add_packets(&["0000"], bytes)
     }
 
     // Appends an `acknowledgments` section with a `NAK` or one `ACK`.
-    fn add_answer(&mut self, bytes: &mut Vec<u8>) -> Result<(), AllocError> {
-        self.add_lines(&["acknowledgments"], bytes)?;
-        if self.dice.is_one_of(2) {
-            self.add_lines(&["NAK"], bytes)
+    fn add_acknowledgments(&mut self, bytes: &mut Vec<u8>) -> Result<(), AllocError> {
+        self.add_packets(&["acknowledgments"], bytes)?;
+        if self.dice.is_one_in(2) {
+            self.add_packets(&["NAK"], bytes)
         } else {
-            self.add_named("ACK ", bytes)
+            self.add_id_packet("ACK ", bytes)
         }
     }
 
     // Appends a `packfile` section with a pack on side band 1.
     fn add_pack(&mut self, bytes: &mut Vec<u8>) -> Result<(), AllocError> {
         let mut pack = String::new(self.alloc);
-        self.add_objects(&mut pack)?;
-        self.add_lines(&["packfile"], bytes)?;
+        self.add_plain_pack(&mut pack)?;
+        self.add_packets(&["packfile"], bytes)?;
         match packet(self.alloc, b"\x01", pack.as_bytes(), b"") {
             Ok(piece) => bytes.extend_from_slice(piece.as_slice()),
             Err(_) => Err(AllocError),
@@ -103,7 +103,7 @@ impl Forger {
     }
 
     // Appends a random pack in text form.
-    fn add_objects(&mut self, pack: &mut String) -> Result<(), AllocError> {
+    fn add_plain_pack(&mut self, pack: &mut String) -> Result<(), AllocError> {
         let count = self.dice.roll(5);
         pack.push_str("GPK1\n")?;
         for _ in 0..count {
@@ -116,48 +116,48 @@ impl Forger {
     /// Appends a random request from another client.
     pub(crate) fn add_request(&mut self, bytes: &mut Vec<u8>) -> Result<(), AllocError> {
         match self.dice.roll(3) {
-            0 => self.add_noise(bytes)?,
-            1 => self.add_request_of_refs(bytes)?,
-            _ => self.add_request_of_objects(bytes)?,
+            0 => self.add_random_bytes(bytes)?,
+            1 => self.add_ls_refs_request(bytes)?,
+            _ => self.add_fetch_request(bytes)?,
         }
-        self.spoil(bytes);
+        self.corrupt(bytes);
         Ok(())
     }
 
-    fn add_request_of_refs(&mut self, bytes: &mut Vec<u8>) -> Result<(), AllocError> {
+    fn add_ls_refs_request(&mut self, bytes: &mut Vec<u8>) -> Result<(), AllocError> {
         self.add_command("command=ls-refs", bytes)?;
-        self.add_lines(&["peel", "symrefs", "0000", "0000"], bytes)
+        self.add_packets(&["peel", "symrefs", "0000", "0000"], bytes)
     }
 
-    fn add_request_of_objects(&mut self, bytes: &mut Vec<u8>) -> Result<(), AllocError> {
+    fn add_fetch_request(&mut self, bytes: &mut Vec<u8>) -> Result<(), AllocError> {
         self.add_command("command=fetch", bytes)?;
-        self.add_named("want ", bytes)?;
-        if self.dice.is_one_of(2) {
-            self.add_named("have ", bytes)?;
+        self.add_id_packet("want ", bytes)?;
+        if self.dice.is_one_in(2) {
+            self.add_id_packet("have ", bytes)?;
         }
-        if self.dice.is_one_of(2) {
-            self.add_lines(&["done"], bytes)?;
+        if self.dice.is_one_in(2) {
+            self.add_packets(&["done"], bytes)?;
         }
-        self.add_lines(&["0000", "0000"], bytes)
+        self.add_packets(&["0000", "0000"], bytes)
     }
 
     fn add_command(&self, command: &str, bytes: &mut Vec<u8>) -> Result<(), AllocError> {
         match self.format {
-            Format::Sha1 => self.add_lines(&[command, "0001"], bytes),
-            Format::Sha256 => self.add_lines(&[command, "object-format=sha256", "0001"], bytes),
+            Format::Sha1 => self.add_packets(&[command, "0001"], bytes),
+            Format::Sha256 => self.add_packets(&[command, "object-format=sha256", "0001"], bytes),
         }
     }
 
     // Appends a packet that contains a word and an id.
-    fn add_named(&mut self, word: &str, bytes: &mut Vec<u8>) -> Result<(), AllocError> {
+    fn add_id_packet(&mut self, word: &str, bytes: &mut Vec<u8>) -> Result<(), AllocError> {
         let mut line = String::from_str(self.alloc, word)?;
         self.add_id(&mut line)?;
-        self.add_lines(&[line.as_str()], bytes)
+        self.add_packets(&[line.as_str()], bytes)
     }
 
     // Appends a packet for each line. `0000` stands for a flush packet, and `0001` for a delimiter
     // packet.
-    fn add_lines(&self, lines: &[&str], bytes: &mut Vec<u8>) -> Result<(), AllocError> {
+    fn add_packets(&self, lines: &[&str], bytes: &mut Vec<u8>) -> Result<(), AllocError> {
         for line in lines {
             self.add_packet(line, bytes)?;
         }
@@ -165,24 +165,24 @@ impl Forger {
     }
 
     fn add_packet(&self, line: &str, bytes: &mut Vec<u8>) -> Result<(), AllocError> {
-        match text_line(self.alloc, line.as_bytes()) {
+        match text_packet(self.alloc, line.as_bytes()) {
             Ok(line) => bytes.extend_from_slice(line.as_slice()),
             Err(_) => Err(AllocError),
         }
     }
 
-    fn add_noise(&mut self, bytes: &mut Vec<u8>) -> Result<(), AllocError> {
+    fn add_random_bytes(&mut self, bytes: &mut Vec<u8>) -> Result<(), AllocError> {
         for _ in 0..self.dice.roll(40) {
-            bytes.push(self.byte())?;
+            bytes.push(self.random_byte())?;
         }
         Ok(())
     }
 
-    fn byte(&mut self) -> u8 {
+    fn random_byte(&mut self) -> u8 {
         let bits = [1u8, 2, 4, 8, 16, 32, 64, 128];
         let mut byte = 0u8;
         for bit in bits {
-            if self.dice.is_one_of(2) {
+            if self.dice.is_one_in(2) {
                 byte |= bit;
             }
         }
@@ -190,12 +190,12 @@ impl Forger {
     }
 
     // Changes a byte of the message or truncates the message, in one of six calls on average.
-    fn spoil(&mut self, bytes: &mut Vec<u8>) {
+    fn corrupt(&mut self, bytes: &mut Vec<u8>) {
         let place = self.dice.roll(bytes.len());
         match self.dice.roll(12) {
             0 => bytes.truncate(place),
             1 => {
-                let changed = self.byte();
+                let changed = self.random_byte();
                 if let Some(byte) = bytes.get_mut(place) {
                     *byte = changed;
                 }

@@ -1,10 +1,10 @@
 //! Simulations of a server and a client. The events of a simulation are random, or listed in a
 //! scenario.
 //!
-//! - [`simulate_with`] runs a simulation with a packer or an indexer that may fail.
+//! - [`simulate_with_tools`] runs a simulation with a packer or an indexer that may fail.
 //! - [`run_one_by_one`] runs a simulation, and checks the client after each event.
-//! - [`run_scarcely`] runs a simulation with one allocation refused.
-//! - [`answer_by_chance`] runs many random events, and checks the client after each event.
+//! - [`run_with_refusal`] runs a simulation with one allocation refused.
+//! - [`simulate_at_random`] runs many random events, and checks the client after each event.
 //!
 //! # Proved
 //!
@@ -19,18 +19,20 @@
 //!
 //! `gworld` defines worlds and their events. `gcmd` loads the server and the client, `ggraph`
 //! defines packers and indexers, `gpkt` sinks, and `gname` the formats of ids. `case_text` defines
-//! faulty packers and indexers, packets, and an allocator that fails.
+//! faulty packers and indexers, packets, and an allocator that refuses an allocation.
 #![tactic(auto)]
 
-mod chance;
 mod dice;
+mod event_generator;
 mod forgery;
 mod random;
-mod simulated;
+mod simulations;
 mod tools;
 mod world;
 
-pub use crate::random::answer_by_chance;
-pub use crate::simulated::{Happened, run_one_by_one, run_scarcely, simulate_with};
+pub use crate::random::simulate_at_random;
+pub use crate::simulations::{
+    SimulationResults, run_one_by_one, run_with_refusal, simulate_with_tools,
+};
 pub use crate::tools::Tools;
-pub use crate::world::Files;
+pub use crate::world::WorldInputs;

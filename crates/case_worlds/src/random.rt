@@ -5,174 +5,190 @@
 //! With `PlainPack`, each kind of outcome must occur. Rounds of acknowledgments are required only
 //! if `rounds` follows COUNT.
 
-use crate::chance::Chance;
-use crate::simulated::run_scarcely;
+use crate::event_generator::EventGenerator;
+use crate::simulations::run_with_refusal;
 use crate::tools::Tools;
 use crate::world::{
-    Files, Play, RefusedAllocation, events_of, has_connected_refs, play_in_world, run_events,
-    text_of,
+    RefusedAllocation, WorldAction, WorldInputs, format_outcomes_and_refs, has_connected_refs,
+    parse_events, run_events, run_in_world,
 };
-use case_text::{Fact, Liar, Scarce, Trouble, number_of};
+use case_text::{Fact, PackTool, RefusingAllocator, Trouble, parse_number};
 use gname::Format;
 use gworld::{Event, Outcome, World};
 use std::alloc::{Allocator, Global};
 
 /// All faulty packers and indexers.
-const LIARS: [Liar; 12] = [
-    Liar::PacksNothing,
-    Liar::PacksShort,
-    Liar::PackFails,
-    Liar::PackTooLarge,
-    Liar::PackMemory,
-    Liar::DropsFirst,
-    Liar::OtherParent,
-    Liar::ManyParents,
-    Liar::TwoParentTag,
-    Liar::IndexFails,
-    Liar::FeedFails,
-    Liar::FinishFails,
+const FAULTY_PACK_TOOLS: [PackTool; 12] = [
+    PackTool::EmptyPacker,
+    PackTool::ShortPacker,
+    PackTool::FailingPacker,
+    PackTool::TooLargePacker,
+    PackTool::OutOfMemoryPacker,
+    PackTool::DropFirstIndexer,
+    PackTool::WrongParentIndexer,
+    PackTool::ManyParentsIndexer,
+    PackTool::TwoParentTagIndexer,
+    PackTool::FailingStartIndexer,
+    PackTool::FailingFeedIndexer,
+    PackTool::FailingFinishIndexer,
 ];
 
 /// The word after COUNT that requires rounds of acknowledgments to occur.
 const ROUNDS: &[u8] = b"rounds";
 
 /// The highest number of an allocation that may be refused.
-const MOST_REFUSED: usize = 30;
+const MAX_REFUSED_ALLOCATION: usize = 30;
 
 // The parameters of a run of random events.
 #[derive(Clone, Copy)]
-struct Setting<'b> {
-    files: Files<'b>,
+struct RandomRun<'b> {
+    inputs: WorldInputs<'b>,
     seed: usize,
     count: usize,
     // Whether an allocation is refused in some events.
-    is_scarce: bool,
+    refuses_allocations: bool,
     // Whether rounds of acknowledgments must occur.
-    has_rounds: bool,
+    requires_rounds: bool,
 }
 
 /// Runs random events between a client and the server that `server` describes. Returns `whole`, or
 /// a text about the first failure.
-pub fn answer_by_chance(alloc: Global, fact: &Fact<'_>, server: &[u8]) -> Result<String, Trouble> {
-    let setting = setting_of(fact.text.as_slice(), server, fact.format);
-    match found_in(alloc, setting)? {
-        Some(found) => Ok(found),
+pub fn simulate_at_random(
+    alloc: Global,
+    fact: &Fact<'_>,
+    server: &[u8],
+) -> Result<String, Trouble> {
+    let random_run = parse_random_run(fact.text.as_slice(), server, fact.format);
+    match find_failure(alloc, random_run)? {
+        Some(failure) => Ok(failure),
         None => Ok(String::from_str(alloc, "whole")?),
     }
 }
 
-fn found_in(alloc: Global, setting: Setting<'_>) -> Result<Option<String>, Trouble> {
-    match happen(alloc, setting)? {
-        Some(found) => Ok(Some(found)),
-        None => found_scarcely(alloc, setting),
+fn find_failure(alloc: Global, random_run: RandomRun<'_>) -> Result<Option<String>, Trouble> {
+    match run_random_events(alloc, random_run)? {
+        Some(failure) => Ok(Some(failure)),
+        None => find_failure_with_refusals(alloc, random_run),
     }
 }
 
-fn found_scarcely(alloc: Global, setting: Setting<'_>) -> Result<Option<String>, Trouble> {
-    let mut scarce = setting;
-    scarce.is_scarce = true;
-    scarce.seed = setting.seed.wrapping_add(1);
-    match happen(alloc, scarce)? {
-        Some(found) => Ok(Some(found)),
-        None => found_with_liars(alloc, setting),
+fn find_failure_with_refusals(
+    alloc: Global,
+    random_run: RandomRun<'_>,
+) -> Result<Option<String>, Trouble> {
+    let mut with_refusals = random_run;
+    with_refusals.refuses_allocations = true;
+    with_refusals.seed = random_run.seed.wrapping_add(1);
+    match run_random_events(alloc, with_refusals)? {
+        Some(failure) => Ok(Some(failure)),
+        None => find_failure_with_faulty_tools(alloc, random_run),
     }
 }
 
 // Runs the events with each faulty packer and indexer.
-fn found_with_liars(alloc: Global, setting: Setting<'_>) -> Result<Option<String>, Trouble> {
-    let mut seed = setting.seed;
-    for liar in LIARS {
+fn find_failure_with_faulty_tools(
+    alloc: Global,
+    random_run: RandomRun<'_>,
+) -> Result<Option<String>, Trouble> {
+    let mut seed = random_run.seed;
+    for pack_tool in FAULTY_PACK_TOOLS {
         seed = seed.wrapping_add(1);
-        if let Some(found) = happen(alloc, setting_with(setting, liar, seed))? {
-            return Ok(Some(found));
+        if let Some(failure) = run_random_events(
+            alloc,
+            with_faulty_tool(random_run, pack_tool, seed),
+        )? {
+            return Ok(Some(failure));
         }
     }
     Ok(None)
 }
 
 // Returns the parameters for a run of a quarter of the events with this faulty packer or indexer.
-fn setting_with(setting: Setting<'_>, liar: Liar, seed: usize) -> Setting<'_> {
+fn with_faulty_tool(random_run: RandomRun<'_>, pack_tool: PackTool, seed: usize) -> RandomRun<'_> {
     let tools = Tools {
-        liar: Some(liar),
-        format: setting.files.tools.format,
+        pack_tool: Some(pack_tool),
+        format: random_run.inputs.tools.format,
     };
-    Setting {
-        files: Files {
-            server: setting.files.server,
-            client: setting.files.client,
-            scenario: setting.files.scenario,
+    RandomRun {
+        inputs: WorldInputs {
+            server_text: random_run.inputs.server_text,
+            client_text: random_run.inputs.client_text,
+            scenario_text: random_run.inputs.scenario_text,
             tools,
         },
         seed,
-        count: setting.count / 4,
-        is_scarce: setting.is_scarce,
-        has_rounds: setting.has_rounds,
+        count: random_run.count / 4,
+        refuses_allocations: random_run.refuses_allocations,
+        requires_rounds: random_run.requires_rounds,
     }
 }
 
-fn setting_of<'b>(text: &'b [u8], server: &'b [u8], format: Format) -> Setting<'b> {
+fn parse_random_run<'b>(text: &'b [u8], server: &'b [u8], format: Format) -> RandomRun<'b> {
     let mut parts = text.splitn(2, |byte| *byte == b'/');
     let numbers = parts.next().unwrap_or(b"");
     let client = parts.next().unwrap_or(b"");
     let mut words = numbers.split(|byte| *byte == b' ');
-    let seed = number_of(words.next().unwrap_or(b""));
-    let count = number_of(words.next().unwrap_or(b""));
-    Setting {
-        files: Files {
-            server,
-            client: client.strip_prefix(b" ").unwrap_or(client),
-            scenario: b"",
-            tools: Tools { liar: None, format },
+    let seed = parse_number(words.next().unwrap_or(b""));
+    let count = parse_number(words.next().unwrap_or(b""));
+    RandomRun {
+        inputs: WorldInputs {
+            server_text: server,
+            client_text: client.strip_prefix(b" ").unwrap_or(client),
+            scenario_text: b"",
+            tools: Tools {
+                pack_tool: None,
+                format,
+            },
         },
         seed,
         count,
-        is_scarce: false,
-        has_rounds: words.next().unwrap_or(b"") == ROUNDS,
+        refuses_allocations: false,
+        requires_rounds: words.next().unwrap_or(b"") == ROUNDS,
     }
 }
 
 // Runs the events in sequence. Returns a text about the first failure, if any.
-fn happen(alloc: Global, setting: Setting<'_>) -> Result<Option<String>, Trouble> {
-    let scarce = Scarce::new(alloc);
-    let events = ByChance {
+fn run_random_events(alloc: Global, random_run: RandomRun<'_>) -> Result<Option<String>, Trouble> {
+    let refusing_alloc = RefusingAllocator::new(alloc);
+    let events = RandomEvents {
         alloc,
-        memory: &scarce,
-        scarce: &scarce,
-        setting,
+        tested_alloc: &refusing_alloc,
+        refusing_alloc: &refusing_alloc,
+        random_run,
     };
-    play_in_world(&scarce, setting.files, &events)
+    run_in_world(&refusing_alloc, random_run.inputs, &events)
 }
 
 // A run of random events in a world.
 #[derive(Drop)]
-struct ByChance<'s, A: Allocator + Copy> {
+struct RandomEvents<'s, A: Allocator + Copy> {
     alloc: Global,
-    memory: A,
-    scarce: &'s Scarce<Global>,
-    setting: Setting<'s>,
+    tested_alloc: A,
+    refusing_alloc: &'s RefusingAllocator<Global>,
+    random_run: RandomRun<'s>,
 }
 
-impl<A: Allocator + Copy> Play<A> for ByChance<'_, A> {
+impl<A: Allocator + Copy> WorldAction<A> for RandomEvents<'_, A> {
     type Output = Option<String>;
 
-    fn play(&self, world: &mut World<Tools, A>) -> Result<Option<String>, Trouble> {
-        match Chance::new(self.alloc, self.setting.seed, self.setting.files) {
-            Ok(mut chance) => self.happen(&mut chance, world),
+    fn run_on(&self, world: &mut World<Tools, A>) -> Result<Option<String>, Trouble> {
+        match EventGenerator::new(self.alloc, self.random_run.seed, self.random_run.inputs) {
+            Ok(mut event_generator) => self.run_random_events(&mut event_generator, world),
             Err(_) => Err(Trouble::Memory),
         }
     }
 }
 
-impl<A: Allocator + Copy> ByChance<'_, A> {
-    fn happen(
+impl<A: Allocator + Copy> RandomEvents<'_, A> {
+    fn run_random_events(
         &self,
-        chance: &mut Chance,
+        event_generator: &mut EventGenerator,
         world: &mut World<Tools, A>,
     ) -> Result<Option<String>, Trouble> {
         let mut log = String::new(self.alloc);
         let mut outcomes = Vec::new(self.alloc);
-        if self.keeps_connected_refs(chance, world, &mut log, &mut outcomes)? {
-            self.conclude(log.as_str(), outcomes.as_slice(), &*world)
+        if self.keeps_connected_refs(event_generator, world, &mut log, &mut outcomes)? {
+            self.check_after_events(log.as_str(), outcomes.as_slice(), &*world)
         } else {
             Ok(Some(log))
         }
@@ -181,16 +197,16 @@ impl<A: Allocator + Copy> ByChance<'_, A> {
     // Runs the events, but stops and returns `false` if the client has a ref that is not connected.
     fn keeps_connected_refs(
         &self,
-        chance: &mut Chance,
+        event_generator: &mut EventGenerator,
         world: &mut World<Tools, A>,
         log: &mut String,
         outcomes: &mut Vec<Outcome>,
     ) -> Result<bool, Trouble> {
-        for _ in 0..self.setting.count {
+        for _ in 0..self.random_run.count {
             let start = log.len();
-            chance.add_event(log)?;
+            event_generator.add_event(log)?;
             let line = log.get(start..).unwrap_or("");
-            if !self.step(chance, world, line, outcomes)? {
+            if !self.run_event(event_generator, world, line, outcomes)? {
                 return Ok(false);
             }
         }
@@ -198,73 +214,73 @@ impl<A: Allocator + Copy> ByChance<'_, A> {
     }
 
     // Runs the event of a line, and returns whether the client's refs are connected afterwards.
-    fn step(
+    fn run_event(
         &self,
-        chance: &mut Chance,
+        event_generator: &mut EventGenerator,
         world: &mut World<Tools, A>,
         line: &str,
         outcomes: &mut Vec<Outcome>,
     ) -> Result<bool, Trouble> {
         let refusal = RefusedAllocation {
-            scarce: self.scarce,
-            number: refused_number(chance, self.setting.is_scarce),
+            refusing_alloc: self.refusing_alloc,
+            number: roll_refused_allocation(event_generator, self.random_run.refuses_allocations),
         };
-        self.do_line(&refusal, world, line, outcomes)?;
+        self.run_event_line(&refusal, world, line, outcomes)?;
         if let Some(outcome) = outcomes.last() {
-            chance.learn(line, *outcome);
+            event_generator.note_outcome(line, *outcome);
         }
         has_connected_refs(self.alloc, &*world)
     }
 
-    fn do_line(
+    fn run_event_line(
         &self,
         refusal: &RefusedAllocation<'_>,
         world: &mut World<Tools, A>,
         line: &str,
         outcomes: &mut Vec<Outcome>,
     ) -> Result<(), Trouble> {
-        match events_of(self.memory, line.as_bytes()) {
-            Ok(events) => do_events(refusal, world, events.as_slice(), outcomes),
+        match parse_events(self.tested_alloc, line.as_bytes()) {
+            Ok(events) => run_events_with_refusal(refusal, world, events.as_slice(), outcomes),
             Err(trouble) => Err(trouble),
         }
     }
 
-    // Returns a description of the failure if a second run of all events has a different result, or
+    // Runs all events a second time. Returns a description of the failure if the result differs, or
     // if a required kind of outcome never occurred.
-    fn conclude(
+    fn check_after_events(
         &self,
         log: &str,
         outcomes: &[Outcome],
         world: &World<Tools, A>,
     ) -> Result<Option<String>, Trouble> {
-        if self.setting.is_scarce {
+        if self.random_run.refuses_allocations {
             return Ok(None);
         }
-        let text = text_of(self.alloc, outcomes, world)?;
-        match self.other_text(text.as_str(), log)? {
-            Some(other) => Ok(Some(other)),
-            None => self.unseen_kind_text(outcomes),
+        let text = format_outcomes_and_refs(self.alloc, outcomes, world)?;
+        match self.difference_in_second_run(text.as_str(), log)? {
+            Some(difference) => Ok(Some(difference)),
+            None => self.describe_missing_kind(outcomes),
         }
     }
 
     // Runs all events a second time, and returns the result if it differs from `text`.
-    fn other_text(&self, text: &str, log: &str) -> Result<Option<String>, Trouble> {
-        let files = Files {
-            server: self.setting.files.server,
-            client: self.setting.files.client,
-            scenario: log.as_bytes(),
-            tools: self.setting.files.tools,
+    fn difference_in_second_run(&self, text: &str, log: &str) -> Result<Option<String>, Trouble> {
+        let inputs = WorldInputs {
+            server_text: self.random_run.inputs.server_text,
+            client_text: self.random_run.inputs.client_text,
+            scenario_text: log.as_bytes(),
+            tools: self.random_run.inputs.tools,
         };
-        let again = run_scarcely(self.alloc, files, 0)?.text;
-        if again.as_str() == text {
+        let second_text = run_with_refusal(self.alloc, inputs, 0)?.text;
+        if second_text.as_str() == text {
             Ok(None)
         } else {
-            Ok(Some(again))
+            Ok(Some(second_text))
         }
     }
 
     // Returns a text that names the first required kind of outcome that never occurred.
-    fn unseen_kind_text(&self, outcomes: &[Outcome]) -> Result<Option<String>, Trouble> {
+    fn describe_missing_kind(&self, outcomes: &[Outcome]) -> Result<Option<String>, Trouble> {
         match self.missing_kind(outcomes) {
             Some(kind) => Ok(Some(format!(in self.alloc; "never {kind}")?)),
             None => Ok(None),
@@ -274,17 +290,17 @@ impl<A: Allocator + Copy> ByChance<'_, A> {
     // Returns a kind of outcome that never occurred. Returns `None` for runs with a faulty packer
     // or indexer.
     fn missing_kind(&self, outcomes: &[Outcome]) -> Option<&'static str> {
-        match self.setting.files.tools.liar {
+        match self.random_run.inputs.tools.pack_tool {
             Some(_) => None,
-            None => first_missing(outcomes, self.setting.has_rounds),
+            None => first_missing_kind(outcomes, self.random_run.requires_rounds),
         }
     }
 }
 
 // Returns the number of the allocation to refuse, or 0 for none.
-fn refused_number(chance: &mut Chance, is_scarce: bool) -> u64 {
-    if is_scarce && chance.roll(3) == 0 {
-        (chance.roll(MOST_REFUSED) as u64).saturating_add(1)
+fn roll_refused_allocation(event_generator: &mut EventGenerator, refuses_allocations: bool) -> u64 {
+    if refuses_allocations && event_generator.roll(3) == 0 {
+        (event_generator.roll(MAX_REFUSED_ALLOCATION) as u64).saturating_add(1)
     } else {
         0
     }
@@ -292,15 +308,15 @@ fn refused_number(chance: &mut Chance, is_scarce: bool) -> u64 {
 
 // Runs the events with an allocation refused. If memory runs out, runs the events again with enough
 // memory.
-fn do_events<A: Allocator + Copy>(
+fn run_events_with_refusal<A: Allocator + Copy>(
     refusal: &RefusedAllocation<'_>,
     world: &mut World<Tools, A>,
     events: &[Event<A>],
     outcomes: &mut Vec<Outcome>,
 ) -> Result<(), Trouble> {
-    refusal.begin();
+    refusal.start_counting();
     let is_done = run_events(world, events, outcomes)?;
-    refusal.end();
+    refusal.stop_refusing();
     if !is_done {
         run_events(world, events, outcomes)?;
     }
@@ -308,29 +324,31 @@ fn do_events<A: Allocator + Copy>(
 }
 
 // Returns the first kind of outcome that does not occur in `outcomes`. Rounds of acknowledgments
-// are required only if `has_rounds` is set.
-fn first_missing(outcomes: &[Outcome], has_rounds: bool) -> Option<&'static str> {
-    for kind in KINDS {
-        let is_due = has_rounds || kind != ROUND;
-        if is_due && !has_come(outcomes, kind) {
+// are required only if `requires_rounds` is set.
+fn first_missing_kind(outcomes: &[Outcome], requires_rounds: bool) -> Option<&'static str> {
+    for kind in OUTCOME_KINDS {
+        let is_required = requires_rounds || kind != ROUND;
+        if is_required && !occurs(outcomes, kind) {
             return Some(kind);
         }
     }
     None
 }
 
-fn has_come(outcomes: &[Outcome], kind: &str) -> bool {
-    outcomes.iter().any(|outcome| kind_of(*outcome) == kind)
+fn occurs(outcomes: &[Outcome], kind: &str) -> bool {
+    outcomes
+        .iter()
+        .any(|outcome| kind_of_outcome(*outcome) == kind)
 }
 
-const KINDS: [&str; 8] = [
+const OUTCOME_KINDS: [&str; 8] = [
     "asked", "served", "stranger", "ls", ROUND, "pack", "moved", "fault",
 ];
 
 const ROUND: &str = "round";
 
-// Returns the kind of an outcome in `KINDS`, or an empty text for other outcomes.
-fn kind_of(outcome: Outcome) -> &'static str {
+// Returns the kind of an outcome in `OUTCOME_KINDS`, or an empty text for other outcomes.
+fn kind_of_outcome(outcome: Outcome) -> &'static str {
     match outcome {
         Outcome::Asked { .. } => "asked",
         Outcome::Served { .. } => "served",

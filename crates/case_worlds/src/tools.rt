@@ -2,15 +2,16 @@
 
 ghost use Rattle.std.specs.Prelude.{⊤};
 
-use case_text::{Liar, Pieces};
+use case_text::{PackTool, ReceivedPack};
 use ggraph::{Entry, IndexFault, Indexer, PackFault, Packer, PlainPack};
 use gname::{Format, MAX_PACK};
 use std::alloc::Allocator;
 
-/// A packer and an indexer for ids of one format. Without a `liar`, both fulfill their contracts.
+/// A packer and an indexer for ids of one format. Without a `pack_tool`, both fulfill their
+/// contracts.
 #[derive(Clone, Copy, Drop)]
 pub struct Tools {
-    pub liar: Option<Liar>,
+    pub pack_tool: Option<PackTool>,
     pub format: Format,
 }
 
@@ -20,8 +21,8 @@ impl<A: Allocator + Copy> Packer<A> for Tools {
     ghost pack_fails = { λ _ list fault. ⊤ };
 
     fn pack(&self, alloc: A, entries: &[Entry<A>]) -> Result<Vec<u8, A>, PackFault> {
-        let pack = match self.liar {
-            Some(liar) if liar.is_packer() => liar.pack(alloc, entries)?,
+        let pack = match self.pack_tool {
+            Some(pack_tool) if pack_tool.is_packer() => pack_tool.pack(alloc, entries)?,
             _ => PlainPack.pack(alloc, entries)?,
         };
         if pack.len() > MAX_PACK {
@@ -32,7 +33,7 @@ impl<A: Allocator + Copy> Packer<A> for Tools {
 }
 
 impl<A: Allocator + Copy> Indexer<A> for Tools {
-    type Feed = Pieces<A>;
+    type Feed = ReceivedPack<A>;
 
     ghost indexes = { λ _ pack list. ⊤ };
 
@@ -40,25 +41,26 @@ impl<A: Allocator + Copy> Indexer<A> for Tools {
 
     ghost fed = { λ _ feed pack. ⊤ };
 
-    fn start(&self, alloc: A) -> Result<Pieces<A>, IndexFault> {
+    fn start(&self, alloc: A) -> Result<ReceivedPack<A>, IndexFault> {
         self.indexer().start(alloc)
     }
 
-    fn feed(&self, feed: &mut Pieces<A>, piece: &[u8]) -> Result<(), IndexFault> {
+    fn feed(&self, feed: &mut ReceivedPack<A>, piece: &[u8]) -> Result<(), IndexFault> {
         self.indexer().feed(feed, piece)
     }
 
-    fn finish(&self, feed: Pieces<A>) -> Result<Vec<Entry<A>, A>, IndexFault> {
+    fn finish(&self, feed: ReceivedPack<A>) -> Result<Vec<Entry<A>, A>, IndexFault> {
         self.indexer().index(self.format, &feed)
     }
 }
 
 impl Tools {
-    // Returns the indexer: `liar`, or an indexer that fulfills its contract if `liar` is `None`.
-    fn indexer(&self) -> Liar {
-        match self.liar {
-            Some(liar) => liar,
-            None => Liar::Watches,
+    // Returns the indexer: `pack_tool`, or an indexer that fulfills its contract if `pack_tool` is
+    // `None`.
+    fn indexer(&self) -> PackTool {
+        match self.pack_tool {
+            Some(pack_tool) => pack_tool,
+            None => PackTool::CheckingIndexer,
         }
     }
 }

@@ -1,7 +1,7 @@
 //! Worlds of a simulated server and client, their events, and the outcomes.
 
 use crate::tools::Tools;
-use case_text::{Invocation, Scarce, Trouble, id_text};
+use case_text::{Invocation, RefusingAllocator, Trouble, id_text};
 use ganswer::Server;
 use gcmd::{ProgramFault, load_server, open_client};
 use ggraph::{Graph, Refs, missing};
@@ -11,23 +11,23 @@ use std::alloc::{AllocError, Allocator, Global};
 
 /// The texts of a simulation's repositories and scenario, with its packer and indexer.
 #[derive(Clone, Copy)]
-pub struct Files<'b> {
-    pub server: &'b [u8],
-    pub client: &'b [u8],
-    pub scenario: &'b [u8],
+pub struct WorldInputs<'b> {
+    pub server_text: &'b [u8],
+    pub client_text: &'b [u8],
+    pub scenario_text: &'b [u8],
     pub tools: Tools,
 }
 
-impl<'b> Files<'b> {
+impl<'b> WorldInputs<'b> {
     /// Returns the texts and tools of a simulation, with `server` as the text of the server's
     /// repository.
-    pub fn of(command: Invocation<'b>, server: &'b [u8]) -> Files<'b> {
-        Files {
-            server,
-            client: command.client,
-            scenario: command.scenario,
+    pub fn for_command(command: Invocation<'b>, server: &'b [u8]) -> WorldInputs<'b> {
+        WorldInputs {
+            server_text: server,
+            client_text: command.client_text,
+            scenario_text: command.scenario_text,
             tools: Tools {
-                liar: command.liar,
+                pack_tool: command.pack_tool,
                 format: command.format,
             },
         }
@@ -37,89 +37,89 @@ impl<'b> Files<'b> {
 /// The number of the allocation to refuse, or 0 to refuse no allocation.
 #[derive(Drop)]
 pub(crate) struct RefusedAllocation<'m> {
-    pub(crate) scarce: &'m Scarce<Global>,
+    pub(crate) refusing_alloc: &'m RefusingAllocator<Global>,
     pub(crate) number: u64,
 }
 
 impl RefusedAllocation<'_> {
     /// Starts the count of allocations.
-    pub(crate) fn begin(&self) {
-        self.scarce.refuse(self.number);
+    pub(crate) fn start_counting(&self) {
+        self.refusing_alloc.refuse_allocation(self.number);
     }
 
     /// Refuses no allocation from now on.
-    pub(crate) fn end(&self) {
-        self.scarce.refuse(0);
+    pub(crate) fn stop_refusing(&self) {
+        self.refusing_alloc.refuse_allocation(0);
     }
 }
 
 /// An action on a world.
-pub(crate) trait Play<A: Allocator + Copy> {
+pub(crate) trait WorldAction<A: Allocator + Copy> {
     /// The type of the action's result.
     type Output;
 
     /// Runs the action on the world.
-    fn play(&self, world: &mut World<Tools, A>) -> Result<Self::Output, Trouble>;
+    fn run_on(&self, world: &mut World<Tools, A>) -> Result<Self::Output, Trouble>;
 }
 
 /// Runs the action on a world of the two repositories.
-pub(crate) fn play_in_world<A: Allocator + Copy, P: Play<A>>(
-    memory: A,
-    files: Files<'_>,
-    play: &P,
+pub(crate) fn run_in_world<A: Allocator + Copy, P: WorldAction<A>>(
+    tested_alloc: A,
+    inputs: WorldInputs<'_>,
+    action: &P,
 ) -> Result<P::Output, Trouble> {
-    match play_or_fault(memory, files, play) {
-        Ok(came) => came,
-        Err(_) => Err(Trouble::NoWorld),
+    match run_in_world_or_fault(tested_alloc, inputs, action) {
+        Ok(output) => output,
+        Err(_) => Err(Trouble::InvalidWorld),
     }
 }
 
 /// Runs the action, or returns the fault in the text of a repository. If the two repositories can't
 /// form a world, the fault is `ProgramFault::Memory`.
-pub(crate) fn play_or_fault<A: Allocator + Copy, P: Play<A>>(
-    memory: A,
-    files: Files<'_>,
-    play: &P,
+pub(crate) fn run_in_world_or_fault<A: Allocator + Copy, P: WorldAction<A>>(
+    tested_alloc: A,
+    inputs: WorldInputs<'_>,
+    action: &P,
 ) -> Result<Result<P::Output, Trouble>, ProgramFault<A>> {
-    match world_of(memory, files) {
-        Ok(world) => Ok(play_and_drop(world, play)),
+    match make_world(tested_alloc, inputs) {
+        Ok(world) => Ok(run_and_drop_world(world, action)),
         Err(fault) => Err(fault),
     }
 }
 
 // Runs the action and drops the world. Only this function drops a world, because the proof of the
 // drop is long.
-fn play_and_drop<A: Allocator + Copy, P: Play<A>>(
+fn run_and_drop_world<A: Allocator + Copy, P: WorldAction<A>>(
     world: World<Tools, A>,
-    play: &P,
+    action: &P,
 ) -> Result<P::Output, Trouble> {
     let mut world = world;
-    play.play(&mut world)
+    action.run_on(&mut world)
 }
 
-fn world_of<A: Allocator + Copy>(
-    memory: A,
-    files: Files<'_>,
+fn make_world<A: Allocator + Copy>(
+    tested_alloc: A,
+    inputs: WorldInputs<'_>,
 ) -> Result<World<Tools, A>, ProgramFault<A>> {
-    match load_server(memory, files.server) {
-        Ok(server) => meet(memory, server, files),
+    match load_server(tested_alloc, inputs.server_text) {
+        Ok(server) => world_with_client(tested_alloc, server, inputs),
         Err(fault) => Err(fault),
     }
 }
 
-// Returns a world with this server and with the client in `files`.
-fn meet<A: Allocator + Copy>(
-    memory: A,
+// Returns a world with this server and with the client in `inputs`.
+fn world_with_client<A: Allocator + Copy>(
+    tested_alloc: A,
     server: Server<A>,
-    files: Files<'_>,
+    inputs: WorldInputs<'_>,
 ) -> Result<World<Tools, A>, ProgramFault<A>> {
-    match open_client(memory, files.client) {
-        Ok(repo) => or_fault(World::new(server, repo, files.tools)),
+    match open_client(tested_alloc, inputs.client_text) {
+        Ok(repo) => world_or_fault(World::new(server, repo, inputs.tools)),
         Err(fault) => Err(fault),
     }
 }
 
-fn or_fault<A: Allocator + Copy>(
+fn world_or_fault<A: Allocator + Copy>(
     world: Result<World<Tools, A>, WorldFault>,
 ) -> Result<World<Tools, A>, ProgramFault<A>> {
     match world {
@@ -129,19 +129,19 @@ fn or_fault<A: Allocator + Copy>(
 }
 
 /// Parses the events of a scenario.
-pub(crate) fn events_of<A: Allocator + Copy>(
-    memory: A,
+pub(crate) fn parse_events<A: Allocator + Copy>(
+    tested_alloc: A,
     scenario: &[u8],
 ) -> Result<Vec<Event<A>, A>, Trouble> {
-    or_trouble(Scenario::read(memory, scenario))
+    events_or_trouble(Scenario::read(tested_alloc, scenario))
 }
 
-fn or_trouble<A: Allocator + Copy>(
+fn events_or_trouble<A: Allocator + Copy>(
     events: Result<Vec<Event<A>, A>, ScenarioFault>,
 ) -> Result<Vec<Event<A>, A>, Trouble> {
     match events {
         Ok(events) => Ok(events),
-        Err(_) => Err(Trouble::NoScenario),
+        Err(_) => Err(Trouble::InvalidScenario),
     }
 }
 
@@ -152,19 +152,19 @@ pub(crate) fn run_events<A: Allocator + Copy>(
     events: &[Event<A>],
     outcomes: &mut Vec<Outcome>,
 ) -> Result<bool, Trouble> {
-    add_done(world.run(events), outcomes)
+    append_outcomes(world.run(events), outcomes)
 }
 
-fn add_done<A: Allocator + Copy>(
-    ran: Result<Vec<Outcome, A>, RunFault<A>>,
+fn append_outcomes<A: Allocator + Copy>(
+    run_result: Result<Vec<Outcome, A>, RunFault<A>>,
     outcomes: &mut Vec<Outcome>,
 ) -> Result<bool, Trouble> {
-    let (done, are_all) = match ran {
-        Ok(done) => (done, true),
+    let (finished, ran_all) = match run_result {
+        Ok(finished) => (finished, true),
         Err(RunFault::Memory { outcomes }) => (outcomes, false),
     };
-    outcomes.extend_from_slice(done.as_slice())?;
-    Ok(are_all)
+    outcomes.extend_from_slice(finished.as_slice())?;
+    Ok(ran_all)
 }
 
 /// Returns whether each ref of the client is connected. No allocation may be refused during the
@@ -173,13 +173,13 @@ pub(crate) fn has_connected_refs<A: Allocator + Copy>(
     alloc: Global,
     world: &World<Tools, A>,
 ) -> Result<bool, Trouble> {
-    match ids_of(alloc, world.client().refs()) {
-        Ok(ids) => has_all(world.client().graph(), ids.as_slice()),
+    match ref_ids(alloc, world.client().refs()) {
+        Ok(ids) => holds_ancestry(world.client().graph(), ids.as_slice()),
         Err(_) => Err(Trouble::Memory),
     }
 }
 
-fn ids_of<A: Allocator + Copy>(alloc: Global, refs: &Refs<A>) -> Result<Vec<Oid>, AllocError> {
+fn ref_ids<A: Allocator + Copy>(alloc: Global, refs: &Refs<A>) -> Result<Vec<Oid>, AllocError> {
     refs.as_slice()
         .iter()
         .map(|reference| reference.1)
@@ -187,9 +187,9 @@ fn ids_of<A: Allocator + Copy>(alloc: Global, refs: &Refs<A>) -> Result<Vec<Oid>
 }
 
 // Returns whether the graph holds all objects that the ids reach.
-fn has_all<A: Allocator + Copy>(graph: &Graph<A>, ids: &[Oid]) -> Result<bool, Trouble> {
+fn holds_ancestry<A: Allocator + Copy>(graph: &Graph<A>, ids: &[Oid]) -> Result<bool, Trouble> {
     match missing(graph, ids) {
-        Ok(lost) => Ok(lost.is_none()),
+        Ok(missing_id) => Ok(missing_id.is_none()),
         Err(_) => Err(Trouble::Memory),
     }
 }
@@ -203,55 +203,55 @@ pub(crate) fn is_out_of_memory(outcome: Outcome) -> bool {
 }
 
 /// Returns a line for the outcome of each event, and a line for each ref of the client.
-pub(crate) fn text_of<A: Allocator + Copy>(
+pub(crate) fn format_outcomes_and_refs<A: Allocator + Copy>(
     alloc: Global,
     outcomes: &[Outcome],
     world: &World<Tools, A>,
 ) -> Result<String, Trouble> {
     let mut text = String::new(alloc);
-    add_text(alloc, outcomes, world, &mut text)?;
+    add_outcomes_and_refs(alloc, outcomes, world, &mut text)?;
     Ok(text)
 }
 
 /// Appends a line for the outcome of each event, and a line for each ref of the client.
-pub(crate) fn add_text<A: Allocator + Copy>(
+pub(crate) fn add_outcomes_and_refs<A: Allocator + Copy>(
     alloc: Global,
     outcomes: &[Outcome],
     world: &World<Tools, A>,
     text: &mut String,
 ) -> Result<(), Trouble> {
-    add_outcomes(outcomes, text)?;
-    add_refs(alloc, world, text)
+    add_outcome_lines(outcomes, text)?;
+    add_ref_lines(alloc, world, text)
 }
 
-fn add_outcomes(outcomes: &[Outcome], text: &mut String) -> Result<(), AllocError> {
+fn add_outcome_lines(outcomes: &[Outcome], text: &mut String) -> Result<(), AllocError> {
     for outcome in outcomes {
-        add_outcome(*outcome, text)?;
+        add_outcome_line(*outcome, text)?;
     }
     Ok(())
 }
 
-fn add_refs<A: Allocator + Copy>(
+fn add_ref_lines<A: Allocator + Copy>(
     alloc: Global,
     world: &World<Tools, A>,
     text: &mut String,
 ) -> Result<(), Trouble> {
     for reference in world.client().refs().as_slice() {
         let id = id_text(alloc, &reference.1)?;
-        add_ref(id.as_str(), reference.0.as_bytes(), text)?;
+        add_ref_line(id.as_str(), reference.0.as_bytes(), text)?;
     }
     Ok(())
 }
 
-fn add_ref(id: &str, name: &[u8], text: &mut String) -> Result<(), Trouble> {
+fn add_ref_line(id: &str, name: &[u8], text: &mut String) -> Result<(), Trouble> {
     match std::str::from_utf8(name) {
         Ok(name) => Ok(write!(text, "ref {id} {name}\n")?),
-        Err(_) => Err(Trouble::NoName),
+        Err(_) => Err(Trouble::UnknownName),
     }
 }
 
 // Appends the line of an outcome.
-fn add_outcome(outcome: Outcome, text: &mut String) -> Result<(), AllocError> {
+fn add_outcome_line(outcome: Outcome, text: &mut String) -> Result<(), AllocError> {
     match outcome {
         Outcome::Done => text.push_str("done\n"),
         Outcome::Asked { request } => write!(text, "asked {request}\n"),
@@ -264,12 +264,12 @@ fn add_outcome(outcome: Outcome, text: &mut String) -> Result<(), AllocError> {
             moved,
             same,
             not_forward,
-        } => add_settled(moved, same, not_forward, text),
+        } => add_settled_line(moved, same, not_forward, text),
         Outcome::Fault { code } => write!(text, "fault {code}\n"),
     }
 }
 
-fn add_settled(
+fn add_settled_line(
     moved: usize,
     same: usize,
     not_forward: usize,

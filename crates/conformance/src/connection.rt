@@ -1,10 +1,11 @@
 //! Calls to `gtcp` on streams of any type, with the results of the calls.
 
 use case_runs::{
-    Hindrance, Job, Ran, Watch, Writer, client_of, end_fetch, end_listing, end_with_fault,
-    limit_of, prefixes_of, ran_without_file, server_of, specs_of,
+    CommandRun, DeviceLimits, IndexerCheck, RunOutcome, Writer, conclude_fetch, conclude_listing,
+    end_with_fault, outcome_without_file, pack_limit_of, parse_client, parse_prefixes,
+    parse_server, parse_specs,
 };
-use case_text::{Program, Scarce, Trouble, words_of};
+use case_text::{Program, RefusingAllocator, Trouble, split_words};
 use case_tries::Row;
 use gclient::{FetchFault, Fetched, Repo};
 use gcmd::{ProgramFault, Spec, finish};
@@ -19,15 +20,15 @@ use std::time::Clock;
 
 /// The result of a run on connections, with the printed lines.
 #[derive(Drop)]
-pub struct Held {
-    pub ran: Ran,
+pub struct ConnectionRun {
+    pub run_outcome: RunOutcome,
     pub report: Writer,
     pub errors: Writer,
 }
 
 // The lines that a run prints: its report and its faults.
 #[derive(Drop)]
-struct Printed {
+struct PrintedLines {
     report: Writer,
     errors: Writer,
 }
@@ -35,108 +36,111 @@ struct Printed {
 /// A listener, the number of connections to serve, and the clock for their deadlines. A client uses
 /// only one connection of the listener.
 #[derive(Drop)]
-pub struct Door<'c, C, L> {
+pub struct Endpoint<'c, C, L> {
     pub clock: &'c C,
     pub listener: L,
     pub connections: u32,
 }
 
 /// Runs a row on connections. Allocations are counted from the first call to `gtcp` on, and the
-/// allocation with the number `refused` fails.
-pub fn hold_row<C, L, S>(
+/// allocation with the number `refused_allocation` fails.
+pub fn run_row_on_connections<C, L, S>(
     alloc: Global,
     row: &Row<'_>,
-    refused: u64,
-    door: Door<'_, C, L>,
-) -> Result<Held, Trouble>
+    refused_allocation: u64,
+    endpoint: Endpoint<'_, C, L>,
+) -> Result<ConnectionRun, Trouble>
 where
     C: Clock,
     L: OpenListener<Stream = S> + Drop,
     S: Read + Write + OpenStream + Drop,
 {
-    let memory = Scarce::new(alloc);
-    let watch = Watch::new();
-    let job = Job {
+    let tested_alloc = RefusingAllocator::new(alloc);
+    let indexer_check = IndexerCheck::new();
+    let run = CommandRun {
         alloc,
-        memory: &memory,
-        scarce: &memory,
-        watch: &watch,
+        tested_alloc: &tested_alloc,
+        refusing_alloc: &tested_alloc,
+        indexer_check: &indexer_check,
         command: row.command,
-        file: row.file,
-        input: row.talk.input.as_slice(),
-        refused,
+        repository_text: row.repository_text,
+        input: row.conversation.input.as_slice(),
+        refused_allocation,
     };
-    hold(&job, door)
+    run_on_connections(&run, endpoint)
 }
 
 // Runs a command on connections. Allocations are counted from the first call to `gtcp` on, and the
-// allocation with the job's number `refused` fails.
-fn hold<A, C, L, S>(job: &Job<'_, '_, '_, A>, door: Door<'_, C, L>) -> Result<Held, Trouble>
+// allocation with the number `refused_allocation` of the run is refused.
+fn run_on_connections<A, C, L, S>(
+    run: &CommandRun<'_, '_, '_, A>,
+    endpoint: Endpoint<'_, C, L>,
+) -> Result<ConnectionRun, Trouble>
 where
     A: Allocator + Copy,
     C: Clock,
     L: OpenListener<Stream = S> + Drop,
     S: Read + Write + OpenStream + Drop,
 {
-    let mut printed = Printed {
-        report: Writer::new(job.alloc, Hindrance::NONE),
-        errors: Writer::new(job.alloc, Hindrance::NONE),
+    let mut printed = PrintedLines {
+        report: Writer::new(run.alloc, DeviceLimits::NONE),
+        errors: Writer::new(run.alloc, DeviceLimits::NONE),
     };
-    let ran = match job.command.program {
-        Program::Serve => serve(job, door, &mut printed)?,
-        Program::Fetch => fetch(job, door, &mut printed)?,
-        _ => list(job, door, &mut printed)?,
+    let run_outcome = match run.command.program {
+        Program::Serve => serve_connections(run, endpoint, &mut printed)?,
+        Program::Fetch => fetch_on_connection(run, endpoint, &mut printed)?,
+        _ => list_on_connection(run, endpoint, &mut printed)?,
     };
-    let Printed { report, errors } = printed;
-    Ok(Held {
-        ran,
+    let PrintedLines { report, errors } = printed;
+    Ok(ConnectionRun {
+        run_outcome,
         report,
         errors,
     })
 }
 
-fn serve<A, C, L, S>(
-    job: &Job<'_, '_, '_, A>,
-    door: Door<'_, C, L>,
-    printed: &mut Printed,
-) -> Result<Ran, Trouble>
+fn serve_connections<A, C, L, S>(
+    run: &CommandRun<'_, '_, '_, A>,
+    endpoint: Endpoint<'_, C, L>,
+    printed: &mut PrintedLines,
+) -> Result<RunOutcome, Trouble>
 where
     A: Allocator + Copy,
     C: Clock,
     L: OpenListener<Stream = S> + Drop,
     S: Read + Write + OpenStream + Drop,
 {
-    match server_of(job.memory, job.file) {
-        Ok(server) => serve_from(job, &server, door, printed),
-        Err(_) => Err(Trouble::NoGraph),
+    match parse_server(run.tested_alloc, run.repository_text) {
+        Ok(server) => serve_with_server(run, &server, endpoint, printed),
+        Err(_) => Err(Trouble::InvalidGraph),
     }
 }
 
 // Serves all connections, and prints their faults. The status is 1 if any fault is printed.
-fn serve_from<A, C, L, S>(
-    job: &Job<'_, '_, '_, A>,
+fn serve_with_server<A, C, L, S>(
+    run: &CommandRun<'_, '_, '_, A>,
     server: &Server<A>,
-    door: Door<'_, C, L>,
-    printed: &mut Printed,
-) -> Result<Ran, Trouble>
+    endpoint: Endpoint<'_, C, L>,
+    printed: &mut PrintedLines,
+) -> Result<RunOutcome, Trouble>
 where
     A: Allocator + Copy,
     C: Clock,
     L: OpenListener<Stream = S> + Drop,
     S: Read + Write + OpenStream + Drop,
 {
-    job.scarce.refuse(job.refused);
-    if accept_all(job, server, door, &mut printed.errors).is_err() {
-        return Err(Trouble::NoSocket);
+    run.refusing_alloc.refuse_allocation(run.refused_allocation);
+    if accept_connections(run, server, endpoint, &mut printed.errors).is_err() {
+        return Err(Trouble::TestIo);
     }
     let has_fault = !printed.errors.written_bytes().is_empty();
-    Ok(ran_without_file(job, has_fault as u8))
+    Ok(outcome_without_file(run, has_fault as u8))
 }
 
-fn accept_all<A, C, L, S>(
-    job: &Job<'_, '_, '_, A>,
+fn accept_connections<A, C, L, S>(
+    run: &CommandRun<'_, '_, '_, A>,
     server: &Server<A>,
-    door: Door<'_, C, L>,
+    endpoint: Endpoint<'_, C, L>,
     errors: &mut Writer,
 ) -> Result<(), ProgramFault<A>>
 where
@@ -146,64 +150,64 @@ where
     S: Read + Write + OpenStream + Drop,
 {
     serve_listener(
-        door.clock,
+        endpoint.clock,
         server,
         &PlainPack,
-        door.listener,
-        job.command.path.as_bytes(),
-        door.connections,
-        job.command.ends,
+        endpoint.listener,
+        run.command.path.as_bytes(),
+        endpoint.connections,
+        run.command.reply_ends,
         errors,
     )
 }
 
-fn fetch<A, C, L, S>(
-    job: &Job<'_, '_, '_, A>,
-    door: Door<'_, C, L>,
-    printed: &mut Printed,
-) -> Result<Ran, Trouble>
+fn fetch_on_connection<A, C, L, S>(
+    run: &CommandRun<'_, '_, '_, A>,
+    endpoint: Endpoint<'_, C, L>,
+    printed: &mut PrintedLines,
+) -> Result<RunOutcome, Trouble>
 where
     A: Allocator + Copy,
     L: OpenListener<Stream = S> + Drop,
     S: Read + Write + OpenStream + Drop,
 {
-    let words = words_of(job.memory, job.command.specs)?;
-    match specs_of(job.memory, words.as_slice()) {
-        Ok(specs) => fetch_by(job, specs.as_slice(), &door.listener, printed),
-        Err(fault) => Ok(end_with_fault(job, fault, &mut printed.errors)),
+    let arguments = split_words(run.tested_alloc, run.command.operands)?;
+    match parse_specs(run.tested_alloc, arguments.as_slice()) {
+        Ok(specs) => fetch_specs(run, specs.as_slice(), &endpoint.listener, printed),
+        Err(fault) => Ok(end_with_fault(run, fault, &mut printed.errors)),
     }
 }
 
-fn fetch_by<A, L, S>(
-    job: &Job<'_, '_, '_, A>,
+fn fetch_specs<A, L, S>(
+    run: &CommandRun<'_, '_, '_, A>,
     specs: &[Spec<A>],
     listener: &L,
-    printed: &mut Printed,
-) -> Result<Ran, Trouble>
+    printed: &mut PrintedLines,
+) -> Result<RunOutcome, Trouble>
 where
     A: Allocator + Copy,
     L: OpenListener<Stream = S>,
     S: Read + Write + OpenStream + Drop,
 {
-    match client_of(job.memory, job.file) {
+    match parse_client(run.tested_alloc, run.repository_text) {
         Ok(mut repo) => {
             let (stream, _) = listener.accept()?;
-            job.scarce.refuse(job.refused);
-            let fetched = fetch_into(job, &mut repo, specs, stream);
-            end_fetch(
-                job,
+            run.refusing_alloc.refuse_allocation(run.refused_allocation);
+            let fetched = fetch_over_stream(run, &mut repo, specs, stream);
+            conclude_fetch(
+                run,
                 &repo,
                 fetched,
                 &mut printed.report,
                 &mut printed.errors,
             )
         }
-        Err(_) => Err(Trouble::NoGraph),
+        Err(_) => Err(Trouble::InvalidGraph),
     }
 }
 
-fn fetch_into<A, S>(
-    job: &Job<'_, '_, '_, A>,
+fn fetch_over_stream<A, S>(
+    run: &CommandRun<'_, '_, '_, A>,
     repo: &mut Repo<A>,
     specs: &[Spec<A>],
     stream: S,
@@ -214,41 +218,41 @@ where
 {
     fetch_on(
         stream,
-        job.command.host.as_bytes(),
-        job.command.path.as_bytes(),
+        run.command.host.as_bytes(),
+        run.command.path.as_bytes(),
         repo,
         &PlainPack,
         specs,
-        limit_of(job.command.limit),
-        job.command.ends,
+        pack_limit_of(run.command.pack_limit),
+        run.command.reply_ends,
     )
 }
 
-fn list<A, C, L, S>(
-    job: &Job<'_, '_, '_, A>,
-    door: Door<'_, C, L>,
-    printed: &mut Printed,
-) -> Result<Ran, Trouble>
+fn list_on_connection<A, C, L, S>(
+    run: &CommandRun<'_, '_, '_, A>,
+    endpoint: Endpoint<'_, C, L>,
+    printed: &mut PrintedLines,
+) -> Result<RunOutcome, Trouble>
 where
     A: Allocator + Copy,
     L: OpenListener<Stream = S> + Drop,
     S: Read + Write + OpenStream + Drop,
 {
-    let words = words_of(job.memory, job.command.specs)?;
-    match prefixes_of(job, words.as_slice()) {
+    let arguments = split_words(run.tested_alloc, run.command.operands)?;
+    match parse_prefixes(run, arguments.as_slice()) {
         Ok(prefixes) => {
-            let (stream, _) = door.listener.accept()?;
-            job.scarce.refuse(job.refused);
-            let listed = list_on(job, prefixes.as_slice(), stream);
-            let outcome = end_listing(job, listed, &mut printed.report);
-            Ok(ran_without_file(job, finish(outcome, &mut printed.errors)))
+            let (stream, _) = endpoint.listener.accept()?;
+            run.refusing_alloc.refuse_allocation(run.refused_allocation);
+            let reply = list_over_stream(run, prefixes.as_slice(), stream);
+            let outcome = conclude_listing(run, reply, &mut printed.report);
+            Ok(outcome_without_file(run, finish(outcome, &mut printed.errors)))
         }
-        Err(fault) => Ok(end_with_fault(job, fault, &mut printed.errors)),
+        Err(fault) => Ok(end_with_fault(run, fault, &mut printed.errors)),
     }
 }
 
-fn list_on<A, S>(
-    job: &Job<'_, '_, '_, A>,
+fn list_over_stream<A, S>(
+    run: &CommandRun<'_, '_, '_, A>,
     prefixes: &[Prefix<A>],
     stream: S,
 ) -> Result<LsReply<A>, FetchFault<A>>
@@ -256,7 +260,7 @@ where
     A: Allocator + Copy,
     S: Read + Write + OpenStream + Drop,
 {
-    let host = job.command.host.as_bytes();
-    let path = job.command.path.as_bytes();
-    ls_on(job.memory, stream, host, path, prefixes)
+    let host = run.command.host.as_bytes();
+    let path = run.command.path.as_bytes();
+    ls_on(run.tested_alloc, stream, host, path, prefixes)
 }

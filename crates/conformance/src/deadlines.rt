@@ -4,111 +4,120 @@
 //! client, and 60 seconds for each request. A client waits 60 seconds for the next bytes of a
 //! server. A server waits 60 seconds for a client to accept bytes.
 
-use crate::connection::{Door, Held, hold_row};
-use crate::late::{LateListener, Line, Manner, OwnClock, Pulse};
+use crate::connection::{ConnectionRun, Endpoint, run_row_on_connections};
+use crate::late_peer::{ClockBehavior, LateConnection, LateListener, PeerBehavior, SimulatedClock};
 use case_runs::Writer;
 use case_text::{Program, Trouble};
-use case_tries::{Played, Row, Stop, is_as_due, is_kept, is_stopped, is_write_failed};
+use case_tries::{
+    InputStop, Row, RunResults, is_as_expected, is_as_expected_after_failed_write,
+    is_as_expected_after_input_stop, keeps_repository,
+};
 use std::alloc::Global;
 use std::time::Duration;
 
 /// The time limits in seconds for a first line, for a request, and for silence.
-const FIRST_LINE: u64 = 10;
+const FIRST_LINE_SECONDS: u64 = 10;
 
-const REQUEST: u64 = 60;
+const REQUEST_SECONDS: u64 = 60;
 
-const SILENCE: u64 = 60;
+const SILENCE_SECONDS: u64 = 60;
 
 /// The seconds within which a server answers an honest client after two silent clients.
-const PATIENCE: u64 = 25;
+const ANSWER_SECONDS: u64 = 25;
 
 /// The delays in milliseconds of a slow peer before each byte. With some of these delays a first
 /// line or a request meets its deadline, and with others it is late. The last delay equals the
 /// limit on silence, and the delay before it is just below that limit.
-const GAPS: [u64; 8] = [100, 240, 250, 400, 900, 6_000, 59_999, 60_000];
+const DELAYS: [u64; 8] = [100, 240, 250, 400, 900, 6_000, 59_999, 60_000];
 
 // The expected result of a connection.
 #[derive(Clone, Copy)]
-struct Due {
+struct ExpectedTiming {
     // The index of the first byte that arrives too late, if any.
-    late_at: Option<usize>,
+    first_late_byte: Option<usize>,
     // The expected duration of the connection.
     time: Duration,
 }
 
-/// Tests a `late` row with peers that become silent at some byte, become slow at some message, or,
-/// if the peer is a client, stop accepting bytes. After a late client, a server must serve the next
+/// Tests a `late` row with late peers. A peer becomes silent at some byte, or slow at some message.
+/// A client may also stop accepting bytes. After a late client, a server must serve the next
 /// client. Counts the runs in `runs`. If a run fails, returns the index of the byte that this run
 /// tested.
-pub fn first_wrong(alloc: Global, row: &Row<'_>, runs: &mut u64) -> Result<Option<usize>, Trouble> {
-    if !row.is_late || !row.command.has_hello() {
-        return Ok(None);
-    }
-    let mut wrong = wrong_where_silent(alloc, row, runs)?;
-    if wrong.is_none() {
-        wrong = wrong_where_slow(alloc, row, runs)?;
-    }
-    if wrong.is_none() && row.command.program == Program::Serve {
-        wrong = wrong_server(alloc, row, runs)?;
-    }
-    Ok(wrong)
-}
-
-// Tests the row with peers that are silent before the first, second or sixth byte of each packet.
-fn wrong_where_silent(
+pub fn first_failure(
     alloc: Global,
     row: &Row<'_>,
     runs: &mut u64,
 ) -> Result<Option<usize>, Trouble> {
-    for place in row.talk.places.as_slice() {
+    if !row.is_late || !row.command.has_hello() {
+        return Ok(None);
+    }
+    let mut failure = first_failure_when_silent(alloc, row, runs)?;
+    if failure.is_none() {
+        failure = first_failure_when_slow(alloc, row, runs)?;
+    }
+    if failure.is_none() && row.command.program == Program::Serve {
+        failure = first_server_failure(alloc, row, runs)?;
+    }
+    Ok(failure)
+}
+
+// Tests the row with peers that are silent before the first, second or sixth byte of each packet.
+fn first_failure_when_silent(
+    alloc: Global,
+    row: &Row<'_>,
+    runs: &mut u64,
+) -> Result<Option<usize>, Trouble> {
+    for packet_start in row.conversation.packet_starts.as_slice() {
         for more in [0usize, 1, 5] {
-            let silent = place.start.saturating_add(more);
-            if silent < row.talk.input.len() && !is_silent_as_due(alloc, row, silent, runs)? {
-                return Ok(Some(silent));
+            let silent_from = packet_start.start.saturating_add(more);
+            if silent_from < row.conversation.input.len()
+                && !is_as_expected_when_silent(alloc, row, silent_from, runs)?
+            {
+                return Ok(Some(silent_from));
             }
         }
     }
     Ok(None)
 }
 
-fn is_silent_as_due(
+fn is_as_expected_when_silent(
     alloc: Global,
     row: &Row<'_>,
-    silent: usize,
+    silent_from: usize,
     runs: &mut u64,
 ) -> Result<bool, Trouble> {
-    let mut manner = Manner::PROMPT;
-    manner.silent = silent;
-    is_late_as_due(alloc, row, manner, runs)
+    let mut behavior = PeerBehavior::PROMPT;
+    behavior.silent_from = silent_from;
+    is_as_expected_when_late(alloc, row, behavior, runs)
 }
 
 // Tests the row with peers that are slow from the beginning of each message.
-fn wrong_where_slow(
+fn first_failure_when_slow(
     alloc: Global,
     row: &Row<'_>,
     runs: &mut u64,
 ) -> Result<Option<usize>, Trouble> {
-    for from in 0..row.talk.input.len() {
-        if row.talk.message_at(from).is_some()
-            && !ends_as_expected_when_slow(alloc, row, from, runs)?
+    for slow_from in 0..row.conversation.input.len() {
+        if row.conversation.message_at(slow_from).is_some()
+            && !is_as_expected_when_slow(alloc, row, slow_from, runs)?
         {
-            return Ok(Some(from));
+            return Ok(Some(slow_from));
         }
     }
     Ok(None)
 }
 
-fn ends_as_expected_when_slow(
+fn is_as_expected_when_slow(
     alloc: Global,
     row: &Row<'_>,
-    from: usize,
+    slow_from: usize,
     runs: &mut u64,
 ) -> Result<bool, Trouble> {
-    for gap in GAPS {
-        let mut manner = Manner::PROMPT;
-        manner.from = from;
-        manner.gap = Duration::from_millis(gap);
-        if !is_late_as_due(alloc, row, manner, runs)? {
+    for delay in DELAYS {
+        let mut behavior = PeerBehavior::PROMPT;
+        behavior.slow_from = slow_from;
+        behavior.delay = Duration::from_millis(delay);
+        if !is_as_expected_when_late(alloc, row, behavior, runs)? {
             return Ok(false);
         }
     }
@@ -117,17 +126,19 @@ fn ends_as_expected_when_slow(
 
 // Tests a server with clients that stop accepting output at the end of a message, or one byte
 // before that end.
-fn wrong_where_full(
+fn first_failure_when_full(
     alloc: Global,
     row: &Row<'_>,
     runs: &mut u64,
 ) -> Result<Option<usize>, Trouble> {
-    for end in row.talk.ends.as_slice() {
+    for end in row.conversation.message_ends.as_slice() {
         for less in [0usize, 1] {
-            let takes = end.saturating_sub(less);
+            let max_accepted = end.saturating_sub(less);
             *runs = runs.saturating_add(1);
-            if takes < row.talk.output.len() && !is_left_as_due(alloc, row, takes)? {
-                return Ok(Some(takes));
+            if max_accepted < row.conversation.output.len()
+                && !drops_client_that_stops_reading(alloc, row, max_accepted)?
+            {
+                return Ok(Some(max_accepted));
             }
         }
     }
@@ -136,161 +147,217 @@ fn wrong_where_full(
 
 // Tests a server with clients that stop accepting bytes, with faulty clocks, and with two silent
 // clients.
-fn wrong_server(alloc: Global, row: &Row<'_>, runs: &mut u64) -> Result<Option<usize>, Trouble> {
-    let wrong = wrong_where_full(alloc, row, runs)?;
-    if wrong.is_some() {
-        return Ok(wrong);
+fn first_server_failure(
+    alloc: Global,
+    row: &Row<'_>,
+    runs: &mut u64,
+) -> Result<Option<usize>, Trouble> {
+    let failure = first_failure_when_full(alloc, row, runs)?;
+    if failure.is_some() {
+        return Ok(failure);
     }
-    for pulse in [Pulse::Fails, Pulse::GoesBack] {
+    for clock_behavior in [ClockBehavior::Fails, ClockBehavior::GoesBack] {
         *runs = runs.saturating_add(1);
-        if !is_refused_by_clock(alloc, row, pulse)? {
+        if !fails_with_faulty_clock(alloc, row, clock_behavior)? {
             return Ok(Some(0));
         }
     }
     *runs = runs.saturating_add(1);
-    let is_right = is_answered_after_two(alloc, row)?;
+    let is_right = answers_after_two_silent_clients(alloc, row)?;
     Ok(if is_right { None } else { Some(0) })
 }
 
-// Returns whether a connection with a peer of this manner has the expected results. After a late
+// Returns whether a connection with a peer of this behavior has the expected results. After a late
 // client, a server must serve the next client.
-fn is_late_as_due(
+fn is_as_expected_when_late(
     alloc: Global,
     row: &Row<'_>,
-    manner: Manner,
+    behavior: PeerBehavior,
     runs: &mut u64,
 ) -> Result<bool, Trouble> {
     *runs = runs.saturating_add(1);
-    let due = due_of(row, manner);
-    let met = run_on_connections(alloc, row, &[manner, Manner::PROMPT], Pulse::Even)?;
-    let is_right = match due.late_at {
-        Some(at) => is_stopped(alloc, row, &met.first, at, Stop::Failed)?,
-        None => is_as_due(row, &met.first),
+    let expected = expected_timing(row, behavior);
+    let results = run_on_connections(
+        alloc,
+        row,
+        &[behavior, PeerBehavior::PROMPT],
+        ClockBehavior::Steady,
+    )?;
+    let is_right = match expected.first_late_byte {
+        Some(index) => is_as_expected_after_input_stop(
+            alloc,
+            row,
+            &results.first,
+            index,
+            InputStop::ReadFailure,
+        )?,
+        None => is_as_expected(row, &results.first),
     };
-    let is_next_served = row.command.program != Program::Serve || met.is_last_served;
-    Ok(is_right && is_next_served && met.time == due.time && is_kept(alloc, row, &met.first))
+    let is_next_served = row.command.program != Program::Serve || results.is_last_served;
+    Ok(
+        is_right
+            && is_next_served
+            && results.time == expected.time
+            && keeps_repository(alloc, row, &results.first),
+    )
 }
 
 // Returns the index of the first byte that arrives too late, and the expected duration. A byte is
 // too late if the deadline for its message or the limit on silence has passed.
-fn due_of(row: &Row<'_>, manner: Manner) -> Due {
+fn expected_timing(row: &Row<'_>, behavior: PeerBehavior) -> ExpectedTiming {
     let mut time = Duration::ZERO;
-    let mut left = Duration::from_secs(SILENCE);
-    for at in 0..row.talk.input.len() {
-        left = time_at(row, at, left);
-        match manner.gap_before(at) {
-            Some(gap) if gap < left => {
-                time = time.saturating_add(gap);
-                left = left.saturating_sub(gap);
+    let mut remaining = Duration::from_secs(SILENCE_SECONDS);
+    for index in 0..row.conversation.input.len() {
+        remaining = time_limit(row, index, remaining);
+        match behavior.delay_before(index) {
+            Some(delay) if delay < remaining => {
+                time = time.saturating_add(delay);
+                remaining = remaining.saturating_sub(delay);
             }
-            _ => return Due {
-                late_at: Some(at),
-                time: time.saturating_add(left),
+            _ => return ExpectedTiming {
+                first_late_byte: Some(index),
+                time: time.saturating_add(remaining),
             },
         }
     }
-    Due {
-        late_at: None,
+    ExpectedTiming {
+        first_late_byte: None,
         time,
     }
 }
 
-// Returns the time within which the peer must send this byte. `left` is the remaining time for the
-// message.
-fn time_at(row: &Row<'_>, at: usize, left: Duration) -> Duration {
+// Returns the time within which the peer must send this byte. `remaining` is the remaining time for
+// the message.
+fn time_limit(row: &Row<'_>, index: usize, remaining: Duration) -> Duration {
     if row.command.program != Program::Serve {
-        Duration::from_secs(SILENCE)
-    } else if at == 0 {
-        Duration::from_secs(FIRST_LINE)
-    } else if row.talk.message_at(at).is_some() {
-        Duration::from_secs(REQUEST)
+        Duration::from_secs(SILENCE_SECONDS)
+    } else if index == 0 {
+        Duration::from_secs(FIRST_LINE_SECONDS)
+    } else if row.conversation.message_at(index).is_some() {
+        Duration::from_secs(REQUEST_SECONDS)
     } else {
-        left
+        remaining
     }
 }
 
-// Returns whether a server drops a client that stops accepting output after `takes` bytes.
-fn is_left_as_due(alloc: Global, row: &Row<'_>, takes: usize) -> Result<bool, Trouble> {
-    let mut manner = Manner::PROMPT;
-    manner.takes = takes;
-    let met = run_on_connections(alloc, row, &[manner, Manner::PROMPT], Pulse::Even)?;
-    let is_in_time = met.time == Duration::from_secs(SILENCE);
-    Ok(is_write_failed(row, &met.first) && met.is_last_served && is_in_time)
+// Returns whether a server drops a client that stops accepting output after `max_accepted` bytes.
+fn drops_client_that_stops_reading(
+    alloc: Global,
+    row: &Row<'_>,
+    max_accepted: usize,
+) -> Result<bool, Trouble> {
+    let mut behavior = PeerBehavior::PROMPT;
+    behavior.max_accepted = max_accepted;
+    let results = run_on_connections(
+        alloc,
+        row,
+        &[behavior, PeerBehavior::PROMPT],
+        ClockBehavior::Steady,
+    )?;
+    let is_in_time = results.time == Duration::from_secs(SILENCE_SECONDS);
+    Ok(
+        is_as_expected_after_failed_write(row, &results.first)
+            && results.is_last_served
+            && is_in_time,
+    )
 }
 
 // Returns whether a server reads no bytes from its client if its clock fails or goes back.
-fn is_refused_by_clock(alloc: Global, row: &Row<'_>, pulse: Pulse) -> Result<bool, Trouble> {
-    let met = run_on_connections(alloc, row, &[Manner::PROMPT], pulse)?;
-    is_stopped(alloc, row, &met.first, 0, Stop::Failed)
+fn fails_with_faulty_clock(
+    alloc: Global,
+    row: &Row<'_>,
+    clock_behavior: ClockBehavior,
+) -> Result<bool, Trouble> {
+    let results = run_on_connections(alloc, row, &[PeerBehavior::PROMPT], clock_behavior)?;
+    is_as_expected_after_input_stop(alloc, row, &results.first, 0, InputStop::ReadFailure)
 }
 
 // Returns whether a server answers an honest client in time after two silent clients.
-fn is_answered_after_two(alloc: Global, row: &Row<'_>) -> Result<bool, Trouble> {
-    let mut silent = Manner::PROMPT;
-    silent.silent = 0;
-    let met = run_on_connections(alloc, row, &[silent, silent, Manner::PROMPT], Pulse::Even)?;
-    Ok(met.is_last_served && met.time <= Duration::from_secs(PATIENCE))
+fn answers_after_two_silent_clients(alloc: Global, row: &Row<'_>) -> Result<bool, Trouble> {
+    let mut silent_peer = PeerBehavior::PROMPT;
+    silent_peer.silent_from = 0;
+    let results = run_on_connections(
+        alloc,
+        row,
+        &[silent_peer, silent_peer, PeerBehavior::PROMPT],
+        ClockBehavior::Steady,
+    )?;
+    Ok(results.is_last_served && results.time <= Duration::from_secs(ANSWER_SECONDS))
 }
 
 // The results of running a row on one or more connections.
 #[derive(Drop)]
 struct ConnectionResults {
     // The output of the first connection, and the printed lines of all connections.
-    first: Played,
+    first: RunResults,
     // Whether the last connection had the row's expected output.
     is_last_served: bool,
     time: Duration,
 }
 
-// Runs the row on one connection for each manner. The peer of the connection behaves in that
-// manner. A client uses only the first connection.
+// Runs the row on one connection for each behavior. The peer of the connection behaves so. A client
+// uses only the first connection.
 fn run_on_connections(
     alloc: Global,
     row: &Row<'_>,
-    manners: &[Manner],
-    pulse: Pulse,
+    behaviors: &[PeerBehavior],
+    clock_behavior: ClockBehavior,
 ) -> Result<ConnectionResults, Trouble> {
-    let Ok(connections) = u32::try_from(manners.len()) else {
-        return Err(Trouble::NoSocket);
+    let Ok(connections) = u32::try_from(behaviors.len()) else {
+        return Err(Trouble::TestIo);
     };
-    let clock = OwnClock::new(pulse);
-    let mut lines = Vec::new(alloc);
-    for manner in manners {
-        lines.push(Line::new(alloc, &row.talk, *manner))?;
+    let clock = SimulatedClock::new(clock_behavior);
+    let mut late_connections = Vec::new(alloc);
+    for behavior in behaviors {
+        late_connections.push(LateConnection::new(alloc, &row.conversation, *behavior))?;
     }
-    let door = Door {
+    let endpoint = Endpoint {
         clock: &clock,
-        listener: LateListener::new(&clock, lines.as_slice()),
+        listener: LateListener::new(&clock, late_connections.as_slice()),
         connections,
     };
-    let held = hold_row(alloc, row, 0, door)?;
-    met_by(alloc, row, held, &lines, clock.time_passed())
+    let connection_run = run_row_on_connections(alloc, row, 0, endpoint)?;
+    connection_results(
+        alloc,
+        row,
+        connection_run,
+        &late_connections,
+        clock.time_passed(),
+    )
 }
 
-fn met_by(
+fn connection_results(
     alloc: Global,
     row: &Row<'_>,
-    held: Held,
-    lines: &[Line<'_>],
+    connection_run: ConnectionRun,
+    late_connections: &[LateConnection<'_>],
     time: Duration,
 ) -> Result<ConnectionResults, Trouble> {
-    let Held {
-        ran,
+    let ConnectionRun {
+        run_outcome,
         report,
         errors,
-    } = held;
+    } = connection_run;
     Ok(ConnectionResults {
-        first: Played::on_connection(ran, taken_by(alloc, lines.first())?, report, errors),
-        is_last_served: taken_by(alloc, lines.last())?.written_bytes()
-            == row.talk.output.as_slice(),
+        first: RunResults::on_connection(
+            run_outcome,
+            accepted_by_peer(alloc, late_connections.first())?,
+            report,
+            errors,
+        ),
+        is_last_served: accepted_by_peer(alloc, late_connections.last())?.written_bytes()
+            == row.conversation.output.as_slice(),
         time,
     })
 }
 
 // Returns the bytes that the peer of a connection accepted.
-fn taken_by(alloc: Global, line: Option<&Line<'_>>) -> Result<Writer, Trouble> {
-    match line {
-        Some(line) => line.taken_bytes(alloc),
-        None => Err(Trouble::NoSocket),
+fn accepted_by_peer(
+    alloc: Global,
+    connection: Option<&LateConnection<'_>>,
+) -> Result<Writer, Trouble> {
+    match connection {
+        Some(connection) => connection.accepted_bytes(alloc),
+        None => Err(Trouble::TestIo),
     }
 }

@@ -4,7 +4,7 @@
 //! The arguments of the command line name test files. `case_text` parses these files. The first
 //! argument may be an option. `--quick` omits the tests that change bytes, and `--once` runs each
 //! case only with its input unchanged. `--edge` runs each case unchanged, and the tests of
-//! launches, connections and stored files.
+//! launches, connections and failing files.
 //!
 //! Each case runs with each of its programs, and with ids of both formats. Cases with replies also
 //! run with response-end packets added. A case may exclude one format or the added packets.
@@ -16,7 +16,7 @@
 //! - A connection with a first line runs over a socket in this process, and both ends take turns.
 //! - A peer is late by a simulated clock.
 //! - Each call to each source and sink fails in turn.
-//! - A stored file fails or stops at each of its calls.
+//! - Each call to the client's file fails in turn, or the run stops there.
 //! - The input is truncated after each byte, or one of its bytes is changed.
 //! - The request is changed as the case's table lists.
 //! - Each allocation is refused in turn.
@@ -37,30 +37,31 @@
 //!
 //! # Dependencies
 //!
-//! `case_text` parses the files and defines an allocator that fails. `case_tries` tests rows,
-//! `case_launches` launches the program, and `case_facts` checks facts. `case_runs` runs programs
-//! on sources and sinks in memory, and `case_worlds` runs simulations. `gtcp` serves and opens
-//! connections, `gargs` parses command lines, and `gcmd` defines the shared parts of programs.
-//! `gclient`, `glsreply`, `ggraph`, `ggrammar`, `gpkt` and `gname` define the other types.
+//! `case_text` parses the files and defines an allocator that refuses an allocation. `case_tries`
+//! tests rows, `case_launches` launches the program, and `case_facts` checks facts. `case_runs`
+//! runs programs on sources and sinks in memory, and `case_worlds` runs simulations. `gtcp` serves
+//! and opens connections, `gargs` parses command lines, and `gcmd` defines the shared parts of
+//! programs. `gclient`, `glsreply`, `ggraph`, `ggrammar`, `gpkt` and `gname` define the other
+//! types.
 #![tactic(auto)]
 
-mod asked;
+mod command_lines;
 mod connection;
 mod deadlines;
-mod late;
-mod launched;
-mod looks;
+mod facts;
+mod late_peer;
+mod launches;
 mod peer;
 mod rows;
 mod socket;
 mod tally;
 
-use crate::looks::try_fact;
-use crate::rows::try_case;
-use crate::tally::{Depth, Tally, tell_trouble};
+use crate::facts::check_fact;
+use crate::rows::test_case;
+use crate::tally::{Depth, Tally, print_trouble};
 use case_launches::System;
 use case_text::{Script, Trouble};
-use case_tries::Way;
+use case_tries::Variation;
 use gname::Format;
 use std::alloc::Global;
 use std::net::{Net, TcpListener, TcpStream};
@@ -80,25 +81,25 @@ fn run_cases<R>(rt: &R) -> io::Result<bool>
 where
     R: AllocGlobal + Clock + Env + Files + Print + Net<Stream = TcpStream, Listener = TcpListener>,
 {
-    let words: Vec<String> = env::args(rt)?.skip(1).collect(rt.alloc())?;
-    let (depth, names) = depth_of(words.as_slice());
+    let arguments: Vec<String> = env::args(rt)?.skip(1).collect(rt.alloc())?;
+    let (depth, names) = split_depth_option(arguments.as_slice());
     let files = read_files(rt, names)?;
-    try_all(rt, (names, files.as_slice()), &mut Tally::new(depth))
+    test_all_formats(rt, (names, files.as_slice()), &mut Tally::new(depth))
 }
 
 // Runs the tests with ids of each format.
-fn try_all<R: System>(
+fn test_all_formats<R: System>(
     rt: &R,
     files: (&[String], &[String]),
     tally: &mut Tally,
 ) -> io::Result<bool> {
     for format in [Format::Sha1, Format::Sha256] {
-        if !try_files(rt, format, files, tally)? {
+        if !test_files(rt, format, files, tally)? {
             return Ok(false);
         }
     }
-    show(rt, tally)?;
-    Ok(tally.wrong == 0)
+    print_counts(rt, tally)?;
+    Ok(tally.failures == 0)
 }
 
 fn read_files<R: Files + AllocGlobal>(rt: &R, names: &[String]) -> io::Result<Vec<String>> {
@@ -110,72 +111,72 @@ fn read_files<R: Files + AllocGlobal>(rt: &R, names: &[String]) -> io::Result<Ve
 }
 
 // Runs the tests with ids of one format. Returns whether the files could be parsed.
-fn try_files<R: System>(
+fn test_files<R: System>(
     rt: &R,
     format: Format,
     (names, files): (&[String], &[String]),
     tally: &mut Tally,
 ) -> io::Result<bool> {
     let mut script = Script::new(rt.alloc(), format);
-    match read_all(rt.alloc(), names, files, &mut script) {
+    match parse_files(rt.alloc(), names, files, &mut script) {
         Ok(()) => {
-            try_script(rt, &script, tally)?;
+            test_script(rt, &script, tally)?;
             Ok(true)
         }
         Err(trouble) => {
-            tell_trouble(rt, script.source, script.line, trouble, tally)?;
+            print_trouble(rt, script.file_name, script.line_number, trouble, tally)?;
             Ok(false)
         }
     }
 }
 
-fn read_all<'a>(
+fn parse_files<'a>(
     alloc: Global,
     names: &'a [String],
     files: &'a [String],
     script: &mut Script<'a>,
 ) -> Result<(), Trouble> {
     for (name, text) in names.iter().zip(files) {
-        script.read(alloc, name.as_str(), text.as_str())?;
+        script.read_file(alloc, name.as_str(), text.as_str())?;
     }
     Ok(())
 }
 
 // Returns the depth of the tests, and the names of the files.
-fn depth_of(words: &[String]) -> (Depth, &[String]) {
-    let Some((first, names)) = words.split_first() else {
-        return (Depth::Full, words);
+fn split_depth_option(arguments: &[String]) -> (Depth, &[String]) {
+    let Some((first, names)) = arguments.split_first() else {
+        return (Depth::Full, arguments);
     };
-    match Depth::of(first.as_str()) {
+    match Depth::from_option(first.as_str()) {
         Some(depth) => (depth, names),
-        None => (Depth::Full, words),
+        None => (Depth::Full, arguments),
     }
 }
 
 // Checks the facts and runs the cases.
-fn try_script<R: System>(rt: &R, script: &Script<'_>, tally: &mut Tally) -> io::Result<()> {
+fn test_script<R: System>(rt: &R, script: &Script<'_>, tally: &mut Tally) -> io::Result<()> {
     for fact in script.facts.as_slice() {
-        try_fact(rt, script, fact, tally)?;
+        check_fact(rt, script, fact, tally)?;
     }
-    try_cases(rt, script, tally)
+    test_cases(rt, script, tally)
 }
 
-fn try_cases<R: System>(rt: &R, script: &Script<'_>, tally: &mut Tally) -> io::Result<()> {
+fn test_cases<R: System>(rt: &R, script: &Script<'_>, tally: &mut Tally) -> io::Result<()> {
     for case in script.cases.as_slice() {
-        try_case(rt, &*script, case, tally)?;
+        test_case(rt, &*script, case, tally)?;
     }
     Ok(())
 }
 
-fn show<R: Print>(rt: &R, tally: &Tally) -> io::Result<()> {
+fn print_counts<R: Print>(rt: &R, tally: &Tally) -> io::Result<()> {
     let facts = tally.facts;
-    let tries = tally.tries;
+    let fact_runs = tally.fact_runs;
     let rows = tally.rows;
-    let wrong = tally.wrong;
-    println!(rt; "{facts} facts in {tries} runs, {rows} rows")?;
-    for (way, runs) in Way::ALL.iter().zip(tally.runs.iter()) {
-        let name = way.name();
+    let failures = tally.failures;
+    println!(rt; "{facts} facts in {fact_runs} runs, {rows} rows")?;
+    for (variation, runs) in Variation::ALL.iter().zip(tally.runs.iter()) {
+        let name = variation.name();
         println!(rt; "{runs} runs {name}")?;
     }
-    println!(rt; "{wrong} wrong")
+    println!(rt; "{failures} wrong")
 }

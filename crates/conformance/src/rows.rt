@@ -1,245 +1,272 @@
-//! Tests of cases. Each program of a case is tested in each of the ways that `Way` lists.
+//! Tests of cases. Each program of a case is tested with each `Variation`.
 
-use crate::tally::{Tally, tell_trouble};
-use crate::{deadlines, launched, socket};
+use crate::tally::{Tally, print_trouble};
+use crate::{deadlines, launches, socket};
 use case_launches::System;
 use case_text::{
-    Case, Invocation, Program, Script, Talk, Trouble, command_of, first_of, has_open_replies,
+    Case, Conversation, Invocation, Program, Script, Trouble, has_replies_without_response_end,
+    parse_command, split_first_word,
 };
-use case_tries::{Bench, Reach, Row, Way};
+use case_tries::{ByteChanges, Row, RowTest, Variation};
 use ggrammar::Ends;
 use std::alloc::Global;
 use std::io;
 
 // The first word of a command line for a server and a client in one process.
-const PAIR: &str = "pair ";
+const PAIR_COMMAND: &str = "pair ";
 
-// A case with one of its command lines. `adds_ends` adds response-end packets to the replies.
+// A case with one of its command lines. `adds_response_ends` adds response-end packets to the
+// replies.
 #[derive(Clone, Copy)]
-struct Attempt<'b> {
+struct CaseRun<'b> {
     script: &'b Script<'b>,
     case: &'b Case<'b>,
-    words: &'b str,
-    adds_ends: bool,
+    command_line: &'b str,
+    adds_response_ends: bool,
 }
 
 /// Tests a case with each of its programs. Replies that may end with response-end packets are
 /// tested with and without these packets.
-pub fn try_case<'b, R: System>(
+pub fn test_case<'b, R: System>(
     rt: &R,
     script: &'b Script<'b>,
     case: &'b Case<'b>,
     tally: &mut Tally,
 ) -> io::Result<()> {
-    let mut plain = Attempt {
+    let mut plain_run = CaseRun {
         script,
         case,
-        words: "",
-        adds_ends: false,
+        command_line: "",
+        adds_response_ends: false,
     };
     if case.launch.is_some() {
-        try_launch(rt, plain, tally)?;
+        test_launch(rt, plain_run, tally)?;
     }
-    for words in case.runs.as_slice() {
-        plain.words = *words;
-        try_words(rt, plain, tally)?;
+    for command_line in case.commands.as_slice() {
+        plain_run.command_line = *command_line;
+        test_command_line(rt, plain_run, tally)?;
     }
     Ok(())
 }
 
 // Tests a case with one of its command lines.
-fn try_words<R: System>(rt: &R, plain: Attempt<'_>, tally: &mut Tally) -> io::Result<()> {
-    if plain.words.starts_with(PAIR) {
-        return try_launch(rt, plain, tally);
+fn test_command_line<R: System>(
+    rt: &R,
+    plain_run: CaseRun<'_>,
+    tally: &mut Tally,
+) -> io::Result<()> {
+    if plain_run.command_line.starts_with(PAIR_COMMAND) {
+        return test_launch(rt, plain_run, tally);
     }
-    let mut ended = plain;
-    ended.adds_ends = true;
-    try_run(rt, plain, tally)?;
-    try_run(rt, ended, tally)
+    let mut run_with_response_ends = plain_run;
+    run_with_response_ends.adds_response_ends = true;
+    test_run(rt, plain_run, tally)?;
+    test_run(rt, run_with_response_ends, tally)
 }
 
 // Tests a case by launching the program. The case describes the launch, or names a server and a
 // client for one process.
-fn try_launch<R: System>(rt: &R, run: Attempt<'_>, tally: &mut Tally) -> io::Result<()> {
+fn test_launch<R: System>(rt: &R, run: CaseRun<'_>, tally: &mut Tally) -> io::Result<()> {
     tally.count_row();
-    tally.count_runs(Way::ByProgram, 1);
-    let wrong = match run.words.strip_prefix(PAIR) {
-        Some(words) => launched::wrong_pair(rt, run.script, run.case, words),
-        None => launched::wrong_launch(rt, run.script, run.case),
+    tally.count_runs(Variation::LaunchedProgram, 1);
+    let difference = match run.command_line.strip_prefix(PAIR_COMMAND) {
+        Some(command_line) => launches::launch_pair(rt, run.script, run.case, command_line),
+        None => launches::launch_case(rt, run.script, run.case),
     };
-    match wrong {
+    match difference {
         Ok(None) => Ok(()),
-        Ok(Some(wrong)) => tell_wrong(rt, run, (Way::ByProgram, 0), wrong.as_bytes(), tally),
-        Err(trouble) => tell_trouble(rt, run.case.source, run.case.line, trouble, tally),
+        Ok(Some(difference)) => print_failure(
+            rt,
+            run,
+            (Variation::LaunchedProgram, 0),
+            difference.as_bytes(),
+            tally,
+        ),
+        Err(trouble) => print_trouble(rt, run.case.file_name, run.case.line_number, trouble, tally),
     }
 }
 
-fn try_run<R: System>(rt: &R, run: Attempt<'_>, tally: &mut Tally) -> io::Result<()> {
-    match row_of(rt.alloc(), run.script, run) {
-        Ok(Some(row)) => try_row(rt, run, &row, tally),
+fn test_run<R: System>(rt: &R, run: CaseRun<'_>, tally: &mut Tally) -> io::Result<()> {
+    match make_row(rt.alloc(), run.script, run) {
+        Ok(Some(row)) => test_row(rt, run, &row, tally),
         Ok(None) => Ok(()),
-        Err(trouble) => tell_trouble(rt, run.case.source, run.case.line, trouble, tally),
+        Err(trouble) => print_trouble(rt, run.case.file_name, run.case.line_number, trouble, tally),
     }
 }
 
 // Returns the row of a run, or `None` if the run is to add response-end packets but can't.
-fn row_of<'b>(
+fn make_row<'b>(
     alloc: Global,
     script: &'b Script<'b>,
-    run: Attempt<'b>,
+    run: CaseRun<'b>,
 ) -> Result<Option<Row<'b>>, Trouble> {
-    match command_in(script, run)? {
-        Some(command) => Ok(Some(row_for(alloc, script, run, command)?)),
+    match make_command(script, run)? {
+        Some(command) => Ok(Some(make_row_for_command(alloc, script, run, command)?)),
         None => Ok(None),
     }
 }
 
 // Returns the command of a run, or `None` if the run is to add response-end packets but can't.
-fn command_in<'b>(
+fn make_command<'b>(
     script: &'b Script<'b>,
-    run: Attempt<'b>,
+    run: CaseRun<'b>,
 ) -> Result<Option<Invocation<'b>>, Trouble> {
     let case = run.case;
-    let mut command = command_of(run.words, script.format)?;
-    command.liar = case.liar;
-    if run.adds_ends {
-        if !may_add_ends(command, case) {
+    let mut command = parse_command(run.command_line, script.format)?;
+    command.pack_tool = case.pack_tool;
+    if run.adds_response_ends {
+        if !may_add_response_ends(command, case) {
             return Ok(None);
         }
-        command.ends = Ends::Response;
+        command.reply_ends = Ends::Response;
     }
-    add_texts(script, &mut command)?;
+    add_simulation_texts(script, &mut command)?;
     Ok(Some(command))
 }
 
-fn row_for<'b>(
+fn make_row_for_command<'b>(
     alloc: Global,
     script: &'b Script<'b>,
-    run: Attempt<'b>,
+    run: CaseRun<'b>,
     command: Invocation<'b>,
 ) -> Result<Row<'b>, Trouble> {
     let case = run.case;
-    let file = script.text(command.repository)?;
-    let new_file = new_file_of(script, case, command)?;
-    let talk = Talk::of(alloc, &command, case, run.adds_ends)?;
+    let repository_text = script.text(command.repository_name)?;
+    let new_file = expected_new_file(script, case, command)?;
+    let conversation = Conversation::of_case(alloc, &command, case, run.adds_response_ends)?;
     Ok(Row {
         command,
-        file,
+        repository_text,
         new_file,
-        talk,
-        memory: case.memory.as_slice(),
-        packets: case.packets.as_slice(),
+        conversation,
+        memory_faults: case.memory_faults.as_slice(),
+        packet_offsets: case.packet_offsets.as_slice(),
         table: case.table.as_slice(),
-        reach: reach_of(case, run.adds_ends),
+        byte_changes: byte_changes_for(case, run.adds_response_ends),
         is_late: case.is_late,
         is_long: case.is_long,
     })
 }
 
 // Returns the expected text of the client's file after a fetch, if the file changes.
-fn new_file_of<'b>(
+fn expected_new_file<'b>(
     script: &'b Script<'b>,
     case: &Case<'b>,
     command: Invocation<'_>,
 ) -> Result<Option<&'b [u8]>, Trouble> {
-    match case.file {
+    match case.new_file {
         Some(name) if command.program == Program::Fetch => Ok(Some(script.text(name)?)),
         _ => Ok(None),
     }
 }
 
 // Sets the text of the client and the text of the scenario, if the command is a simulation.
-fn add_texts<'b>(script: &'b Script<'b>, command: &mut Invocation<'b>) -> Result<(), Trouble> {
+fn add_simulation_texts<'b>(
+    script: &'b Script<'b>,
+    command: &mut Invocation<'b>,
+) -> Result<(), Trouble> {
     if command.program != Program::Simulate {
         return Ok(());
     }
-    let (client, scenario) = first_of(command.specs);
-    command.client = script.text(client)?;
-    command.scenario = script.text(scenario)?;
+    let (client, scenario) = split_first_word(command.operands);
+    command.client_text = script.text(client)?;
+    command.scenario_text = script.text(scenario)?;
     Ok(())
 }
 
 // Returns whether response-end packets may be added to the replies of a case. A case may forbid
 // response-end packets, or already contain them.
-fn may_add_ends(command: Invocation<'_>, case: &Case<'_>) -> bool {
-    command.program.has_ends()
-        && command.ends == Ends::Plain
-        && !case.is_plain
-        && has_open_replies(case, command.has_hello())
+fn may_add_response_ends(command: Invocation<'_>, case: &Case<'_>) -> bool {
+    command.program.may_have_response_ends()
+        && command.reply_ends == Ends::Plain
+        && !case.forbids_response_ends
+        && has_replies_without_response_end(case, command.has_hello())
 }
 
 // Returns the changes made to each byte. With added response-end packets, only one bit of each byte
 // is flipped.
-fn reach_of(case: &Case<'_>, adds_ends: bool) -> Reach {
-    if adds_ends {
-        Reach::OneBit
+fn byte_changes_for(case: &Case<'_>, adds_response_ends: bool) -> ByteChanges {
+    if adds_response_ends {
+        ByteChanges::OneBit
     } else if case.is_deep {
-        Reach::Deep
+        ByteChanges::EveryValue
     } else {
-        Reach::Bits
+        ByteChanges::EveryBit
     }
 }
 
-// Tests a row in each `Way`, and stops at the first failure.
-fn try_row<R: System>(
+// Tests a row with each `Variation`, and stops at the first failure.
+fn test_row<R: System>(
     rt: &R,
-    run: Attempt<'_>,
+    run: CaseRun<'_>,
     row: &Row<'_>,
     tally: &mut Tally,
 ) -> io::Result<()> {
     tally.count_row();
-    for way in Way::ALL {
-        if (row.is_long && !way.is_short()) || !tally.depth.has(way) {
+    for variation in Variation::ALL {
+        if (row.is_long && !variation.applies_to_long_rows()) || !tally.depth.includes(variation) {
             continue;
         }
-        let mut bench = Bench::new(rt.alloc(), row);
-        let found = match try_way(rt, run, &mut bench, row, way) {
-            Ok(found) => found,
+        let mut row_test = RowTest::new(rt.alloc(), row);
+        let failed_run = match test_variation(rt, run, &mut row_test, row, variation) {
+            Ok(failed_run) => failed_run,
             Err(trouble) => {
-                return tell_trouble(rt, run.case.source, run.case.line, trouble, tally);
+                return print_trouble(rt, run.case.file_name, run.case.line_number, trouble, tally);
             }
         };
-        tally.count_runs(way, bench.runs);
-        if let Some(at) = found {
-            return tell_wrong(rt, run, (way, at), bench.printed.as_slice(), tally);
+        tally.count_runs(variation, row_test.runs);
+        if let Some(failed_run) = failed_run {
+            return print_failure(
+                rt,
+                run,
+                (variation, failed_run),
+                row_test.printed.as_slice(),
+                tally,
+            );
         }
     }
     Ok(())
 }
 
-// Tests a row in one way, and returns the number of the first run that failed.
-fn try_way<R: System>(
+// Tests a row with one variation, and returns the number of the first run that failed.
+fn test_variation<R: System>(
     rt: &R,
-    run: Attempt<'_>,
-    bench: &mut Bench<'_, '_>,
+    run: CaseRun<'_>,
+    row_test: &mut RowTest<'_, '_>,
     row: &Row<'_>,
-    way: Way,
+    variation: Variation,
 ) -> Result<Option<usize>, Trouble> {
-    match way {
-        Way::OverSocket => socket::first_wrong(rt, rt.alloc(), row, &mut bench.runs),
-        Way::Late => deadlines::first_wrong(rt.alloc(), row, &mut bench.runs),
-        Way::ByProgram => launched::wrong_row(rt, run.script, run.case, row, bench),
-        _ => bench.try_way(way),
+    match variation {
+        Variation::Socket => socket::first_failure(rt, rt.alloc(), row, &mut row_test.runs),
+        Variation::LatePeer => deadlines::first_failure(rt.alloc(), row, &mut row_test.runs),
+        Variation::LaunchedProgram => launches::launch_row(rt, run.script, run.case, row, row_test),
+        _ => row_test.test_variation(variation),
     }
 }
 
-fn tell_wrong<R: Print>(
+fn print_failure<R: Print>(
     rt: &R,
-    run: Attempt<'_>,
-    (way, at): (Way, usize),
+    run: CaseRun<'_>,
+    (variation, failed_run): (Variation, usize),
     printed: &[u8],
     tally: &mut Tally,
 ) -> io::Result<()> {
-    tally.count_wrong();
-    let source = run.case.source;
-    let line = run.case.line;
+    tally.count_failure();
+    let file_name = run.case.file_name;
+    let line_number = run.case.line_number;
     let row = run.case.name;
-    let words = run.words;
-    let ends = if run.adds_ends { " (response-end)" } else { "" };
-    let name = way.name();
+    let command_line = run.command_line;
+    let ends = if run.adds_response_ends {
+        " (response-end)"
+    } else {
+        ""
+    };
+    let name = variation.name();
     let printed = match std::str::from_utf8(printed) {
         Ok(text) => text.trim_end(),
         Err(_) => "",
     };
-    println!(rt; "{source}:{line}: {row}: {words}{ends}: {name}, {at}: {printed}")
+    println!(rt;
+        "{file_name}:{line_number}: {row}: {command_line}{ends}: {name}, {failed_run}: {printed}"
+    )
 }

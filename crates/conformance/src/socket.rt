@@ -1,32 +1,32 @@
 //! Tests over a socket in one process, with `gtcp` at one end and a peer with the messages of a
 //! case at the other.
 
-use crate::connection::{Door, hold_row};
-use crate::peer::{Pace, Peer, TurnedListener};
+use crate::connection::{Endpoint, run_row_on_connections};
+use crate::peer::{Pace, Peer, TurnListener};
 use case_runs::Writer;
 use case_text::{Program, Trouble};
-use case_tries::{Played, Row, is_as_due, is_kept, is_scarce};
+use case_tries::{Row, RunResults, is_as_expected, is_as_expected_after_refusal, keeps_repository};
 use std::alloc::Global;
 use std::net::{Net, TcpListener, TcpStream};
 use std::time::Clock;
 
 /// The maximum number of bytes that a test writes to a socket before the other end reads them.
-const MOST_BYTES: usize = 16_384;
+const MAX_SOCKET_BYTES: usize = 16_384;
 
 /// An upper bound on the number of allocations in a run of any row.
-const MOST_TRIES: u64 = 1_000_000;
+const MAX_RUNS: u64 = 1_000_000;
 
 // The parameters of a run over a socket: the pace of the two ends, and the allocation to refuse.
 #[derive(Clone, Copy)]
-struct Trial {
+struct SocketRunParameters {
     pace: Pace,
-    refused: u64,
+    refused_allocation: u64,
 }
 
 /// Tests a row over a socket. The peer sends all its messages at once, in turns, or one byte at a
 /// time. A `late` row is also tested with each allocation refused. Counts the runs in `runs`, and
 /// returns the number of the first run that failed.
-pub fn first_wrong<R>(
+pub fn first_failure<R>(
     rt: &R,
     alloc: Global,
     row: &Row<'_>,
@@ -36,21 +36,21 @@ where
     R: Net<Stream = TcpStream, Listener = TcpListener> + Clock,
 {
     for (number, pace) in Pace::ALL.iter().enumerate() {
-        if !is_tried(row, *pace) {
+        if !applies_to_row(row, *pace) {
             continue;
         }
-        let trial = Trial {
+        let parameters = SocketRunParameters {
             pace: *pace,
-            refused: 0,
+            refused_allocation: 0,
         };
         *runs = runs.saturating_add(1);
-        let played = play(rt, alloc, row, trial)?;
-        if !is_as_due(row, &played) || !is_kept(alloc, row, &played) {
+        let results = run_over_socket(rt, alloc, row, parameters)?;
+        if !is_as_expected(row, &results) || !keeps_repository(alloc, row, &results) {
             return Ok(Some(number));
         }
     }
     if row.is_late {
-        return wrong_without_memory(rt, alloc, row, runs);
+        return first_failure_with_refusals(rt, alloc, row, runs);
     }
     Ok(None)
 }
@@ -58,15 +58,19 @@ where
 // Returns whether the row is tested at this pace. The row must be a short connection with a first
 // line, and may not use a faulty packer or indexer. `AtOnce` skips clients that fail, because their
 // unread input would reset the connection.
-fn is_tried(row: &Row<'_>, pace: Pace) -> bool {
+fn applies_to_row(row: &Row<'_>, pace: Pace) -> bool {
     let command = row.command;
-    let fits = row.talk.input.len() <= MOST_BYTES && row.talk.output.len() <= MOST_BYTES;
-    let ends_well = command.program == Program::Serve || row.talk.errors.is_empty();
-    command.has_hello() && command.liar.is_none() && fits && (ends_well || pace != Pace::AtOnce)
+    let fits = row.conversation.input.len() <= MAX_SOCKET_BYTES
+        && row.conversation.output.len() <= MAX_SOCKET_BYTES;
+    let ends_well = command.program == Program::Serve || row.conversation.errors.is_empty();
+    command.has_hello()
+        && command.pack_tool.is_none()
+        && fits
+        && (ends_well || pace != Pace::AtOnce)
 }
 
 // Tests a row in turns, with each allocation refused.
-fn wrong_without_memory<R>(
+fn first_failure_with_refusals<R>(
     rt: &R,
     alloc: Global,
     row: &Row<'_>,
@@ -75,17 +79,17 @@ fn wrong_without_memory<R>(
 where
     R: Net<Stream = TcpStream, Listener = TcpListener> + Clock,
 {
-    for refused in 1..MOST_TRIES {
-        let trial = Trial {
+    for refused_allocation in 1..MAX_RUNS {
+        let parameters = SocketRunParameters {
             pace: Pace::Turns,
-            refused,
+            refused_allocation,
         };
         *runs = runs.saturating_add(1);
-        let played = play(rt, alloc, row, trial)?;
-        if !is_scarce(row, &played) || !is_kept(alloc, row, &played) {
-            return Ok(Some(refused as usize));
+        let results = run_over_socket(rt, alloc, row, parameters)?;
+        if !is_as_expected_after_refusal(row, &results) || !keeps_repository(alloc, row, &results) {
+            return Ok(Some(refused_allocation as usize));
         }
-        if !played.was_refused() {
+        if !results.was_refused() {
             break;
         }
     }
@@ -93,28 +97,43 @@ where
 }
 
 // Runs the row over a socket.
-fn play<R>(rt: &R, alloc: Global, row: &Row<'_>, trial: Trial) -> Result<Played, Trouble>
+fn run_over_socket<R>(
+    rt: &R,
+    alloc: Global,
+    row: &Row<'_>,
+    parameters: SocketRunParameters,
+) -> Result<RunResults, Trouble>
 where
     R: Net<Stream = TcpStream, Listener = TcpListener> + Clock,
 {
     let listener = TcpListener::bind(rt, "127.0.0.1:0")?;
-    let peer = Peer::new(rt, alloc, &row.talk, trial.pace, &listener)?;
-    let door = Door {
+    let peer = Peer::new(rt, alloc, &row.conversation, parameters.pace, &listener)?;
+    let endpoint = Endpoint {
         clock: rt,
-        listener: TurnedListener::new(listener, &peer),
+        listener: TurnListener::new(listener, &peer),
         connections: 1,
     };
-    let held = hold_row(alloc, row, trial.refused, door)?;
-    let output = heard_bytes(alloc, row, peer)?;
-    Ok(Played::on_connection(held.ran, output, held.report, held.errors))
+    let connection_run = run_row_on_connections(
+        alloc,
+        row,
+        parameters.refused_allocation,
+        endpoint,
+    )?;
+    let output = received_output(alloc, row, peer)?;
+    Ok(RunResults::on_connection(
+        connection_run.run_outcome,
+        output,
+        connection_run.report,
+        connection_run.errors,
+    ))
 }
 
 // Returns the bytes that the peer read. The bytes count as not flushed if the ends did not take
 // turns, or if a server closed the connection with an error.
-fn heard_bytes(alloc: Global, row: &Row<'_>, peer: Peer<'_>) -> Result<Writer, Trouble> {
-    peer.hear()?;
+fn received_output(alloc: Global, row: &Row<'_>, peer: Peer<'_>) -> Result<Writer, Trouble> {
+    peer.receive_all()?;
     let is_closed = row.command.program != Program::Serve || peer.is_closed();
-    let is_well = is_closed && peer.was_heard_in_turn();
-    let bytes = peer.into_heard();
-    Ok(Writer::with_bytes(alloc, bytes.as_slice(), is_well)?)
+    let is_flushed = is_closed && peer.kept_turns();
+    let bytes = peer.into_received();
+    Ok(Writer::with_bytes(alloc, bytes.as_slice(), is_flushed)?)
 }

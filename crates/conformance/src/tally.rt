@@ -1,7 +1,7 @@
 //! The depth of a test run, and the counts of runs and failures.
 
 use case_text::Trouble;
-use case_tries::Way;
+use case_tries::Variation;
 use std::io;
 
 /// The selection of tests to run.
@@ -19,8 +19,8 @@ pub enum Depth {
 
 impl Depth {
     /// Returns the depth that an argument selects, or `None` if the argument is a file name.
-    pub fn of(word: &str) -> Option<Depth> {
-        match word {
+    pub fn from_option(argument: &str) -> Option<Depth> {
+        match argument {
             "--once" => Some(Depth::Once),
             "--edge" => Some(Depth::Edge),
             "--quick" => Some(Depth::Quick),
@@ -28,12 +28,15 @@ impl Depth {
         }
     }
 
-    /// Returns whether this depth includes tests in this way.
-    pub fn has(self, way: Way) -> bool {
+    /// Returns whether this depth includes tests with this variation.
+    pub fn includes(self, variation: Variation) -> bool {
         match self {
-            Depth::Once => matches!(&way, Way::Whole | Way::ByProgram),
-            Depth::Edge => way.is_edge(),
-            Depth::Quick => !way.is_long(),
+            Depth::Once => matches!(
+                &variation,
+                Variation::WholeInput | Variation::LaunchedProgram
+            ),
+            Depth::Edge => variation.is_edge(),
+            Depth::Quick => !variation.takes_long(),
             Depth::Full => true,
         }
     }
@@ -46,9 +49,9 @@ pub struct Tally {
     pub rows: u64,
     pub facts: u64,
     /// The number of runs that check facts.
-    pub tries: u64,
-    pub runs: [u64; Way::ALL.len()],
-    pub wrong: u64,
+    pub fact_runs: u64,
+    pub runs: [u64; Variation::ALL.len()],
+    pub failures: u64,
 }
 
 impl Tally {
@@ -57,9 +60,9 @@ impl Tally {
             depth,
             rows: 0,
             facts: 0,
-            tries: 0,
-            runs: [0; Way::ALL.len()],
-            wrong: 0,
+            fact_runs: 0,
+            runs: [0; Variation::ALL.len()],
+            failures: 0,
         }
     }
 
@@ -71,30 +74,30 @@ impl Tally {
         self.facts = self.facts.saturating_add(1);
     }
 
-    pub fn count_try(&mut self) {
-        self.tries = self.tries.saturating_add(1);
+    pub fn count_fact_run(&mut self) {
+        self.fact_runs = self.fact_runs.saturating_add(1);
     }
 
-    pub fn count_wrong(&mut self) {
-        self.wrong = self.wrong.saturating_add(1);
+    pub fn count_failure(&mut self) {
+        self.failures = self.failures.saturating_add(1);
     }
 
-    pub fn count_runs(&mut self, way: Way, more: u64) {
-        if let Some(runs) = self.runs.get_mut(way as usize) {
+    pub fn count_runs(&mut self, variation: Variation, more: u64) {
+        if let Some(runs) = self.runs.get_mut(variation as usize) {
             *runs = runs.saturating_add(more);
         }
     }
 }
 
 /// Prints the reason why a line of a file can't be tested, and counts a failure.
-pub fn tell_trouble<R: Print>(
+pub fn print_trouble<R: Print>(
     rt: &R,
-    source: &str,
-    line: usize,
+    file_name: &str,
+    line_number: usize,
     trouble: Trouble,
     tally: &mut Tally,
 ) -> io::Result<()> {
-    tally.count_wrong();
+    tally.count_failure();
     let why = trouble.text();
-    println!(rt; "{source}:{line}: {why}")
+    println!(rt; "{file_name}:{line_number}: {why}")
 }

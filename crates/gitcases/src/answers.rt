@@ -1,11 +1,11 @@
 //! The results of the tested crates, as texts.
 
-use crate::arrivals::of_arrival;
-use crate::asked::{of_served, of_url};
-use crate::changing::Changing;
-use crate::moving::{of_cloning, of_moving, of_refs};
-use crate::row::{Aim, Row, Subject};
-use crate::stores::{File, GIT_DIR, in_memory};
+use crate::arrivals::arrival_result;
+use crate::locations::{served_path_result, url_result};
+use crate::ref_updates::{clone_result, reading_refs_result, ref_update_result};
+use crate::replaced_files::ReplacedFiles;
+use crate::row::{Row, RowCheck, TestedCall};
+use crate::stores::{File, GIT_DIR, to_memory_files};
 use crate::trouble::Trouble;
 use gitobject::ObjectType;
 use gitobjects::{Found, ObjectFiles, ObjectReader, ObjectStore, StoreFault};
@@ -15,69 +15,73 @@ use std::alloc::{Allocator, Global};
 use std::rt::Files;
 
 /// The text for a success.
-pub(crate) const OK: &str = "ok";
+pub(crate) const SUCCESS: &str = "ok";
 
 /// The text for a memory fault.
-pub(crate) const MEMORY: &str = "out of memory";
+pub(crate) const OUT_OF_MEMORY: &str = "out of memory";
 
-/// The inputs of one test run: the subject, the pack, the files of the store, and the files that
-/// replace the store's files after `calls` calls.
+/// The inputs of one test run: the check, the pack and the files of the store. After
+/// `calls_before_replacement` calls, `replacement_files` replace the files of the store.
 #[derive(Clone, Copy)]
-pub(crate) struct Trial<'t, 'a> {
+pub(crate) struct RunInputs<'t, 'a> {
     pub(crate) row: &'t Row<'a>,
-    pub(crate) aim: &'t Aim,
+    pub(crate) check: &'t RowCheck,
     pub(crate) pack: &'t [u8],
     pub(crate) files: &'t [File],
-    pub(crate) after: &'t [File],
-    pub(crate) calls: u64,
+    pub(crate) replacement_files: &'t [File],
+    pub(crate) calls_before_replacement: u64,
 }
 
 /// A visitor that accepts all objects.
 #[derive(Clone, Copy, Drop)]
-struct Anything;
+struct AnyObject;
 
-impl ObjectVisitor for Anything {
+impl ObjectVisitor for AnyObject {
     fn visit(&mut self, _id: &Oid, _kind: ObjectType, _body: &[u8]) -> Result<(), PackFileFault> {
         Ok(())
     }
 }
 
-/// Returns the result of a test run whose calls use the allocator `memory`.
-pub(crate) fn answer_of<R: Files + AllocGlobal, A: Allocator + Copy>(
+/// Returns the result of a test run whose calls use the allocator `tested_alloc`.
+pub(crate) fn actual_result<R: Files + AllocGlobal, A: Allocator + Copy>(
     rt: &R,
-    memory: A,
-    trial: Trial<'_, '_>,
+    tested_alloc: A,
+    inputs: RunInputs<'_, '_>,
 ) -> Result<String, Trouble> {
     let alloc = rt.alloc();
-    match trial.aim.subject {
-        Subject::Index => of_index(alloc, memory, trial.row, trial.pack),
-        Subject::Arrival => of_arrival(alloc, memory, trial),
-        Subject::Refs => of_refs(rt, memory, trial.files),
-        Subject::Moving => of_moving(rt, memory, trial),
-        Subject::Cloning => of_cloning(rt, trial.row),
-        Subject::Url => of_url(alloc, trial.aim.text.as_slice()),
-        Subject::Served => of_served(alloc, memory, trial.aim.text.as_slice()),
-        _ => of_reading(alloc, memory, trial),
+    match inputs.check.tested_call {
+        TestedCall::IndexPack => index_result(alloc, tested_alloc, inputs.row, inputs.pack),
+        TestedCall::ReceivePack => arrival_result(alloc, tested_alloc, inputs),
+        TestedCall::ReadRefs => reading_refs_result(rt, tested_alloc, inputs.files),
+        TestedCall::UpdateRefs => ref_update_result(rt, tested_alloc, inputs),
+        TestedCall::CloneRefs => clone_result(rt, inputs.row),
+        TestedCall::ParseUrl => url_result(alloc, inputs.check.text.as_slice()),
+        TestedCall::ParseServedPath => served_path_result(
+            alloc,
+            tested_alloc,
+            inputs.check.text.as_slice(),
+        ),
+        _ => reading_result(alloc, tested_alloc, inputs),
     }
 }
 
 // Indexes a pack. Returns `ok` and the number of objects, or the fault.
-fn of_index<A: Allocator + Copy>(
+fn index_result<A: Allocator + Copy>(
     alloc: Global,
-    memory: A,
+    tested_alloc: A,
     row: &Row<'_>,
     pack: &[u8],
 ) -> Result<String, Trouble> {
-    match index_pack(memory, pack, row.limits, &mut Anything) {
-        Ok(index) => told_index(alloc, &index, row.has.as_slice()),
-        Err(PackFileFault::Memory) => Ok(String::from_str(alloc, MEMORY)?),
+    match index_pack(tested_alloc, pack, row.limits, &mut AnyObject) {
+        Ok(index) => format_index(alloc, &index, row.indexed_ids.as_slice()),
+        Err(PackFileFault::Memory) => Ok(String::from_str(alloc, OUT_OF_MEMORY)?),
         Err(fault) => Ok(format!(in alloc; "{fault:?}")?),
     }
 }
 
 // Returns `ok` and the number of objects in the index if the index holds all the ids, otherwise an
 // error text.
-fn told_index<A: Allocator + Copy>(
+fn format_index<A: Allocator + Copy>(
     alloc: Global,
     index: &IndexedPack<A>,
     ids: &[Oid],
@@ -88,40 +92,44 @@ fn told_index<A: Allocator + Copy>(
         }
     }
     let count = index.entries().len();
-    Ok(format!(in alloc; "{OK} {count}")?)
+    Ok(format!(in alloc; "{SUCCESS} {count}")?)
 }
 
-// Opens the store, and reads an object if the subject names one. Returns `ok` or the fault.
-fn of_reading<A: Allocator + Copy>(
+// Opens the store, and reads an object if the check names one. Returns `ok` or the fault.
+fn reading_result<A: Allocator + Copy>(
     alloc: Global,
-    memory: A,
-    trial: Trial<'_, '_>,
+    tested_alloc: A,
+    inputs: RunInputs<'_, '_>,
 ) -> Result<String, Trouble> {
-    let Ok(before) = in_memory(memory, trial.files) else {
-        return Ok(String::from_str(alloc, MEMORY)?);
+    let Ok(original) = to_memory_files(tested_alloc, inputs.files) else {
+        return Ok(String::from_str(alloc, OUT_OF_MEMORY)?);
     };
-    let Ok(after) = in_memory(memory, trial.after) else {
-        return Ok(String::from_str(alloc, MEMORY)?);
+    let Ok(replacement_files) = to_memory_files(tested_alloc, inputs.replacement_files) else {
+        return Ok(String::from_str(alloc, OUT_OF_MEMORY)?);
     };
-    let files = Changing::new(&before, &after, trial.calls);
-    match read_files(&files, memory, trial.aim) {
-        Ok(()) => Ok(String::from_str(alloc, OK)?),
+    let files = ReplacedFiles::new(
+        &original,
+        &replacement_files,
+        inputs.calls_before_replacement,
+    );
+    match read_files(&files, tested_alloc, inputs.check) {
+        Ok(()) => Ok(String::from_str(alloc, SUCCESS)?),
         Err(fault) => Ok(format!(in alloc; "{fault}")?),
     }
 }
 
 fn read_files<F: ObjectFiles, A: Allocator + Copy>(
     files: &F,
-    memory: A,
-    aim: &Aim,
+    tested_alloc: A,
+    check: &RowCheck,
 ) -> Result<(), StoreFault<A>> {
-    let store = ObjectStore::open(files, memory, GIT_DIR)?;
-    let Some(id) = aim.id else {
+    let store = ObjectStore::open(files, tested_alloc, GIT_DIR)?;
+    let Some(id) = check.id else {
         return Ok(());
     };
     let mut reader = ObjectReader::new(store)?;
-    match aim.subject {
-        Subject::Raw => read_raw(&mut reader, &id),
+    match check.tested_call {
+        TestedCall::ReadRawEntry => read_raw(&mut reader, &id),
         _ => read_checked(&mut reader, &id),
     }
 }

@@ -1,7 +1,7 @@
 //! Tests of a Git directory that receives a pack.
 
-use crate::answers::{MEMORY, OK, Trial};
-use crate::stores::{GIT_DIR, in_memory};
+use crate::answers::{OUT_OF_MEMORY, RunInputs, SUCCESS};
+use crate::stores::{GIT_DIR, to_memory_files};
 use crate::trouble::Trouble;
 use ggraph::{Entry, Graph, GraphFault, IndexFault, Indexer};
 use gitobjects::{ObjectFiles, ObjectReader, ObjectStore};
@@ -10,99 +10,102 @@ use gname::Oid;
 use std::alloc::{Allocator, Global};
 
 // The size in bytes of the pieces of a pack.
-const PIECE: usize = 1_000;
+const PIECE_LEN: usize = 1_000;
 
 // The reason why a pack is rejected.
 #[derive(Drop)]
-enum Refused<A: Allocator + Copy> {
+enum Rejection<A: Allocator + Copy> {
     // The indexer rejected the pack.
     Repository(RepositoryFault<A>),
     // The graph rejected a commit or a tag of the pack.
     Graph(GraphFault),
     // The indexer rejected the pack, but kept a part of the pack.
-    Kept,
+    PartKept,
 }
 
 /// Returns the result of receiving a pack: `ok` and the number of its commits and tags, or the
 /// fault.
-pub(crate) fn of_arrival<A: Allocator + Copy>(
+pub(crate) fn arrival_result<A: Allocator + Copy>(
     alloc: Global,
-    memory: A,
-    trial: Trial<'_, '_>,
+    tested_alloc: A,
+    inputs: RunInputs<'_, '_>,
 ) -> Result<String, Trouble> {
-    let Ok(files) = in_memory(memory, trial.files) else {
-        return Ok(String::from_str(alloc, MEMORY)?);
+    let Ok(files) = to_memory_files(tested_alloc, inputs.files) else {
+        return Ok(String::from_str(alloc, OUT_OF_MEMORY)?);
     };
-    match arrive(&files, memory, trial) {
-        Ok(count) => Ok(format!(in alloc; "{OK} {count}")?),
-        Err(Refused::Repository(fault)) => Ok(format!(in alloc; "{fault}")?),
-        Err(Refused::Graph(GraphFault::Memory)) => Ok(String::from_str(alloc, MEMORY)?),
-        Err(Refused::Graph(fault)) => Ok(format!(in alloc; "{fault:?}")?),
-        Err(Refused::Kept) => Ok(String::from_str(alloc, "a refused pack is kept")?),
+    match receive_pack(&files, tested_alloc, inputs) {
+        Ok(count) => Ok(format!(in alloc; "{SUCCESS} {count}")?),
+        Err(Rejection::Repository(fault)) => Ok(format!(in alloc; "{fault}")?),
+        Err(Rejection::Graph(GraphFault::Memory)) => Ok(String::from_str(alloc, OUT_OF_MEMORY)?),
+        Err(Rejection::Graph(fault)) => Ok(format!(in alloc; "{fault:?}")?),
+        Err(Rejection::PartKept) => Ok(String::from_str(alloc, "a refused pack is kept")?),
     }
 }
 
 // Adds a pack to the store in `files`, and returns the number of its commits and tags.
-fn arrive<F: ObjectFiles, A: Allocator + Copy>(
+fn receive_pack<F: ObjectFiles, A: Allocator + Copy>(
     files: &F,
-    memory: A,
-    trial: Trial<'_, '_>,
-) -> Result<usize, Refused<A>> {
-    let (reader, tips) = match prepare(files, memory, trial.row.tips.as_slice()) {
+    tested_alloc: A,
+    inputs: RunInputs<'_, '_>,
+) -> Result<usize, Rejection<A>> {
+    let (reader, tips) = match prepare(files, tested_alloc, inputs.row.tips.as_slice()) {
         Ok(prepared) => prepared,
-        Err(fault) => return Err(Refused::Repository(fault)),
+        Err(fault) => return Err(Rejection::Repository(fault)),
     };
     let indexer = StoreIndexer::new(reader, &tips);
-    match feed_all(&indexer, memory, trial.pack) {
-        Ok(entries) => add_all(memory, entries),
-        Err(fault) => Err(refusal_of(&indexer, fault)),
+    match feed_pack(&indexer, tested_alloc, inputs.pack) {
+        Ok(entries) => add_to_graph(tested_alloc, entries),
+        Err(fault) => Err(rejection_of(&indexer, fault)),
     }
 }
 
 fn prepare<'f, F: ObjectFiles, A: Allocator + Copy>(
     files: &'f F,
-    memory: A,
+    tested_alloc: A,
     tips: &[Oid],
 ) -> Result<(ObjectReader<'f, F, A>, Tips<A>), RepositoryFault<A>> {
-    let store = ObjectStore::open(files, memory, GIT_DIR)?;
+    let store = ObjectStore::open(files, tested_alloc, GIT_DIR)?;
     let reader = ObjectReader::new(store)?;
-    Ok((reader, Tips::new(memory, tips)?))
+    Ok((reader, Tips::new(tested_alloc, tips)?))
 }
 
 // Passes a pack to an indexer in pieces.
-fn feed_all<A: Allocator + Copy, I: Indexer<A>>(
+fn feed_pack<A: Allocator + Copy, I: Indexer<A>>(
     indexer: &I,
-    memory: A,
+    tested_alloc: A,
     pack: &[u8],
 ) -> Result<Vec<Entry<A>, A>, IndexFault> {
-    let mut feed = indexer.start(memory)?;
-    for piece in pack.chunks(PIECE) {
+    let mut feed = indexer.start(tested_alloc)?;
+    for piece in pack.chunks(PIECE_LEN) {
         indexer.feed(&mut feed, piece)?;
     }
     indexer.finish(feed)
 }
 
 // Returns the fault of a rejected pack. The indexer must not keep a part of the pack.
-fn refusal_of<F: ObjectFiles, A: Allocator + Copy>(
+fn rejection_of<F: ObjectFiles, A: Allocator + Copy>(
     indexer: &StoreIndexer<'_, '_, F, A>,
     fault: IndexFault,
-) -> Refused<A> {
+) -> Rejection<A> {
     if indexer.take_received().is_some() {
-        return Refused::Kept;
+        return Rejection::PartKept;
     }
     match (fault, indexer.take_fault()) {
-        (IndexFault::Other, Some(fault)) => Refused::Repository(fault),
-        _ => Refused::Repository(RepositoryFault::Memory),
+        (IndexFault::Other, Some(fault)) => Rejection::Repository(fault),
+        _ => Rejection::Repository(RepositoryFault::Memory),
     }
 }
 
 // Adds the commits and tags to a graph, and returns their number.
-fn add_all<A: Allocator + Copy>(memory: A, entries: Vec<Entry<A>, A>) -> Result<usize, Refused<A>> {
-    let mut graph = Graph::new(memory);
+fn add_to_graph<A: Allocator + Copy>(
+    tested_alloc: A,
+    entries: Vec<Entry<A>, A>,
+) -> Result<usize, Rejection<A>> {
+    let mut graph = Graph::new(tested_alloc);
     for entry in entries {
         match graph.insert(entry) {
             Ok(_) => {}
-            Err(fault) => return Err(Refused::Graph(fault)),
+            Err(fault) => return Err(Rejection::Graph(fault)),
         }
     }
     Ok(graph.len())

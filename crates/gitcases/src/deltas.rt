@@ -27,7 +27,11 @@ pub(crate) fn low_bits(number: usize) -> u8 {
 }
 
 /// Returns the instruction that copies `size` bytes of the base from `offset`.
-pub(crate) fn copy_of(alloc: Global, offset: usize, size: usize) -> Result<Vec<u8>, Trouble> {
+pub(crate) fn copy_instruction(
+    alloc: Global,
+    offset: usize,
+    size: usize,
+) -> Result<Vec<u8>, Trouble> {
     let size = if size == 0x10000 { 0 } else { size };
     let [one, two, three, four, ..] = offset.to_le_bytes();
     let [five, six, seven, ..] = size.to_le_bytes();
@@ -60,7 +64,7 @@ fn put_byte(instruction: &mut Vec<u8>, bit: u8, byte: u8) -> Result<(), Trouble>
 }
 
 /// Returns the instructions that insert these bytes.
-pub(crate) fn insertions_of(alloc: Global, bytes: &[u8]) -> Result<Vec<u8>, Trouble> {
+pub(crate) fn insert_instructions(alloc: Global, bytes: &[u8]) -> Result<Vec<u8>, Trouble> {
     let mut instructions = Vec::new(alloc);
     for part in bytes.chunks(MAX_INSERT) {
         instructions.push(low_bits(part.len()))?;

@@ -8,7 +8,7 @@ use std::alloc::Global;
 
 /// An entry of a pack index.
 #[derive(Clone, Copy, Drop)]
-struct Line {
+struct IndexEntry {
     id: Oid,
     crc: u32,
     offset: u64,
@@ -16,28 +16,28 @@ struct Line {
 
 /// The entries of a pack index.
 #[derive(Drop)]
-pub(crate) struct Lines<'a> {
+pub(crate) struct PackIndex<'a> {
     pub(crate) name: &'a str,
     /// The name of the pack that the index describes.
     pub(crate) pack: &'a str,
-    lines: Vec<Line>,
+    entries: Vec<IndexEntry>,
     is_unsorted: bool,
 }
 
-impl<'a> Lines<'a> {
+impl<'a> PackIndex<'a> {
     /// Returns an index without entries.
-    pub(crate) fn new(alloc: Global, name: &'a str, pack: &'a str) -> Lines<'a> {
-        Lines {
+    pub(crate) fn new(alloc: Global, name: &'a str, pack: &'a str) -> PackIndex<'a> {
+        PackIndex {
             name,
             pack,
-            lines: Vec::new(alloc),
+            entries: Vec::new(alloc),
             is_unsorted: false,
         }
     }
 
     /// Adds an entry to the index.
     pub(crate) fn push(&mut self, id: Oid, crc: u32, offset: u64) -> Result<(), Trouble> {
-        self.lines.push(Line { id, crc, offset })?;
+        self.entries.push(IndexEntry { id, crc, offset })?;
         Ok(())
     }
 
@@ -48,17 +48,19 @@ impl<'a> Lines<'a> {
 
     /// Returns the bytes of the index.
     pub(crate) fn bytes(&self, alloc: Global, pack: &Pack<'_>) -> Result<Vec<u8>, Trouble> {
-        let mut lines = self.lines.as_slice().to_vec(alloc)?;
+        let mut entries = self.entries.as_slice().to_vec(alloc)?;
         if !self.is_unsorted {
-            lines.sort_unstable_by(|one, other| one.id.cmp(&other.id));
+            entries.sort_unstable_by(|first_entry, second_entry| first_entry
+                .id
+                .cmp(&second_entry.id));
         }
         let mut text = Vec::new(alloc);
         text.extend_from_slice(b"\xfftOc\0\0\0\x02")?;
-        put_fan_out(&mut text, lines.as_slice())?;
-        put_ids(&mut text, lines.as_slice())?;
-        put_crcs(&mut text, lines.as_slice())?;
-        put_offsets(&mut text, lines.as_slice())?;
-        put_long_offsets(&mut text, lines.as_slice())?;
+        put_fan_out(&mut text, entries.as_slice())?;
+        put_ids(&mut text, entries.as_slice())?;
+        put_crcs(&mut text, entries.as_slice())?;
+        put_offsets(&mut text, entries.as_slice())?;
+        put_long_offsets(&mut text, entries.as_slice())?;
         let pack = pack.bytes(alloc)?;
         let end = pack.len().saturating_sub(TRAILER);
         text.extend_from_slice(pack.as_slice().get(end..).unwrap_or(b""))?;
@@ -70,49 +72,49 @@ impl<'a> Lines<'a> {
 
 // Appends the fan-out table: for each byte value, the number of ids whose first byte is at most
 // that value.
-fn put_fan_out(text: &mut Vec<u8>, lines: &[Line]) -> Result<(), Trouble> {
+fn put_fan_out(text: &mut Vec<u8>, entries: &[IndexEntry]) -> Result<(), Trouble> {
     for first in 0..=u8::MAX {
-        let count = count_up_to(lines, first);
+        let count = count_ids_up_to(entries, first);
         text.extend_from_slice(&count.to_be_bytes())?;
     }
     Ok(())
 }
 
-fn count_up_to(lines: &[Line], first: u8) -> u32 {
+fn count_ids_up_to(entries: &[IndexEntry], first: u8) -> u32 {
     let mut count = 0u32;
-    for line in lines {
-        if line.id.as_bytes().first().copied().unwrap_or(0) <= first {
+    for entry in entries {
+        if entry.id.as_bytes().first().copied().unwrap_or(0) <= first {
             count = count.saturating_add(1);
         }
     }
     count
 }
 
-fn put_ids(text: &mut Vec<u8>, lines: &[Line]) -> Result<(), Trouble> {
-    for line in lines {
-        text.extend_from_slice(line.id.as_bytes())?;
+fn put_ids(text: &mut Vec<u8>, entries: &[IndexEntry]) -> Result<(), Trouble> {
+    for entry in entries {
+        text.extend_from_slice(entry.id.as_bytes())?;
     }
     Ok(())
 }
 
-fn put_crcs(text: &mut Vec<u8>, lines: &[Line]) -> Result<(), Trouble> {
-    for line in lines {
-        text.extend_from_slice(&line.crc.to_be_bytes())?;
+fn put_crcs(text: &mut Vec<u8>, entries: &[IndexEntry]) -> Result<(), Trouble> {
+    for entry in entries {
+        text.extend_from_slice(&entry.crc.to_be_bytes())?;
     }
     Ok(())
 }
 
 // The bit that marks a 32-bit offset as an index into the table of 64-bit offsets.
-const IS_LONG: u32 = 0x8000_0000;
+const LONG_OFFSET_BIT: u32 = 0x8000_0000;
 
-fn put_offsets(text: &mut Vec<u8>, lines: &[Line]) -> Result<(), Trouble> {
+fn put_offsets(text: &mut Vec<u8>, entries: &[IndexEntry]) -> Result<(), Trouble> {
     let mut longs = 0u32;
-    for line in lines {
-        let offset = match u32::try_from(line.offset) {
-            Ok(offset) if offset < IS_LONG => offset,
+    for entry in entries {
+        let offset = match u32::try_from(entry.offset) {
+            Ok(offset) if offset < LONG_OFFSET_BIT => offset,
             _ => {
                 longs = longs.saturating_add(1);
-                longs.saturating_sub(1) | IS_LONG
+                longs.saturating_sub(1) | LONG_OFFSET_BIT
             }
         };
         text.extend_from_slice(&offset.to_be_bytes())?;
@@ -120,10 +122,10 @@ fn put_offsets(text: &mut Vec<u8>, lines: &[Line]) -> Result<(), Trouble> {
     Ok(())
 }
 
-fn put_long_offsets(text: &mut Vec<u8>, lines: &[Line]) -> Result<(), Trouble> {
-    for line in lines {
-        if line.offset >= u64::from(IS_LONG) {
-            text.extend_from_slice(&line.offset.to_be_bytes())?;
+fn put_long_offsets(text: &mut Vec<u8>, entries: &[IndexEntry]) -> Result<(), Trouble> {
+    for entry in entries {
+        if entry.offset >= u64::from(LONG_OFFSET_BIT) {
+            text.extend_from_slice(&entry.offset.to_be_bytes())?;
         }
     }
     Ok(())

@@ -3,8 +3,8 @@
 //!
 //! The arguments of the program name test files. FORMAT.md describes the lines of these files. A
 //! row states the expected result for a pack, a store or a text. A row is tested with its input
-//! unchanged. A row that is not `large` is also tested with each allocation refused in turn, and
-//! with files that change during the run if the row names such files. A `sweep` row is tested with
+//! unchanged. A row that is not `large` is also tested with each allocation refused in turn. A row
+//! may name files that replace the files of its store during a run. A `sweep` row is tested with
 //! each bit of the input flipped, and with a pack truncated after each byte. Packs and stores are
 //! in memory. Refs are files in a folder. Each run creates this folder anew. The program prints a
 //! line for each wrong result. The last lines that it prints count the runs.
@@ -22,29 +22,29 @@
 //!
 //! The program tests `gitpack`, `gitobjects`, `gitrefs`, `gitrepository` and `gitwords`.
 //! `gitobject`, `gname`, `gzlib` and `sha1` create packs and stores. `ggraph` defines graphs, refs
-//! and indexers, and `case_text` defines an allocator that fails.
+//! and indexers, and `case_text` defines an allocator that refuses an allocation.
 #![tactic(auto)]
 
 mod answers;
 mod arrivals;
-mod asked;
-mod changing;
 mod deltas;
+mod escapes;
 mod indexes;
-mod moving;
+mod locations;
 mod names;
 mod packs;
+mod ref_updates;
+mod replaced_files;
 mod row;
+mod row_tests;
 mod script;
-mod spell;
 mod stores;
 mod tally;
-mod tries;
 mod trouble;
 
+use crate::row_tests::test_row;
 use crate::script::Script;
 use crate::tally::Tally;
-use crate::tries::try_row;
 use crate::trouble::Trouble;
 use std::process::ExitCode;
 use std::rt::{Env, Files};
@@ -66,14 +66,14 @@ fn run_cases<R: AllocGlobal + Env + Files + Print>(rt: &R) -> io::Result<bool> {
         files.push(fs::read_to_string(rt, name.as_str())?)?;
     }
     let mut tally = Tally::new();
-    match try_files(rt, names.as_slice(), files.as_slice(), &mut tally) {
+    match test_files(rt, names.as_slice(), files.as_slice(), &mut tally) {
         Ok(()) => {
-            tally.show(rt)?;
-            Ok(tally.wrong == 0)
+            tally.print(rt)?;
+            Ok(tally.failures == 0)
         }
-        Err((source, line, trouble)) => {
+        Err((file_name, line_number, trouble)) => {
             let why = trouble.text();
-            println!(rt; "{source}:{line}: {why}")?;
+            println!(rt; "{file_name}:{line_number}: {why}")?;
             Ok(false)
         }
     }
@@ -81,7 +81,7 @@ fn run_cases<R: AllocGlobal + Env + Files + Print>(rt: &R) -> io::Result<bool> {
 
 // Runs the tests of the files with these names. If a file can't be tested, returns the file, the
 // line and the reason.
-fn try_files<'a, R: Files + Print + AllocGlobal>(
+fn test_files<'a, R: Files + Print + AllocGlobal>(
     rt: &R,
     names: &'a [String],
     files: &'a [String],
@@ -92,13 +92,13 @@ fn try_files<'a, R: Files + Print + AllocGlobal>(
         Err(trouble) => return Err(("", 0, trouble)),
     };
     for (name, text) in names.iter().zip(files) {
-        if let Err(trouble) = script.read(name.as_str(), text.as_str()) {
-            return Err((script.source, script.line, trouble));
+        if let Err(trouble) = script.read_file(name.as_str(), text.as_str()) {
+            return Err((script.file_name, script.line_number, trouble));
         }
     }
     for row in &script.rows {
-        if let Err(trouble) = try_row(rt, &script, row, tally) {
-            return Err((row.source, row.line, trouble));
+        if let Err(trouble) = test_row(rt, &script, row, tally) {
+            return Err((row.file_name, row.line_number, trouble));
         }
     }
     Ok(())

@@ -7,14 +7,14 @@ use std::alloc::Global;
 
 /// A named text or delta.
 #[derive(Drop)]
-struct Text<'a> {
+struct NamedText<'a> {
     name: &'a str,
     bytes: Vec<u8>,
 }
 
 /// A named object.
 #[derive(Drop)]
-pub(crate) struct Object<'a> {
+pub(crate) struct NamedObject<'a> {
     pub(crate) name: &'a str,
     pub(crate) kind: ObjectType,
     pub(crate) body: Vec<u8>,
@@ -24,8 +24,8 @@ pub(crate) struct Object<'a> {
 /// All texts and objects. If several entries have the same name, only the first entry is used.
 #[derive(Drop)]
 pub(crate) struct Names<'a> {
-    texts: Vec<Text<'a>>,
-    objects: Vec<Object<'a>>,
+    texts: Vec<NamedText<'a>>,
+    objects: Vec<NamedObject<'a>>,
 }
 
 impl<'a> Names<'a> {
@@ -39,7 +39,7 @@ impl<'a> Names<'a> {
 
     /// Adds a text to the collection.
     pub(crate) fn add_text(&mut self, name: &'a str, bytes: Vec<u8>) -> Result<(), Trouble> {
-        self.texts.push(Text { name, bytes })?;
+        self.texts.push(NamedText { name, bytes })?;
         Ok(())
     }
 
@@ -47,7 +47,7 @@ impl<'a> Names<'a> {
     pub(crate) fn add_to_text(&mut self, bytes: &[u8]) -> Result<(), Trouble> {
         match self.texts.last_mut() {
             Some(text) => Ok(text.bytes.extend_from_slice(bytes)?),
-            None => Err(Trouble::NotBegun),
+            None => Err(Trouble::NoCurrentItem),
         }
     }
 
@@ -59,7 +59,7 @@ impl<'a> Names<'a> {
         body: Vec<u8>,
     ) -> Result<(), Trouble> {
         let id = id_of(kind, body.as_slice());
-        self.objects.push(Object {
+        self.objects.push(NamedObject {
             name,
             kind,
             body,
@@ -69,22 +69,22 @@ impl<'a> Names<'a> {
     }
 
     /// Returns the bytes of the text with this name.
-    pub(crate) fn text(&self, name: &str) -> Result<&[u8], Trouble> {
+    pub(crate) fn find_text(&self, name: &str) -> Result<&[u8], Trouble> {
         for text in &self.texts {
             if text.name == name {
                 return Ok(text.bytes.as_slice());
             }
         }
-        Err(Trouble::NoName)
+        Err(Trouble::UnknownName)
     }
 
     /// Returns the object with this name.
-    pub(crate) fn object(&self, name: &str) -> Result<&Object<'a>, Trouble> {
+    pub(crate) fn find_object(&self, name: &str) -> Result<&NamedObject<'a>, Trouble> {
         for object in &self.objects {
             if object.name == name {
                 return Ok(object);
             }
         }
-        Err(Trouble::NoName)
+        Err(Trouble::UnknownName)
     }
 }

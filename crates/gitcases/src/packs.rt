@@ -1,7 +1,7 @@
 //! Packs, valid or not, that lines of a test file describe (gitformat-pack(5)).
 
 use crate::deltas::low_bits;
-use crate::names::Object;
+use crate::names::NamedObject;
 use crate::trouble::Trouble;
 use gitobject::ObjectType;
 use gzlib::{Deflater, crc32_of, put_stored};
@@ -23,8 +23,8 @@ const REF_DELTA: u8 = 7;
 pub(crate) struct Pack<'a> {
     pub(crate) name: &'a str,
     // The bytes of the entries, and the offset of each entry in the pack.
-    body: Vec<u8>,
-    starts: Vec<usize>,
+    entry_bytes: Vec<u8>,
+    entry_offsets: Vec<usize>,
     magic: Option<Vec<u8>>,
     count: Option<usize>,
     trailer: Option<Vec<u8>>,
@@ -35,8 +35,8 @@ impl<'a> Pack<'a> {
     pub(crate) fn new(alloc: Global, name: &'a str) -> Pack<'a> {
         Pack {
             name,
-            body: Vec::new(alloc),
-            starts: Vec::new(alloc),
+            entry_bytes: Vec::new(alloc),
+            entry_offsets: Vec::new(alloc),
             magic: None,
             count: None,
             trailer: None,
@@ -60,12 +60,13 @@ impl<'a> Pack<'a> {
 
     /// Appends raw bytes to the entries.
     pub(crate) fn put_bytes(&mut self, bytes: &[u8]) -> Result<(), Trouble> {
-        Ok(self.body.extend_from_slice(bytes)?)
+        Ok(self.entry_bytes.extend_from_slice(bytes)?)
     }
 
     /// Begins an entry with a type and a size.
-    pub(crate) fn put_head(&mut self, kind: u8, size: usize) -> Result<(), Trouble> {
-        self.starts.push(self.body.len().saturating_add(HEADER))?;
+    pub(crate) fn begin_entry(&mut self, kind: u8, size: usize) -> Result<(), Trouble> {
+        self.entry_offsets
+            .push(self.entry_bytes.len().saturating_add(HEADER))?;
         let low = low_bits(size) & 0xf;
         let mut rest = size >> 4;
         let mut byte = (kind & 7).wrapping_mul(16) | low;
@@ -73,11 +74,11 @@ impl<'a> Pack<'a> {
             if rest == 0 {
                 break;
             }
-            self.body.push(byte | 0x80)?;
+            self.entry_bytes.push(byte | 0x80)?;
             byte = low_bits(rest);
             rest >>= 7;
         }
-        self.body.push(byte)?;
+        self.entry_bytes.push(byte)?;
         Ok(())
     }
 
@@ -87,16 +88,16 @@ impl<'a> Pack<'a> {
         deflater: &mut Deflater<Global>,
         bytes: &[u8],
     ) -> Result<(), Trouble> {
-        Ok(deflater.deflate(bytes, &mut self.body)?)
+        Ok(deflater.deflate(bytes, &mut self.entry_bytes)?)
     }
 
     /// Appends an entry with a whole object.
     pub(crate) fn put_whole(
         &mut self,
         deflater: &mut Deflater<Global>,
-        object: &Object<'_>,
+        object: &NamedObject<'_>,
     ) -> Result<(), Trouble> {
-        self.put_head(object.kind.pack_number(), object.body.len())?;
+        self.begin_entry(object.kind.pack_number(), object.body.len())?;
         self.put_stream(deflater, object.body.as_slice())
     }
 
@@ -107,45 +108,49 @@ impl<'a> Pack<'a> {
         distance: usize,
         delta: &[u8],
     ) -> Result<(), Trouble> {
-        self.put_head(OFFSET_DELTA, delta.len())?;
+        self.begin_entry(OFFSET_DELTA, delta.len())?;
         self.put_distance(distance)?;
-        Ok(put_stored(&mut self.body, delta)?)
+        Ok(put_stored(&mut self.entry_bytes, delta)?)
     }
 
     /// Returns the distance in bytes between the next entry and the entry that is `back` entries
     /// before it.
     pub(crate) fn distance_of(&self, back: usize) -> Result<usize, Trouble> {
-        let next = self.body.len().saturating_add(HEADER);
-        let place = self.starts.len().wrapping_sub(back);
-        match self.starts.get(place) {
+        let next = self.entry_bytes.len().saturating_add(HEADER);
+        let place = self.entry_offsets.len().wrapping_sub(back);
+        match self.entry_offsets.get(place) {
             Some(start) => Ok(next.saturating_sub(*start)),
-            None => Err(Trouble::NoNumber),
+            None => Err(Trouble::InvalidNumber),
         }
     }
 
     // Appends the distance of an offset delta in groups of seven bits, the highest group first. The
     // value of each group except the last is stored minus one.
     fn put_distance(&mut self, distance: usize) -> Result<(), Trouble> {
-        let first = self.body.len();
-        self.body.push(low_bits(distance))?;
+        let first = self.entry_bytes.len();
+        self.entry_bytes.push(low_bits(distance))?;
         let mut rest = distance >> 7;
         for _ in 0..usize::BITS {
             if rest == 0 {
                 break;
             }
             rest = rest.wrapping_sub(1);
-            let place = first.min(self.body.len());
-            self.body.insert(place, low_bits(rest) | 0x80)?;
+            let place = first.min(self.entry_bytes.len());
+            self.entry_bytes.insert(place, low_bits(rest) | 0x80)?;
             rest >>= 7;
         }
         Ok(())
     }
 
     /// Appends a delta that names its base by id, as a zlib stream of stored blocks.
-    pub(crate) fn put_ref_delta(&mut self, base: &Object<'_>, delta: &[u8]) -> Result<(), Trouble> {
-        self.put_head(REF_DELTA, delta.len())?;
+    pub(crate) fn put_ref_delta(
+        &mut self,
+        base: &NamedObject<'_>,
+        delta: &[u8],
+    ) -> Result<(), Trouble> {
+        self.begin_entry(REF_DELTA, delta.len())?;
         self.put_bytes(base.id.as_bytes())?;
-        Ok(put_stored(&mut self.body, delta)?)
+        Ok(put_stored(&mut self.entry_bytes, delta)?)
     }
 
     /// Returns all bytes of the pack.
@@ -155,10 +160,10 @@ impl<'a> Pack<'a> {
             Some(magic) => bytes.extend_from_slice(magic.as_slice())?,
             None => bytes.extend_from_slice(b"PACK\0\0\0\x02")?,
         }
-        let count = self.count.unwrap_or(self.starts.len());
+        let count = self.count.unwrap_or(self.entry_offsets.len());
         let [one, two, three, four, ..] = count.to_le_bytes();
         bytes.extend_from_slice(&[four, three, two, one])?;
-        bytes.extend_from_slice(self.body.as_slice())?;
+        bytes.extend_from_slice(self.entry_bytes.as_slice())?;
         match &self.trailer {
             Some(trailer) => bytes.extend_from_slice(trailer.as_slice())?,
             None => {
@@ -170,35 +175,35 @@ impl<'a> Pack<'a> {
     }
 
     /// Returns the offset and the CRC-32 of the entry with this number, counted from 1.
-    pub(crate) fn entry(&self, number: usize) -> Result<(usize, u32), Trouble> {
+    pub(crate) fn offset_and_crc(&self, number: usize) -> Result<(usize, u32), Trouble> {
         let Some(place) = number.checked_sub(1) else {
-            return Err(Trouble::NoNumber);
+            return Err(Trouble::InvalidNumber);
         };
-        let Some(start) = self.starts.get(place).copied() else {
-            return Err(Trouble::NoNumber);
+        let Some(start) = self.entry_offsets.get(place).copied() else {
+            return Err(Trouble::InvalidNumber);
         };
-        let end = match self.starts.get(number) {
+        let end = match self.entry_offsets.get(number) {
             Some(end) => end.saturating_sub(HEADER),
-            None => self.body.len(),
+            None => self.entry_bytes.len(),
         };
-        let bytes = self.body.get(start.saturating_sub(HEADER)..end);
+        let bytes = self.entry_bytes.get(start.saturating_sub(HEADER)..end);
         Ok((start, crc32_of(bytes.unwrap_or(b""))))
     }
 }
 
 /// Returns the type number for `word`, which is the name of a type or a digit.
-pub(crate) fn number_of_kind(word: &str) -> Result<u8, Trouble> {
+pub(crate) fn parse_type_number(word: &str) -> Result<u8, Trouble> {
     if let Some(kind) = ObjectType::from_name(word.as_bytes()) {
         return Ok(kind.pack_number());
     }
     match word.as_bytes() {
         [digit @ b'0'..=b'7'] => Ok(digit.wrapping_sub(b'0')),
-        _ => Err(Trouble::NoNumber),
+        _ => Err(Trouble::InvalidNumber),
     }
 }
 
 /// Replaces the last bytes of a pack with the correct trailer.
-pub(crate) fn mend_trailer(pack: &mut Vec<u8>) -> Result<(), Trouble> {
+pub(crate) fn correct_trailer(pack: &mut Vec<u8>) -> Result<(), Trouble> {
     let end = pack.len().saturating_sub(TRAILER);
     pack.truncate(end);
     let sum = Sha1::digest(pack.as_slice());

@@ -7,27 +7,27 @@ use std::alloc::Global;
 
 /// The call that a row tests.
 #[derive(Clone, Copy, PartialEq, Eq, Drop)]
-pub(crate) enum Subject {
+pub(crate) enum TestedCall {
     /// Index a pack.
-    Index,
+    IndexPack,
     /// Receive a pack in the store.
-    Arrival,
+    ReceivePack,
     /// Open the store.
-    Opening,
+    OpenStore,
     /// Read an object, and compute its id.
-    Checked,
+    ReadObject,
     /// Read the raw entry of an object from a pack.
-    Raw,
+    ReadRawEntry,
     /// Read the refs of the store.
-    Refs,
+    ReadRefs,
     /// Update refs of the store.
-    Moving,
+    UpdateRefs,
     /// Write the received refs to a new clone.
-    Cloning,
+    CloneRefs,
     /// Parse a text as a URL.
-    Url,
+    ParseUrl,
     /// Parse a text as a path that a client requests.
-    Served,
+    ParseServedPath,
 }
 
 /// An update of a ref: the name, the old id and the new id.
@@ -38,39 +38,39 @@ pub(crate) struct Update {
     pub(crate) new: Oid,
 }
 
-/// The subject of a test, the object id or text that the test uses, and the expected result.
+/// A tested call, the object id or text that the call uses, and the expected result.
 #[derive(Drop)]
-pub(crate) struct Aim {
-    pub(crate) subject: Subject,
+pub(crate) struct RowCheck {
+    pub(crate) tested_call: TestedCall,
     pub(crate) id: Option<Oid>,
     pub(crate) text: Vec<u8>,
-    pub(crate) due: Vec<u8>,
+    pub(crate) expected: Vec<u8>,
 }
 
 /// A row of a test file.
 #[derive(Drop)]
 pub(crate) struct Row<'a> {
-    pub(crate) source: &'a str,
-    pub(crate) line: usize,
+    pub(crate) file_name: &'a str,
+    pub(crate) line_number: usize,
     pub(crate) title: &'a str,
     /// The names of the pack and of the store.
     pub(crate) pack: &'a str,
     pub(crate) store: &'a str,
     /// The name of the store whose files replace those of `store` during a run.
-    pub(crate) then: &'a str,
+    pub(crate) replacement_store: &'a str,
     pub(crate) limits: IndexLimits,
     /// The objects that the index must hold.
-    pub(crate) has: Vec<Oid>,
+    pub(crate) indexed_ids: Vec<Oid>,
     /// The ids of the peer's refs.
     pub(crate) tips: Vec<Oid>,
     /// The refs to update.
     pub(crate) updates: Vec<Update>,
-    /// The text for the next subject of the row.
-    pub(crate) asked: Vec<u8>,
-    pub(crate) aims: Vec<Aim>,
+    /// The text for the next tested call of the row.
+    pub(crate) call_text: Vec<u8>,
+    pub(crate) checks: Vec<RowCheck>,
     /// Further results that are allowed if an allocation is refused, a bit is flipped, or the store
     /// is replaced.
-    pub(crate) others: Vec<Vec<u8>>,
+    pub(crate) other_results: Vec<Vec<u8>>,
     /// Whether the row is tested only with its input unchanged.
     pub(crate) is_large: bool,
     /// Whether the row is also tested with each bit of the input flipped, and with the pack
@@ -87,40 +87,48 @@ const LIMITS: IndexLimits = IndexLimits {
 };
 
 impl<'a> Row<'a> {
-    /// Returns a row without subjects.
-    pub(crate) fn new(alloc: Global, source: &'a str, line: usize, title: &'a str) -> Row<'a> {
+    /// Returns a row without checks.
+    pub(crate) fn new(
+        alloc: Global,
+        file_name: &'a str,
+        line_number: usize,
+        title: &'a str,
+    ) -> Row<'a> {
         Row {
-            source,
-            line,
+            file_name,
+            line_number,
             title,
             pack: "",
             store: "",
-            then: "",
+            replacement_store: "",
             limits: LIMITS,
-            has: Vec::new(alloc),
+            indexed_ids: Vec::new(alloc),
             tips: Vec::new(alloc),
             updates: Vec::new(alloc),
-            asked: Vec::new(alloc),
-            aims: Vec::new(alloc),
-            others: Vec::new(alloc),
+            call_text: Vec::new(alloc),
+            checks: Vec::new(alloc),
+            other_results: Vec::new(alloc),
             is_large: false,
             is_swept: false,
         }
     }
 
-    /// Adds a subject with its expected result.
-    pub(crate) fn add_aim(
+    /// Adds a tested call with its expected result.
+    pub(crate) fn add_check(
         &mut self,
-        subject: Subject,
+        tested_call: TestedCall,
         id: Option<Oid>,
-        due: Vec<u8>,
+        expected: Vec<u8>,
     ) -> Result<(), Trouble> {
-        let text = self.asked.as_slice().to_vec(*self.asked.allocator())?;
-        self.aims.push(Aim {
-            subject,
+        let text = self
+            .call_text
+            .as_slice()
+            .to_vec(*self.call_text.allocator())?;
+        self.checks.push(RowCheck {
+            tested_call,
             id,
             text,
-            due,
+            expected,
         })?;
         Ok(())
     }

@@ -1,11 +1,11 @@
 //! The parser of test files. FORMAT.md describes each kind of line.
 
-use crate::deltas::{copy_of, insertions_of, put_size};
-use crate::indexes::Lines;
+use crate::deltas::{copy_instruction, insert_instructions, put_size};
+use crate::escapes::{expand_escapes, parse_number, split_first_word};
+use crate::indexes::PackIndex;
 use crate::names::Names;
-use crate::packs::{Pack, number_of_kind};
-use crate::row::{Row, Subject, Update};
-use crate::spell::{first_of, number_of, spell_line};
+use crate::packs::{Pack, parse_type_number};
+use crate::row::{Row, TestedCall, Update};
 use crate::stores::{File, Store, loose_text};
 use crate::trouble::Trouble;
 use gitobject::ObjectType;
@@ -20,14 +20,14 @@ pub(crate) struct Script<'a> {
     deflater: Deflater<Global>,
     names: Names<'a>,
     packs: Vec<Pack<'a>>,
-    lines: Vec<Lines<'a>>,
+    indexes: Vec<PackIndex<'a>>,
     stores: Vec<Store<'a>>,
     pub(crate) rows: Vec<Row<'a>>,
     // The number of times that the next line is repeated.
-    times: usize,
+    repetitions: usize,
     /// The file and the number of the current line.
-    pub(crate) source: &'a str,
-    pub(crate) line: usize,
+    pub(crate) file_name: &'a str,
+    pub(crate) line_number: usize,
 }
 
 impl<'a> Script<'a> {
@@ -38,22 +38,22 @@ impl<'a> Script<'a> {
             deflater: Deflater::new(alloc)?,
             names: Names::new(alloc),
             packs: Vec::new(alloc),
-            lines: Vec::new(alloc),
+            indexes: Vec::new(alloc),
             stores: Vec::new(alloc),
             rows: Vec::new(alloc),
-            times: 1,
-            source: "",
-            line: 0,
+            repetitions: 1,
+            file_name: "",
+            line_number: 0,
         })
     }
 
     /// Parses the text of the file with this name.
-    pub(crate) fn read(&mut self, source: &'a str, text: &'a str) -> Result<(), Trouble> {
-        self.source = source;
-        self.line = 0;
+    pub(crate) fn read_file(&mut self, file_name: &'a str, text: &'a str) -> Result<(), Trouble> {
+        self.file_name = file_name;
+        self.line_number = 0;
         for line in text.lines() {
-            self.line = self.line.saturating_add(1);
-            self.take_line(line)?;
+            self.line_number = self.line_number.saturating_add(1);
+            self.read_line(line)?;
         }
         Ok(())
     }
@@ -76,7 +76,7 @@ impl<'a> Script<'a> {
         if name.is_empty() {
             return Ok(&[]);
         }
-        Err(Trouble::NoName)
+        Err(Trouble::UnknownName)
     }
 
     fn pack(&self, name: &str) -> Result<&Pack<'a>, Trouble> {
@@ -85,123 +85,123 @@ impl<'a> Script<'a> {
                 return Ok(pack);
             }
         }
-        Err(Trouble::NoName)
+        Err(Trouble::UnknownName)
     }
 
     // Parses a line once for each of its repetitions.
-    fn take_line(&mut self, line: &'a str) -> Result<(), Trouble> {
+    fn read_line(&mut self, line: &'a str) -> Result<(), Trouble> {
         if line.is_empty() || line.starts_with('#') {
             return Ok(());
         }
-        let (word, rest) = first_of(line);
-        if word == "times" {
-            self.times = number_of(rest)?;
+        let (keyword, value) = split_first_word(line);
+        if keyword == "times" {
+            self.repetitions = parse_number(value)?;
             return Ok(());
         }
-        let times = self.times;
-        self.times = 1;
-        for _ in 0..times {
-            self.take_word(word, rest)?;
+        let repetitions = self.repetitions;
+        self.repetitions = 1;
+        for _ in 0..repetitions {
+            self.read_keyword_line(keyword, value)?;
         }
         Ok(())
     }
 
-    fn take_word(&mut self, word: &'a str, rest: &'a str) -> Result<(), Trouble> {
-        match word {
-            "text" => self.add_text(rest),
-            "commit" | "tree" | "blob" | "tag" => self.add_object(word, rest),
-            "delta" => self.begin_delta(rest),
-            "copy" | "insert" | "also" => self.add_to_delta(word, rest),
-            "pack" => Ok(self.packs.push(Pack::new(self.alloc, rest))?),
-            "lines" => self.begin_lines(rest),
-            "line" | "wrong-line" | "unsorted" => self.add_to_lines(word, rest),
-            "store" => Ok(self.stores.push(Store::new(self.alloc, rest)?)?),
-            "loose" | "file" | "packed" | "at" => self.add_to_store(word, rest),
-            "row" => self.begin_row(rest),
-            _ if is_of_row(word) => self.add_to_row(word, rest),
-            _ => self.add_to_pack(word, rest),
+    fn read_keyword_line(&mut self, keyword: &'a str, value: &'a str) -> Result<(), Trouble> {
+        match keyword {
+            "text" => self.add_text(value),
+            "commit" | "tree" | "blob" | "tag" => self.add_object(keyword, value),
+            "delta" => self.begin_delta(value),
+            "copy" | "insert" | "also" => self.add_to_delta(keyword, value),
+            "pack" => Ok(self.packs.push(Pack::new(self.alloc, value))?),
+            "lines" => self.begin_index(value),
+            "line" | "wrong-line" | "unsorted" => self.add_to_index(keyword, value),
+            "store" => Ok(self.stores.push(Store::new(self.alloc, value)?)?),
+            "loose" | "file" | "packed" | "at" => self.add_to_store(keyword, value),
+            "row" => self.begin_row(value),
+            _ if is_row_keyword(keyword) => self.add_to_row(keyword, value),
+            _ => self.add_to_pack(keyword, value),
         }
     }
 
-    fn spell_line(&self, line: &str) -> Result<Vec<u8>, Trouble> {
-        spell_line(self.alloc, &self.names, line)
+    fn expand_escapes(&self, line: &str) -> Result<Vec<u8>, Trouble> {
+        expand_escapes(self.alloc, &self.names, line)
     }
 
-    fn add_text(&mut self, rest: &'a str) -> Result<(), Trouble> {
-        let (name, line) = first_of(rest);
-        let bytes = self.spell_line(line)?;
+    fn add_text(&mut self, value: &'a str) -> Result<(), Trouble> {
+        let (name, line) = split_first_word(value);
+        let bytes = self.expand_escapes(line)?;
         self.names.add_text(name, bytes)
     }
 
-    fn add_object(&mut self, word: &str, rest: &'a str) -> Result<(), Trouble> {
-        let (name, line) = first_of(rest);
-        let body = self.spell_line(line)?;
-        match ObjectType::from_name(word.as_bytes()) {
+    fn add_object(&mut self, keyword: &str, value: &'a str) -> Result<(), Trouble> {
+        let (name, line) = split_first_word(value);
+        let body = self.expand_escapes(line)?;
+        match ObjectType::from_name(keyword.as_bytes()) {
             Some(kind) => self.names.add_object(name, kind, body),
             None => Err(Trouble::UnknownLine),
         }
     }
 
     // Begins a delta with its name, the size of the base, and the size of the result.
-    fn begin_delta(&mut self, rest: &'a str) -> Result<(), Trouble> {
-        let (name, sizes) = first_of(rest);
-        let (base, made) = first_of(sizes);
+    fn begin_delta(&mut self, value: &'a str) -> Result<(), Trouble> {
+        let (name, sizes) = split_first_word(value);
+        let (base, made) = split_first_word(sizes);
         let mut bytes = Vec::new(self.alloc);
-        put_size(&mut bytes, number_of(base)?)?;
-        put_size(&mut bytes, number_of(made)?)?;
+        put_size(&mut bytes, parse_number(base)?)?;
+        put_size(&mut bytes, parse_number(made)?)?;
         self.names.add_text(name, bytes)
     }
 
-    fn add_to_delta(&mut self, word: &str, rest: &str) -> Result<(), Trouble> {
-        let bytes = match word {
+    fn add_to_delta(&mut self, keyword: &str, value: &str) -> Result<(), Trouble> {
+        let bytes = match keyword {
             "copy" => {
-                let (offset, size) = first_of(rest);
-                copy_of(self.alloc, number_of(offset)?, number_of(size)?)?
+                let (offset, size) = split_first_word(value);
+                copy_instruction(self.alloc, parse_number(offset)?, parse_number(size)?)?
             }
-            "insert" => insertions_of(self.alloc, self.spell_line(rest)?.as_slice())?,
-            _ => self.spell_line(rest)?,
+            "insert" => insert_instructions(self.alloc, self.expand_escapes(value)?.as_slice())?,
+            _ => self.expand_escapes(value)?,
         };
         self.names.add_to_text(bytes.as_slice())
     }
 
-    fn add_to_pack(&mut self, word: &str, rest: &str) -> Result<(), Trouble> {
-        let (first, more) = first_of(rest);
+    fn add_to_pack(&mut self, keyword: &str, value: &str) -> Result<(), Trouble> {
+        let (first, other_values) = split_first_word(value);
         let Some(pack) = self.packs.last_mut() else {
-            return Err(Trouble::NotBegun);
+            return Err(Trouble::NoCurrentItem);
         };
-        match word {
-            "whole" => pack.put_whole(&mut self.deflater, self.names.object(first)?),
+        match keyword {
+            "whole" => pack.put_whole(&mut self.deflater, self.names.find_object(first)?),
             "entry" => {
-                let (size, line) = first_of(more);
-                let body = spell_line(self.alloc, &self.names, line)?;
-                pack.put_head(number_of_kind(first)?, number_of(size)?)?;
+                let (size, line) = split_first_word(other_values);
+                let body = expand_escapes(self.alloc, &self.names, line)?;
+                pack.begin_entry(parse_type_number(first)?, parse_number(size)?)?;
                 pack.put_stream(&mut self.deflater, body.as_slice())
             }
             "back" => {
-                let distance = pack.distance_of(number_of(first)?)?;
-                pack.put_offset_delta(distance, self.names.text(more)?)
+                let distance = pack.distance_of(parse_number(first)?)?;
+                pack.put_offset_delta(distance, self.names.find_text(other_values)?)
             }
             "far" => {
-                let distance = number_of(first)?;
-                pack.put_offset_delta(distance, self.names.text(more)?)
+                let distance = parse_number(first)?;
+                pack.put_offset_delta(distance, self.names.find_text(other_values)?)
             }
             "by-id" => {
-                let base = self.names.object(first)?;
-                pack.put_ref_delta(base, self.names.text(more)?)
+                let base = self.names.find_object(first)?;
+                pack.put_ref_delta(base, self.names.find_text(other_values)?)
             }
-            "head" => pack.put_head(number_of_kind(first)?, number_of(more)?),
-            _ => self.set_in_pack(word, rest),
+            "head" => pack.begin_entry(parse_type_number(first)?, parse_number(other_values)?),
+            _ => self.set_pack_field(keyword, value),
         }
     }
 
-    fn set_in_pack(&mut self, word: &str, rest: &str) -> Result<(), Trouble> {
-        let bytes = self.spell_line(rest)?;
+    fn set_pack_field(&mut self, keyword: &str, value: &str) -> Result<(), Trouble> {
+        let bytes = self.expand_escapes(value)?;
         let Some(pack) = self.packs.last_mut() else {
-            return Err(Trouble::NotBegun);
+            return Err(Trouble::NoCurrentItem);
         };
-        match word {
+        match keyword {
             "bytes" => return pack.put_bytes(bytes.as_slice()),
-            "count" => pack.set_count(number_of(rest)?),
+            "count" => pack.set_count(parse_number(value)?),
             "magic" => pack.set_magic(bytes),
             "trailer" => pack.set_trailer(bytes),
             _ => return Err(Trouble::UnknownLine),
@@ -209,231 +209,231 @@ impl<'a> Script<'a> {
         Ok(())
     }
 
-    fn begin_lines(&mut self, rest: &'a str) -> Result<(), Trouble> {
-        let (name, pack) = first_of(rest);
-        self.lines.push(Lines::new(self.alloc, name, pack))?;
+    fn begin_index(&mut self, value: &'a str) -> Result<(), Trouble> {
+        let (name, pack) = split_first_word(value);
+        self.indexes.push(PackIndex::new(self.alloc, name, pack))?;
         Ok(())
     }
 
     // Adds an entry to an index. The line names an object, the number of an entry in the pack, and
     // optionally a different offset.
-    fn add_to_lines(&mut self, word: &str, rest: &str) -> Result<(), Trouble> {
-        let Some(last) = self.lines.last() else {
-            return Err(Trouble::NotBegun);
+    fn add_to_index(&mut self, keyword: &str, value: &str) -> Result<(), Trouble> {
+        let Some(last) = self.indexes.last() else {
+            return Err(Trouble::NoCurrentItem);
         };
         let pack = last.pack;
-        if word == "unsorted" {
+        if keyword == "unsorted" {
             return self.set_unsorted();
         }
-        let (name, place) = first_of(rest);
-        let (number, offset) = first_of(place);
-        let (start, crc) = self.pack(pack)?.entry(number_of(number)?)?;
-        let offset = offset_of(start, offset)?;
-        let crc = if word == "line" { crc } else { !crc };
-        let id = self.names.object(name)?.id;
-        match self.lines.last_mut() {
-            Some(lines) => lines.push(id, crc, offset),
-            None => Err(Trouble::NotBegun),
+        let (name, place) = split_first_word(value);
+        let (number, offset) = split_first_word(place);
+        let (start, crc) = self.pack(pack)?.offset_and_crc(parse_number(number)?)?;
+        let offset = entry_offset(start, offset)?;
+        let crc = if keyword == "line" { crc } else { !crc };
+        let id = self.names.find_object(name)?.id;
+        match self.indexes.last_mut() {
+            Some(index) => index.push(id, crc, offset),
+            None => Err(Trouble::NoCurrentItem),
         }
     }
 
     fn set_unsorted(&mut self) -> Result<(), Trouble> {
-        match self.lines.last_mut() {
-            Some(lines) => {
-                lines.set_unsorted();
+        match self.indexes.last_mut() {
+            Some(index) => {
+                index.set_unsorted();
                 Ok(())
             }
-            None => Err(Trouble::NotBegun),
+            None => Err(Trouble::NoCurrentItem),
         }
     }
 
-    fn add_to_store(&mut self, word: &str, rest: &'a str) -> Result<(), Trouble> {
-        match word {
-            "loose" => self.add_loose(rest),
-            "packed" => self.add_packed(rest),
-            "at" => self.set_folder(rest),
-            _ => self.add_file(rest),
+    fn add_to_store(&mut self, keyword: &str, value: &'a str) -> Result<(), Trouble> {
+        match keyword {
+            "loose" => self.add_loose(value),
+            "packed" => self.add_packed(value),
+            "at" => self.set_folder(value),
+            _ => self.add_file(value),
         }
     }
 
     fn set_folder(&mut self, folder: &'a str) -> Result<(), Trouble> {
         match self.stores.last_mut() {
             Some(store) => {
-                store.set_folder(folder);
+                store.set_objects_folder(folder);
                 Ok(())
             }
-            None => Err(Trouble::NotBegun),
+            None => Err(Trouble::NoCurrentItem),
         }
     }
 
-    fn add_file(&mut self, rest: &str) -> Result<(), Trouble> {
-        let (path, line) = first_of(rest);
-        let bytes = self.spell_line(line)?;
+    fn add_file(&mut self, value: &str) -> Result<(), Trouble> {
+        let (path, line) = split_first_word(value);
+        let bytes = self.expand_escapes(line)?;
         let path = String::from_str(self.alloc, path)?;
         match self.stores.last_mut() {
-            Some(store) => store.add(path, bytes),
-            None => Err(Trouble::NotBegun),
+            Some(store) => store.add_file(path, bytes),
+            None => Err(Trouble::NoCurrentItem),
         }
     }
 
     // Adds a loose object, or a file that has the object's path but a different text.
-    fn add_loose(&mut self, rest: &str) -> Result<(), Trouble> {
-        let (name, line) = first_of(rest);
-        let object = self.names.object(name)?;
+    fn add_loose(&mut self, value: &str) -> Result<(), Trouble> {
+        let (name, line) = split_first_word(value);
+        let object = self.names.find_object(name)?;
         let text = if line.is_empty() {
             loose_text(self.alloc, object)?
         } else {
-            spell_line(self.alloc, &self.names, line)?
+            expand_escapes(self.alloc, &self.names, line)?
         };
         match self.stores.last_mut() {
             Some(store) => {
                 store.add_loose(self.alloc, &mut self.deflater, &object.id, text.as_slice())
             }
-            None => Err(Trouble::NotBegun),
+            None => Err(Trouble::NoCurrentItem),
         }
     }
 
     // Adds a pack, and the index with the given entries.
-    fn add_packed(&mut self, rest: &str) -> Result<(), Trouble> {
-        let (name, lines) = first_of(rest);
+    fn add_packed(&mut self, value: &str) -> Result<(), Trouble> {
+        let (name, index_name) = split_first_word(value);
         let pack = self.pack_bytes(name)?;
-        let index = self.index_bytes(lines)?;
+        let index = self.index_bytes(index_name)?;
         match self.stores.last_mut() {
             Some(store) => store.add_packed(self.alloc, name, pack, index),
-            None => Err(Trouble::NotBegun),
+            None => Err(Trouble::NoCurrentItem),
         }
     }
 
     // Returns the bytes of the index with this name.
     fn index_bytes(&self, name: &str) -> Result<Vec<u8>, Trouble> {
-        for lines in &self.lines {
-            if lines.name == name {
-                return lines.bytes(self.alloc, self.pack(lines.pack)?);
+        for index in &self.indexes {
+            if index.name == name {
+                return index.bytes(self.alloc, self.pack(index.pack)?);
             }
         }
-        Err(Trouble::NoName)
+        Err(Trouble::UnknownName)
     }
 
     fn begin_row(&mut self, title: &'a str) -> Result<(), Trouble> {
-        let row = Row::new(self.alloc, self.source, self.line, title);
+        let row = Row::new(self.alloc, self.file_name, self.line_number, title);
         self.rows.push(row)?;
         Ok(())
     }
 
-    fn add_to_row(&mut self, word: &str, rest: &'a str) -> Result<(), Trouble> {
-        match word {
-            "read" | "raw" => return self.add_read(word, rest),
-            "has" | "tips" => return self.add_ids(word, rest),
-            "limits" => return self.set_limits(rest),
-            "update" => return self.add_update(rest),
+    fn add_to_row(&mut self, keyword: &str, value: &'a str) -> Result<(), Trouble> {
+        match keyword {
+            "read" | "raw" => return self.add_read(keyword, value),
+            "has" | "tips" => return self.add_ids(keyword, value),
+            "limits" => return self.set_limits(value),
+            "update" => return self.add_update(value),
             _ => {}
         }
-        let due = self.spell_line(rest)?;
+        let expected = self.expand_escapes(value)?;
         let Some(row) = self.rows.last_mut() else {
-            return Err(Trouble::NotBegun);
+            return Err(Trouble::NoCurrentItem);
         };
-        match word {
-            "of" => row.pack = rest,
-            "in" => row.store = rest,
-            "then" => row.then = rest,
-            "index" => row.add_aim(Subject::Index, None, due)?,
-            "kept" => row.add_aim(Subject::Arrival, None, due)?,
-            "open" => row.add_aim(Subject::Opening, None, due)?,
-            "refs" => row.add_aim(Subject::Refs, None, due)?,
-            "move" => row.add_aim(Subject::Moving, None, due)?,
-            "clone" => row.add_aim(Subject::Cloning, None, due)?,
-            "url" => row.add_aim(Subject::Url, None, due)?,
-            "served" => row.add_aim(Subject::Served, None, due)?,
-            "asked" => row.asked = due,
-            "or" => row.others.push(due)?,
+        match keyword {
+            "of" => row.pack = value,
+            "in" => row.store = value,
+            "then" => row.replacement_store = value,
+            "index" => row.add_check(TestedCall::IndexPack, None, expected)?,
+            "kept" => row.add_check(TestedCall::ReceivePack, None, expected)?,
+            "open" => row.add_check(TestedCall::OpenStore, None, expected)?,
+            "refs" => row.add_check(TestedCall::ReadRefs, None, expected)?,
+            "move" => row.add_check(TestedCall::UpdateRefs, None, expected)?,
+            "clone" => row.add_check(TestedCall::CloneRefs, None, expected)?,
+            "url" => row.add_check(TestedCall::ParseUrl, None, expected)?,
+            "served" => row.add_check(TestedCall::ParseServedPath, None, expected)?,
+            "asked" => row.call_text = expected,
+            "or" => row.other_results.push(expected)?,
             "sweep" => row.is_swept = true,
             _ => row.is_large = true,
         }
         Ok(())
     }
 
-    fn add_read(&mut self, word: &str, rest: &str) -> Result<(), Trouble> {
-        let (name, line) = first_of(rest);
-        let id = self.names.object(name)?.id;
-        let due = self.spell_line(line)?;
-        let subject = if word == "read" {
-            Subject::Checked
+    fn add_read(&mut self, keyword: &str, value: &str) -> Result<(), Trouble> {
+        let (name, line) = split_first_word(value);
+        let id = self.names.find_object(name)?.id;
+        let expected = self.expand_escapes(line)?;
+        let tested_call = if keyword == "read" {
+            TestedCall::ReadObject
         } else {
-            Subject::Raw
+            TestedCall::ReadRawEntry
         };
         match self.rows.last_mut() {
-            Some(row) => row.add_aim(subject, Some(id), due),
-            None => Err(Trouble::NotBegun),
+            Some(row) => row.add_check(tested_call, Some(id), expected),
+            None => Err(Trouble::NoCurrentItem),
         }
     }
 
     // Adds an update of a ref: the old id or `-`, the new id, and the name.
-    fn add_update(&mut self, rest: &str) -> Result<(), Trouble> {
-        let (old, more) = first_of(rest);
-        let (new, line) = first_of(more);
+    fn add_update(&mut self, value: &str) -> Result<(), Trouble> {
+        let (old, other_values) = split_first_word(value);
+        let (new, line) = split_first_word(other_values);
         let old = if old == "-" {
             None
         } else {
-            Some(self.names.object(old)?.id)
+            Some(self.names.find_object(old)?.id)
         };
-        let new = self.names.object(new)?.id;
-        let name = self.spell_line(line)?;
+        let new = self.names.find_object(new)?.id;
+        let name = self.expand_escapes(line)?;
         match self.rows.last_mut() {
             Some(row) => Ok(row.updates.push(Update { name, old, new })?),
-            None => Err(Trouble::NotBegun),
+            None => Err(Trouble::NoCurrentItem),
         }
     }
 
-    fn add_ids(&mut self, word: &str, rest: &str) -> Result<(), Trouble> {
-        for name in rest.split(' ') {
-            let id = self.names.object(name)?.id;
+    fn add_ids(&mut self, keyword: &str, value: &str) -> Result<(), Trouble> {
+        for name in value.split(' ') {
+            let id = self.names.find_object(name)?.id;
             match self.rows.last_mut() {
-                Some(row) if word == "has" => row.has.push(id)?,
+                Some(row) if keyword == "has" => row.indexed_ids.push(id)?,
                 Some(row) => row.tips.push(id)?,
-                None => return Err(Trouble::NotBegun),
+                None => return Err(Trouble::NoCurrentItem),
             }
         }
         Ok(())
     }
 
-    // Sets the limits of indexing: the number of objects, the size of an object, the number of
-    // bytes held in memory, and the size of all objects.
-    fn set_limits(&mut self, rest: &str) -> Result<(), Trouble> {
-        let (objects, more) = first_of(rest);
-        let (object, more) = first_of(more);
-        let (held, total) = first_of(more);
+    // Sets the limits of indexing: the number of objects, the size of an object, the bytes held in
+    // memory, and the size of all objects.
+    fn set_limits(&mut self, value: &str) -> Result<(), Trouble> {
+        let (objects, other_values) = split_first_word(value);
+        let (object, other_values) = split_first_word(other_values);
+        let (held, total) = split_first_word(other_values);
         let limits = IndexLimits {
-            objects: number_of(objects)?,
-            object: number_of(object)?,
-            held: number_of(held)?,
-            total: number_of(total)?,
+            objects: parse_number(objects)?,
+            object: parse_number(object)?,
+            held: parse_number(held)?,
+            total: parse_number(total)?,
         };
         match self.rows.last_mut() {
             Some(row) => {
                 row.limits = limits;
                 Ok(())
             }
-            None => Err(Trouble::NotBegun),
+            None => Err(Trouble::NoCurrentItem),
         }
     }
 }
 
 // Returns the offset that `offset` states: the entry's own offset, a fixed offset, or an offset
 // relative to the entry.
-fn offset_of(start: usize, offset: &str) -> Result<u64, Trouble> {
+fn entry_offset(start: usize, offset: &str) -> Result<u64, Trouble> {
     if offset.is_empty() {
         return Ok(start as u64);
     }
     match offset.strip_prefix('+') {
-        Some(more) => Ok(start.saturating_add(number_of(more)?) as u64),
-        None => Ok(number_of(offset)? as u64),
+        Some(other_values) => Ok(start.saturating_add(parse_number(other_values)?) as u64),
+        None => Ok(parse_number(offset)? as u64),
     }
 }
 
 // Returns whether a line with this first word belongs to a row.
-fn is_of_row(word: &str) -> bool {
+fn is_row_keyword(keyword: &str) -> bool {
     matches!(
-        word,
+        keyword,
         "of" | "in"
             | "then"
             | "index"

@@ -1,6 +1,6 @@
 //! Git directories in memory, described by lines of a test file.
 
-use crate::names::Object;
+use crate::names::NamedObject;
 use crate::trouble::Trouble;
 use gitobjects::MemoryFiles;
 use gname::Oid;
@@ -25,7 +25,7 @@ pub(crate) struct Store<'a> {
     pub(crate) name: &'a str,
     pub(crate) files: Vec<File>,
     // The path of the directory to which objects are added.
-    folder: &'a str,
+    objects_folder: &'a str,
 }
 
 impl<'a> Store<'a> {
@@ -34,22 +34,22 @@ impl<'a> Store<'a> {
         let mut store = Store {
             name,
             files: Vec::new(alloc),
-            folder: OBJECTS,
+            objects_folder: OBJECTS,
         };
         let path = String::from_str(alloc, "/r/objects/info/packs")?;
-        store.add(path, Vec::new(alloc))?;
+        store.add_file(path, Vec::new(alloc))?;
         Ok(store)
     }
 
     /// Adds a file to the Git directory.
-    pub(crate) fn add(&mut self, path: String, bytes: Vec<u8>) -> Result<(), Trouble> {
+    pub(crate) fn add_file(&mut self, path: String, bytes: Vec<u8>) -> Result<(), Trouble> {
         self.files.push(File { path, bytes })?;
         Ok(())
     }
 
     /// Sets the path of the directory to which further objects are added.
-    pub(crate) fn set_folder(&mut self, folder: &'a str) {
-        self.folder = folder;
+    pub(crate) fn set_objects_folder(&mut self, objects_folder: &'a str) {
+        self.objects_folder = objects_folder;
     }
 
     /// Adds a pack and its index.
@@ -60,11 +60,11 @@ impl<'a> Store<'a> {
         pack: Vec<u8>,
         index: Vec<u8>,
     ) -> Result<(), Trouble> {
-        let folder = self.folder;
-        let path = format!(in alloc; "{folder}/pack/pack-{name}.pack")?;
-        self.add(path, pack)?;
-        let path = format!(in alloc; "{folder}/pack/pack-{name}.idx")?;
-        self.add(path, index)
+        let objects_folder = self.objects_folder;
+        let path = format!(in alloc; "{objects_folder}/pack/pack-{name}.pack")?;
+        self.add_file(path, pack)?;
+        let path = format!(in alloc; "{objects_folder}/pack/pack-{name}.idx")?;
+        self.add_file(path, index)
     }
 
     /// Adds a loose object file that inflates to the text.
@@ -79,21 +79,21 @@ impl<'a> Store<'a> {
         id.push_hex(&mut digits)?;
         let (Some(first), Some(rest)) = (digits.as_slice().get(..2), digits.as_slice().get(2..))
         else {
-            return Err(Trouble::NoName);
+            return Err(Trouble::UnknownName);
         };
         let (Ok(first), Ok(rest)) = (str::from_utf8(first), str::from_utf8(rest)) else {
-            return Err(Trouble::NoName);
+            return Err(Trouble::UnknownName);
         };
-        let folder = self.folder;
-        let path = format!(in alloc; "{folder}/{first}/{rest}")?;
+        let objects_folder = self.objects_folder;
+        let path = format!(in alloc; "{objects_folder}/{first}/{rest}")?;
         let mut stream = Vec::new(alloc);
         deflater.deflate(text, &mut stream)?;
-        self.add(path, stream)
+        self.add_file(path, stream)
     }
 }
 
 /// Returns the text of a loose object before compression.
-pub(crate) fn loose_text(alloc: Global, object: &Object<'_>) -> Result<Vec<u8>, Trouble> {
+pub(crate) fn loose_text(alloc: Global, object: &NamedObject<'_>) -> Result<Vec<u8>, Trouble> {
     let kind = object.kind.name();
     let length = object.body.len();
     let head = format!(in alloc; "{kind} {length}\0")?;
@@ -104,19 +104,19 @@ pub(crate) fn loose_text(alloc: Global, object: &Object<'_>) -> Result<Vec<u8>, 
 }
 
 /// Returns the files as an in-memory file system.
-pub(crate) fn in_memory<A: Allocator + Copy>(
+pub(crate) fn to_memory_files<A: Allocator + Copy>(
     alloc: A,
     files: &[File],
 ) -> Result<MemoryFiles<A>, AllocError> {
-    let mut memory = MemoryFiles::new(alloc);
+    let mut memory_files = MemoryFiles::new(alloc);
     for file in files {
-        memory.add(file.path.as_str(), file.bytes.as_slice())?;
+        memory_files.add(file.path.as_str(), file.bytes.as_slice())?;
     }
-    Ok(memory)
+    Ok(memory_files)
 }
 
 /// Returns copies of the files.
-pub(crate) fn copies(alloc: Global, files: &[File]) -> Result<Vec<File>, Trouble> {
+pub(crate) fn copy_files(alloc: Global, files: &[File]) -> Result<Vec<File>, Trouble> {
     let mut copies = Vec::new(alloc);
     for file in files {
         copies.push(File {

@@ -2,30 +2,30 @@
 
 use std::io;
 
-/// The ways in which a row is tested.
+/// The variations with which a row is tested.
 #[derive(Clone, Copy, PartialEq, Eq)]
-pub(crate) enum Treatment {
+pub(crate) enum Variation {
     /// The input is unchanged.
-    Plain,
+    Unchanged,
     /// A pack is truncated after each byte, or has each bit flipped but keeps its old trailer.
-    Broken,
+    BrokenPack,
     /// Each bit is flipped, and a pack then gets a correct trailer.
-    Changed,
+    ChangedBits,
     /// The files change during the run.
-    Turned,
+    ReplacedFiles,
     /// Each allocation is refused in turn.
-    Scarce,
+    RefusedAllocations,
 }
 
-impl Treatment {
-    /// Returns the printed name of the way.
+impl Variation {
+    /// Returns the printed name of the variation.
     pub(crate) fn name(self) -> &'static str {
         match self {
-            Treatment::Plain => "as it is",
-            Treatment::Broken => "cut, or with a bit changed under the old trailer",
-            Treatment::Changed => "with a bit changed",
-            Treatment::Turned => "while the files change",
-            Treatment::Scarce => "with an allocation refused",
+            Variation::Unchanged => "as it is",
+            Variation::BrokenPack => "cut, or with a bit changed under the old trailer",
+            Variation::ChangedBits => "with a bit changed",
+            Variation::ReplacedFiles => "while the files change",
+            Variation::RefusedAllocations => "with an allocation refused",
         }
     }
 }
@@ -34,8 +34,8 @@ impl Treatment {
 #[derive(Clone, Copy, Drop)]
 pub(crate) struct Tally {
     rows: u64,
-    tries: [u64; 5],
-    pub(crate) wrong: u64,
+    runs: [u64; 5],
+    pub(crate) failures: u64,
 }
 
 impl Tally {
@@ -43,8 +43,8 @@ impl Tally {
     pub(crate) fn new() -> Tally {
         Tally {
             rows: 0,
-            tries: [0; 5],
-            wrong: 0,
+            runs: [0; 5],
+            failures: 0,
         }
     }
 
@@ -54,31 +54,31 @@ impl Tally {
     }
 
     /// Counts a run, and also counts its result if that result is wrong.
-    pub(crate) fn count(&mut self, way: Treatment, is_right: bool) {
-        if let Some(tries) = self.tries.get_mut(way as usize) {
-            *tries = tries.saturating_add(1);
+    pub(crate) fn count(&mut self, variation: Variation, is_right: bool) {
+        if let Some(runs) = self.runs.get_mut(variation as usize) {
+            *runs = runs.saturating_add(1);
         }
         if !is_right {
-            self.wrong = self.wrong.saturating_add(1);
+            self.failures = self.failures.saturating_add(1);
         }
     }
 
     /// Prints all counts.
-    pub(crate) fn show<R: Print>(&self, rt: &R) -> io::Result<()> {
+    pub(crate) fn print<R: Print>(&self, rt: &R) -> io::Result<()> {
         let rows = self.rows;
         println!(rt; "{rows} rows")?;
-        for way in [
-            Treatment::Plain,
-            Treatment::Broken,
-            Treatment::Changed,
-            Treatment::Turned,
-            Treatment::Scarce,
+        for variation in [
+            Variation::Unchanged,
+            Variation::BrokenPack,
+            Variation::ChangedBits,
+            Variation::ReplacedFiles,
+            Variation::RefusedAllocations,
         ] {
-            let tries = self.tries.get(way as usize).copied().unwrap_or(0);
-            let name = way.name();
-            println!(rt; "{tries} tries {name}")?;
+            let runs = self.runs.get(variation as usize).copied().unwrap_or(0);
+            let name = variation.name();
+            println!(rt; "{runs} tries {name}")?;
         }
-        let wrong = self.wrong;
-        println!(rt; "{wrong} wrong")
+        let failures = self.failures;
+        println!(rt; "{failures} wrong")
     }
 }

@@ -11,19 +11,19 @@ pub(crate) enum Trouble {
     /// A brace is not closed.
     OpenBrace,
     /// A line names an item that does not exist.
-    NoName,
+    UnknownName,
     /// A word is not a number.
-    NoNumber,
+    InvalidNumber,
     /// A line belongs to an item that has not begun.
-    NotBegun,
+    NoCurrentItem,
     /// A line has no known form.
     UnknownLine,
     /// A text is not UTF-8.
-    NoText,
-    /// A folder or a file can't be created.
-    NoFiles,
+    NotUtf8,
+    /// A folder or a file can't be created or removed.
+    FileSystem,
     /// A write to standard output failed.
-    NoOutput,
+    StandardOutput,
 }
 
 impl Trouble {
@@ -32,13 +32,13 @@ impl Trouble {
         match self {
             Trouble::Memory => "out of memory",
             Trouble::OpenBrace => "a brace is not closed",
-            Trouble::NoName => "nothing has this name",
-            Trouble::NoNumber => "a word is no number",
-            Trouble::NotBegun => "the line does not go on with what is begun",
+            Trouble::UnknownName => "nothing has this name",
+            Trouble::InvalidNumber => "a word is no number",
+            Trouble::NoCurrentItem => "the line does not go on with what is begun",
             Trouble::UnknownLine => "no line begins so",
-            Trouble::NoText => "a text is not UTF-8",
-            Trouble::NoFiles => "a folder or a file can't be made",
-            Trouble::NoOutput => "the output is closed",
+            Trouble::NotUtf8 => "a text is not UTF-8",
+            Trouble::FileSystem => "a folder or a file can't be made",
+            Trouble::StandardOutput => "the output is closed",
         }
     }
 }
@@ -57,6 +57,6 @@ impl<T: Drop> From<AllocFailed<T>> for Trouble {
 
 impl From<io::Error> for Trouble {
     fn from(_error: io::Error) -> Trouble {
-        Trouble::NoOutput
+        Trouble::StandardOutput
     }
 }

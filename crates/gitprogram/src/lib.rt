@@ -9,9 +9,9 @@
 //!   sends a pack entry by entry, and holds one entry and at most 10 possible delta bases in
 //!   memory. `serve` logs one line per connection.
 //! - `upload-pack` serves one connection on standard input and output (git-upload-pack(1)).
-//! - `serve` and `upload-pack` answer ls-refs from the objects that refs point to. `serve` and
-//!   `upload-pack` read the history at the first request that may be a fetch. If the history is
-//!   incomplete, the request is refused, as in Git.
+//! - `serve` and `upload-pack` answer ls-refs from the objects that refs point to. They read the
+//!   history at the first fetch request. If the history is incomplete, the request is refused, as in
+//!   Git.
 //! - `clone` and `fetch` store the received pack unchanged, and then update the refs. `ls` prints
 //!   the refs of a server as git-ls-remote(1) does. `check` checks the connectivity of the refs.
 //! - A failed command prints one sentence on standard error, and exits with status 1. The exit
@@ -24,9 +24,9 @@
 //! - `ls` prints the refs in the format of git-ls-remote(1) (`specs/Listing.antt`). A private
 //!   function derives the HEAD of a clone from the server's reply (`specs/Heads.antt`). Another
 //!   private function finds version 2 among the keys of `GIT_PROTOCOL` (`specs/Versions.antt`).
-//! - `serve` runs each connection as a `Dialogue` in an event loop of `gevents`, so the proofs of
-//!   `gserver` and `gevents` apply to each connection. If `serve` sends a pack to its end, the pack
-//!   is complete.
+//! - `serve` and `upload-pack` run each connection as a `Dialogue`, so the proofs of `gserver` apply
+//!   to each connection. `serve` runs the dialogues in an event loop of `gevents`, and `upload-pack`
+//!   runs one dialogue by `gtalk::drive`. A pack that is sent to its end is complete.
 //!
 //! # Only tested
 //!
@@ -71,21 +71,20 @@
 //! been removed. `Repositories` may find any repository and report any text. A packer may fail with
 //! any fault.
 //!
-//! Text for a terminal may be written without the removal of control bytes. The bytes that were
-//! read ahead of a request may be read once more, or not at all. A client whose first packet is
-//! malformed may get no error packet. A server may end its replies with a response-end packet.
+//! Text for a terminal may be written without the removal of control bytes. `upload-pack` may pass
+//! other bytes to the dialogue than it reads. A client whose first packet is malformed may get no
+//! error packet. A server may end its replies with a response-end packet.
 //! A pack may lack entries, since the contract of a pack of `gitrepository` allows any pack.
 //!
 //! # Dependencies
 //!
 //! `gitwords` parses arguments and paths. `gitrepository`, `gitobjects` and `gitrefs` read and
 //! write repositories. `gevents`, `gserver`, `gdialogue`, `gparts`, `gtalk` and `mio` run the
-//! connections of `serve`. The other commands use `gtcp`, `gserve`, `ganswer` and `gclient`. `gcmd`
+//! connections to clients. The other commands use `gtcp`, `gserve`, `ganswer` and `gclient`. `gcmd`
 //! prints the report of a fetch. `ghello`, `glsreply`, `grequest`, `ggrammar` and `gpkt` read and
 //! write messages. `ggraph` defines graphs, and `gname` defines names and ids.
 #![tactic(auto)]
 
-mod ahead;
 mod checking;
 mod cloning;
 mod current;
@@ -93,7 +92,7 @@ mod directory;
 mod disk;
 mod fault;
 mod fetching;
-mod hosting;
+mod first_line;
 mod kept;
 mod listing;
 mod notes;

@@ -9,7 +9,7 @@ use crate::refusals::{FULL, FULL_OF_ADDRESS};
 use crate::repositories::{Closes, Repositories};
 use crate::sentences::Sentence;
 use crate::shared::{Blames, Shared};
-use crate::stored::Stored;
+use crate::stored::{ServedFrom, Stored};
 use crate::visits::{Held, begin, log_ended};
 use gevents::{Event, EventLoop, Limits, Refusal};
 use gitobjects::{ObjectFiles, StoredFiles};
@@ -66,7 +66,7 @@ where
         base: asked.base,
         all: asked.export_all,
     };
-    let stored = Stored::new(rt, files, exports);
+    let stored = Stored::new(rt, files, ServedFrom::Below(exports));
     serve_disk(rt, &stored, listener, &limits_of(asked), errors)
 }
 

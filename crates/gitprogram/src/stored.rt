@@ -17,23 +17,32 @@ use std::rc::Rc;
 use std::rt::Files;
 use std::time::SystemTime;
 
+/// The repositories that a server serves.
+#[derive(Clone, Copy)]
+pub(crate) enum ServedFrom<'f> {
+    /// The repositories below a directory.
+    Below(Exports<'f>),
+    /// Only this repository, whatever the path that a client sends.
+    Only(&'f Directories),
+}
+
 /// The served repositories on disk. Each open pack uses a file descriptor, so an object store is
 /// open only while a ticket for it exists.
 #[derive(Drop)]
 pub(crate) struct Stored<'f, 'r, R: Files, F: ObjectFiles> {
     rt: &'r R,
     files: &'f F,
-    exports: Exports<'f>,
+    served: ServedFrom<'f>,
     slots: Slots<'f, F>,
 }
 
 impl<'f, 'r, R: Files + AllocGlobal, F: ObjectFiles> Stored<'f, 'r, R, F> {
-    /// Returns the repositories that `exports` describes, without open object stores.
-    pub(crate) fn new(rt: &'r R, files: &'f F, exports: Exports<'f>) -> Stored<'f, 'r, R, F> {
+    /// Returns the served repositories, without open object stores.
+    pub(crate) fn new(rt: &'r R, files: &'f F, served: ServedFrom<'f>) -> Stored<'f, 'r, R, F> {
         Stored {
             rt,
             files,
-            exports,
+            served,
             slots: Slots::vacant(),
         }
     }
@@ -64,7 +73,10 @@ impl<'f, 'r, R: Files + AllocGlobal, F: ObjectFiles> Stored<'f, 'r, R, F> {
 
 impl<R: Files + AllocGlobal, F: ObjectFiles> Disk for Stored<'_, '_, R, F> {
     fn find(&self, path: &[u8]) -> Result<Option<Directories>, Fault> {
-        find_served(self.rt, self.exports, path)
+        match self.served {
+            ServedFrom::Below(exports) => find_served(self.rt, exports, path),
+            ServedFrom::Only(found) => Ok(Some(found.copy_in(self.rt.alloc())?)),
+        }
     }
 
     fn list(&self, found: &Directories) -> Result<Listed, NotOpened> {

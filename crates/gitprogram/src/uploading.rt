@@ -4,12 +4,23 @@ ghost use Rattle.std.specs.Prelude.{◌≡◌};
 ghost use Rattle.gitprogram.specs.Versions.{is_version_2, names_version_2};
 
 use crate::directory::{Directories, find_repository};
+use crate::disk::Disk;
 use crate::fault::Fault;
-use crate::hosting::serve_repository;
-use crate::refusals::{Worded, send_error};
+use crate::first_line::FirstLine;
+use crate::notes::Notes;
+use crate::refusals::send_error;
+use crate::repositories::Repositories;
 use crate::sentences::Sentence;
+use crate::shared::{Blames, Shared};
+use crate::stored::{ServedFrom, Stored};
+use crate::visits::{begin, fault_of_visit};
+use gevents::End;
+use gitobjects::StoredFiles;
+use gparts::PartPacker;
 use gpkt::{FromRead, Sink, Source, ToWrite};
-use std::alloc::AllocError;
+use gserver::{Host, ServedRepository};
+use gtalk::{Connection, TalkFault, drive};
+use std::alloc::{AllocError, Global};
 use std::io::{BufReader, BufWriter};
 use std::rt::{Env, Files};
 use std::{env, io};
@@ -37,8 +48,7 @@ where
         return Err(Fault::Memory);
     };
     let mut source = FromRead::new(&mut reader);
-    let mut worded = Worded::new(&mut writer);
-    let mut sink = ToWrite::new(&mut worded);
+    let mut sink = ToWrite::new(&mut writer);
     let upload = upload_to(rt, dir, &mut source, &mut sink);
     // Bytes in the buffer that could not be written are dropped.
     let (_writer, _unwritten) = writer.into_parts();
@@ -61,11 +71,68 @@ where
     }
     let path = expand_home(rt, dir)?;
     match find_repository(rt, path.as_str()) {
-        Ok(found) => serve_repository(rt, &found, source, sink).outcome,
+        Ok(found) => upload_found(rt, &found, source, sink),
         Err(fault) => {
             let _ = send_error(NOT_THERE, sink);
             Err(fault)
         }
+    }
+}
+
+// Serves the repository in these directories.
+fn upload_found<R, S: Source, W: Sink>(
+    rt: &R,
+    found: &Directories,
+    source: &mut S,
+    sink: &mut W,
+) -> Result<(), Fault>
+where
+    R: Files + AllocGlobal,
+{
+    let files = StoredFiles::new(rt);
+    let stored = Stored::new(rt, &files, ServedFrom::Only(found));
+    upload_stored(rt.alloc(), &stored, source, sink)
+}
+
+// Serves the only repository on a disk.
+fn upload_stored<D: Disk, S: Source, W: Sink>(
+    alloc: Global,
+    disk: &D,
+    source: &mut S,
+    sink: &mut W,
+) -> Result<(), Fault> {
+    let notes = Notes::new(alloc);
+    let repositories = Repositories::new(alloc, disk, &notes);
+    converse::<Repositories<'_, D>, Shared<'_, D>, FirstLine<'_, S>, W>(
+        alloc,
+        &repositories,
+        &notes,
+        &mut FirstLine::new(source),
+        sink,
+    )
+}
+
+// Serves one client to the end of its connection.
+fn converse<'h, H, K, S: Source, W: Sink>(
+    alloc: Global,
+    host: &'h H,
+    notes: &'h Notes,
+    source: &mut S,
+    sink: &mut W,
+) -> Result<(), Fault>
+where
+    H: Host<Global, K>,
+    K: ServedRepository<Global> + PartPacker<Global> + Blames + Drop,
+{
+    let mut connection = Connection::new(begin(alloc, host, notes), alloc);
+    let end = match drive(&mut connection, source, sink) {
+        Ok(()) => End::Over,
+        Err(TalkFault::Memory) => End::Memory,
+        Err(TalkFault::Io) => End::Lost,
+    };
+    match fault_of_visit::<H, K>(alloc, connection, end) {
+        Some(fault) => Err(fault),
+        None => Ok(()),
     }
 }
 

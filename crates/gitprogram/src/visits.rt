@@ -12,7 +12,7 @@ use gevents::{End, Ended};
 use ggrammar::Ends;
 use gparts::PartPacker;
 use gserver::{Heard, Host, ServedRepository, ServerReply, ServerSide};
-use gtalk::Conversation;
+use gtalk::{Connection, Conversation};
 use std::alloc::Global;
 use std::io::Write;
 use std::net::SocketAddr;
@@ -67,6 +67,21 @@ where
         fault: fault.as_ref(),
     };
     let _ = writeln!(errors, "{line}");
+}
+
+/// Returns the fault of a connection that ended, or `None` if the connection ended without a fault.
+pub(crate) fn fault_of_visit<H, K>(
+    alloc: Global,
+    connection: Connection<Held<'_, H, K>, Global>,
+    end: End,
+) -> Option<Fault>
+where
+    H: Host<Global, K>,
+    K: ServedRepository<Global> + PartPacker<Global> + Blames + Drop,
+{
+    let visitor = connection.into_conversation().into_side();
+    let (side, _path, refused) = visitor.into_parts();
+    fault_of(alloc, &side, refused, end)
 }
 
 // Returns the fault of a failed connection, or `None` if the connection ended without a fault.

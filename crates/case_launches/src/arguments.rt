@@ -1,0 +1,144 @@
+//! The arguments of a command line, as a program receives them.
+
+use case_text::{Invocation, Program, Trouble, split_words};
+use case_tries::Row;
+use gcmd::Ends;
+use gname::MAX_PACK;
+use gtcp::Location;
+use std::alloc::Global;
+
+/// The maximum number of bytes that a test writes to a socket before the other end reads them.
+const MAX_SOCKET_BYTES: usize = 16_384;
+
+/// Returns whether the program can run the row. The packer and the indexer must be `PlainPack`. If
+/// the row uses a socket, the socket must be able to buffer all bytes, and the location must be
+/// valid.
+pub fn can_launch(alloc: Global, row: &Row<'_>) -> Result<bool, Trouble> {
+    let command = row.command;
+    if command.pack_tool.is_some() {
+        return Ok(false);
+    }
+    if !command.has_hello() {
+        return Ok(true);
+    }
+    let address = address_of(alloc, command)?;
+    let has_valid_location = Location::new(alloc, address.as_str(), command.path).is_some();
+    let conversation = &row.conversation;
+    Ok(
+        has_valid_location
+            && conversation.input.len() <= MAX_SOCKET_BYTES
+            && conversation.output.len() <= MAX_SOCKET_BYTES,
+    )
+}
+
+// Returns the address at which a server listens, or to which a client connects.
+fn address_of(alloc: Global, command: Invocation<'_>) -> Result<String, Trouble> {
+    if command.program == Program::Serve {
+        return Ok(String::from_str(alloc, "127.0.0.1:0")?);
+    }
+    let host = command.host;
+    Ok(format!(in alloc; "{host}:9418")?)
+}
+
+/// Returns the arguments of a row's command, starting with the program's name.
+pub(crate) fn command_arguments(
+    alloc: Global,
+    command: Invocation<'_>,
+) -> Result<Vec<String>, Trouble> {
+    let mut arguments = Vec::new(alloc);
+    push_arguments(alloc, fixed_arguments(command), &mut arguments)?;
+    add_location(alloc, command, &mut arguments)?;
+    add_options(alloc, command, &mut arguments)?;
+    if command.program != Program::Lines && command.program != Program::LsClient {
+        add_argument(
+            alloc,
+            file_name_for(command.repository_name),
+            &mut arguments,
+        )?;
+    }
+    if !command.operands.is_empty() {
+        for argument in split_words(alloc, command.operands)? {
+            arguments.push(argument)?;
+        }
+    }
+    Ok(arguments)
+}
+
+// Returns the part of the command line before the options.
+fn fixed_arguments(command: Invocation<'_>) -> &'static str {
+    match command.program {
+        Program::LsStdioServer => "gitv2 ls --stdio-server",
+        Program::Upload => "gitv2 upload",
+        Program::Fetch if command.has_hello() => "gitv2 fetch",
+        Program::Fetch => "gitv2 fetch --stdio",
+        Program::Check => "gitv2 check",
+        Program::Lines => "gitv2 lines",
+        Program::Simulate => "gitv2 simulate",
+        Program::Serve => "gitv2 serve --connections 1",
+        Program::LsClient => "gitv2 ls",
+    }
+}
+
+fn add_location(
+    alloc: Global,
+    command: Invocation<'_>,
+    arguments: &mut Vec<String>,
+) -> Result<(), Trouble> {
+    if !command.has_hello() {
+        return Ok(());
+    }
+    let option = if command.program == Program::Serve {
+        "--listen"
+    } else {
+        "--tcp"
+    };
+    add_argument(alloc, option, arguments)?;
+    arguments.push(address_of(alloc, command)?)?;
+    add_argument(alloc, "--path", arguments)?;
+    add_argument(alloc, command.path, arguments)
+}
+
+fn add_options(
+    alloc: Global,
+    command: Invocation<'_>,
+    arguments: &mut Vec<String>,
+) -> Result<(), Trouble> {
+    if command.program == Program::Fetch && command.pack_limit != MAX_PACK {
+        let limit = command.pack_limit;
+        add_argument(alloc, "--limit", arguments)?;
+        arguments.push(format!(in alloc; "{limit}")?)?;
+    }
+    if command.reply_ends == Ends::Response {
+        add_argument(alloc, "--response-end", arguments)?;
+    }
+    Ok(())
+}
+
+fn add_argument(alloc: Global, argument: &str, arguments: &mut Vec<String>) -> Result<(), Trouble> {
+    arguments.push(String::from_str(alloc, argument)?)?;
+    Ok(())
+}
+
+/// Appends arguments that are separated by spaces; `""` is the empty argument.
+pub fn push_arguments(
+    alloc: Global,
+    text: &str,
+    arguments: &mut Vec<String>,
+) -> Result<(), Trouble> {
+    for argument in text.split(' ') {
+        match argument {
+            "" => {}
+            "\"\"" => arguments.push(String::new(alloc))?,
+            _ => add_argument(alloc, argument, arguments)?,
+        }
+    }
+    Ok(())
+}
+
+// The name of the file for an unnamed text.
+const UNNAMED_FILE: &str = "none";
+
+/// Returns the name of the file that holds the text with this name.
+pub(crate) fn file_name_for(text: &str) -> &str {
+    if text.is_empty() { UNNAMED_FILE } else { text }
+}

@@ -1,0 +1,252 @@
+//! The runtime of a launch. The arguments, the standard streams and the clock are simulated, and
+//! the files are real.
+
+use crate::file::RecordedFile;
+use crate::journal::Journal;
+use crate::peers::Peers;
+use crate::plan::Plan;
+use crate::system::System;
+use std::alloc::{AllocError, Allocator, Global};
+use std::cell::RefCell;
+use std::env::FillError;
+use std::fmt::Display;
+use std::fs::{Metadata, OpenOptions, Permissions};
+use std::io;
+use std::io::{BufRead, ErrorKind, Lines, Write};
+use std::path::PathBuf;
+use std::rt::{Clock, Env, Files};
+use std::time::Duration;
+
+/// The runtime of a launched program.
+#[derive(Drop)]
+pub(crate) struct LaunchRuntime<'a, R> {
+    pub(crate) rt: &'a R,
+    plan: &'a Plan<'a>,
+    pub(crate) journal: &'a Journal<'a>,
+    pub(crate) peers: &'a Peers<'a>,
+    output: RefCell<Vec<u8>>,
+}
+
+impl<'a, R: System> LaunchRuntime<'a, R> {
+    /// Returns the runtime for a program that is launched according to this plan.
+    pub(crate) fn new(
+        rt: &'a R,
+        plan: &'a Plan<'a>,
+        journal: &'a Journal<'a>,
+        peers: &'a Peers<'a>,
+    ) -> LaunchRuntime<'a, R> {
+        LaunchRuntime {
+            rt,
+            plan,
+            journal,
+            peers,
+            output: RefCell::new(Vec::new(rt.alloc())),
+        }
+    }
+
+    /// Returns all bytes written to standard output.
+    pub(crate) fn written_bytes(&self) -> Result<Vec<u8>, AllocError> {
+        match self.output.try_borrow() {
+            Ok(output) => Vec::from_slice(self.rt.alloc(), output.as_slice()),
+            Err(_) => Ok(Vec::new(self.rt.alloc())),
+        }
+    }
+
+    fn append_output(&self, bytes: &[u8]) -> io::Result<()> {
+        match self.output.try_borrow_mut() {
+            Ok(mut output) => Ok(output.extend_from_slice(bytes)?),
+            Err(_) => Err(io::Error::from(ErrorKind::Other)),
+        }
+    }
+
+    // Connects the clients if the program's output so far is exactly the line that states its port.
+    fn connect_clients_if_listening(&self) -> io::Result<()> {
+        let written = self.written_bytes()?;
+        match listening_port(written.as_slice()) {
+            Some(port) => self.peers.connect_clients(self.rt, port),
+            None => Ok(()),
+        }
+    }
+}
+
+// Returns the port in the line that a listening server prints.
+fn listening_port(output: &[u8]) -> Option<u16> {
+    let line = std::str::from_utf8(output).ok()?;
+    let digits = line.strip_prefix("listening ")?.strip_suffix("\n")?;
+    digits.parse::<u16>().ok()
+}
+
+impl<R: System> Alloc for LaunchRuntime<'_, R> {
+    type A = Global;
+
+    fn alloc(&self) -> Global {
+        self.rt.alloc()
+    }
+}
+
+impl<R: System> Env for LaunchRuntime<'_, R> {
+    fn arg(&self, i: usize, buf: &mut [u8]) -> Result<usize, FillError> {
+        let Some(argument) = self.plan.arguments.get(i) else {
+            return Err(FillError::NotPresent);
+        };
+        let bytes = argument.as_bytes();
+        if bytes.len() > buf.len() {
+            return Err(FillError::TooLong);
+        }
+        buf[..bytes.len()].copy_from_slice(bytes);
+        Ok(bytes.len())
+    }
+
+    fn var(&self, _name: &str, _buf: &mut [u8]) -> Result<usize, FillError> {
+        Err(FillError::NotPresent)
+    }
+
+    fn var_at(&self, _i: usize, _buf: &mut [u8]) -> Result<usize, FillError> {
+        Err(FillError::NotPresent)
+    }
+}
+
+impl<'a, R: System> Input for LaunchRuntime<'a, R> {
+    type Reader = &'a [u8];
+
+    fn read_line<A: Allocator + Clone>(&self, buf: &mut String<A>) -> io::Result<usize> {
+        let mut reader = self.plan.input.as_slice();
+        reader.read_line(buf)
+    }
+
+    fn lines<A: Allocator>(&self, alloc: A) -> Lines<&'a [u8], A> {
+        self.plan.input.as_slice().lines(alloc)
+    }
+
+    fn reader(&self) -> &'a [u8] {
+        self.plan.input.as_slice()
+    }
+}
+
+// Standard output.
+impl<R: System> Print for LaunchRuntime<'_, R> {
+    fn print<D: Display + Drop>(&self, value: D) -> io::Result<()> {
+        let text = format!(in self.rt.alloc(); "{value}")?;
+        self.write_all(text.as_bytes())
+    }
+
+    fn println<D: Display + Drop>(&self, value: D) -> io::Result<()> {
+        let text = format!(in self.rt.alloc(); "{value}\n")?;
+        self.write_all(text.as_bytes())
+    }
+
+    fn write_all(&self, bytes: &[u8]) -> io::Result<()> {
+        self.journal.record_once("out")?;
+        self.append_output(bytes)?;
+        self.connect_clients_if_listening()
+    }
+}
+
+// The clock always returns zero.
+impl<R: System> Clock for LaunchRuntime<'_, R> {
+    fn monotonic(&self) -> io::Result<Duration> {
+        Ok(Duration::ZERO)
+    }
+
+    fn since_1970(&self) -> io::Result<Duration> {
+        Ok(Duration::ZERO)
+    }
+}
+
+impl<'a, R: System> Files for LaunchRuntime<'a, R> {
+    type File = RecordedFile<'a, R::File>;
+
+    type Dir = R::Dir;
+
+    fn open_file(&self, how: &OpenOptions, path: &str) -> io::Result<RecordedFile<'a, R::File>> {
+        let step = if how.asks_create_new() {
+            "create"
+        } else if how.asks_write() {
+            "open"
+        } else {
+            "read"
+        };
+        self.journal.record_file_step(step, path)?;
+        Ok(RecordedFile {
+            file: self.rt.open_file(how, path)?,
+            name: String::from_str(self.rt.alloc(), path)?,
+            journal: self.journal,
+        })
+    }
+
+    fn open_dir(&self, path: &str) -> io::Result<R::Dir> {
+        self.rt.open_dir(path)
+    }
+
+    fn metadata(&self, path: &str) -> io::Result<Metadata> {
+        self.rt.metadata(path)
+    }
+
+    fn symlink_metadata(&self, path: &str) -> io::Result<Metadata> {
+        self.rt.symlink_metadata(path)
+    }
+
+    fn copy(&self, from: &str, to: &str) -> io::Result<u64> {
+        self.journal.record_file_step("copy", from)?;
+        self.rt.copy(from, to)
+    }
+
+    fn rename(&self, from: &str, to: &str) -> io::Result<()> {
+        self.journal.record_file_step("rename", from)?;
+        self.rt.rename(from, to)
+    }
+
+    fn remove_file(&self, path: &str) -> io::Result<()> {
+        self.journal.record_file_step("remove", path)?;
+        self.rt.remove_file(path)
+    }
+
+    fn create_dir(&self, path: &str) -> io::Result<()> {
+        self.rt.create_dir(path)
+    }
+
+    fn remove_dir(&self, path: &str) -> io::Result<()> {
+        self.rt.remove_dir(path)
+    }
+
+    fn remove_dir_all<B: Allocator>(&self, alloc: B, path: &str) -> io::Result<()> {
+        self.rt.remove_dir_all(alloc, path)
+    }
+
+    fn canonicalize<B: Allocator>(&self, alloc: B, path: &str) -> io::Result<PathBuf<B>> {
+        self.rt.canonicalize(alloc, path)
+    }
+
+    fn set_permissions(&self, path: &str, perm: Permissions) -> io::Result<()> {
+        self.rt.set_permissions(path, perm)
+    }
+}
+
+/// The standard error of a launched program.
+#[derive(Drop)]
+pub(crate) struct StandardError<'a> {
+    journal: &'a Journal<'a>,
+    pub(crate) written: Vec<u8>,
+}
+
+impl<'a> StandardError<'a> {
+    /// Returns a standard error stream to which nothing has been written.
+    pub(crate) fn new(alloc: Global, journal: &'a Journal<'a>) -> StandardError<'a> {
+        StandardError {
+            journal,
+            written: Vec::new(alloc),
+        }
+    }
+}
+
+impl Write for StandardError<'_> {
+    fn write(&mut self, buf: &[u8]) -> io::Result<usize> {
+        self.journal.record_once("err")?;
+        self.written.extend_from_slice(buf)?;
+        Ok(buf.len())
+    }
+
+    fn flush(&mut self) -> io::Result<()> {
+        Ok(())
+    }
+}

@@ -1,0 +1,252 @@
+//! Escapes in the lines of a test file.
+//!
+//! `\n` is a line feed, `\0` is the byte 0, and `\x1f` is the byte 31. A backslash before any other
+//! character yields that character. `{a}` is an id of forty `a`, or of sixty-four for SHA-256.
+//! `{a+1}` is one digit longer than an id, and `{a-4}` is four digits shorter. `{a*64}` is
+//! sixty-four `a`, and `{ab*3}` is `ababab`. `{NAME}` is the text with this name, which has at
+//! least two characters. In a repeated line, `{#4}` is the number of the repetition, counted from
+//! 1, in four digits. `{#4+16}` is this number plus 16, and `{#4*2+16}` is twice this
+//! number plus 16. Without the digit count, as in `{#}` and `{#+16}`, the number has as many digits
+//! as an id. `{#=17}` is the number 17 in as many digits as an id. `{@2}` is the index of a packet:
+//! 2, or 3 with SHA-256, because a SHA-256 request has an extra `object-format` line.
+
+use crate::trouble::Trouble;
+use gname::{Format, MAX_ID_TEXT, Oid};
+use std::alloc::Global;
+
+/// The values on which the escapes in a line depend.
+#[derive(Clone, Copy)]
+pub(crate) struct EscapeContext {
+    pub(crate) format: Format,
+    /// The number of the current repetition of the line, counted from 1.
+    pub(crate) repetition: usize,
+}
+
+/// A named text that cases can refer to.
+#[derive(Drop)]
+pub(crate) struct NamedText<'a> {
+    pub(crate) name: &'a [u8],
+    pub(crate) bytes: Vec<u8>,
+}
+
+/// Returns the text with this name.
+pub(crate) fn find_text<'b>(texts: &'b [NamedText<'_>], name: &[u8]) -> Option<&'b [u8]> {
+    for text in texts {
+        if text.name == name {
+            return Some(text.bytes.as_slice());
+        }
+    }
+    None
+}
+
+/// Returns the bytes of a line after all escapes are replaced.
+pub(crate) fn expand_escapes(
+    alloc: Global,
+    texts: &[NamedText<'_>],
+    line: &[u8],
+    escape_context: EscapeContext,
+) -> Result<Vec<u8>, Trouble> {
+    let mut bytes = Vec::new(alloc);
+    let mut rest = line;
+    for _ in 0..line.len() {
+        rest = add_next(alloc, texts, rest, escape_context, &mut bytes)?;
+        if rest.is_empty() {
+            break;
+        }
+    }
+    Ok(bytes)
+}
+
+// Appends the bytes of the first character, escape or pair of braces, and returns the remaining
+// text.
+fn add_next<'a>(
+    alloc: Global,
+    texts: &[NamedText<'_>],
+    rest: &'a [u8],
+    escape_context: EscapeContext,
+    bytes: &mut Vec<u8>,
+) -> Result<&'a [u8], Trouble> {
+    match rest {
+        [b'\\', b'x', high, low, others @ ..] => {
+            bytes.push(hex_byte(*high, *low))?;
+            Ok(others)
+        }
+        [b'\\', letter, others @ ..] => {
+            bytes.push(escaped_byte(*letter))?;
+            Ok(others)
+        }
+        [b'{', others @ ..] => {
+            let Some((inside, others)) = split_at_byte(others, b'}') else {
+                return Err(Trouble::OpenBrace);
+            };
+            add_braced(alloc, texts, inside, escape_context, bytes)?;
+            Ok(others)
+        }
+        [plain, others @ ..] => {
+            bytes.push(*plain)?;
+            Ok(others)
+        }
+        [] => Ok(rest),
+    }
+}
+
+fn escaped_byte(letter: u8) -> u8 {
+    match letter {
+        b'n' => b'\n',
+        b'0' => 0,
+        other => other,
+    }
+}
+
+fn hex_byte(high: u8, low: u8) -> u8 {
+    hex_value(high)
+        .wrapping_mul(16)
+        .wrapping_add(hex_value(low))
+}
+
+/// Returns the value of a hexadecimal digit in lower case.
+pub(crate) fn hex_value(letter: u8) -> u8 {
+    match letter {
+        b'0'..=b'9' => letter.wrapping_sub(b'0'),
+        b'a'..=b'f' => letter.wrapping_sub(b'a').wrapping_add(10),
+        _ => 0,
+    }
+}
+
+// Appends the bytes that the text in braces stands for.
+fn add_braced(
+    alloc: Global,
+    texts: &[NamedText<'_>],
+    inside: &[u8],
+    escape_context: EscapeContext,
+    bytes: &mut Vec<u8>,
+) -> Result<(), Trouble> {
+    if let Some(number) = inside.strip_prefix(b"#") {
+        return add_number_escape(alloc, number, escape_context, bytes);
+    }
+    if let Some(place) = inside.strip_prefix(b"@") {
+        let place = parse_number(place).saturating_add(format_line_count(escape_context.format));
+        return add_padded_number(alloc, 1, place, bytes);
+    }
+    match split_at_byte(inside, b'*') {
+        Some((part, count)) => add_repeated(part, parse_number(count), bytes),
+        None => add_id_or_text(texts, inside, escape_context, bytes),
+    }
+}
+
+// Appends an id, an id of a wrong length, or the text with this name.
+fn add_id_or_text(
+    texts: &[NamedText<'_>],
+    inside: &[u8],
+    escape_context: EscapeContext,
+    bytes: &mut Vec<u8>,
+) -> Result<(), Trouble> {
+    let length = escape_context.format.id_text_length();
+    match inside {
+        [digit] => add_repeated(&[*digit], length, bytes),
+        [digit, b'+', more @ ..] => {
+            add_repeated(&[*digit], length.saturating_add(parse_number(more)), bytes)
+        }
+        [digit, b'-', less @ ..] => {
+            add_repeated(&[*digit], length.saturating_sub(parse_number(less)), bytes)
+        }
+        _ => add_text(texts, inside, bytes),
+    }
+}
+
+// Returns the number of `object-format` lines in a request with ids of this format.
+fn format_line_count(format: Format) -> usize {
+    match format {
+        Format::Sha1 => 0,
+        Format::Sha256 => 1,
+    }
+}
+
+fn add_text(texts: &[NamedText<'_>], name: &[u8], bytes: &mut Vec<u8>) -> Result<(), Trouble> {
+    match find_text(texts, name) {
+        Some(text) => Ok(bytes.extend_from_slice(text)?),
+        None => Err(Trouble::UnknownName),
+    }
+}
+
+// Appends a fixed number, or the number of the repetition after scaling and shifting. The number
+// has the given count of digits, or as many digits as an id.
+fn add_number_escape(
+    alloc: Global,
+    inside: &[u8],
+    escape_context: EscapeContext,
+    bytes: &mut Vec<u8>,
+) -> Result<(), Trouble> {
+    let length = escape_context.format.id_text_length();
+    if let Some(number) = inside.strip_prefix(b"=") {
+        return add_padded_number(alloc, length, parse_number(number), bytes);
+    }
+    let (width, more) = match split_at_byte(inside, b'+') {
+        Some((width, more)) => (width, parse_number(more)),
+        None => (inside, 0),
+    };
+    let (width, times) = match split_at_byte(width, b'*') {
+        Some((width, times)) => (width, parse_number(times)),
+        None => (width, 1),
+    };
+    let width = if width.is_empty() {
+        length
+    } else {
+        parse_number(width)
+    };
+    let number = escape_context
+        .repetition
+        .saturating_mul(times)
+        .saturating_add(more);
+    add_padded_number(alloc, width, number, bytes)
+}
+
+/// Appends a number in decimal, padded with zeros to `width` digits.
+pub fn add_padded_number(
+    alloc: Global,
+    width: usize,
+    number: usize,
+    bytes: &mut Vec<u8>,
+) -> Result<(), Trouble> {
+    let digits = format!(in alloc; "{number}")?;
+    add_repeated(b"0", width.saturating_sub(digits.len()), bytes)?;
+    bytes.extend_from_slice(digits.as_bytes())?;
+    Ok(())
+}
+
+// Splits the text at the first occurrence of `byte`.
+fn split_at_byte(text: &[u8], byte: u8) -> Option<(&[u8], &[u8])> {
+    let mut parts = text.splitn(2, |other| *other == byte);
+    let before = parts.next()?;
+    let after = parts.next()?;
+    Some((before, after))
+}
+
+fn add_repeated(part: &[u8], times: usize, bytes: &mut Vec<u8>) -> Result<(), Trouble> {
+    for _ in 0..times {
+        bytes.extend_from_slice(part)?;
+    }
+    Ok(())
+}
+
+/// Returns the number with these decimal digits, ignoring other characters.
+pub fn parse_number(digits: &[u8]) -> usize {
+    let mut number = 0usize;
+    for letter in digits {
+        if letter.is_ascii_digit() {
+            let value = usize::from(letter.wrapping_sub(b'0'));
+            number = number.saturating_mul(10).saturating_add(value);
+        }
+    }
+    number
+}
+
+/// Returns the hexadecimal digits of an id.
+pub fn id_text(alloc: Global, id: &Oid) -> Result<String, Trouble> {
+    let mut digits = [0; MAX_ID_TEXT];
+    let count = id.to_hex(&mut digits);
+    match std::str::from_utf8(&digits[..count]) {
+        Ok(text) => Ok(String::from_str(alloc, text)?),
+        Err(_) => Err(Trouble::InvalidId),
+    }
+}

@@ -1,0 +1,144 @@
+//! The result of parsing a command line, as one line of text.
+//!
+//! The text of an `asked` fact holds the arguments, separated by spaces; `""` is the empty
+//! argument. The result is `none` for arguments that do not match the usage. Otherwise the result
+//! lists the command, the source or the address, the limit of a pack, and the number of
+//! connections. The next word is `plain` or `response-end`, which states how replies end. At the
+//! end are the files, refspecs or prefixes, in order.
+
+use case_launches::push_arguments;
+use case_text::Trouble;
+use gargs::{Fetch, Gitv2Command, Serve, Simulate, read_command};
+use gcmd::Ends;
+use gtcp::Location;
+use std::alloc::Global;
+
+// The notation for an empty argument in a test file.
+const EMPTY_ARGUMENT: &str = "\"\"";
+
+/// Returns the request to which the arguments parse, as text.
+pub fn parsed_command(alloc: Global, text: &[u8]) -> Result<String, Trouble> {
+    let Ok(text) = std::str::from_utf8(text) else {
+        return Ok(String::from_str(alloc, "no text")?);
+    };
+    let mut arguments = Vec::new(alloc);
+    push_arguments(alloc, text, &mut arguments)?;
+    match read_command(alloc, arguments.as_slice()) {
+        Some(command) => format_command(alloc, &command),
+        None => Ok(String::from_str(alloc, "none")?),
+    }
+}
+
+fn format_command(alloc: Global, command: &Gitv2Command) -> Result<String, Trouble> {
+    match command {
+        Gitv2Command::Check { file } => command_text(alloc, "check", &[file.as_str()], &[]),
+        Gitv2Command::Fetch(fetch) => format_fetch(alloc, fetch),
+        Gitv2Command::Lines => command_text(alloc, "lines", &[], &[]),
+        Gitv2Command::LsStdioServer { file } => command_text(
+            alloc,
+            "ls stdio-server",
+            &[file.as_str()],
+            &[],
+        ),
+        Gitv2Command::LsTcp { place, prefixes } => {
+            let location = format_location(alloc, place)?;
+            let ls = format!(in alloc; "ls tcp={location}")?;
+            command_text(alloc, ls.as_str(), &[], prefixes.as_slice())
+        }
+        Gitv2Command::Pair {
+            server,
+            client,
+            specs,
+        } => {
+            let files = [server.as_str(), client.as_str()];
+            command_text(alloc, "pair", &files, specs.as_slice())
+        }
+        Gitv2Command::Serve(serve) => format_serve(alloc, serve),
+        Gitv2Command::Simulate(simulate) => format_simulate(alloc, simulate),
+        Gitv2Command::Upload { ends, file } => {
+            let ends = format_reply_ends(*ends);
+            let upload = format!(in alloc; "upload {ends}")?;
+            command_text(alloc, upload.as_str(), &[file.as_str()], &[])
+        }
+    }
+}
+
+fn format_fetch(alloc: Global, fetch: &Fetch) -> Result<String, Trouble> {
+    let from = match &fetch.place {
+        Some(place) => {
+            let location = format_location(alloc, place)?;
+            format!(in alloc; "tcp={location}")?
+        }
+        None => String::from_str(alloc, "stdio")?,
+    };
+    let limit = fetch.limit.bytes();
+    let ends = format_reply_ends(fetch.ends);
+    let line = format!(in alloc; "fetch {from} limit={limit} {ends}")?;
+    command_text(
+        alloc,
+        line.as_str(),
+        &[fetch.file.as_str()],
+        fetch.specs.as_slice(),
+    )
+}
+
+fn format_serve(alloc: Global, serve: &Serve) -> Result<String, Trouble> {
+    let location = format_location(alloc, &serve.place)?;
+    let count = serve.connections;
+    let ends = format_reply_ends(serve.ends);
+    let line = format!(in alloc; "serve listen={location} connections={count} {ends}")?;
+    command_text(alloc, line.as_str(), &[serve.file.as_str()], &[])
+}
+
+fn format_simulate(alloc: Global, simulate: &Simulate) -> Result<String, Trouble> {
+    let files = [
+        simulate.server.as_str(),
+        simulate.client.as_str(),
+        simulate.scenario.as_str(),
+    ];
+    command_text(alloc, "simulate", &files, &[])
+}
+
+// Returns the address and the path as text. The path must be ASCII.
+fn format_location(alloc: Global, place: &Location) -> Result<String, Trouble> {
+    let address = place.address();
+    let path = match std::str::from_utf8(place.hello().path()) {
+        Ok(path) => path,
+        Err(_) => "",
+    };
+    Ok(format!(in alloc; "{address} path={path}")?)
+}
+
+fn format_reply_ends(ends: Ends) -> &'static str {
+    match ends {
+        Ends::Plain => "plain",
+        Ends::Response => "response-end",
+    }
+}
+
+// Returns a line that consists of this start, the files and the arguments.
+fn command_text(
+    alloc: Global,
+    start: &str,
+    files: &[&str],
+    arguments: &[String],
+) -> Result<String, Trouble> {
+    let mut line = String::from_str(alloc, start)?;
+    for file in files {
+        add_argument(file, &mut line)?;
+    }
+    for argument in arguments {
+        add_argument(argument.as_str(), &mut line)?;
+    }
+    Ok(line)
+}
+
+fn add_argument(argument: &str, line: &mut String) -> Result<(), Trouble> {
+    line.push(' ')?;
+    line.push_str(if argument.is_empty() {
+        EMPTY_ARGUMENT
+    } else {
+        argument
+    })?;
+    Ok(())
+}

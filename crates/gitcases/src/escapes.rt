@@ -1,0 +1,157 @@
+//! Escapes in the lines of a test file.
+//!
+//! `\n` is a line feed, `\0` is the byte 0, and `\x1f` is the byte 31. A backslash before any other
+//! character yields that character. `{NAME}` is the text with this name, or the forty digits of the
+//! id of the object with this name. `{@NAME}` is the twenty bytes of the object's id. `{BYTES*3}`
+//! is `BYTES` three times.
+
+use crate::names::Names;
+use crate::trouble::Trouble;
+use std::alloc::Global;
+
+/// Returns the bytes of a line after all escapes are replaced.
+pub(crate) fn expand_escapes(
+    alloc: Global,
+    names: &Names<'_>,
+    line: &str,
+) -> Result<Vec<u8>, Trouble> {
+    let mut bytes = Vec::new(alloc);
+    let mut rest = line;
+    for _ in 0..line.len() {
+        rest = add_next(alloc, names, rest, &mut bytes)?;
+        if rest.is_empty() {
+            break;
+        }
+    }
+    Ok(bytes)
+}
+
+// Appends the bytes for the text up to the end of the next pair of braces. Returns the remaining
+// text.
+fn add_next<'a>(
+    alloc: Global,
+    names: &Names<'_>,
+    rest: &'a str,
+    bytes: &mut Vec<u8>,
+) -> Result<&'a str, Trouble> {
+    let (plain, braced) = before_brace(rest.as_bytes());
+    add_escaped(plain, bytes)?;
+    let Some(braced) = braced else {
+        return Ok("");
+    };
+    let Ok(text) = str::from_utf8(braced) else {
+        return Err(Trouble::OpenBrace);
+    };
+    let Some((inside, after)) = text.split_once('}') else {
+        return Err(Trouble::OpenBrace);
+    };
+    add_braced(alloc, names, inside, bytes)?;
+    let length = rest.len().saturating_sub(after.len());
+    Ok(rest.get(length..).unwrap_or(""))
+}
+
+// Returns the bytes before the first unescaped brace, and the bytes after it. The latter are `None`
+// if the text has no unescaped brace.
+fn before_brace(text: &[u8]) -> (&[u8], Option<&[u8]>) {
+    let mut is_escaped = false;
+    for place in 0..text.len() {
+        let byte = text[place];
+        if byte == b'{' && !is_escaped {
+            return (&text[..place], text.get(place.saturating_add(1)..));
+        }
+        is_escaped = byte == b'\\' && !is_escaped;
+    }
+    (text, None)
+}
+
+/// Appends the bytes that a text without braces stands for.
+pub(crate) fn add_escaped(text: &[u8], bytes: &mut Vec<u8>) -> Result<(), Trouble> {
+    let mut rest = text;
+    for _ in 0..text.len() {
+        let (byte, others) = match rest {
+            [b'\\', b'x', high, low, others @ ..] => (hex_byte(*high, *low), others),
+            [b'\\', letter, others @ ..] => (escaped_byte(*letter), others),
+            [plain, others @ ..] => (*plain, others),
+            [] => break,
+        };
+        bytes.push(byte)?;
+        rest = others;
+    }
+    Ok(())
+}
+
+fn escaped_byte(letter: u8) -> u8 {
+    match letter {
+        b'n' => b'\n',
+        b'r' => b'\r',
+        b'0' => 0,
+        other => other,
+    }
+}
+
+fn hex_byte(high: u8, low: u8) -> u8 {
+    hex_value(high)
+        .wrapping_mul(16)
+        .wrapping_add(hex_value(low))
+}
+
+fn hex_value(letter: u8) -> u8 {
+    match letter {
+        b'0'..=b'9' => letter.wrapping_sub(b'0'),
+        b'a'..=b'f' => letter.wrapping_sub(b'a').wrapping_add(10),
+        _ => 0,
+    }
+}
+
+// Appends the bytes that the text in braces stands for.
+fn add_braced(
+    alloc: Global,
+    names: &Names<'_>,
+    inside: &str,
+    bytes: &mut Vec<u8>,
+) -> Result<(), Trouble> {
+    if let Some((part, count)) = inside.rsplit_once('*') {
+        return add_repeated(alloc, part, parse_number(count)?, bytes);
+    }
+    if let Some(name) = inside.strip_prefix('@') {
+        let object = names.find_object(name)?;
+        return Ok(bytes.extend_from_slice(object.id.as_bytes())?);
+    }
+    match names.find_text(inside) {
+        Ok(text) => Ok(bytes.extend_from_slice(text)?),
+        Err(_) => {
+            let object = names.find_object(inside)?;
+            Ok(object.id.push_hex(bytes)?)
+        }
+    }
+}
+
+fn add_repeated(
+    alloc: Global,
+    part: &str,
+    count: usize,
+    bytes: &mut Vec<u8>,
+) -> Result<(), Trouble> {
+    let mut piece = Vec::new(alloc);
+    add_escaped(part.as_bytes(), &mut piece)?;
+    for _ in 0..count {
+        bytes.extend_from_slice(piece.as_slice())?;
+    }
+    Ok(())
+}
+
+/// Returns the number with these decimal digits.
+pub(crate) fn parse_number(digits: &str) -> Result<usize, Trouble> {
+    match digits.parse::<usize>() {
+        Ok(number) => Ok(number),
+        Err(_) => Err(Trouble::InvalidNumber),
+    }
+}
+
+/// Returns the first word of a line, and the text after the following space.
+pub(crate) fn split_first_word(line: &str) -> (&str, &str) {
+    match line.split_once(' ') {
+        Some(parts) => parts,
+        None => (line, ""),
+    }
+}

@@ -1,0 +1,43 @@
+//! Tests of URLs that a user enters, and of paths that a client requests.
+
+use crate::answers::{OUT_OF_MEMORY, SUCCESS};
+use crate::trouble::Trouble;
+use gitwords::{Ending, GitUrl, ServedPath};
+use std::alloc::{Allocator, Global};
+
+// The result for a path that names no repository.
+const NONE: &str = "none";
+
+/// Returns the result of parsing a URL: `ok`, the host, the port and the path, or the fault.
+pub(crate) fn url_result(alloc: Global, text: &[u8]) -> Result<String, Trouble> {
+    let Ok(text) = str::from_utf8(text) else {
+        return Err(Trouble::NotUtf8);
+    };
+    match GitUrl::parse(text) {
+        Ok(url) => {
+            let GitUrl { host, port, path } = url;
+            Ok(format!(in alloc; "{SUCCESS} {host} {port} {path}")?)
+        }
+        Err(fault) => Ok(format!(in alloc; "{fault}")?),
+    }
+}
+
+/// Returns the result of parsing a client's path: `ok` and the last candidate directory below the
+/// base, or `none`.
+pub(crate) fn served_path_result<A: Allocator + Copy>(
+    alloc: Global,
+    tested_alloc: A,
+    text: &[u8],
+) -> Result<String, Trouble> {
+    let path = match str::from_utf8(text) {
+        Ok(text) => ServedPath::parse(text),
+        Err(_) => None,
+    };
+    let Some(path) = path else {
+        return Ok(String::from_str(alloc, NONE)?);
+    };
+    match path.candidate(tested_alloc, Ending::Bare) {
+        Ok(candidate) => Ok(format!(in alloc; "{SUCCESS} {candidate}")?),
+        Err(_) => Ok(String::from_str(alloc, OUT_OF_MEMORY)?),
+    }
+}
