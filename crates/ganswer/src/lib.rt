@@ -35,7 +35,8 @@
 //!   history of the haves, inserting the pack gives it the full history of the wants. If the server
 //!   holds all wants, a request fails only if the packer fails or memory runs out. Answers are
 //!   well-formed messages, so a client of the same object format can read them, if its limits allow
-//!   the haves of its request. Changes to a server never remove objects or change its object format.
+//!   the haves of its request. Changes to a server never remove objects or change its object
+//!   format.
 //! - Each fault has a number, a name and a text. A fault of a request also has a text for the
 //!   client. [`ServeFault::is_memory`] returns whether memory ran out.
 //! - Every call returns, without a panic, an overflow or a read out of bounds.

@@ -70,7 +70,8 @@ impl<A: Allocator + Copy> Server<A> {
         requires refs { refs.now ≡ self.now.refs }
         requires head { IsAnswering self.now asked.now.asked
             (head_ref (head_id self.now.head self.now.refs)) reply.old }
-        ensures all { OnOk result (IsAnswering self.now asked.now.asked (all_refs self.now) reply.new) }
+        ensures all { OnOk result (IsAnswering self.now asked.now.asked (all_refs self.now)
+            reply.new) }
         ensures fault { IfErr result (λ fault. fault ≡ Memory) }
     {
         for (place, reference) in refs.iter().enumerate() {

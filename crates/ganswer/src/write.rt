@@ -49,7 +49,8 @@ impl<A: Allocator + Copy> Server<A> {
         ends: Ends,
         writer: &mut PacketWriter<W>,
     ) -> Result<(), WriteFault>
-        ensures { (lines : List RefLine) → ShowsLines self.now asked.now.asked (all_refs self.now) lines
+        ensures { (lines : List RefLine)
+            → ShowsLines self.now asked.now.asked (all_refs self.now) lines
             → WritesPackets W.contents W.passed_on W.is_down W.loans writer.old writer.new result
             (map ref_packet lines ++ Flush ∷ ends_with ends) }
     {
@@ -69,7 +70,8 @@ impl<A: Allocator + Copy> Server<A> {
         writer: &mut PacketWriter<W>,
     ) -> Result<(), WriteFault>
         ensures { (lines : List RefLine)
-            → ShowsLines self.now asked.now.asked (head_ref (head_id self.now.head self.now.refs)) lines
+            → ShowsLines self.now asked.now.asked
+            (head_ref (head_id self.now.head self.now.refs)) lines
             → WritesPart W.contents W.passed_on W.is_down W.loans writer.old writer.new result
             (map ref_packet lines) }
     {

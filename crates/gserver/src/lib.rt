@@ -32,7 +32,8 @@
 //!   always uses the host, the packets that end each reply, and the limits on each request, that
 //!   were passed to [`ServerSide::within`]. [`ServerSide::new`] gives the default limits of 64
 //!   prefixes, 1,024 wants and 4,096 haves. Each ls-refs or fetch request is counted. A connection
-//!   ends only after an error packet, an empty request, a failed pack or the last permitted request.
+//!   ends only after an error packet, an empty request, a failed pack or the last permitted
+//!   request.
 //! - [`ServerSide::repo`], [`ServerSide::limits`], [`ServerSide::requests`] and
 //!   [`ServerSide::fault`] return the state of the side.
 //! - Each call to [`Reply::say`](gdialogue::Reply) decreases the number of remaining steps, so

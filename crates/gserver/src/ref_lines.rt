@@ -43,8 +43,8 @@ pub(crate) fn say_head<A: Allocator + Copy, B: Allocator + Copy>(
     out: &mut Outgoing<B>,
 )
     requires { length out.old + max_packet ≤ queue_room }
-    ensures { SaysLines server.now asked.now.asked (head_ref (head_id server.now.head server.now.refs)) out.old
-        out.new }
+    ensures { SaysLines server.now asked.now.asked
+        (head_ref (head_id server.now.head server.now.refs)) out.old out.new }
 {
     match server.head_id() {
         Some(id) => {
