@@ -90,6 +90,7 @@ pub mod compat;
 mod fault;
 mod feed;
 pub mod laws;
+mod limits;
 mod options;
 mod requests;
 mod session;
