@@ -37,7 +37,7 @@ pub fn list_git<S: Source, W: Sink, A: Allocator + Copy>(
     asked: LsRefsRequest<A>,
     alloc: A,
 ) -> Result<LsReply<A>, FetchFault<A>>
-    ensures lists { ListsGit asked hello.now
+    ensures lists { ListsGit asked.asked hello.now
         (input_of S.remaining S.is_down source.old source.new)
         (output_of W.contents W.passed_on W.is_down sink.old sink.new) result }
     ensures source_loans { S.loans source.new ≡ S.loans source.old }
@@ -56,7 +56,7 @@ pub fn list_over<S: Source, W: Sink, A: Allocator + Copy>(
     asked: LsRefsRequest<A>,
     alloc: A,
 ) -> Result<LsReply<A>, FetchFault<A>>
-    ensures lists { Lists asked
+    ensures lists { Lists asked.asked
         (input_of S.remaining S.is_down source.old source.new)
         (output_of W.contents W.passed_on W.is_down sink.old sink.new) result }
     ensures source_loans { S.loans source.new ≡ S.loans source.old }
@@ -83,7 +83,7 @@ fn list<S: Source, W: Sink, A: Allocator + Copy>(
 ) -> Result<LsReply<A>, FetchFault<A>>
     requires reader { reader.old.failed ≡ false }
     requires writer { writer.old.failed ≡ false }
-    ensures lists { Lists asked
+    ensures lists { Lists asked.asked
         (input_of S.remaining S.is_down reader.old.source reader.new.source)
         (output_of W.contents W.passed_on W.is_down writer.old.sink writer.new.sink) result }
     ensures source_loans { S.loans reader.new.source ≡ S.loans reader.old.source }
