@@ -18,8 +18,8 @@ pub struct PackOptions {
     /// Whether the server may report progress. If false, each request for objects has
     /// `no-progress`.
     pub progress: bool,
-    /// The limits on the wants, on the haves and on the acknowledged ids. A limit above 2^30 counts
-    /// as 2^30. A request for refs has the default limits.
+    /// The limits on the wants, the haves and the acknowledged ids. With any limits, a request has
+    /// at most 2^30 wants and 2^30 haves. A request for refs has the default limits.
     pub limits: Limits,
 }
 
