@@ -21,8 +21,8 @@ next-requires g c =
           (sym c.graph.ensures) of.are,
     )
 
-pub returns-then-len-clause-batch : goal.returns-then-len-clause-batch
-returns-then-len-clause-batch g c =
+pub returns-then-len-max_haves-clause-batch : goal.returns-then-len-max_haves-clause-batch
+returns-then-len-max_haves-clause-batch g c =
     let s = c.args.self.now in
     let of = c.in_ok-walk.ensures.offers in
     let commons = c.as_slice.ensures.value ∙ ap (λ (s : SessionState g.row.A.Denot). s.commons) c.self.view_is in
@@ -47,8 +47,8 @@ returns-then-len-clause-batch g c =
       is = batch_room c.args.self.now.options.limits c.args.self.now.commons offer fits;
     }
 
-pub returns-then-len-clause-fits : goal.returns-then-len-clause-fits
-returns-then-len-clause-fits g c =
+pub returns-then-len-max_haves-clause-fits : goal.returns-then-len-max_haves-clause-fits
+returns-then-len-max_haves-clause-fits g c =
     let s = c.args.self.now in
     let of = c.in_ok-walk.ensures.offers in
     let commons = c.as_slice.ensures.value ∙ ap (λ (s : SessionState g.row.A.Denot). s.commons) c.self.view_is in
@@ -71,8 +71,8 @@ returns-then-len-clause-fits g c =
     c.args.repo.now.graph _ offer (subst IsSession c.self.view_is c.self.invariant.0) c.laws.ensures.graph
     answers.0 fits
 
-pub returns-then-len-clause-offers : goal.returns-then-len-clause-offers
-returns-then-len-clause-offers g c =
+pub returns-then-len-max_haves-clause-offers : goal.returns-then-len-max_haves-clause-offers
+returns-then-len-max_haves-clause-offers g c =
     let s = c.args.self.now in
     let of = c.in_ok-walk.ensures.offers in
     let commons = c.as_slice.ensures.value ∙ ap (λ (s : SessionState g.row.A.Denot). s.commons) c.self.view_is in
@@ -86,8 +86,8 @@ returns-then-len-clause-offers g c =
     (sym c.graph.ensures) of.are)) in
     answers.1
 
-pub returns-else-len-clause-batch : goal.returns-else-len-clause-batch
-returns-else-len-clause-batch g c =
+pub returns-else-len-max_haves-clause-batch : goal.returns-else-len-max_haves-clause-batch
+returns-else-len-max_haves-clause-batch g c =
     let s = c.args.self.now in
     let of = c.in_ok-walk.ensures.offers in
     let commons = c.as_slice.ensures.value ∙ ap (λ (s : SessionState g.row.A.Denot). s.commons) c.self.view_is in

@@ -17,8 +17,8 @@ returns-in_err-unborn_of-clause-wanted g c =
     let p = err_from_is_err_and c.from_residual-in_err-unborn_of.result c.from_residual-in_err-unborn_of.ensures.1 in
     rw (p.1, p.2) c.requires.asked.1
 
-pub returns-then-len-gt-max_wants-clause-wanted : goal.returns-then-len-gt-max_wants-clause-wanted
-returns-then-len-gt-max_wants-clause-wanted g c =
+pub returns-then-len-max_wants-clause-wanted : goal.returns-then-len-max_wants-clause-wanted
+returns-then-len-max_wants-clause-wanted g c =
     let wants = c.in_ok-wants.wants.items in record {
       named = c.requires.asked.1;
       wants = wants;
