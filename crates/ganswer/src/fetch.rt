@@ -49,7 +49,7 @@ impl<A: Allocator + Copy> Server<A> {
             (λ reply. FetchAnswer self.now (K.packs packer.old.packer) asked.now.asked
             (reply_in reply))
             (FetchRefuses self.now (K.pack_fails packer.old.packer) asked.now.asked) }
-        ensures format { IfOk result (IsReplyOf self.now.graph.format) }
+        ensures format { IfOk result (IsReplyOf asked.now.limits self.now.graph.format) }
         ensures packing { MatchResult result
             (λ reply. packer.new.answered ≡ packing_of_fetch (reply_in reply))
             (λ fault. packer.new.answered ≡ packing_of_fault fault) }
@@ -74,7 +74,7 @@ impl<A: Allocator + Copy> Server<A> {
     /// Fails with `NoWants` if the request has no wants. Fails with `NotOurs` for the first want
     /// that the server does not hold. Otherwise fails only if memory runs out.
     pub fn begin_fetch(&self, asked: &FetchRequest<A>) -> Result<BegunFetch<A>, ServeFault>
-        ensures { MatchResult result (BeginsFetch self.now asked.now.asked)
+        ensures { MatchResult result (BeginsFetch asked.now.limits self.now asked.now.asked)
             (FetchDeclines self.now asked.now.asked) }
     {
         self.check_wants(asked.wants())?;
@@ -103,9 +103,10 @@ impl<A: Allocator + Copy> Server<A> {
         }
     }
 
-    // Returns the common ids, as the acknowledgments of a reply.
+    // Returns the common ids, as the acknowledgments of a reply, with the limits of the request.
     fn commons(&self, asked: &FetchRequest<A>) -> Result<Acks<A>, ServeFault>
         ensures commons { IfOk result (λ commons. commons ≡ record {
+          limits = asked.now.limits;
           format = self.now.graph.format;
           ids = commons_of self.now asked.now.asked;
         }) }
@@ -115,7 +116,8 @@ impl<A: Allocator + Copy> Server<A> {
         positions_are_nodes::<A>();
         asked.laws();
         let ids = self.common_ids(asked)?;
-        Ok(Acks::from_ids(self.graph().format(), ids).unwrap())
+        let made = Acks::from_ids_within(self.graph().format(), ids, asked.limits());
+        Ok(made.unwrap())
     }
 
     // Returns the common ids.

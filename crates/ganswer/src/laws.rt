@@ -41,7 +41,7 @@ pub fn ls_answers_are_held<A: Allocator + Copy>()
 {}
 
 /// Proves that the client that sent a fetch request can read the answer with the server's object
-/// format, if the pack is within the client's limit.
+/// format, if the pack and the number of haves are within the client's limits.
 pub fn fetch_answers_fit<A: Allocator + Copy, K: Packer<A>>()
     ensures { (packer : K) → FetchAnswersFit A (K.packs packer) }
 {

@@ -52,6 +52,7 @@ mod fault;
 mod id;
 mod kind;
 pub mod laws;
+mod limits;
 mod message;
 mod peer;
 
@@ -63,5 +64,6 @@ pub use crate::ends::Ends;
 pub use crate::fault::{MAX_PEER_TEXT, MessageFault, PeerText, Why};
 pub use crate::id::id_of_text;
 pub use crate::kind::MessageKind;
+pub use crate::limits::Limits;
 pub use crate::message::{Message, Step, read_message};
 pub use crate::peer::{after_word, peer_error};

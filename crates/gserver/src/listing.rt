@@ -60,7 +60,7 @@ impl<A: Allocator + Copy, R> Listing<A, R> {
 }
 
 impl<A: Allocator + Copy, R: ServedRepository<A>> Cursor for Listing<A, R> {
-    ghost may = { λ l. SaysListing (R.server l.repo) l.asked l.ends l.goes_on l.next };
+    ghost may = { λ l. SaysListing (R.server l.repo) l.asked.asked l.ends l.goes_on l.next };
 
     ghost steps = { λ l. steps_of_listing (R.server l.repo) l.next };
 
@@ -91,10 +91,10 @@ impl<A: Allocator + Copy, R: ServedRepository<A>> Listing<A, R> {
         requires room { length out.old + max_packet ≤ queue_room }
         requires next { self.old.next ≡ NextLine.Ref at }
         ensures { Advances
-            (SaysListing (R.server self.old.repo) self.old.asked self.old.ends self.old.goes_on
-            self.old.next)
-            (SaysListing (R.server self.new.repo) self.new.asked self.new.ends self.new.goes_on
-            self.new.next)
+            (SaysListing (R.server self.old.repo) self.old.asked.asked self.old.ends
+            self.old.goes_on self.old.next)
+            (SaysListing (R.server self.new.repo) self.new.asked.asked self.new.ends
+            self.new.goes_on self.new.next)
             (steps_of_listing (R.server self.old.repo) self.old.next)
             (steps_of_listing (R.server self.new.repo) self.new.next) out.old out.new result }
     {

@@ -24,7 +24,7 @@ pub(crate) fn say_unborn<A: Allocator + Copy, B: Allocator + Copy>(
 )
     requires { length out.old + max_packet ≤ queue_room }
     ensures { out.new ≡ out.old
-        ++ canonical_all (unborn_packets (unborn_of server.now asked.now)) }
+        ++ canonical_all (unborn_packets (unborn_of server.now asked.now.asked)) }
 {
     match server.unborn(asked) {
         Some(target) => {
@@ -43,8 +43,8 @@ pub(crate) fn say_head<A: Allocator + Copy, B: Allocator + Copy>(
     out: &mut Outgoing<B>,
 )
     requires { length out.old + max_packet ≤ queue_room }
-    ensures { SaysLines server.now asked.now (head_ref (head_id server.now.head server.now.refs)) out.old
-        out.new }
+    ensures { SaysLines server.now asked.now.asked
+        (head_ref (head_id server.now.head server.now.refs)) out.old out.new }
 {
     match server.head_id() {
         Some(id) => {
@@ -64,7 +64,7 @@ pub(crate) fn say_ref<A: Allocator + Copy, B: Allocator + Copy>(
     out: &mut Outgoing<B>,
 ) -> bool
     requires { length out.old + max_packet ≤ queue_room }
-    ensures { SaysRefAt server.now asked.now at out.old out.new result }
+    ensures { SaysRefAt server.now asked.now.asked at out.old out.new result }
 {
     match server.refs().as_slice().get(at) {
         Some(found) => {

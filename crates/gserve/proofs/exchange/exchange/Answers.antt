@@ -1,6 +1,7 @@
 use Rattle.std.proofs.Common.{◌≡◌, Option, Ok, ap, subst, ◌∙◌}
 use Rattle.gpkt.specs.Sending.{input_of}
 use Rattle.ggrammar.specs.Kinds.{ReadsIfAny}
+use Rattle.ggrammar.specs.Limits.{profile}
 use Rattle.grequest.specs.RequestValues.{asked_by_request, asked_result}
 use Rattle.grequest.specs.declared.request.Request.{Request}
 use Rattle.grequest.specs.Requests.{Says, brings, judge}
@@ -15,7 +16,7 @@ returns-in-Ok-Some-clause-exchange g c =
     let server = c.args.server.now in
     let format : c.format.result ≡ server.graph.format = c.format.ensures ∙ ap (λ (h : History g.row.A.Denot). h.format) c.graph-graph.ensures.graph in
     let input = input_of g.S.Source.remaining g.S.Source.is_down c.args.reader.now.source c.read_request_in.new.reader.source in
-    let read = subst (λ (request : Option (Request g.row.A.Denot)). ReadsIfAny (judge c.format.result) brings (Says c.format.result) input.read (asked_result (Ok request))) c.in-Ok-Some.field-0-is c.in-Ok-Some.ensures.read in
+    let read = subst (λ (request : Option (Request g.row.A.Denot)). ReadsIfAny (judge profile c.format.result) brings (Says profile c.format.result) input.read (asked_result (Ok request))) c.in-Ok-Some.field-0-is c.in-Ok-Some.ensures.read in
     exchanged server (g.K.Packer.packs c.args.packer.now.packer) (g.K.Packer.pack_fails c.args.packer.now.packer) c.args.ends input _ c.format.result format
     (asked_by_request c.in-Ok-Some.request) c.reply.result read c.in-Ok-Some.ensures.reader.2 c.reply.ensures.replies
 

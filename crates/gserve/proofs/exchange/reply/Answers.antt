@@ -13,7 +13,7 @@ returns-in-Ls-clause-replies g c =
     let sent = c.send_ls_answer.ensures.sent in
     rw c.in-Ls.is
     (replied c.args.server.now (g.K.Packer.packs c.args.packer.now.packer) (g.K.Packer.pack_fails c.args.packer.now.packer) c.args.ends _
-    (LsAsked c.in-Ls.asked) (Ls sent.0) c.send_ls_answer.result c.end_of.result c.end_of.ensures (λ is. cc) sent.1 sent.2)
+    (LsAsked c.in-Ls.asked.asked) (Ls sent.0) c.send_ls_answer.result c.end_of.result c.end_of.ensures (λ is. cc) sent.1 sent.2)
 
 pub returns-in-Ok-clause-replies : goal.returns-in-Ok-clause-replies
 returns-in-Ok-clause-replies g c =

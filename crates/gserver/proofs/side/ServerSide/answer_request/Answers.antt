@@ -11,12 +11,12 @@ returns-in-Ls-clause-answers g c = rw c.in-Ls.is (λ repo some said goes may.
     let goes_on = c.count-goes_on.result in
     let served = g.R.ServedRepository.server repo in
     either_so said goes
-    (λ l. (c.list-listed.ensures.repo ∙ some, subst (λ b. SaysLsAnswer served c.in-Ls.asked old.ends b said goes) c.count-goes_on.ensures.goes l))
+    (λ l. (c.list-listed.ensures.repo ∙ some, subst (λ b. SaysLsAnswer served c.in-Ls.asked.asked old.ends b said goes) c.count-goes_on.ensures.goes l))
     (λ text why. (c.list-listed.ensures.repo ∙ some, why))
-    (answered_so g.R.ServedRepository.server g.R.PartPacker.gives (SaysLsAnswer served c.in-Ls.asked old.ends goes_on)
+    (answered_so g.R.ServedRepository.server g.R.PartPacker.gives (SaysLsAnswer served c.in-Ls.asked.asked old.ends goes_on)
     (LacksMemory g.H.Host.says old.host.now left.fault) c.list-listed.result goes_on c.answer_of.result
     (c.list-listed.ensures.lists repo some) c.answer_of.ensures
-    (list_ends g.R.ServedRepository.server g.R.PartPacker.gives served c.in-Ls.asked old.ends goes_on) said goes may))
+    (list_ends g.R.ServedRepository.server g.R.PartPacker.gives served c.in-Ls.asked.asked old.ends goes_on) said goes may))
 
 pub returns-in-Ls-clause-quiet : goal.returns-in-Ls-clause-quiet
 returns-in-Ls-clause-quiet g c = λ said goes may.
