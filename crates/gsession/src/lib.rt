@@ -15,6 +15,10 @@
 //!   the request and the next session ([`laws`]). [`Session::request_on`] makes the same request,
 //!   but continues the walk of the previous request (`specs/Offering.antt`). This call requires
 //!   that the graph has not changed since the previous request.
+//! - The session's options contain its limits ([`ggrammar::Limits`]). They bound the numbers of
+//!   wants, haves and acknowledged ids. By default, the limits are 1,024 wants, 4,096 haves and
+//!   4,096 acknowledged ids. A request for refs has the default limits. At most 16 refspecs always
+//!   fit into it.
 //! - [`Session::take_ls`] reads one ls-refs reply to its end, and nothing after it. Exactly one
 //!   update is requested for each local ref to which a refspec maps a line of the reply. The first
 //!   refspec that maps a line to the ref, and its first matching line, determine the update
@@ -90,6 +94,7 @@ pub mod compat;
 mod fault;
 mod feed;
 pub mod laws;
+mod limits;
 mod options;
 mod requests;
 mod session;

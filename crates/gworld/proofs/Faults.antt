@@ -14,6 +14,7 @@ use Rattle.gpkt.specs.declared.fault.PacketFault.TheVariants as line
 use Rattle.ggrammar.specs.Faults.{why_row}
 use Rattle.ggrammar.specs.Grammar.{Judge}
 use Rattle.ggrammar.specs.Kinds.{ReadsExactly, SaysAtFront}
+use Rattle.ggrammar.specs.Limits.{profile}
 use Rattle.ggrammar.specs.MessageBytes.{IsFront, IsOfBytes, known_bytes}
 use Rattle.ggrammar.specs.MessageReading.{IsReadFailure, IsReasonAfter, ReadsRefused}
 use Rattle.ggrammar.specs.declared.ends.Ends.{Ends}
@@ -45,9 +46,10 @@ use Rattle.ganswer.specs.Answers.{Fetch as Objects}
 use Rattle.ganswer.specs.FetchAnswers.{FetchAnswer}
 use Rattle.ganswer.specs.Laws.{IsEnough}
 use Rattle.ganswer.specs.Servers.{IsServer, Server}
-use Rattle.gsession.specs.Sessions.{SessionState}
+use Rattle.gsession.specs.Sessions.{SessionState, no_options}
 use Rattle.gsession.specs.TakingReplies.{Awaits, HasPack, IsFirstStrange, IsReplyFault, IsTakeFault, ReadsFetch}
 use Rattle.gsession.specs.TakingReplies.{RefusesPack, reading_for}
+use Rattle.gsession.specs.declared.options.PackOptions.{PackOptions}
 use Rattle.gsession.specs.declared.fault.ClientFault.{ClientFault}
 use Rattle.gsession.specs.declared.fault.ClientFault.TheVariants as client
 use Rattle.gworld.specs.Promises.{IsTakenOrDeclined, MayDecline}
@@ -125,8 +127,9 @@ limited format asked = record (any_reading format asked) { limit = default_limit
 
 -- which differs in the limit alone from how one reads it who takes any pack
 reading_is : {A : Type 0} (s : SessionState A) (format : Format) (asked : FetchAsked) → s.format ≡ format
-    → s.limit ≡ default_limit → s.ends ≡ Plain → reading_for s asked ≡ limited format asked
-reading_is s format asked f l e = cc
+    → s.limit ≡ default_limit → s.ends ≡ Plain → s.options ≡ no_options → reading_for s asked ≡ limited format asked
+reading_is s format asked f l e o =
+    let limits : s.options.limits ≡ profile = ap (λ (options : PackOptions). options.limits) o in cc
 
 -- an id that the server acknowledges is none that the request did not name
 none_strange : (haves acks : List (List ℕ)) (id : List ℕ) → All (Contains haves) acks → IsFirstStrange haves acks id → ⊥
@@ -162,7 +165,7 @@ module _ {A : Type 0} {tools : PackTools A} (answers : WorldLaws tools) (laws : 
         let reading = limited format asked in
         let kept = refused_for_bytes (judge reading) (brings_into false reading) (brings reading) front
         (known_bytes (objects_bytes reply) left) fault certain refused in
-        let over : fault.why ≡ why.Limit = laws.over_limit reading max_pack (canonical_reply Plain reply) front reply
+        let over : fault.why ≡ why.Limit = laws.over_limit reading max_pack profile (canonical_reply Plain reply) front reply
         (objects_bytes reply) left [] fault says spelt kept certain in
         elim (leb_tells (length (pack_of reply)) default_limit) [
           | inl short ↦ absurd (within_limit kept certain short.1)
@@ -199,6 +202,7 @@ module _ {A : Type 0} {tools : PackTools A} (answers : WorldLaws tools) (laws : 
     pub session_format : s.format ≡ w.repo.graph.format
     pub limit : s.limit ≡ default_limit
     pub ends : s.ends ≡ Plain
+    pub options : s.options ≡ no_options
     pub request : IsSoundFetch w asked
     pub is_answer : FetchAnswer server tools.packs asked reply
     pub waits : Awaits s asked
@@ -252,7 +256,8 @@ module _ {A : Type 0} {tools : PackTools A} (answers : WorldLaws tools) (laws : 
         let any = any_reading server.graph.format asked in
         let reading : reading_for s fault.0 ≡ limited server.graph.format asked =
         ap (λ (f : FetchAsked). reading_for s f) (same_awaited fault.0 fault.1)
-        ∙ reading_is s server.graph.format asked (is.session_format ∙ sym is.format) is.limit is.ends in
+        ∙ reading_is s server.graph.format asked (is.session_format ∙ sym is.format) is.limit is.ends
+        is.options in
         let refused = subst (λ (b : List ℕ). ReadsRefused (judge (reading_for s fault.0))
         (brings_into false (reading_for s fault.0)) fault.2.0 (known_bytes b left) cause) (take_all count bytes all)
         fault.2.1 in
