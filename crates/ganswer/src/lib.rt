@@ -49,11 +49,11 @@
 //! # What the contracts do not rule out
 //!
 //! Any call that allocates may report out of memory. `answer` may report it for an ls-refs request.
-//! For a fetch request it may report it if the server holds all wants, but not after asking the
-//! packer. `advert` may report out of memory at any time, `new` if no object is missing, `add` for
-//! a new object, and `set_ref` for a new name. A call may take any amount of time, and more memory
-//! than it needs. `OnePack` may call its packer several times and use one of the results.
-//! Formatting a fault may return `fmt::Error` although the text was written correctly.
+//! For a fetch request, `answer` may report it only if the server holds all wants, and not after it
+//! called the packer. `advert` may report out of memory at any time, `new` if no object is missing,
+//! `add` for a new object, and `set_ref` for a new name. A call may take any amount of time, and
+//! more memory than it needs. `OnePack` may call its packer several times and use one of the
+//! results. Formatting a fault may return `fmt::Error` although the text was written correctly.
 //!
 //! # Dependencies
 //!

@@ -36,7 +36,8 @@
 //!   memory.
 //! - If the bytes of a source are unknown, the contracts do not state which packets are read. The
 //!   contracts still state whether the source has failed.
-//! - Each kind of message defines the state of a rejected message.
+//! - The contracts of this crate do not state what a reader of messages holds after it rejects a
+//!   packet. Each kind of message states that itself.
 //!
 //! # Dependencies
 //!

@@ -131,8 +131,8 @@ fn counts_of<A: Allocator + Copy>(alloc: A, table: &[u8]) -> Result<Option<Vec<u
 
 // Returns whether a file of this length can hold the tables of `objects` objects.
 fn is_long_enough(length: usize, objects: usize) -> bool {
-    let lines = objects.saturating_mul(ID_BYTES + WORD + WORD);
-    lines <= length.saturating_sub(TABLE_END + CHECKSUMS)
+    let table_bytes = objects.saturating_mul(ID_BYTES + WORD + WORD);
+    table_bytes <= length.saturating_sub(TABLE_END + CHECKSUMS)
 }
 
 // Returns the big-endian number in the first four bytes, or 0 if there are fewer bytes.

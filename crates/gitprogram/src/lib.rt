@@ -21,9 +21,10 @@
 //!
 //! - No call panics, overflows or reads out of bounds, and every call returns, for any arguments,
 //!   files, standard streams and peers.
-//! - `ls` prints the refs in the format of git-ls-remote(1) (`specs/Listing.antt`). A private
-//!   function derives the HEAD of a clone from the server's reply (`specs/Heads.antt`). Another
-//!   private function finds version 2 among the keys of `GIT_PROTOCOL` (`specs/Versions.antt`).
+//! - A private function makes the text that `ls` prints, in the format of git-ls-remote(1)
+//!   (`specs/Listing.antt`). A private function derives the HEAD of a clone from the server's reply
+//!   (`specs/Heads.antt`). Another private function finds version 2 among the keys of
+//!   `GIT_PROTOCOL` (`specs/Versions.antt`).
 //! - `serve` and `upload-pack` run each connection as a `Dialogue`, so the proofs of `gserver`
 //!   apply to each connection. `serve` runs the dialogues in an event loop of `gevents`, and
 //!   `upload-pack` runs one dialogue by `gtalk::drive`. A pack that is sent to its end is complete.
@@ -69,7 +70,8 @@
 //! which contracts cannot describe. No contract says how many repositories are cached, or that an
 //! object store is ever closed. A cached repository lists its refs even if their objects have since
 //! been removed. `Repositories` may find any repository and report any text. A packer may fail with
-//! any fault.
+//! any fault, and a pack may have objects of another repository. A failed command may exit with any
+//! status. Output may be lost before it is written, and any call may fail.
 //!
 //! Text for a terminal may be written without the removal of control bytes. `upload-pack` may pass
 //! other bytes to the dialogue than it reads. A client whose first packet is malformed may get no

@@ -64,8 +64,8 @@
 //! - Too many wants. The session counts the wants only after it stored the requested updates and
 //!   their distinct ids. The check whether an id is connected may need a walk.
 //! - A fault of the graph for a pack. The graph detects this fault while it allocates memory for
-//!   the objects. The session allocates the list of common ids earlier, because the graph can't
-//!   remove inserted objects.
+//!   the objects. The session allocates the list of common ids before the graph inserts an object,
+//!   because an insertion can't be undone.
 //! - An unconnected id or a ref that can't be set, if [`Session::settle`] needs a walk in
 //!   `gclientrepo`.
 //!
