@@ -11,6 +11,7 @@ use crate::host::ServedRepository;
 use crate::ref_lines::{say_head, say_ref, say_unborn};
 use gdialogue::Said;
 use ggrammar::Ends;
+use glsreply::RefText;
 use grequest::LsRefsRequest;
 use gtalk::Outgoing;
 use std::alloc::Allocator;
@@ -38,6 +39,8 @@ pub struct Listing<A: Allocator + Copy, R> {
     // Whether the connection accepts another request after the reply.
     pub(crate) goes_on: bool,
     pub(crate) next: NextLine,
+    // The buffer in which each line is composed.
+    text: RefText,
 }
 
 impl<A: Allocator + Copy, R> Listing<A, R> {
@@ -55,6 +58,7 @@ impl<A: Allocator + Copy, R> Listing<A, R> {
             ends,
             goes_on,
             next: NextLine::Unborn,
+            text: RefText::new(),
         }
     }
 }
@@ -72,7 +76,7 @@ impl<A: Allocator + Copy, R: ServedRepository<A>> Cursor for Listing<A, R> {
                 Said::More
             }
             NextLine::Head => {
-                say_head(self.repo.server(), &self.asked, out);
+                say_head(self.repo.server(), &self.asked, &mut self.text, out);
                 self.next = NextLine::Ref(0);
                 Said::More
             }
@@ -101,7 +105,7 @@ impl<A: Allocator + Copy, R: ServedRepository<A>> Listing<A, R> {
         let server = self.repo.server();
         // Laws.
         server.laws();
-        if say_ref(server, &self.asked, at, out) {
+        if say_ref(server, &self.asked, at, &mut self.text, out) {
             self.next = NextLine::Ref(at + 1);
             return Said::More;
         }
