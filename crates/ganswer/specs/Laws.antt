@@ -5,7 +5,7 @@ use Rattle.gname.specs.declared.formats.Format.{Format}
 use Rattle.gname.specs.Ids.{Id}
 use Rattle.gname.specs.Names.{Name}
 use Rattle.gpkt.specs.Packets.{Bytes}
-use Rattle.gobject.specs.Packs.{AreEntries, MayPack, PackFails, Packs}
+use Rattle.gobject.specs.Packs.{AreEntries, PackFails, Packs}
 use Rattle.gobject.specs.declared.node.Entry.{Entry}
 use Rattle.gobject.specs.declared.fault.PackFault.{PackFault}
 use Rattle.gdag.specs.Graphs.{Holds, IsGraph, IsNode}
@@ -98,7 +98,7 @@ AcksAreCommon A packs =
 pub record IsEnough {A : Type 0} (server : Server A) (packs : Packs A) (asked : FetchAsked)
     (pack : Bytes) : Type 0 where
   pub list : List (Entry A)
-  pub packed : MayPack packs list pack
+  pub packed : packs list pack
   pub entries : AreEntries list
   pub graph : IsGraph (record { format = server.graph.format; entries = list })
   pub nodes : All (λ entry. IsNode server.graph.entries entry.id entry.node) list

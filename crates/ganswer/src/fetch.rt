@@ -1,6 +1,7 @@
 //! The answers to fetch requests (gitprotocol-v2(5), "fetch").
 
 ghost use Rattle.std.specs.Prelude.{◌≡◌, ◌↔◌, IfOk, IfErr, IsTrue, MatchResult};
+ghost use Rattle.gobject.specs.Packs.{MayPack};
 ghost use Rattle.gdag.specs.declared.fault.GraphFault.TheVariants.{Memory as OutOfMemory};
 ghost use Rattle.gfetchreply.specs.Views.{IsReplyOf, reply_in};
 ghost use Rattle.ganswer.specs.Answers.{FetchRefuses};
@@ -46,7 +47,7 @@ impl<A: Allocator + Copy> Server<A> {
     ) -> Result<FetchReply<A>, ServeFault>
         requires unasked { packer.old.answered ≡ packing.Unasked }
         ensures answer { MatchResult result
-            (λ reply. FetchAnswer self.now (K.packs packer.old.packer) asked.now.asked
+            (λ reply. FetchAnswer self.now (MayPack (K.packs packer.old.packer)) asked.now.asked
             (reply_in reply))
             (FetchRefuses self.now (K.pack_fails packer.old.packer) asked.now.asked) }
         ensures format { IfOk result (IsReplyOf asked.now.limits self.now.graph.format) }
@@ -146,7 +147,7 @@ impl<A: Allocator + Copy> Server<A> {
     ) -> Result<PackBytes<A>, ServeFault>
         requires sent { IsSent self.now asked.now.asked list.now }
         requires unasked { packer.old.answered ≡ packing.Unasked }
-        ensures pack { PacksFor self.now (K.packs packer.old.packer)
+        ensures pack { PacksFor self.now (MayPack (K.packs packer.old.packer))
             (K.pack_fails packer.old.packer) asked.now.asked result }
         ensures packing { MatchResult result
             (λ _. packer.new.answered ≡ packing.Packed)

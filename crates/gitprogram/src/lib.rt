@@ -57,8 +57,9 @@
 //!   permissions, and no reflog is written.
 //! - `serve` and `upload-pack` serve only protocol version 2. `upload-pack` does not check
 //!   who owns a repository.
-//! - A request has at most 1,024 wants, 4,096 haves and 64 ref prefixes. A pack has at most 64 MiB.
-//!   So a clone of a repository with more than 1,024 distinct tips fails.
+//! - A request has at most 65,537 wants, 65,536 haves and 1,024 ref prefixes. A repository has at
+//!   most 65,536 refs. `clone` and `fetch` accept a pack of at most 64 MiB, and `serve` and
+//!   `upload-pack` send packs of less than 4 GiB.
 //! - The progress line shows the object count from the pack header, and the number of received
 //!   bytes.
 //! - `ls` and `fetch` print ref names as the server sent them, unless standard output is a
@@ -96,6 +97,7 @@ mod fault;
 mod fetching;
 mod first_line;
 mod kept;
+mod limits;
 mod listing;
 mod notes;
 mod opening;

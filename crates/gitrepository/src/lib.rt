@@ -8,7 +8,7 @@
 //!   `ls-refs` needs no other objects. [`lead_with_newest`] puts refs to the newest objects first.
 //! - A [`StorePacker`] packs commits and tags with their trees and blobs. The packer copies stored
 //!   pack entries unchanged, and sends other objects as deltas if the deltas are smaller. A pack is
-//!   returned whole, or in parts with one entry in memory at a time.
+//!   returned in parts, with one entry in memory at a time.
 //! - A [`StoreIndexer`] indexes a pack while receiving it, and keeps the pack. The function
 //!   [`install_pack`] writes the received pack to the directory.
 //! - [`open_store`] refuses a repository in an unsupported format, and [`is_bare`] returns whether
@@ -26,8 +26,8 @@
 //!   object.
 //! - A pack that is sent has a header, as many entries as the header says, and the SHA-1 of all
 //!   preceding bytes. Each entry of a sent pack has a well-formed header. The pack has at most
-//!   `MAX_PACK` bytes. If a pack is returned in parts, the concatenation of the parts is the pack.
-//!   If a later part fails, no contract describes the parts returned before.
+//!   `gparts::MAX_PARTS` bytes. The concatenation of the returned parts is the pack. If a later
+//!   part fails, no contract describes the parts returned before.
 //! - A pack is accepted only if its trailer is the SHA-1 of all preceding bytes. Each entry that
 //!   the indexer returns describes an object, or is a tree or blob that a tag names. In the second
 //!   case the entry of the tag is also returned.

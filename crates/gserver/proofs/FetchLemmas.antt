@@ -3,7 +3,7 @@ use Rattle.std.proofs.Common.{◌≡◌, ℕ, inl, inr, Bool, true, false, List,
 use Rattle.gname.specs.Ids.{Id}
 use Rattle.gobject.specs.declared.node.Entry.{Entry}
 use Rattle.gobject.specs.declared.fault.PackFault.{PackFault}
-use Rattle.gobject.specs.Packs.{MayPack, PackFails, Packs}
+use Rattle.gobject.specs.Packs.{PackFails, Packs}
 use Rattle.gparts.specs.Parts.{Begins, Gives}
 use Rattle.gpkt.specs.Packets.{Bytes, Packet, Flush, Delim}
 use Rattle.ggrammar.specs.Texts.{text_packet}
@@ -64,15 +64,15 @@ module _ {A : Type 0} (server : Server A) (packs : Packs A) (fails : PackFails A
   module _ (list : List (Entry A)) (sent : IsSent server asked list) (gives : Gives) (most : ℕ) (begins : Begins packs fails list gives most) where
     -- the section of a pack, after these packets
     after : (front : List Packet) (due : IsPackDue server asked) (reply : Bytes → FetchReply)
-        → ((pack : Bytes) → MayPack packs list pack → FetchAnswer server packs asked (reply pack))
+        → ((pack : Bytes) → packs list pack → FetchAnswer server packs asked (reply pack))
         → ((pack : Bytes) → front ++ section (map data_packet (pieces pack)) ends ≡ canonical_reply ends (reply pack))
         → (said more rest : List Packet) (goes : Bool) → said ≡ front ++ more → more ≡ text_packet (codes "packfile") ∷ rest
         → (packets : List Packet) (end : Option PackFault) → SaysPack gives packets end
         → EndsPack ends goes_on packets end rest goes
         → SaysFetch server packs fails asked ends goes_on said goes
     after front due reply answers spelt said more rest goes parts first packets None pack ended =
-        let whole : MayPack packs list pack.sent =
-        subst (MayPack packs list) (ap (λ l. pack.sent ++ l) (pack.all refl) ∙ append-nil pack.sent) (begins.whole (pack.sent ++ pack.lost) pack.given) in
+        let whole : packs list pack.sent =
+        subst (packs list) (ap (λ l. pack.sent ++ l) (pack.all refl) ∙ append-nil pack.sent) (begins.whole (pack.sent ++ pack.lost) pack.given) in
         inl (record {
           reply = reply pack.sent;
           answers = answers pack.sent whole;

@@ -50,8 +50,8 @@ module _ {A : Type 0} {tools : PackTools A} (laws : WorldLaws tools) where
   pack_small : (server : Server A) (asked : FetchAsked) (reply : FetchReply)
       → RepliesWith server tools.packs asked reply → length (pack_of reply) ≤ max_pack
   pack_small server asked (Acks ids) replies = omega arith
-  pack_small server asked (Ready ids pack) replies = replies.3.packed.few
-  pack_small server asked (Pack pack) replies = replies.1.packed.few
+  pack_small server asked (Ready ids pack) replies = laws.small _ pack replies.3.packed
+  pack_small server asked (Pack pack) replies = laws.small _ pack replies.1.packed
 
   pub reply_fits : {server : Server A} {asked : FetchAsked} {reply : FetchReply} → IsServer server
       → length asked.haves ≤ max_haves profile → FetchAnswer server tools.packs asked reply
@@ -132,7 +132,7 @@ module _ {A : Type 0} {tools : PackTools A} (laws : WorldLaws tools) where
       (entries : List (Entry A)) → IsUnforgedAndFaithful tools w → (enough : IsEnough server tools.packs asked pack)
       → tools.indexes pack entries → entries ≡ enough.list
   read_is_sent {w} {server} {asked} {pack} entries honest enough read =
-      let same = honest.faithful.packs_image enough.list pack enough.entries enough.packed.packed in
+      let same = honest.faithful.packs_image enough.list pack enough.entries enough.packed in
       honest.faithful.reads_image enough.list entries enough.entries
       (subst (λ (bytes : List ℕ). tools.indexes bytes entries) same read)
 

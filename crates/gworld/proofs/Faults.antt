@@ -229,7 +229,7 @@ module _ {A : Type 0} {tools : PackTools A} (answers : WorldLaws tools) (laws : 
         → tools.index_fails (pack_of reply) fault → fault ≡ index.Memory
     index_fault fault enough fails =
         let faithful = is.honest.faithful in
-        let same = faithful.packs_image enough.list (pack_of reply) enough.entries enough.packed.packed in
+        let same = faithful.packs_image enough.list (pack_of reply) enough.entries enough.packed in
         faithful.reads_each enough.list fault enough.entries
         (subst (λ (bytes : List ℕ). tools.index_fails bytes fault) same fails)
 

@@ -3,6 +3,7 @@ use Rattle.std.proofs.Common.{[], ◌≡◌, ℕ, false, List, All, Option, Some
 use Rattle.std.proofs.Common.{refl, ap, subst, Bool, true, Err, if◌then◌else◌, ◌+◌, ◌++◌, ◌≤◌, length}
 use Rattle.std.specs.Prelude.{IfSome, MatchOption}
 use Rattle.std.proofs.lemmas.List.Elements.{All-weaker, All-contains, All-map, All-nil}
+use Rattle.gname.specs.Limits.{max_pack}
 use Rattle.gobject.specs.declared.node.Entry.{Entry}
 use Rattle.gdag.specs.Graphs.{Holds}
 use Rattle.gdag.specs.Laws.{ConnectedStaysConnected, GrowingGoesOn, GrowingKeeps, KeepingHolds, KeepingReaches, KeepingHasAll}
@@ -86,6 +87,7 @@ pub record WorldLaws {A : Type 0} (tools : PackTools A) : Type 0 where
   pub objects_fit : FetchAnswersFit A tools.packs
   pub acks : AcksAreCommon A tools.packs
   pub enough : PacksAreEnough A tools.packs
+  pub small : (list : List (Entry A)) (pack : List ℕ) → tools.packs list pack → length pack ≤ max_pack
   pub serves : ServesWhatIsHeld A tools.pack_fails
 
 -- what the bytes say, where nothing was forged: the server holds the objects of refs, and the acknowledged ids

@@ -1,13 +1,9 @@
-use Rattle.std.proofs.Common.{refl, List, ℕ, [], ◌≤◌, length, subst, arith}
-use Rattle.gname.specs.Limits.{max_pack}
+use Rattle.std.proofs.Common.{refl, [], arith}
 use Rattle.gitrepository.proofs.packer.StorePackerPartPacker.begin.Goals as goal
 
 pub returns-in-Ok : goal.returns-in-Ok
 returns-in-Ok g c = record {
-  whole = λ bytes gives. record {
-    packed = (gives refl).1 [] c.in-Ok.ensures.going;
-    few = subst (λ n. length bytes ≤ n) c.in-Ok.ensures.left (gives refl).0;
-  };
+  whole = λ bytes gives. gives refl [] c.in-Ok.ensures.going;
   failed = λ bytes fault gives. tt;
   few = omega (arith, c.in-Ok.ensures.left);
 }
