@@ -323,7 +323,7 @@ impl<'r, R: Files, A: Allocator + Copy> GitDirectory<'r, R, A> {
             Err(error) if is_absent(error.kind()) => return Ok(None),
             Err(error) => return Err(RefFault::system(self.alloc, path.as_str(), error)),
         };
-        // Unlike `read_to_end`, this does not fill the text with zeros first.
+        // `copy` is quicker than `read_to_end`, which first fills the text with zeros.
         match io::copy(&mut file, &mut text) {
             Ok(_) => Ok(Some(text)),
             Err(error) => Err(RefFault::system(self.alloc, path.as_str(), error)),
