@@ -1,5 +1,5 @@
--- Reading a request: a packet that is taken by what was kept of the packets before it is taken after these packets; and a
--- request is missing exactly where the input is empty.
+-- Reading a request. The state after some packets takes exactly the packets that may follow them. A request is missing
+-- exactly if the input is empty.
 use Rattle.std.proofs.Common.{◌≡◌, Bool, List, [], ◌∷◌, ◌++◌, codes, Result, Ok, Err, refl, sym, ap, subst, ◌∙◌, ℕ, ◌<◌}
 use Rattle.std.proofs.Common.{length, map, Option, Some, None, inl, inr, arith}
 use Rattle.gpkt.specs.Packets.{Packet, Data, Flush, SpellsAll, text}
