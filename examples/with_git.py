@@ -397,7 +397,8 @@ def many_tips(folder, ours, theirs):
                 same_repository(what, path, copy)
     due = refs(path).splitlines()[::MANY // 100]
     copy = new_repository(f"{folder}/named")
-    done = attempt("git", "fetch", "--quiet", ours.url(name), *(f"{line.split()[1]}:{line.split()[1]}" for line in due), cwd=copy)
+    names = [line.split()[1] for line in due]
+    done = attempt("git", "fetch", "--quiet", ours.url(name), *(f"{it}:{it}" for it in names), cwd=copy)
     check(f"git fetch of {len(due)} names at once", done and refs(copy).splitlines() == due and not faults_of(copy), done)
 
 
