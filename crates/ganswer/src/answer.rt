@@ -57,8 +57,8 @@ impl<A: Allocator + Copy> Server<A> {
     ) -> Result<Reply<A>, ServeFault>
         requires unasked { packer.old.answered ≡ Unasked }
         ensures answer { MatchResult result
-            (λ reply. Answers self.now (MayPack (K.packs packer.old.packer)) (asked_by_request request.now)
-            (reply_of reply))
+            (λ reply. Answers self.now (MayPack (K.packs packer.old.packer))
+            (asked_by_request request.now) (reply_of reply))
             (Refuses self.now (K.pack_fails packer.old.packer) (asked_by_request request.now)) }
         ensures format { IfOk result (HasFormat (limits_of request.now) self.now.graph.format) }
         ensures packing { MatchResult result

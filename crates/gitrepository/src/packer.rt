@@ -100,8 +100,8 @@ impl<F: ObjectFiles, A: Allocator + Copy> PartPacker<A> for StorePacker<'_, F, A
 
     ghost pack_fails = { λ _ _ _. ⊤ };
 
-    ghost gives = { λ _ parts bytes end. end ≡ None → (before : List ℕ)
-        → IsGoing parts.outgoing before → IsWholePack (before ++ bytes) };
+    ghost gives = { λ _ parts bytes end. end ≡ None → (length bytes ≤ parts.outgoing.left)
+        × ((before : List ℕ) → IsGoing parts.outgoing before → IsWholePack (before ++ bytes)) };
 
     ghost most = { λ _ parts. parts.outgoing.left };
 

@@ -3,6 +3,7 @@
 
 ghost use Rattle.std.specs.Prelude.{◌≡◌, ◌<◌, ◌+◌, ◌⊎◌, Bool, IfOk, IsSome, List, MatchResult, None, OnOk, Some, false, min};
 ghost use Rattle.std.specs.Option.{option_copied};
+ghost use Rattle.gparts.specs.Parts.{given_by};
 ghost use Rattle.gpkt.specs.Packets.{Packet};
 ghost use Rattle.ggrammar.specs.Limits.{profile};
 ghost use Rattle.ghello.specs.Hello as first_line;
@@ -61,7 +62,8 @@ impl<'h, A: Allocator + Copy, H, R> ServerSide<'h, A, H, R> {
         ServerSide::within(host, alloc, ends, Limits::default())
     }
 
-    /// Returns a side that has received no message, with these limits on each request.
+    /// Returns a side that has received no message, with these limits on each request. A limit above
+    /// 2^30 counts as 2^30.
     pub fn within(host: &'h H, alloc: A, ends: Ends, limits: Limits) -> ServerSide<'h, A, H, R>
         ensures fresh { IsFresh result }
         ensures host { result.host.now ≡ host.now }
@@ -178,11 +180,11 @@ where
     fn answer_request(&mut self, request: Request<A>) -> Answer<ServerReply<A, R, R::Parts>>
         ensures answers { (repo : R) → self.old.repo ≡ Some repo → (said : List Packet) (goes : Bool)
             → MayAnswer (may_of R.server R.gives) result said goes
-            → AnswersAsked R.server H.says self.old.host.now R.packs R.pack_fails
+            → AnswersAsked R.server H.says self.old.host.now (given_by R.packs) R.pack_fails
             (H.opens self.old.host.now repo) self.old.ends repo (asked_by_request request)
             (goes_on_after self.old.requests) self.new.repo said goes
-            ⊎ Refuses (CannotAnswer R.server H.says self.old.host.now R.packs R.pack_fails
-            (H.opens self.old.host.now repo) self.old.ends repo (asked_by_request request)
+            ⊎ Refuses (CannotAnswer R.server H.says self.old.host.now (given_by R.packs)
+            R.pack_fails (H.opens self.old.host.now repo) self.old.ends repo (asked_by_request request)
             self.new.repo self.new.fault) said goes }
         ensures quiet { (said : List Packet) (goes : Bool)
             → MayAnswer (may_of R.server R.gives) result said goes
@@ -247,9 +249,9 @@ where
         ensures sends { (repo : R) → self.old.repo ≡ Some repo
             → MatchResult result (λ reply. (said : List Packet) (goes : Bool)
             → may_of R.server R.gives reply said goes
-            → SendsFrom R.server H.says self.old.host.now R.packs R.pack_fails
+            → SendsFrom R.server H.says self.old.host.now (given_by R.packs) R.pack_fails
             (H.opens self.old.host.now repo) self.old.ends asked.now.asked goes_on self.new.repo said goes)
-            (CannotSend R.server H.says self.old.host.now R.packs R.pack_fails
+            (CannotSend R.server H.says self.old.host.now (given_by R.packs) R.pack_fails
             (H.opens self.old.host.now repo) self.old.ends repo asked.now.asked self.new.repo
             self.new.fault) }
         ensures served { IfOk result (λ reply. IsSome self.old.repo × IsSome self.new.repo) }
@@ -336,7 +338,8 @@ where
     ghost opens = { OpensFresh };
 
     ghost answers = { λ old lines said goes new.
-        AnswersMessage R.server R.packs R.pack_fails H.finds H.opens H.says old new lines said goes };
+        AnswersMessage R.server (given_by R.packs) R.pack_fails H.finds H.opens H.says old new lines
+        said goes };
 
     ghost refuses = { RefusesMessage H.says };
 

@@ -41,7 +41,8 @@ impl<A: Allocator + Copy> Parts<A> {
         packer: &K,
     ) -> Result<Outcome, AllocError>
         ensures { MatchResult result
-            (λ outcome. ServesRequest (MayPack (K.packs packer.now)) (K.pack_fails packer.now) self.old
+            (λ outcome. ServesRequest (MayPack (K.packs packer.now))
+            (K.pack_fails packer.now) self.old
             (slice_get self.old.sent number) outcome self.new)
             (λ _. (self.new ≡ self.old) × IsSome (slice_get self.old.sent number)) }
     {
@@ -89,7 +90,8 @@ fn talk<A: Allocator + Copy, K: Packer<A>>(
     bytes: &[u8],
     alloc: A,
 ) -> Result<Outcome, AllocError>
-    ensures { IfOk result (TalksTo server.now (MayPack (K.packs packer.now)) (K.pack_fails packer.now)
+    ensures { IfOk result (TalksTo server.now (MayPack (K.packs packer.now))
+        (K.pack_fails packer.now)
         bytes.now) }
 {
     // Laws.

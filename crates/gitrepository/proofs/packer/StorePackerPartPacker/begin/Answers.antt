@@ -1,9 +1,12 @@
-use Rattle.std.proofs.Common.{refl, [], arith}
+use Rattle.std.proofs.Common.{refl, [], ◌≤◌, length, subst, arith}
 use Rattle.gitrepository.proofs.packer.StorePackerPartPacker.begin.Goals as goal
 
 pub returns-in-Ok : goal.returns-in-Ok
 returns-in-Ok g c = record {
-  whole = λ bytes gives. gives refl [] c.in-Ok.ensures.going;
+  whole = λ bytes gives. record {
+    packed = (gives refl).1 [] c.in-Ok.ensures.going;
+    few = subst (λ n. length bytes ≤ n) c.in-Ok.ensures.left (gives refl).0;
+  };
   failed = λ bytes fault gives. tt;
   few = omega (arith, c.in-Ok.ensures.left);
 }

@@ -1,5 +1,5 @@
-use Rattle.std.proofs.Common.{arith, ◌++◌, sym, subst, take, append_assoc}
-use Rattle.std.proofs.lemmas.List.{append-nil}
+use Rattle.std.proofs.Common.{rules, arith, ◌++◌, [], sym, subst, take, append_assoc, length-append}
+use Rattle.std.proofs.lemmas.List.{append-nil, length-take-le}
 use Rattle.gitrepository.specs.Packs.{IsWholePack}
 use Rattle.gitrepository.proofs.PartLemmas.{ended}
 use Rattle.gitrepository.proofs.packer.StorePackerPartPacker.part.Goals as goal
@@ -11,10 +11,16 @@ returns-in-Ok g c =
     let out = c.fill.new.out in
     record {
       fits = gave.fits;
-      part = λ rest end more gives none before is.
-          subst IsWholePack (append_assoc before (take count out) rest)
-          (gives none (before ++ take count out) (gave.given before is));
+      part = λ rest end more gives none.
+          let it = gives none in
+          let few = it.0 in (
+            omega (arith, few, gave.left, length-append (take count out) rest, length-take-le count out gave.fits),
+            λ before is. subst IsWholePack (append_assoc before (take count out) rest) (it.1 (before ++ take count out) (gave.given before is)),
+          );
       few = λ _. omega (arith, gave.left);
-      whole = λ zero _ before is. subst IsWholePack (sym (append-nil before))
-          (ended c.fill.new.parts.outgoing count before out zero (gave.whole zero) (gave.given before is));
+      whole = λ zero _. (
+        omega arith,
+        λ before is. subst IsWholePack (sym (append-nil before))
+            (ended c.fill.new.parts.outgoing count before out zero (gave.whole zero) (gave.given before is)),
+      );
     }
