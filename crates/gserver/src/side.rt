@@ -62,8 +62,8 @@ impl<'h, A: Allocator + Copy, H, R> ServerSide<'h, A, H, R> {
         ServerSide::within(host, alloc, ends, Limits::default())
     }
 
-    /// Returns a side that has received no message, with these limits on each request. A limit above
-    /// 2^30 counts as 2^30.
+    /// Returns a side that has received no message, with these limits on each request. A limit
+    /// above 2^30 counts as 2^30.
     pub fn within(host: &'h H, alloc: A, ends: Ends, limits: Limits) -> ServerSide<'h, A, H, R>
         ensures fresh { IsFresh result }
         ensures host { result.host.now ≡ host.now }
@@ -184,7 +184,8 @@ where
             (H.opens self.old.host.now repo) self.old.ends repo (asked_by_request request)
             (goes_on_after self.old.requests) self.new.repo said goes
             ⊎ Refuses (CannotAnswer R.server H.says self.old.host.now (given_by R.packs)
-            R.pack_fails (H.opens self.old.host.now repo) self.old.ends repo (asked_by_request request)
+            R.pack_fails (H.opens self.old.host.now repo) self.old.ends repo
+            (asked_by_request request)
             self.new.repo self.new.fault) said goes }
         ensures quiet { (said : List Packet) (goes : Bool)
             → MayAnswer (may_of R.server R.gives) result said goes
