@@ -17,8 +17,7 @@
 //!   that the graph has not changed since the previous request.
 //! - The session's options contain its limits ([`ggrammar::Limits`]). They bound the numbers of
 //!   wants, haves and acknowledged ids. By default, the limits are 1,024 wants, 4,096 haves and
-//!   4,096 acknowledged ids. A request for refs has the default limits. At most 16 refspecs always
-//!   fit into it.
+//!   4,096 acknowledged ids.
 //! - [`Session::take_ls`] reads one ls-refs reply to its end, and nothing after it. Exactly one
 //!   update is requested for each local ref to which a refspec maps a line of the reply. The first
 //!   refspec that maps a line to the ref, and its first matching line, determine the update
@@ -55,6 +54,10 @@
 //! `conformance` repeats many fetches, and each time makes a different allocation fail.
 //!
 //! # What the contracts do not rule out
+//!
+//! A request for refs has the default limits, and at most 16 refspecs always fit into it. But no
+//! contract says which limits the returned request has. If the options allow fewer than 16 haves, a
+//! longer first batch may be left out.
 //!
 //! A call may report out of memory although memory is available, if no earlier fault occurs. A
 //! report of out of memory can hide the following faults, because the checks for them need memory:
