@@ -46,10 +46,9 @@ use Rattle.ganswer.specs.Answers.{Fetch as Objects}
 use Rattle.ganswer.specs.FetchAnswers.{FetchAnswer}
 use Rattle.ganswer.specs.Laws.{IsEnough}
 use Rattle.ganswer.specs.Servers.{IsServer, Server}
-use Rattle.gsession.specs.Sessions.{SessionState, no_options}
+use Rattle.gsession.specs.Sessions.{SessionState}
 use Rattle.gsession.specs.TakingReplies.{Awaits, HasPack, IsFirstStrange, IsReplyFault, IsTakeFault, ReadsFetch}
 use Rattle.gsession.specs.TakingReplies.{RefusesPack, reading_for}
-use Rattle.gsession.specs.declared.options.PackOptions.{PackOptions}
 use Rattle.gsession.specs.declared.fault.ClientFault.{ClientFault}
 use Rattle.gsession.specs.declared.fault.ClientFault.TheVariants as client
 use Rattle.gworld.specs.Promises.{IsTakenOrDeclined, MayDecline}
@@ -127,9 +126,8 @@ limited format asked = record (any_reading format asked) { limit = default_limit
 
 -- which differs in the limit alone from how one reads it who takes any pack
 reading_is : {A : Type 0} (s : SessionState A) (format : Format) (asked : FetchAsked) → s.format ≡ format
-    → s.limit ≡ default_limit → s.ends ≡ Plain → s.options ≡ no_options → reading_for s asked ≡ limited format asked
-reading_is s format asked f l e o =
-    let limits : s.options.limits ≡ profile = ap (λ (options : PackOptions). options.limits) o in cc
+    → s.limit ≡ default_limit → s.ends ≡ Plain → s.options.limits ≡ profile → reading_for s asked ≡ limited format asked
+reading_is s format asked f l e o = cc
 
 -- an id that the server acknowledges is none that the request did not name
 none_strange : (haves acks : List (List ℕ)) (id : List ℕ) → All (Contains haves) acks → IsFirstStrange haves acks id → ⊥
@@ -202,7 +200,7 @@ module _ {A : Type 0} {tools : PackTools A} (answers : WorldLaws tools) (laws : 
     pub session_format : s.format ≡ w.repo.graph.format
     pub limit : s.limit ≡ default_limit
     pub ends : s.ends ≡ Plain
-    pub options : s.options ≡ no_options
+    pub limits : s.options.limits ≡ profile
     pub request : IsSoundFetch w asked
     pub is_answer : FetchAnswer server tools.packs asked reply
     pub waits : Awaits s asked
@@ -257,7 +255,7 @@ module _ {A : Type 0} {tools : PackTools A} (answers : WorldLaws tools) (laws : 
         let reading : reading_for s fault.0 ≡ limited server.graph.format asked =
         ap (λ (f : FetchAsked). reading_for s f) (same_awaited fault.0 fault.1)
         ∙ reading_is s server.graph.format asked (is.session_format ∙ sym is.format) is.limit is.ends
-        is.options in
+        is.limits in
         let refused = subst (λ (b : List ℕ). ReadsRefused (judge (reading_for s fault.0))
         (brings_into false (reading_for s fault.0)) fault.2.0 (known_bytes b left) cause) (take_all count bytes all)
         fault.2.1 in

@@ -9,6 +9,7 @@ use Rattle.gdag.specs.Graphs.{Holds}
 use Rattle.gdag.specs.Laws.{ConnectedStaysConnected, GrowingGoesOn, GrowingKeeps, KeepingHolds, KeepingReaches, KeepingHasAll}
 use Rattle.gdag.specs.Laws.{AgreeingStays, ComingGrows}
 use Rattle.gdag.specs.Reach.{Grows, IsConnected, SomeReaches}
+use Rattle.ggrammar.specs.declared.limits.Limits.{Limits}
 use Rattle.grequest.specs.Asked.{Asked, Empty, Ls, Fetches, FetchAsked, max_haves}
 use Rattle.gclientrepo.specs.Asks.{asked_ids}
 use Rattle.gsession.specs.Bounds.{BeganOn, BeganBegins, BeganStays}
@@ -33,7 +34,6 @@ use Rattle.gsession.specs.Laws.{WantsAreExact, OnlyGrows, RepliesAddCommons, Tak
 use Rattle.gsession.specs.Requesting.{MakesNext}
 use Rattle.gsession.specs.TakingRefs.{TakesLines, ReadsRefs, stage_for}
 use Rattle.gsession.specs.TakingReplies.{Awaits, after_acks, ReadsFetch, reading_for}
-use Rattle.gsession.specs.declared.options.PackOptions.{PackOptions}
 use Rattle.gsession.specs.declared.stage.Stage.{Stage}
 use Rattle.gsession.specs.declared.stage.Stage.TheVariants.{Fetching, Settling, Over}
 use Rattle.gsession.specs.declared.taken.LsTaken.{LsTaken}
@@ -160,7 +160,7 @@ module _ {A : Type 0} where
     format = is.format;
     limit = is.limit;
     ends = is.ends;
-    options = is.options;
+    limits = is.limits;
     began = record { connected = is.began.connected; sent = is.began.sent };
     commons = connected;
     shared = shared;
@@ -194,7 +194,7 @@ module _ {A : Type 0} where
     format = is.format;
     limit = is.limit;
     ends = is.ends;
-    options = is.options;
+    limits = is.limits;
     began = began;
     commons = is.commons;
     shared = is.shared;
@@ -281,7 +281,7 @@ module _ {A : Type 0} {tools : PackTools A} (laws : WorldLaws tools) where
           format = is.format ∙ sym e.client_format;
           limit = is.limit;
           ends = is.ends;
-          options = is.options;
+          limits = is.limits;
           began = began_grown is.began;
           commons = connected_after s.commons is.commons;
           shared = held_after s.commons is.shared;
@@ -315,7 +315,7 @@ module _ {A : Type 0} {tools : PackTools A} (laws : WorldLaws tools) where
         format = refl;
         limit = refl;
         ends = refl;
-        options = refl;
+        limits = refl;
         began = record { connected = on.connected; sent = on.sent };
         commons = All-nil (IsConnected w.repo.graph.entries);
         shared = λ unforged. All-nil (Holds w.server.graph.entries);
@@ -339,8 +339,8 @@ module _ {A : Type 0} {tools : PackTools A} (laws : WorldLaws tools) where
         let wants : asked.wants ≡ s.wants = ap (λ (x : FetchAsked). x.wants) next.1 in
         let open_fetch = laws.waits after asked session (ap (λ (x : SessionState A). x.pending) made.2) in record {
           connected = laws.haves w.repo.graph.entries s after asked sound.began.connected sound.commons made;
-          few = subst (λ (o : PackOptions). length asked.haves ≤ max_haves o.limits)
-              (ap (λ (x : SessionState A). x.options) made.2 ∙ sound.options) open_fetch.few;
+          few = subst (λ (l : Limits). length asked.haves ≤ max_haves l)
+              (ap (λ (x : SessionState A). x.options.limits) made.2 ∙ sound.limits) open_fetch.few;
           some = λ none.
               session.some (ap (λ (x : SessionState A). x.stage) made.2 ∙ next.0)
               (ap (λ (x : SessionState A). x.wants) made.2 ∙ sym wants ∙ none);

@@ -16,7 +16,7 @@ use Rattle.gclientrepo.specs.Asks.{asked_ids}
 use Rattle.ganswer.specs.Answers.{Answers}
 use Rattle.ganswer.specs.Servers.{IsServer, Server}
 use Rattle.gsession.specs.Bounds.{BeganOn}
-use Rattle.gsession.specs.Sessions.{IsSession, SessionState, no_options}
+use Rattle.gsession.specs.Sessions.{IsSession, SessionState}
 use Rattle.gsession.specs.TakingReplies.{Awaits}
 use Rattle.gsession.specs.declared.stage.Stage.TheVariants.{Settling}
 use Rattle.gworld.specs.Worlds.{Kept, PackTools, WorldState}
@@ -68,7 +68,7 @@ module _ {A : Type 0} where
     pub format : s.format ≡ w.repo.graph.format
     pub limit : s.limit ≡ default_limit
     pub ends : s.ends ≡ Plain
-    pub options : s.options ≡ no_options
+    pub limits : s.options.limits ≡ profile
     pub began : BeganOn w.repo.graph.entries s
     pub commons : All (IsConnected w.repo.graph.entries) s.commons
     pub shared : w.forged ≡ false → All (Holds w.server.graph.entries) s.commons
