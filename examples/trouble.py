@@ -28,6 +28,9 @@ HEADS, TAGS = "+refs/heads/*:refs/heads/*", "+refs/tags/*:refs/tags/*"
 SILENT, SOON = 1, 40
 # The deadlines of a client's first line, and of a server's next byte.
 FIRST_LINE, NEXT_BYTE = 10, 60
+# The most lines of a request, and how the server says so.
+WANTS, HAVES, PREFIXES = 65_537, 65_536, 1_024
+LIMITS = b"upload-pack: a request has at most 65,537 wants, 65,536 haves and 1,024 prefixes of ref names"
 KILLS = 20
 # So many steps are taken at a time, each in a process of its own. One of them only waits.
 AT_A_TIME = 5
@@ -255,13 +258,13 @@ def paths_of_clients(folder):
             ("an unknown command", hello(b"/r.git") + packet(b"command=push\n") + b"0000"),
             ("half a request", hello(b"/r.git") + packet(b"command=ls-refs\n")),
             ("a want that no ref has", hello(b"/r.git") + request(b"want " + b"1" * 40, b"done")),
-            ("5,000 haves", hello(b"/r.git") + request(b"want " + b"1" * 40, *[b"have %040x" % n for n in range(5_000)])),
-            ("100,000 prefixes", hello(b"/r.git") + packet(b"command=ls-refs\n") + b"0001" + packet(b"ref-prefix x\n") * 100_000 + b"0000"),
+            ("100,000 prefixes", hello(b"/r.git") + refs_request(packet(b"ref-prefix x\n") * 100_000)),
         ):
             got = answer_to(server.port, said)
             last = got[-4:] == b"0000" or b"ERR " in got or got == b""
             check(f"a client that says {what}: an error, or the end", last and not got.endswith(b"PACK"), got[-200:])
             check(f"after a client that says {what}: the next is served", lists(server))
+        limits_of_requests(server)
         for number in range(10):
             with socket.create_connection(("127.0.0.1", server.port)) as stream:
                 stream.sendall(hello(b"/r.git") + request(b"want " + FIRST.tip.hex().encode(), b"done"))
@@ -269,6 +272,27 @@ def paths_of_clients(folder):
         check("clients that go in the middle of a pack: the next is served", lists(server))
         log = server.log()
         check("the log: printable text alone", all(line.isprintable() and line.isascii() for line in log), log)
+
+
+def limits_of_requests(server):
+    """Requests at each limit are answered. One line more gets the ERR line that names the limits."""
+    want = b"want " + FIRST.tip.hex().encode()
+    haves = [b"have %040x" % number for number in range(HAVES + 1)]
+    prefixes = packet(b"ref-prefix refs/heads/\n") * PREFIXES
+    for what, said, more in (
+        (f"{WANTS:,} wants", request(*[want] * WANTS, b"done"), request(*[want] * (WANTS + 1), b"done")),
+        (f"{HAVES:,} haves", request(want, *haves[:HAVES]), request(want, *haves)),
+        (f"{PREFIXES:,} prefixes", refs_request(prefixes), refs_request(prefixes + packet(b"ref-prefix HEAD\n"))),
+    ):
+        got = answer_to(server.port, hello(b"/r.git") + said)
+        check(f"a request of {what}: answered", got.endswith(b"0000") and b"ERR " not in got, got[-200:])
+        got = answer_to(server.port, hello(b"/r.git") + more)
+        check(f"a request of {what} and one more: refused", got.endswith(packet(b"ERR " + LIMITS + b"\n")), got[-200:])
+        check(f"after a request of {what} and one more: the next is served", lists(server))
+
+
+def refs_request(lines):
+    return packet(b"command=ls-refs\n") + b"0001" + lines + b"0000"
 
 
 def request(*lines):

@@ -5,6 +5,7 @@ leaves 127.0.0.1, and the folder is removed at the end. A run that takes longer 
 """
 
 import os
+import random
 import re
 import shutil
 import signal
@@ -28,6 +29,8 @@ HEADS, TAGS = "+refs/heads/*:refs/heads/*", "+refs/tags/*:refs/tags/*"
 SHARED = ["refs/heads", "refs/tags"]
 # So many layouts are tried at a time.
 AT_A_TIME = 4
+# The number of distinct tips, and of commits that a server lacks. No request that `gitv2` reads may name so many.
+MANY = 20_000
 tried = 0
 wrong = []
 lock = threading.Lock()
@@ -360,6 +363,96 @@ def both_ends(folder, ours):
         check(f"gitrepo ls with the prefix {prefix}", some and some.out == due, some)
 
 
+# ---- what is large
+
+
+def with_tips(path, count):
+    """A repository with so many branches, each at a commit without parents."""
+    form = b"reset refs/tip\n\ncommit refs/tip\nmark :%d\ncommitter C <c@example.com> %d +0000\ndata 1\nm\n"
+    lines = b"".join(form % (number, number) for number in range(1, count + 1))
+    marks = f"{new_repository(path)}/marks"
+    git(path, "fast-import", "--quiet", f"--export-marks={marks}", data=lines)
+    git(path, "update-ref", "-d", "refs/tip")
+    ids = [line.split()[1] for line in read(marks).decode().splitlines()]
+    # Git would make a file for each branch first, which takes long.
+    with open(f"{path}/packed-refs", "w") as file:
+        file.write("# pack-refs with: peeled fully-peeled sorted \n")
+        file.writelines(f"{id} refs/heads/tip/{number:05}\n" for number, id in enumerate(ids))
+    return path
+
+
+def many_tips(folder, ours, theirs):
+    """Clones of many distinct tips, and a fetch of many of their names."""
+    for count in (1_500, MANY):
+        name = f"tips-{count}.git"
+        path = with_tips(f"{folder}/served/{name}", count)
+        check(f"{count:,} distinct tips are made", len(set(refs(path).split())) == 2 * count)
+        for what, words in (
+            (f"git clone of {count:,} tips", ["git", "clone", "--quiet", "--mirror", ours.url(name)]),
+            (f"gitrepo clone of {count:,} tips", [PROGRAM, "clone", "--quiet", theirs.url(name)]),
+        ):
+            copy = tempfile.mkdtemp(dir=folder)
+            done = attempt(*words, copy)
+            if check(what, done, done):
+                same_repository(what, path, copy)
+    due = refs(path).splitlines()[::MANY // 100]
+    copy = new_repository(f"{folder}/named")
+    names = [line.split()[1] for line in due]
+    done = attempt("git", "fetch", "--quiet", ours.url(name), *(f"{it}:{it}" for it in names), cwd=copy)
+    check(f"git fetch of {len(due)} names at once", done and refs(copy).splitlines() == due and not faults_of(copy), done)
+
+
+def with_commits(path, source, count):
+    """A repository with one ref, which is so many commits after a branch of another one."""
+    git(new_repository(path), "fetch", "--quiet", "--no-tags", source, f"{BRANCH}:refs/own/branch")
+    lines = b"".join(
+        b"commit refs/own/branch\nmark :%d\ncommitter C <c@example.com> %d +0000\ndata 1\nm\nfrom %s\n"
+        % (number, 1_800_000_000 + number, b":%d" % (number - 1) if number > 1 else tip(source).encode())
+        for number in range(1, count + 1)
+    )
+    git(path, "fast-import", "--quiet", data=lines)
+    return path
+
+
+def many_commits(folder, ours, theirs):
+    """Fetches into a repository that has many commits which the server lacks: the client names them all."""
+    path = add_history(new_repository(f"{folder}/served/behind.git"), 40, 71)
+    ahead = with_commits(f"{folder}/ahead", path, MANY)
+    add_history(path, 12, 72, onto=tip(path))
+    for what, words in (
+        ("git", ["git", "fetch", "--quiet", ours.url("behind.git"), HEADS, TAGS]),
+        ("gitrepo", [PROGRAM, "fetch", "--quiet", ".", theirs.url("behind.git"), HEADS, TAGS]),
+    ):
+        name = f"{what} fetch with {MANY:,} commits that the server lacks"
+        copy = shutil.copytree(ahead, f"{folder}/ahead-{what}")
+        done = attempt(*words, cwd=copy, env=ENV | {"GIT_TRACE_PACKET": "1"})
+        if check(name, done, done):
+            check(f"{name}: fsck --full --strict", not faults_of(copy), faults_of(copy))
+            check(f"{name}: the same refs", refs(path) == refs(copy, *SHARED), refs(copy))
+            check(f"{name}: its own stay", refs(copy, "refs/own") == refs(ahead))
+        if what == "git":
+            haves = done.told.count("fetch> have ")
+            check(f"{name}: it names them all", haves > MANY, haves)
+
+
+def large_pack(folder, ours, theirs):
+    """A pack of more than 64 MiB: our server sends it, and our client refuses it."""
+    path = new_repository(f"{folder}/served/large.git")
+    chance = random.Random(73)
+    lines = b"commit %s\ncommitter C <c@example.com> 1700000000 +0000\ndata 1\nm\n" % BRANCH.encode()
+    for number in range(11):
+        lines += b"M 100644 inline %d\ndata %d\n%s\n" % (number, 6 << 20, chance.randbytes(6 << 20))
+    # As one pack, without a search for deltas and without compression.
+    settings = ("fastimport.unpackLimit=1", "core.bigFileThreshold=1m", "core.compression=0")
+    git(path, *(word for setting in settings for word in ("-c", setting)), "fast-import", "--quiet", data=lines)
+    copy = f"{folder}/large"
+    done = attempt("git", "clone", "--quiet", "--mirror", ours.url("large.git"), copy)
+    if check("git clone of 66 MiB", done, done):
+        same_repository("git clone of 66 MiB", path, copy)
+    refuses("gitrepo clone of 66 MiB", gitrepo("clone", theirs.url("large.git"), f"{folder}/too-large"), "64 MiB")
+    check("gitrepo clone of 66 MiB: no folder", not os.path.exists(f"{folder}/too-large"))
+
+
 # ---- what is broken or refused
 
 
@@ -501,20 +594,6 @@ def paths(folder, ours):
     check("a client of protocol version 0: an ERR line", got[4:8] == b"ERR " and b"version 2" in got, got[:200])
 
 
-def limits(folder, ours, theirs):
-    """More than 1,024 distinct tips: both ends say the limit."""
-    path = new_repository(f"{folder}/served/too-many.git")
-    lines = "".join(
-        f"commit refs/heads/tip/{number}\ncommitter C <c@example.com> {number} +0000\ndata 1\nm\n" for number in range(1_025)
-    )
-    git(path, "fast-import", "--quiet", data=lines.encode())
-    done = gitrepo("clone", theirs.url("too-many.git"), f"{folder}/too-many")
-    refuses("gitrepo clone of 1,025 tips", done, "1,024", "1024")
-    check("gitrepo clone of 1,025 tips: no folder", not os.path.exists(f"{folder}/too-many"))
-    done = attempt("git", "clone", "--quiet", "--mirror", ours.url("too-many.git"), f"{folder}/too-many-mirror")
-    check("git clone of 1,025 tips says the limit", done.status == 128 and ("1,024" in done.told or "1024" in done.told), done)
-
-
 def words(folder, theirs):
     """Exit statuses, help, the version, and that no error leaves a folder."""
     for what in ([], ["clone"], ["clone", theirs.url("x")], ["none"], ["fetch", "--none"], ["ls"]):
@@ -595,12 +674,14 @@ def try_all(folder):
         odd_head(folder, theirs)
         home(folder)
         both_ends(folder, ours)
+        many_tips(folder, ours, theirs)
+        many_commits(folder, ours, theirs)
+        large_pack(folder, ours, theirs)
         check("no connection so far had a fault", not [it for it in ours.log() if "cannot" in it or "fault" in it], ours.log())
         broken_refs(folder, ours)
         damaged(folder, ours)
         kinds(folder, ours, theirs)
         paths(folder, ours)
-        limits(folder, ours, theirs)
         words(folder, theirs)
     exports(folder)
     ended(folder)

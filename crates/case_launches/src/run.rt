@@ -1,4 +1,4 @@
-//! The launch of a program, and the comparison with its plan.
+//! Launching a program, and comparing its output and files with those that the case expects.
 
 use crate::file_checks::{InodeNumbers, first_wrong_file, first_wrong_mode};
 use crate::folder::{
@@ -38,9 +38,9 @@ fn launch_in_folder<R: System>(rt: &R, plan: &Plan<'_>) -> Result<Option<String>
     let inode_numbers = InodeNumbers::of_kept_files(rt, plan)?;
     let folder = String::from_str(rt.alloc(), env::current_dir(rt)?.as_str())?;
     let journal = Journal::new(rt.alloc(), folder, plan.failing_step);
-    let printed = run_and_compare(rt, plan, &journal)?;
-    if printed.is_some() {
-        return Ok(printed);
+    let output_difference = run_and_compare(rt, plan, &journal)?;
+    if output_difference.is_some() {
+        return Ok(output_difference);
     }
     compare_files(rt, plan, &inode_numbers)
 }

@@ -1,5 +1,5 @@
--- What a caller of `count_allocation` hands over, a look at the count, and what it has back: the same look, and a word of yes
--- or no, of which nothing more is said.
+-- The predicates before and after a call of `count_allocation`: the first allows a look at the count, the second also a
+-- boolean.
 use Rattle.std.proofs.Common.{◌≡◌, ℕ, List, [], ◌∷◌, refl, ap, Bool}
 use seplogic.Ra.Ura.{Ura}
 use mir.Val.{Val, vbool, vptr}

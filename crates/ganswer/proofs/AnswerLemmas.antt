@@ -77,8 +77,8 @@ module _ {A : Type 0} (one_sent : OneListToSend A) (sent : SentAreEntries A) (pa
       let tips = tag_tips server asked in
       let entries : AreEntries x.list = (sent server.graph x.list asked.wants commons tips is.graph x.sent).1 in
       let same : x.list ≡ y.list = one_sent server.graph.entries x.list y.list asked.wants commons tips x.sent y.sent in
-      law.packs_image x.list a entries x.packed.packed
-      ∙ (ap image same ∙ sym (law.packs_image y.list b (subst AreEntries same entries) y.packed.packed))
+      law.packs_image x.list a entries x.packed
+      ∙ (ap image same ∙ sym (law.packs_image y.list b (subst AreEntries same entries) y.packed))
 
   one_reply : (server : Server A) (asked : FetchAsked) (one other : FetchReply) → IsServer server
       → FetchAnswer server packs asked one → FetchAnswer server packs asked other → one ≡ other

@@ -48,6 +48,7 @@ use Rattle.gdag.proofs.Positions.{held_id}
 use Rattle.glsreply.proofs.ValueLemmas.{is_format-same}
 use Rattle.std.specs.List.{list_all}
 use Rattle.ggrammar.specs.declared.fault.Why.TheVariants.{BadText, Limit}
+use Rattle.ggrammar.specs.declared.limits.Limits.{Limits}
 use Rattle.gfetchreply.specs.FetchReplies.{max_acks, Acks, Ready, Pack, Reading}
 use Rattle.gfetchreply.specs.Values.{acks_fault}
 use Rattle.gname.specs.Ids.{has_format}
@@ -188,9 +189,9 @@ new_short : (earlier ids : List (List ℕ)) → length (new_ids earlier ids) ≤
 new_short earlier [] = omega arith
 new_short earlier (a ∷ ids) = grind (arith, new_short earlier ids, new_short (earlier ++ a ∷ []) ids)
 
-no_fault : (format : Format) (ids : List (List ℕ)) → list_all (has_format format) ids ≡ true → length ids ≤ max_acks → acks_fault format ids ≡ None
-no_fault format ids all few =
-    ap₂ (λ (u v : Bool). if u then (if v then None else Some Limit) else Some BadText) all (le-leb (length ids) max_acks few)
+no_fault : (limits : Limits) (format : Format) (ids : List (List ℕ)) → list_all (has_format format) ids ≡ true → length ids ≤ max_acks limits → acks_fault limits format ids ≡ None
+no_fault limits format ids all few =
+    ap₂ (λ (u v : Bool). if u then (if v then None else Some Limit) else Some BadText) all (le-leb (length ids) (max_acks limits) few)
 
 module _ {A : Type 0} where
   pub commons_short : (g : List (Entry A)) (haves : List (List ℕ)) → length (common_of g haves) ≤ length haves
@@ -210,10 +211,10 @@ module _ {A : Type 0} where
       (λ e. ap by e ∙ ap₂ (λ (u v : Bool). u && v) (eq-eqb (length a) (id_length g.format) (held_id law g graph a e).long) more)
       (λ e. ap by e ∙ more)
 
-  pub commons_fit : PositionsAreNodes A → (g : History A) → IsGraph g → (haves : List (List ℕ)) → length haves ≤ max_haves → acks_fault g.format (common_of g.entries haves) ≡ None
-  commons_fit law g graph haves few =
+  pub commons_fit : PositionsAreNodes A → (limits : Limits) (g : History A) → IsGraph g → (haves : List (List ℕ)) → length haves ≤ max_haves limits → acks_fault limits g.format (common_of g.entries haves) ≡ None
+  commons_fit law limits g graph haves few =
       let short = commons_short g.entries haves in
-      no_fault g.format (common_of g.entries haves) (held_have_format law g graph (new_ids [] haves)) (omega (arith, short, few))
+      no_fault limits g.format (common_of g.entries haves) (held_have_format law g graph (new_ids [] haves)) (omega (arith, short, few))
 
 -- ---- names
 
@@ -282,10 +283,10 @@ module _ {A : Type 0} where
 
   -- ---- objects
 
-  acks_here : PositionsAreNodes A → (server : Server A) → IsServer server → (asked : FetchAsked) → length asked.haves ≤ max_haves → (reading : Reading) → reading.format ≡ server.graph.format
-      → (ids : List (List ℕ)) → ids ≡ commons_of server asked → AreAcks reading.format ids
-  acks_here places server is asked few reading format ids are =
-      subst (λ (f : Format). AreAcks f ids) (sym format) (subst (AreAcks server.graph.format) (sym are) (record {
+  acks_here : PositionsAreNodes A → (server : Server A) → IsServer server → (asked : FetchAsked) (reading : Reading) → length asked.haves ≤ max_acks reading.limits → reading.format ≡ server.graph.format
+      → (ids : List (List ℕ)) → ids ≡ commons_of server asked → AreAcks reading.limits reading.format ids
+  acks_here places server is asked reading few format ids are =
+      subst (λ (f : Format). AreAcks reading.limits f ids) (sym format) (subst (AreAcks reading.limits server.graph.format) (sym are) (record {
         ids = All-weaker (Holds server.graph.entries) (IsIdOf server.graph.format) (held_id places server.graph is.graph) (commons_of server asked)
             (filter_passes (λ (a : List ℕ). is_some (node_at server.graph.entries a)) (new_ids [] asked.haves));
         few = (let short = commons_short server.graph.entries asked.haves in omega (arith, short, few));
@@ -293,10 +294,10 @@ module _ {A : Type 0} where
 
   pub fetch_answers_fit : PositionsAreNodes A → (packs : Packs A) → FetchAnswersFit A packs
   fetch_answers_fit places packs server asked (Acks ids) reading is few answers format direct short =
-      (direct ∙ answers.replies.0, acks_here places server is asked few reading format ids answers.replies.1)
+      (direct ∙ answers.replies.0, acks_here places server is asked reading few format ids answers.replies.1)
   fetch_answers_fit places packs server asked (Ready ids pack) reading is few answers format direct short = (
     direct ∙ answers.replies.0,
-    acks_here places server is asked few reading format ids answers.replies.1,
+    acks_here places server is asked reading few format ids answers.replies.1,
     short,
   )
   fetch_answers_fit places packs server asked (Pack pack) reading is few answers format direct short =

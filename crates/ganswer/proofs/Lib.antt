@@ -1,5 +1,6 @@
 pub mod AdvertLemmas
 pub mod AnswerLemmas
+pub mod BoundedPacks
 pub mod FitLemmas
 pub mod LawLemmas
 pub mod LsLemmas

@@ -197,7 +197,7 @@ module _ {A : Type 0} (server : Server A) (asked : LsRefsAsked) where
       let rest : drop k refs ≡ ref ∷ drop (k + 1) refs = rw add-one (drop-cons refs k ref inside ∙ ap (λ (r : List ℕ × List ℕ). r ∷ drop (suc k) refs) (sym is)) in
       split server asked (ref ∷ []) (drop (k + 1) refs) lines (subst (λ (r : RefList). ShowsLines server asked r lines) rest shows)
 
-  -- so the packets of these lines are those of the line of the ref there, which is its own one, and the packets of the lines after it
+  -- so the packets of these lines are those of the line of the ref there, followed by the packets of the lines after it
   pub next_line : PeelsToOne A → (refs : RefList) → refs ≡ server.refs → (k : ℕ) (ref : List ℕ × List ℕ) (lines : List RefLine) → k < length refs → ref ≡ get_or refs k ref
       → ShowsLines server asked (drop k server.refs) lines → (line own : List RefLine) → line ≡ own → ShowsLines server asked (ref ∷ []) own
       → (rest : List RefLine) × (map ref_packet lines ≡ map ref_packet line ++ map ref_packet rest) × ShowsLines server asked (drop (k + 1) server.refs) rest

@@ -1,8 +1,9 @@
 -- The answers of a server to requests (gitprotocol-v2(5), "Command Request").
-use Rattle.std.specs.Prelude.{◌≡◌, ⊤, []}
+use Rattle.std.specs.Prelude.{◌≡◌, ⊤, [], Option, Some}
 use Rattle.gname.specs.declared.formats.Format.{Format}
 use Rattle.gobject.specs.Packs.{PackFails, Packs}
 use Rattle.gdag.specs.Graphs.{IsFirstAbsent}
+use Rattle.ggrammar.specs.declared.limits.Limits.{Limits}
 use Rattle.grequest.specs.Asked.{Asked, FetchAsked, Empty, Ls as LsAsked, Fetches}
 use Rattle.glsreply.specs.LsReplies.{LsReply}
 use Rattle.gfetchreply.specs.FetchReplies.{FetchReply}
@@ -26,10 +27,12 @@ reply_of values.Nothing = Nothing
 reply_of (values.Ls reply) = Ls reply
 reply_of (values.Fetch reply) = Fetch (reply_in reply)
 
--- all ids that the reply acknowledges have this object format
-abbrev pub HasFormat : {A : Type 0} → Format → value.Reply A → Type 0
-HasFormat format (values.Fetch reply) = IsReplyOf format reply
-HasFormat format _ = ⊤
+-- all ids that the reply acknowledges have this object format; a fetch reply also has these limits, which are those of
+-- the request
+abbrev pub HasFormat : {A : Type 0} → Option Limits → Format → value.Reply A → Type 0
+HasFormat limits format (values.Fetch reply) =
+    (given : Limits) × (limits ≡ Some given) × IsReplyOf given format reply
+HasFormat limits format _ = ⊤
 
 -- the server may answer the request with this reply
 abbrev pub Answers : {A : Type 0} → Server A → Packs A → Asked → Reply → Type 0

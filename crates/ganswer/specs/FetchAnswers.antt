@@ -5,7 +5,7 @@ use Rattle.std.specs.Map.{values_of}
 use Rattle.gname.specs.Ids.{Id}
 use Rattle.gpkt.specs.Packets.{Bytes}
 use Rattle.gobject.specs.declared.fault.PackFault.{PackFault}
-use Rattle.gobject.specs.Packs.{MayPack, PackFails, Packs}
+use Rattle.gobject.specs.Packs.{PackFails, Packs}
 use Rattle.gobject.specs.declared.node.Entry.{Entry}
 use Rattle.gdag.specs.Graphs.{Holds}
 use Rattle.gdag.specs.Sending.{IsListToSend}
@@ -43,7 +43,7 @@ pub record SendsPack {A : Type 0} (server : Server A) (packs : Packs A) (asked :
     (pack : Bytes) : Type 0 where
   pub list : List (Entry A)
   pub sent : IsSent server asked list
-  pub packed : MayPack packs list pack
+  pub packed : packs list pack
 
 -- the packer may fail with this fault for the objects to send
 pub record FailsToPack {A : Type 0} (server : Server A) (fails : PackFails A) (asked : FetchAsked)

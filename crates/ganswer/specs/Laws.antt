@@ -5,7 +5,7 @@ use Rattle.gname.specs.declared.formats.Format.{Format}
 use Rattle.gname.specs.Ids.{Id}
 use Rattle.gname.specs.Names.{Name}
 use Rattle.gpkt.specs.Packets.{Bytes}
-use Rattle.gobject.specs.Packs.{AreEntries, MayPack, PackFails, Packs}
+use Rattle.gobject.specs.Packs.{AreEntries, PackFails, Packs}
 use Rattle.gobject.specs.declared.node.Entry.{Entry}
 use Rattle.gobject.specs.declared.fault.PackFault.{PackFault}
 use Rattle.gdag.specs.Graphs.{Holds, IsGraph, IsNode}
@@ -13,12 +13,12 @@ use Rattle.gdag.specs.Laws.{HasAll}
 use Rattle.gdag.specs.Reach.{Agree, Grows, IsConnected}
 use Rattle.gdag.specs.Insert.{Inserts}
 use Rattle.grefs.specs.declared.head.Head.{Head}
-use Rattle.grequest.specs.Asked.{Asked, FetchAsked, LsRefsAsked, is_direct, max_haves}
+use Rattle.grequest.specs.Asked.{Asked, FetchAsked, LsRefsAsked, is_direct}
 use Rattle.glsreply.specs.LsReplies.{LsReply}
 use Rattle.glsreply.specs.WellFormed.{IsLsReplyIn}
 use Rattle.gfetchreply.specs.FetchHeads.{pack_of, acknowledged_by}
 use Rattle.gfetchreply.specs.WellFormed.{IsReplyIn}
-use Rattle.gfetchreply.specs.FetchReplies.{FetchReply, Reading}
+use Rattle.gfetchreply.specs.FetchReplies.{FetchReply, Reading, max_acks}
 use Rattle.ggrammar.specs.Capabilities.{Capability}
 use Rattle.ghello.specs.Adverts.{AreCapabilities}
 use Rattle.ghello.specs.Offers.{check_fault, has_feature}
@@ -71,12 +71,12 @@ LsAnswersAreHeld A =
 
 -- ---- objects
 
--- the client that sent a fetch request can read the answer, if the pack is within the client's limit and the request
--- has at most `max_haves` haves
+-- the client that sent a fetch request can read the answer, if the pack and the number of haves are within the
+-- client's limits
 abbrev pub FetchAnswersFit : (A : Type 0) → Packs A → Type 0
 FetchAnswersFit A packs =
     (server : Server A) (asked : FetchAsked) (reply : FetchReply) (reading : Reading)
-    → IsServer server → length asked.haves ≤ max_haves → FetchAnswer server packs asked reply
+    → IsServer server → length asked.haves ≤ max_acks reading.limits → FetchAnswer server packs asked reply
     → reading.format ≡ server.graph.format → reading.direct ≡ is_direct asked
     → length (pack_of reply) ≤ reading.limit → IsReplyIn reading reply
 
@@ -98,7 +98,7 @@ AcksAreCommon A packs =
 pub record IsEnough {A : Type 0} (server : Server A) (packs : Packs A) (asked : FetchAsked)
     (pack : Bytes) : Type 0 where
   pub list : List (Entry A)
-  pub packed : MayPack packs list pack
+  pub packed : packs list pack
   pub entries : AreEntries list
   pub graph : IsGraph (record { format = server.graph.format; entries = list })
   pub nodes : All (λ entry. IsNode server.graph.entries entry.id entry.node) list

@@ -1,7 +1,8 @@
 //! The answers of a server (gitprotocol-v2(5), "Command Request").
 
 ghost use Rattle.std.specs.Prelude.{◌≡◌, IfOk, MatchResult};
-ghost use Rattle.grequest.specs.RequestValues.{asked_by_request};
+ghost use Rattle.gobject.specs.Packs.{MayPack};
+ghost use Rattle.grequest.specs.RequestValues.{asked_by_request, limits_of};
 ghost use Rattle.ganswer.specs.Answers.{Answers, HasFormat, Refuses, reply_of};
 ghost use Rattle.ganswer.specs.OnePack.{packing_of_fault, packing_of_reply};
 ghost use Rattle.ganswer.specs.declared.one_pack.Packing.TheVariants.{Unasked};
@@ -56,10 +57,10 @@ impl<A: Allocator + Copy> Server<A> {
     ) -> Result<Reply<A>, ServeFault>
         requires unasked { packer.old.answered ≡ Unasked }
         ensures answer { MatchResult result
-            (λ reply. Answers self.now (K.packs packer.old.packer) (asked_by_request request.now)
-            (reply_of reply))
+            (λ reply. Answers self.now (MayPack (K.packs packer.old.packer))
+            (asked_by_request request.now) (reply_of reply))
             (Refuses self.now (K.pack_fails packer.old.packer) (asked_by_request request.now)) }
-        ensures format { IfOk result (HasFormat self.now.graph.format) }
+        ensures format { IfOk result (HasFormat (limits_of request.now) self.now.graph.format) }
         ensures packing { MatchResult result
             (λ reply. packer.new.answered ≡ packing_of_reply (reply_of reply))
             (λ fault. packer.new.answered ≡ packing_of_fault fault) }

@@ -1,6 +1,7 @@
 //! The answers to fetch requests (gitprotocol-v2(5), "fetch").
 
 ghost use Rattle.std.specs.Prelude.{◌≡◌, ◌↔◌, IfOk, IfErr, IsTrue, MatchResult};
+ghost use Rattle.gobject.specs.Packs.{MayPack};
 ghost use Rattle.gdag.specs.declared.fault.GraphFault.TheVariants.{Memory as OutOfMemory};
 ghost use Rattle.gfetchreply.specs.Views.{IsReplyOf, reply_in};
 ghost use Rattle.ganswer.specs.Answers.{FetchRefuses};
@@ -46,10 +47,10 @@ impl<A: Allocator + Copy> Server<A> {
     ) -> Result<FetchReply<A>, ServeFault>
         requires unasked { packer.old.answered ≡ packing.Unasked }
         ensures answer { MatchResult result
-            (λ reply. FetchAnswer self.now (K.packs packer.old.packer) asked.now.asked
+            (λ reply. FetchAnswer self.now (MayPack (K.packs packer.old.packer)) asked.now.asked
             (reply_in reply))
             (FetchRefuses self.now (K.pack_fails packer.old.packer) asked.now.asked) }
-        ensures format { IfOk result (IsReplyOf self.now.graph.format) }
+        ensures format { IfOk result (IsReplyOf asked.now.limits self.now.graph.format) }
         ensures packing { MatchResult result
             (λ reply. packer.new.answered ≡ packing_of_fetch (reply_in reply))
             (λ fault. packer.new.answered ≡ packing_of_fault fault) }
@@ -74,7 +75,7 @@ impl<A: Allocator + Copy> Server<A> {
     /// Fails with `NoWants` if the request has no wants. Fails with `NotOurs` for the first want
     /// that the server does not hold. Otherwise fails only if memory runs out.
     pub fn begin_fetch(&self, asked: &FetchRequest<A>) -> Result<BegunFetch<A>, ServeFault>
-        ensures { MatchResult result (BeginsFetch self.now asked.now.asked)
+        ensures { MatchResult result (BeginsFetch asked.now.limits self.now asked.now.asked)
             (FetchDeclines self.now asked.now.asked) }
     {
         self.check_wants(asked.wants())?;
@@ -103,9 +104,10 @@ impl<A: Allocator + Copy> Server<A> {
         }
     }
 
-    // Returns the common ids, as the acknowledgments of a reply.
+    // Returns the common ids, as the acknowledgments of a reply, with the limits of the request.
     fn commons(&self, asked: &FetchRequest<A>) -> Result<Acks<A>, ServeFault>
         ensures commons { IfOk result (λ commons. commons ≡ record {
+          limits = asked.now.limits;
           format = self.now.graph.format;
           ids = commons_of self.now asked.now.asked;
         }) }
@@ -115,7 +117,8 @@ impl<A: Allocator + Copy> Server<A> {
         positions_are_nodes::<A>();
         asked.laws();
         let ids = self.common_ids(asked)?;
-        Ok(Acks::from_ids(self.graph().format(), ids).unwrap())
+        let made = Acks::from_ids_within(self.graph().format(), ids, asked.limits());
+        Ok(made.unwrap())
     }
 
     // Returns the common ids.
@@ -144,7 +147,7 @@ impl<A: Allocator + Copy> Server<A> {
     ) -> Result<PackBytes<A>, ServeFault>
         requires sent { IsSent self.now asked.now.asked list.now }
         requires unasked { packer.old.answered ≡ packing.Unasked }
-        ensures pack { PacksFor self.now (K.packs packer.old.packer)
+        ensures pack { PacksFor self.now (MayPack (K.packs packer.old.packer))
             (K.pack_fails packer.old.packer) asked.now.asked result }
         ensures packing { MatchResult result
             (λ _. packer.new.answered ≡ packing.Packed)

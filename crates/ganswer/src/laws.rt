@@ -1,5 +1,6 @@
 //! Laws about answers and changes: each function does nothing, and its contract proves a law.
 
+ghost use Rattle.gobject.specs.Packs.{MayPack};
 ghost use Rattle.ganswer.specs.Laws.{AcksAreCommon, AdvertsWelcome, AnswersAreOne, FetchAnswersFit, LsAnswersAreHeld, LsAnswersAreOne, LsAnswersFit, LsRequestsHaveAnswers, PacksAreEnough, ServersGrow, ServesWhatIsHeld};
 
 use ggraph::graph_laws::{
@@ -41,16 +42,16 @@ pub fn ls_answers_are_held<A: Allocator + Copy>()
 {}
 
 /// Proves that the client that sent a fetch request can read the answer with the server's object
-/// format, if the pack is within the client's limit.
+/// format, if the pack and the number of haves are within the client's limits.
 pub fn fetch_answers_fit<A: Allocator + Copy, K: Packer<A>>()
-    ensures { (packer : K) → FetchAnswersFit A (K.packs packer) }
+    ensures { (packer : K) → FetchAnswersFit A (MayPack (K.packs packer)) }
 {
     positions_are_nodes::<A>();
 }
 
 /// Proves that an answer acknowledges only haves that the server holds, and each have at most once.
 pub fn acks_are_common<A: Allocator + Copy, K: Packer<A>>()
-    ensures { (packer : K) → AcksAreCommon A (K.packs packer) }
+    ensures { (packer : K) → AcksAreCommon A (MayPack (K.packs packer)) }
 {
     commons_are_held::<A>();
 }
@@ -60,7 +61,7 @@ pub fn acks_are_common<A: Allocator + Copy, K: Packer<A>>()
 /// server about every object that both hold. Once the client has inserted the entries, it holds
 /// every object that the wants reach at the server.
 pub fn packs_are_enough<A: Allocator + Copy, K: Packer<A>>()
-    ensures { (packer : K) → PacksAreEnough A (K.packs packer) }
+    ensures { (packer : K) → PacksAreEnough A (MayPack (K.packs packer)) }
 {
     commons_are_held::<A>();
     sent_are_entries::<A>();
@@ -79,7 +80,7 @@ pub fn held_wants_are_served<A: Allocator + Copy, K: Packer<A>>()
 /// determines the objects to send, and a faithful packer has only one pack for each list of
 /// objects.
 pub fn answers_are_one<A: Allocator + Copy, K: Faithful<A>>(packer: &K)
-    ensures { AnswersAreOne A (K.packs packer.now) }
+    ensures { AnswersAreOne A (MayPack (K.packs packer.now)) }
 {
     peels_to_one::<A>();
     one_list_to_send::<A>();

@@ -14,8 +14,9 @@
 //!   HEAD first, then the names in byte order. For fetch the answer is the common ids, the pack of
 //!   the objects to send, or both. A fetch request is refused only if it has no wants, the server
 //!   does not hold a want, the packer fails, or memory runs out. The fault contains the first want
-//!   that the server does not hold. The ids of an answer have the format of the graph. A request
-//!   never fails because its answer is too long.
+//!   that the server does not hold. The ids of an answer have the format of the graph, and
+//!   its acknowledgments have the limits of the request. With any limits, a request never fails
+//!   because its answer is too long.
 //! - [`Server::answer`] uses exactly one result of the packer if the answer contains a pack or the
 //!   packer fails. In all other cases, `answer` uses no result of the packer. Out of memory never
 //!   hides a fault of the packer (`specs/OnePack.antt`). After a failure, the packer is not asked
@@ -33,8 +34,9 @@
 //!   Acknowledged ids are haves of the request that the server holds. If a client holds the full
 //!   history of the haves, inserting the pack gives it the full history of the wants. If the server
 //!   holds all wants, a request fails only if the packer fails or memory runs out. Answers are
-//!   well-formed messages, so a client of the same object format can read them. Changes to a server
-//!   never remove objects or change its object format.
+//!   well-formed messages, so a client of the same object format can read them, if its limits allow
+//!   the haves of its request. Changes to a server never remove objects or change its object
+//!   format.
 //! - Each fault has a number, a name and a text. A fault of a request also has a text for the
 //!   client. [`ServeFault::is_memory`] returns whether memory ran out.
 //! - Every call returns, without a panic, an overflow or a read out of bounds.
@@ -47,11 +49,11 @@
 //! # What the contracts do not rule out
 //!
 //! Any call that allocates may report out of memory. `answer` may report it for an ls-refs request.
-//! For a fetch request it may report it if the server holds all wants, but not after asking the
-//! packer. `advert` may report out of memory at any time, `new` if no object is missing, `add` for
-//! a new object, and `set_ref` for a new name. A call may take any amount of time, and more memory
-//! than it needs. `OnePack` may call its packer several times and use one of the results.
-//! Formatting a fault may return `fmt::Error` although the text was written correctly.
+//! For a fetch request, `answer` may report it only if the server holds all wants, and not after it
+//! called the packer. `advert` may report out of memory at any time, `new` if no object is missing,
+//! `add` for a new object, and `set_ref` for a new name. A call may take any amount of time, and
+//! more memory than it needs. `OnePack` may call its packer several times and use one of the
+//! results. Formatting a fault may return `fmt::Error` although the text was written correctly.
 //!
 //! # Dependencies
 //!

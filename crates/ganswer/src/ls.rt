@@ -25,7 +25,7 @@ use std::alloc::{AllocError, Allocator};
 impl<A: Allocator + Copy> Server<A> {
     // Returns the reply to an ls-refs request. Fails only if memory runs out.
     pub(crate) fn answer_ls(&self, asked: &LsRefsRequest<A>) -> Result<LsReply<A>, ServeFault>
-        ensures answer { IfOk result (LsAnswer self.now asked.now) }
+        ensures answer { IfOk result (LsAnswer self.now asked.now.asked) }
         ensures fault { IfErr result (λ fault. fault ≡ Memory) }
     {
         let mut reply = self.begin_ls(asked)?;
@@ -37,7 +37,7 @@ impl<A: Allocator + Copy> Server<A> {
     // Returns a reply with the name that an unborn HEAD points at, and without lines.
     fn begin_ls(&self, asked: &LsRefsRequest<A>) -> Result<LsReply<A>, ServeFault>
         ensures reply { IfOk result (λ reply. reply
-            ≡ record { unborn = unborn_of self.now asked.now; lines = [] }) }
+            ≡ record { unborn = unborn_of self.now asked.now.asked; lines = [] }) }
         ensures fault { IfErr result (λ fault. fault ≡ Memory) }
     {
         let mut reply = LsReply::new(self.graph().allocator());
@@ -49,8 +49,8 @@ impl<A: Allocator + Copy> Server<A> {
 
     // Appends the line of HEAD, if HEAD has an id and the request includes HEAD.
     fn add_head(&self, asked: &LsRefsRequest<A>, reply: &mut LsReply<A>) -> Result<(), ServeFault>
-        requires { reply.old ≡ record { unborn = unborn_of self.now asked.now; lines = [] } }
-        ensures head { OnOk result (IsAnswering self.now asked.now
+        requires { reply.old ≡ record { unborn = unborn_of self.now asked.now.asked; lines = [] } }
+        ensures head { OnOk result (IsAnswering self.now asked.now.asked
             (head_ref (head_id self.now.head self.now.refs)) reply.new) }
         ensures fault { IfErr result (λ fault. fault ≡ Memory) }
     {
@@ -68,9 +68,10 @@ impl<A: Allocator + Copy> Server<A> {
         reply: &mut LsReply<A>,
     ) -> Result<(), ServeFault>
         requires refs { refs.now ≡ self.now.refs }
-        requires head { IsAnswering self.now asked.now
+        requires head { IsAnswering self.now asked.now.asked
             (head_ref (head_id self.now.head self.now.refs)) reply.old }
-        ensures all { OnOk result (IsAnswering self.now asked.now (all_refs self.now) reply.new) }
+        ensures all { OnOk result (IsAnswering self.now asked.now.asked (all_refs self.now)
+            reply.new) }
         ensures fault { IfErr result (λ fault. fault ≡ Memory) }
     {
         for (place, reference) in refs.iter().enumerate() {
@@ -90,11 +91,11 @@ impl<A: Allocator + Copy> Server<A> {
         known: Option<Option<Oid>>,
         reply: &mut LsReply<A>,
     ) -> Result<(), ServeFault>
-        requires next { IsNextRef self.now asked.now (name.now, id) reply.old }
+        requires next { IsNextRef self.now asked.now.asked (name.now, id) reply.old }
         requires known { IfSome known (IsPeeled self.now.graph.entries id) }
         ensures added { OnOk result ((front : RefList)
-            → IsAnswering self.now asked.now front reply.old
-            → IsAnswering self.now asked.now (front ++ (name.now, id) ∷ []) reply.new) }
+            → IsAnswering self.now asked.now.asked front reply.old
+            → IsAnswering self.now asked.now.asked (front ++ (name.now, id) ∷ []) reply.new) }
         ensures fault { IfErr result (λ fault. fault ≡ Memory) }
     {
         // Laws.
@@ -121,7 +122,7 @@ impl<A: Allocator + Copy> Server<A> {
         known: Option<Option<Oid>>,
     ) -> Option<LentLine<'a, A>>
         requires { IfSome known (IsPeeled self.now.graph.entries id) }
-        ensures { ShowsLines self.now asked.now ((name.now, id) ∷ []) (line_list result) }
+        ensures { ShowsLines self.now asked.now.asked ((name.now, id) ∷ []) (line_list result) }
     {
         if !is_asked(asked.prefixes(), name) {
             return None;
@@ -158,7 +159,7 @@ impl<A: Allocator + Copy> Server<A> {
 
     // Returns the name that HEAD points at, if the request has `symrefs` and `name` is HEAD.
     fn symref(&self, asked: &LsRefsRequest<A>, name: &RefName<A>) -> Option<&RefName<A>>
-        ensures { option_copied result ≡ symref_of self.now.head asked.now name.now }
+        ensures { option_copied result ≡ symref_of self.now.head asked.now.asked name.now }
     {
         if asked.has(LsRefsFlag::Symrefs) && name.is_head() {
             self.target()
@@ -181,7 +182,7 @@ impl<A: Allocator + Copy> Server<A> {
     /// Returns the name that an unborn HEAD points at, if the request includes HEAD and has
     /// `unborn`.
     pub fn unborn(&self, asked: &LsRefsRequest<A>) -> Option<&RefName<A>>
-        ensures { option_copied result ≡ unborn_of self.now asked.now }
+        ensures { option_copied result ≡ unborn_of self.now asked.now.asked }
     {
         if asked.has(LsRefsFlag::Unborn) && is_asked(asked.prefixes(), self.name_of_head()) {
             self.missing_target()

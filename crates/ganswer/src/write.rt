@@ -32,7 +32,7 @@ impl<A: Allocator + Copy> Server<A> {
         ends: Ends,
         writer: &mut PacketWriter<W>,
     ) -> Result<(), WriteFault>
-        ensures { (reply : LsReply) → LsAnswer self.now asked.now reply
+        ensures { (reply : LsReply) → LsAnswer self.now asked.now.asked reply
             → WritesPackets W.contents W.passed_on W.is_down W.loans writer.old writer.new result
             (canonical_reply ends reply) }
     {
@@ -49,7 +49,8 @@ impl<A: Allocator + Copy> Server<A> {
         ends: Ends,
         writer: &mut PacketWriter<W>,
     ) -> Result<(), WriteFault>
-        ensures { (lines : List RefLine) → ShowsLines self.now asked.now (all_refs self.now) lines
+        ensures { (lines : List RefLine)
+            → ShowsLines self.now asked.now.asked (all_refs self.now) lines
             → WritesPackets W.contents W.passed_on W.is_down W.loans writer.old writer.new result
             (map ref_packet lines ++ Flush ∷ ends_with ends) }
     {
@@ -69,7 +70,8 @@ impl<A: Allocator + Copy> Server<A> {
         writer: &mut PacketWriter<W>,
     ) -> Result<(), WriteFault>
         ensures { (lines : List RefLine)
-            → ShowsLines self.now asked.now (head_ref (head_id self.now.head self.now.refs)) lines
+            → ShowsLines self.now asked.now.asked
+            (head_ref (head_id self.now.head self.now.refs)) lines
             → WritesPart W.contents W.passed_on W.is_down W.loans writer.old writer.new result
             (map ref_packet lines) }
     {
@@ -92,7 +94,7 @@ impl<A: Allocator + Copy> Server<A> {
         text: &mut RefText,
         writer: &mut PacketWriter<W>,
     ) -> Result<(), WriteFault>
-        ensures { (lines : List RefLine) → ShowsLines self.now asked.now self.now.refs lines
+        ensures { (lines : List RefLine) → ShowsLines self.now asked.now.asked self.now.refs lines
             → WritesPart W.contents W.passed_on W.is_down W.loans writer.old writer.new result
             (map ref_packet lines) }
     {

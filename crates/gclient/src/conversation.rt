@@ -79,7 +79,8 @@ pub fn fetch_over<S: Source, W: Sink, A: Allocator + Copy, K: Indexer<A>>(
     fetch_over_with(repo, source, sink, indexer, &plan)
 }
 
-/// Fetches like [`fetch_over`], with options for packs.
+/// Fetches like [`fetch_over`], with options for packs. The options contain the limits on the
+/// wants, the haves and the acknowledged ids.
 pub fn fetch_over_with<S: Source, W: Sink, A: Allocator + Copy, K: Indexer<A>>(
     repo: &mut Repo<A>,
     source: &mut S,

@@ -22,7 +22,8 @@ use std::alloc::Allocator;
 /// after the reply.
 ///
 /// The ids have the object format that the advertisement names. The request has `unborn` exactly
-/// when the server offers to report an unborn `HEAD`, even if `asked` differs.
+/// when the server offers to report an unborn `HEAD`, even if `asked` differs. The limits of
+/// `asked` do not matter.
 ///
 /// Fails with `NoBuffer` (28), and reads nothing, if there is not enough memory for the reader's
 /// buffer. Fails with `Message` if the advertisement or the reply is malformed. The faults of an
@@ -37,7 +38,7 @@ pub fn list_git<S: Source, W: Sink, A: Allocator + Copy>(
     asked: LsRefsRequest<A>,
     alloc: A,
 ) -> Result<LsReply<A>, FetchFault<A>>
-    ensures lists { ListsGit asked hello.now
+    ensures lists { ListsGit asked.asked hello.now
         (input_of S.remaining S.is_down source.old source.new)
         (output_of W.contents W.passed_on W.is_down sink.old sink.new) result }
     ensures source_loans { S.loans source.new ≡ S.loans source.old }
@@ -56,7 +57,7 @@ pub fn list_over<S: Source, W: Sink, A: Allocator + Copy>(
     asked: LsRefsRequest<A>,
     alloc: A,
 ) -> Result<LsReply<A>, FetchFault<A>>
-    ensures lists { Lists asked
+    ensures lists { Lists asked.asked
         (input_of S.remaining S.is_down source.old source.new)
         (output_of W.contents W.passed_on W.is_down sink.old sink.new) result }
     ensures source_loans { S.loans source.new ≡ S.loans source.old }
@@ -83,7 +84,7 @@ fn list<S: Source, W: Sink, A: Allocator + Copy>(
 ) -> Result<LsReply<A>, FetchFault<A>>
     requires reader { reader.old.failed ≡ false }
     requires writer { writer.old.failed ≡ false }
-    ensures lists { Lists asked
+    ensures lists { Lists asked.asked
         (input_of S.remaining S.is_down reader.old.source reader.new.source)
         (output_of W.contents W.passed_on W.is_down writer.old.sink writer.new.sink) result }
     ensures source_loans { S.loans reader.new.source ≡ S.loans reader.old.source }

@@ -47,8 +47,8 @@
 //! an unconnected ref or id, or refs that can't be set. A walk may continue past marked objects. A
 //! call may take any time, and more memory than it needs. No clause says which allocator provides
 //! the memory. [`Asks::allocator`] may return any allocator of its type, and [`Asks::ids`] may use
-//! the allocator of the list. Formatting a fault may return `fmt::Error` for no reason. With format
-//! options, such as a width, formatting may write a different text.
+//! that allocator for its result. Formatting a fault may return `fmt::Error` for no reason. With
+//! format options, such as a width, formatting may write a different text.
 //!
 //! No clause bounds the time of a call. In this implementation, adding a requested update takes one
 //! hash look-up of the ref's name. Settling `n` updates of `r` refs takes time proportional to `(n

@@ -6,7 +6,7 @@ use Rattle.ggraph.specs.RepositoryText.{repository_text, IsLoadable}
 use Rattle.ggraph.specs.declared.text.Order.TheVariants.{ParentsFirst}
 use Rattle.ggrammar.specs.declared.ends.Ends.{Ends}
 use Rattle.ggrammar.specs.declared.ends.Ends.TheVariants.{Plain}
-use Rattle.gobject.specs.Packs.{PackFails, Packs}
+use Rattle.gobject.specs.Packs.{MayPack, PackFails, Packs}
 use Rattle.gobject.specs.PlainPackText.{pack_text, PackRefuses}
 use Rattle.gpkt.specs.Sending.{Input, Output, IsUnread, IsUnwritten}
 use Rattle.ganswer.specs.Servers.{Server, IsServer, IsUnserved}
@@ -100,7 +100,7 @@ outcome_of_connection end.WriteFailed = Err program.WriteFailed
 pub record AnswersOne {A : Type 0} (input : Input) (output : Output) (server : Server A)
     (outcome : ProgramOutcome A) : Type 0 where
   pub ended : ExchangeEnd
-  pub exchange : ServesOne server plain_packs plain_pack_fails Plain input output ended
+  pub exchange : ServesOne server (MayPack plain_packs) plain_pack_fails Plain input output ended
   pub comes_out : outcome ≡ outcome_of_exchange ended
 
 -- a server replies to all requests of a connection
@@ -108,7 +108,7 @@ pub record AnswersAll {A : Type 0} (ends : Ends) (input : Input) (output : Outpu
     (outcome : ProgramOutcome A) : Type 0 where
   pub requests : ℕ
   pub ended : End
-  pub connection : Serves server plain_packs plain_pack_fails ends input output requests ended
+  pub connection : Serves server (MayPack plain_packs) plain_pack_fails ends input output requests ended
   pub comes_out : outcome ≡ outcome_of_connection ended
 
 -- the effect of `ls --stdio-server`

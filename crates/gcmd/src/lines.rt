@@ -23,7 +23,7 @@ use std::alloc::Allocator;
 /// digits.
 const MAX_DATA_HEAD: usize = 25;
 
-/// The maximum number of payload bytes that one call shows.
+/// The maximum number of payload bytes that are written at a time.
 const CHUNK: usize = 512;
 
 /// `gitv2 lines`: shows each packet of `input` on a line of `output`, until the input ends

@@ -19,6 +19,7 @@ use Rattle.ggrammar.proofs.IdLemmas.{id_spells, id_text_short, is_spelt}
 use Rattle.ggrammar.specs.Texts.{text_packet}
 use Rattle.ggrammar.specs.declared.ends.Ends.{Ends}
 use Rattle.ggrammar.specs.declared.ends.Ends.TheVariants.{Plain, Response}
+use Rattle.ggrammar.specs.declared.limits.Limits.{Limits}
 use Rattle.gfetchreply.specs.FetchManual.{IsAck, IsAckSection, IsPackSection, IsBody, IsDataOrProgress}
 use Rattle.gfetchreply.specs.FetchReplies.{Reading, FetchReply, Acks, Ready, Pack, reply_form, ack_id, acks_of, data_of, Says}
 use Rattle.gfetchreply.specs.FetchReplies.{ack_packet, data_packet, nak_if_none, heading_packet, ready_packet, pieces, pieces_within, pack_section, body_packets, canonical_reply, IsCanonical}
@@ -126,8 +127,9 @@ module _ (line_is : TextOfLine) (ids_have : IdsHaveTexts) (one_format : IdsHaveO
       ∙ (ap (λ (xs : List (List ℕ)). xs ++ acks_of format (map text (map ack_payload ids))) one
       ∙ ap (λ (xs : List (List ℕ)). id ∷ xs) (sym (acks_say format ids (All-tail (IsIdOf format) id ids are)))))
 
-  ack_section : (format : Format) (ids : List (List ℕ)) → AreAcks format ids → IsAckSection format (heading_packet ∷ map ack_packet ids) ids
-  ack_section format ids are = record {
+  ack_section : (limits : Limits) (format : Format) (ids : List (List ℕ)) → AreAcks limits format ids
+      → IsAckSection limits format (heading_packet ∷ map ack_packet ids) ids
+  ack_section limits format ids are = record {
     heading = codes "acknowledgments" ++ line_feed ∷ [];
     acks = map ack_payload ids;
     parts = ap (λ (xs : List Packet). heading_packet ∷ xs) (sym (map-map Data ack_payload ids));
@@ -151,7 +153,8 @@ module _ (line_is : TextOfLine) (ids_have : IdsHaveTexts) (one_format : IdsHaveO
     is_data = pieces_join (length pack) pack (omega arith);
   }
 
-  acks_body : (reading : Reading) (ids : List (List ℕ)) → reading.direct ≡ false → AreAcks reading.format ids → IsBody reading (body_packets (Acks ids)) (Acks ids)
+  acks_body : (reading : Reading) (ids : List (List ℕ)) → reading.direct ≡ false
+      → AreAcks reading.limits reading.format ids → IsBody reading (body_packets (Acks ids)) (Acks ids)
   acks_body reading [] direct are = (
     direct,
     inl (
@@ -159,14 +162,20 @@ module _ (line_is : TextOfLine) (ids_have : IdsHaveTexts) (one_format : IdsHaveO
       record {
         section = heading_packet ∷ [];
         nak = codes "NAK" ++ line_feed ∷ [];
-        acks = ack_section reading.format [] are;
+        acks = ack_section reading.limits reading.format [] are;
         is_nak = line_is (codes "NAK");
         parts = refl;
       },
     ),
   )
-  acks_body reading (id ∷ ids) direct are =
-      (direct, inr (record { section = heading_packet ∷ map ack_packet (id ∷ ids); acks = ack_section reading.format (id ∷ ids) are; parts = refl }))
+  acks_body reading (id ∷ ids) direct are = (
+    direct,
+    inr (record {
+      section = heading_packet ∷ map ack_packet (id ∷ ids);
+      acks = ack_section reading.limits reading.format (id ∷ ids) are;
+      parts = refl;
+    }),
+  )
 
   body_is : (reading : Reading) (reply : FetchReply) → reading.limit ≤ max_pack → IsReplyIn reading reply → IsBody reading (body_packets reply) reply
   body_is reading (Acks ids) within fit = acks_body reading ids fit.0 fit.1
@@ -176,7 +185,7 @@ module _ (line_is : TextOfLine) (ids_have : IdsHaveTexts) (one_format : IdsHaveO
       section = heading_packet ∷ map ack_packet ids;
       readiness = codes "ready" ++ line_feed ∷ [];
       rest = pack_section pack;
-      acks = ack_section reading.format ids fit.1;
+      acks = ack_section reading.limits reading.format ids fit.1;
       is_readiness = line_is (codes "ready");
       packs = section_is reading.limit pack within fit.2;
       parts = refl;

@@ -118,7 +118,7 @@ due InPack = 1
 due Over = 0
 
 record Within (reading : Reading) (state : State) : Type 0 where
-  ack_count : state.ack_count ≤ max_acks
+  ack_count : state.ack_count ≤ max_acks reading.limits
   band_count : state.band_count ≤ max_packets
   byte_count : state.byte_count ≤ reading.limit
 
@@ -135,7 +135,8 @@ move_step reading state from to here within less =
     let same : due state.place ≡ due from = ap due here in record { fewer = omega arith; within = record { ack_count = within.ack_count; band_count = within.band_count; byte_count = within.byte_count } }
 
 acking_step : (reading : Reading) (state : State) (payload : List ℕ) (form : ReplyForm) → state.place ≡ Acking → Within reading state → reply_form (text payload) ≡ form
-    → AckingOn reading.format state form → Step reading state (next_state reading.format state (Data payload))
+    → AckingOn reading.limits reading.format state form
+    → Step reading state (next_state reading.format state (Data payload))
 unfolding due
 acking_step reading state payload (Ack digits) here within is (an_ack d id spells few) =
     let same : due state.place ≡ due Acking = ap due here in
@@ -176,7 +177,8 @@ step_at reading state Start (Data payload) here within goes =
     let form : reply_form (text payload) ≡ Acknowledgments = start_open _ (data_open reading state Start payload here goes) in
     as_step reading state _ _ (next-heading reading.format state payload here form) (move_step reading state Start Acking here within (omega arith))
 step_at reading state Acking (Data payload) here within goes =
-    acking_step reading state payload _ here within refl (acking_open reading.format state _ (data_open reading state Acking payload here goes))
+    acking_step reading state payload _ here within refl
+    (acking_open reading.limits reading.format state _ (data_open reading state Acking payload here goes))
 step_at reading state AfterNak (Data payload) here within goes = absurd (late_not_open _ (data_open reading state AfterNak payload here goes))
 step_at reading state AfterReady (Data payload) here within goes = absurd (late_not_open _ (data_open reading state AfterReady payload here goes))
 step_at reading state BeforePack (Data payload) here within goes =
@@ -199,7 +201,7 @@ due_few Start = omega arith
 due_few place = omega arith
 
 few_from : (reading : Reading) (state : State) (front : List Packet) → Within reading state → IsOpenAt reading state front
-    → length front + (state.ack_count + state.band_count) ≤ due state.place + (max_acks + max_packets)
+    → length front + (state.ack_count + state.band_count) ≤ due state.place + (max_acks reading.limits + max_packets)
 few_from reading state [] within opened = let acks = within.ack_count in let packets = within.band_count in omega arith
 few_from reading state (packet ∷ rest) within opened =
     let one = step_at reading state state.place packet refl within opened.0 in

@@ -11,6 +11,7 @@ use Rattle.ggrammar.specs.Places.{collect}
 use Rattle.ggrammar.specs.Endings.{ends_with}
 use Rattle.ggrammar.specs.declared.ends.Ends.{Ends}
 use Rattle.ggrammar.specs.declared.ends.Ends.TheVariants.{Plain, Response}
+use Rattle.ggrammar.specs.declared.limits.Limits.{Limits}
 use Rattle.gfetchreply.specs.FetchManual.{IsAck, IsAckSection, IsPackSection, IsBody, IsFetchReply}
 use Rattle.gfetchreply.proofs.ReplyForms.{word_there}
 use Rattle.gfetchreply.specs.FetchReplies.{Reading, State, Point, Start, Acking, BeforePack, InPack, Over}
@@ -93,19 +94,22 @@ heading_there : (heading : List ℕ) → text heading ≡ codes "acknowledgments
 heading_there heading e = ap (after_text Start) (word_there (text heading) Acknowledgments tt e)
 
 -- the packets from the heading of the acknowledgments on
-module _ (format : Format) (section : List Packet) (ids : List (List ℕ)) (is : IsAckSection format section ids) (tail : List Packet) where
-  headed_parts : section ++ tail ≡ Data is.heading ∷ (map Data is.acks ++ tail)
-  headed_parts = ap (λ (xs : List Packet). xs ++ tail) is.parts
+module _
+    (limits : Limits) (format : Format) (section : List Packet) (ids : List (List ℕ))
+    (is : IsAckSection limits format section ids) (tail : List Packet)
+  where
+    headed_parts : section ++ tail ≡ Data is.heading ∷ (map Data is.acks ++ tail)
+    headed_parts = ap (λ (xs : List Packet). xs ++ tail) is.parts
 
-  headed_texts : texts Start (section ++ tail) ≡ map text is.acks ++ texts Acking tail
-  headed_texts =
-      ap (texts Start) headed_parts
-      ∙ (ap (λ (p : Point). texts p (map Data is.acks ++ tail)) (heading_there is.heading is.is_heading) ∙ acks_texts format is.acks tail is.are_acks)
+    headed_texts : texts Start (section ++ tail) ≡ map text is.acks ++ texts Acking tail
+    headed_texts =
+        ap (texts Start) headed_parts
+        ∙ (ap (λ (p : Point). texts p (map Data is.acks ++ tail)) (heading_there is.heading is.is_heading) ∙ acks_texts format is.acks tail is.are_acks)
 
-  headed_bands : bands Start (section ++ tail) ≡ bands Acking tail
-  headed_bands =
-      ap (bands Start) headed_parts
-      ∙ (ap (λ (p : Point). bands p (map Data is.acks ++ tail)) (heading_there is.heading is.is_heading) ∙ acks_bands format is.acks tail is.are_acks)
+    headed_bands : bands Start (section ++ tail) ≡ bands Acking tail
+    headed_bands =
+        ap (bands Start) headed_parts
+        ∙ (ap (λ (p : Point). bands p (map Data is.acks ++ tail)) (heading_there is.heading is.is_heading) ∙ acks_bands format is.acks tail is.are_acks)
 
 -- ---- what texts say
 
@@ -150,7 +154,8 @@ record Gives (reading : Reading) (packets : List Packet) (reply : FetchReply) : 
 -- acknowledged ids, and packets after them that acknowledge none
 module _
     (reading : Reading) (body section more : List Packet) (ids lines payloads : List (List ℕ)) (ready : Bool)
-    (direct : reading.direct ≡ false) (is : IsAckSection reading.format section ids) (parts : body ≡ section ++ more)
+    (direct : reading.direct ≡ false) (is : IsAckSection reading.limits reading.format section ids)
+    (parts : body ≡ section ++ more)
     (are_texts : texts Acking (more ++ ends_with reading.ends) ≡ lines)
     (are_bands : bands Acking (more ++ ends_with reading.ends) ≡ payloads)
     (none : acks_of reading.format lines ≡ []) (is_so : is_ready lines ≡ ready)
@@ -172,9 +177,10 @@ module _
           payloads = payloads;
           are_texts = texts_at reading false (body ++ ends_with reading.ends) (acks ++ lines) direct
               (ap (texts Start) all
-              ∙ (headed_texts reading.format section ids is tail ∙ ap (λ (xs : List (List ℕ)). acks ++ xs) are_texts));
+              ∙ (headed_texts reading.limits reading.format section ids is tail
+              ∙ ap (λ (xs : List (List ℕ)). acks ++ xs) are_texts));
           are_bands = bands_at reading false (body ++ ends_with reading.ends) payloads direct
-              (ap (bands Start) all ∙ (headed_bands reading.format section ids is tail ∙ are_bands));
+              (ap (bands Start) all ∙ (headed_bands reading.limits reading.format section ids is tail ∙ are_bands));
           value = cond-false reading.direct _ _ direct
               ∙ (λ i. if so i then Ready (acked i) (data_of payloads) else Acks (acked i));
           pack = pack;
@@ -241,7 +247,7 @@ whole_pack reading body pack direct is =
 
 -- acknowledgments, and what completes them
 whole_acks : (reading : Reading) (body section more : List Packet) (ids : List (List ℕ)) → reading.direct ≡ false
-    → (is : IsAckSection reading.format section ids) → body ≡ section ++ more
+    → (is : IsAckSection reading.limits reading.format section ids) → body ≡ section ++ more
     → IsWholeAt reading (acked (length is.acks) (start reading)) (more ++ ends_with reading.ends)
     → IsWholeAt reading (start reading) (body ++ ends_with reading.ends)
 whole_acks reading body section more ids direct is parts last =
@@ -249,7 +255,8 @@ whole_acks reading body section more ids direct is parts last =
     let tail = more ++ ends_with reading.ends in
     subst (IsWholeAt reading (start reading))
     (sym (ap (λ (xs : List Packet). xs ++ ends_with reading.ends) parts
-    ∙ (append_assoc section more (ends_with reading.ends) ∙ headed_parts reading.format section ids is tail)))
+    ∙ (append_assoc section more (ends_with reading.ends)
+    ∙ headed_parts reading.limits reading.format section ids is tail)))
     (part_ack reading (start reading) is.heading (map Data is.acks ++ tail) (start_place reading false direct) is.is_heading
     (rest_acks reading (moved (start reading) Acking) is.acks tail refl is.are_acks (omega arith) last))
 
@@ -298,7 +305,7 @@ module _
     section : List Packet
     section = Data heading ∷ map Data is.acks
 
-    acks : IsAckSection reading.format section (acks_of reading.format (map text is.acks))
+    acks : IsAckSection reading.limits reading.format section (acks_of reading.format (map text is.acks))
     unfolding section
     acks = record {
       heading = heading;
@@ -331,7 +338,7 @@ module _
     manual_by (naked nak count is_nak e) =
         let no_acks : length (map text is.acks) ≡ 0 = (let long = length-map is.acks text in omega arith) in
         let nothing : acks_of reading.format (map text is.acks) ≡ [] = ap (acks_of reading.format) (nil_from_length (map text is.acks) no_acks) in
-        let same = subst (IsAckSection reading.format section) nothing acks in
+        let same = subst (IsAckSection reading.limits reading.format section) nothing acks in
         record {
           reply = Acks [];
           is = record {

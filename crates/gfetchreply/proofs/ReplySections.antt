@@ -245,7 +245,7 @@ pub record IsAckRest (reading : Reading) (state : State) (packets : List Packet)
   pub tail : List Packet
   pub parts : packets ≡ map Data acks ++ tail
   pub are : All (IsAck reading.format) (map text acks)
-  pub few : state.ack_count + length acks ≤ max_acks
+  pub few : state.ack_count + length acks ≤ max_acks reading.limits
   pub last : AckTail reading (state.ack_count + length acks) tail
 
 -- among the acknowledgments
@@ -296,8 +296,9 @@ more_acks reading state ack rest is more =
     }
 
 ack_by : (reading : Reading) (state : State) (payload : List ℕ) (rest : List Packet) (form : ReplyForm) → reply_form (text payload) ≡ form → IsAcking state
-    → state.ack_count ≤ max_acks → AckingOn reading.format state form
-    → ((new : State) → IsAcking new → new.ack_count ≤ max_acks → IsWholeAt reading new rest → IsAckRest reading new rest)
+    → state.ack_count ≤ max_acks reading.limits → AckingOn reading.limits reading.format state form
+    → ((new : State) → IsAcking new → new.ack_count ≤ max_acks reading.limits → IsWholeAt reading new rest
+    → IsAckRest reading new rest)
     → IsWholeAt reading (next_state reading.format state (Data payload)) rest → IsAckRest reading state (Data payload ∷ rest)
 ack_by reading state payload rest (Ack digits) is here few (an_ack d id spells less) next h =
     more_acks reading state payload rest (ap is_some (ap (ack_id reading.format) is ∙ spells))
@@ -327,11 +328,12 @@ ack_by reading state payload rest Readiness is here few a_readiness next h =
     }
 ack_by reading state payload rest form is here few on next h = elim on [ ]
 
-pub ack_rest : (reading : Reading) (packets : List Packet) (state : State) → IsAcking state → state.ack_count ≤ max_acks → IsWholeAt reading state packets → IsAckRest reading state packets
+pub ack_rest : (reading : Reading) (packets : List Packet) (state : State) → IsAcking state
+    → state.ack_count ≤ max_acks reading.limits → IsWholeAt reading state packets → IsAckRest reading state packets
 ack_rest reading [] state here few h = absurd h
 ack_rest reading (Data payload ∷ rest) state here few h =
     let goes = data_goes reading state Acking payload rest here.place h in
-    ack_by reading state payload rest _ refl here few (acking_open reading.format state _ goes.0)
+    ack_by reading state payload rest _ refl here few (acking_open reading.limits reading.format state _ goes.0)
     (ack_rest reading rest) goes.1
 ack_rest reading (Flush ∷ rest) state here few h = record {
   acks = [];
@@ -360,19 +362,28 @@ pub ack_is : (format : Format) (form : ReplyForm) → is_some (ack_id format for
 ack_is format (Ack digits) e = let some = some_id format digits _ refl e in record { digits = digits; id = some.0; is = refl; spells = some.1 }
 ack_is format form e = cc
 
+open_text : (reading : Reading) (state : State) (payload : List ℕ) (form : ReplyForm) → reply_form (text payload) ≡ form
+    → AckingOn reading.limits reading.format state form
+    → judge_acking reading.limits reading.format state (reply_form (text payload)) ≡ Open
+open_text reading state payload form is on =
+    ap (judge_acking reading.limits reading.format state) is
+    ∙ open_acking reading.limits reading.format state form on
+
 -- a text of the acknowledgments goes on
 pub open_ack : (reading : Reading) (state : State) (payload : List ℕ) (form : ReplyForm) → state.place ≡ Acking → reply_form (text payload) ≡ form
-    → AckingOn reading.format state form → judge_at reading state (Data payload) ≡ Open
+    → AckingOn reading.limits reading.format state form → judge_at reading state (Data payload) ≡ Open
 open_ack reading state payload Nak here is on =
-    open_data reading state Acking payload here (form_reports_none payload Nak is tt) (ap (judge_acking reading.format state) is ∙ open_acking reading.format state Nak on)
+    open_data reading state Acking payload here (form_reports_none payload Nak is tt) (open_text reading state payload Nak is on)
 open_ack reading state payload Readiness here is on =
-    open_data reading state Acking payload here (form_reports_none payload Readiness is tt) (ap (judge_acking reading.format state) is ∙ open_acking reading.format state Readiness on)
+    open_data reading state Acking payload here (form_reports_none payload Readiness is tt)
+    (open_text reading state payload Readiness is on)
 open_ack reading state payload (Ack digits) here is on =
-    open_data reading state Acking payload here (form_reports_none payload (Ack digits) is tt) (ap (judge_acking reading.format state) is ∙ open_acking reading.format state (Ack digits) on)
+    open_data reading state Acking payload here (form_reports_none payload (Ack digits) is tt)
+    (open_text reading state payload (Ack digits) is on)
 open_ack reading state payload form here is on = elim on [ ]
 
 pub rest_acks : (reading : Reading) (state : State) (acks : List (List ℕ)) (tail : List Packet) → state.place ≡ Acking → All (IsAck reading.format) (map text acks)
-    → state.ack_count + length acks ≤ max_acks → IsWholeAt reading (acked (length acks) state) tail
+    → state.ack_count + length acks ≤ max_acks reading.limits → IsWholeAt reading (acked (length acks) state) tail
     → IsWholeAt reading state (map Data acks ++ tail)
 rest_acks reading state [] tail here are few last =
     at_state reading _ _ tail (same_state (sym here) (omega arith) refl refl) last
@@ -411,7 +422,8 @@ pub record IsAckPart (reading : Reading) (state : State) (packets : List Packet)
   pub is_heading : text heading ≡ codes "acknowledgments"
   pub are : IsAckRest reading (moved state Acking) rest
 
-pub ack_part : (reading : Reading) (state : State) (packets : List Packet) → state.place ≡ Start → state.ack_count ≤ max_acks → state.band_count ≡ 0 → state.byte_count ≡ 0
+pub ack_part : (reading : Reading) (state : State) (packets : List Packet) → state.place ≡ Start
+    → state.ack_count ≤ max_acks reading.limits → state.band_count ≡ 0 → state.byte_count ≡ 0
     → IsWholeAt reading state packets → IsAckPart reading state packets
 ack_part reading state [] here few none empty h = absurd h
 ack_part reading state (Data heading ∷ rest) here few none empty h =

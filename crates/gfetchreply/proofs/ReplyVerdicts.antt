@@ -16,6 +16,7 @@ use Rattle.ggrammar.specs.PeerErrors.{peer_error, unless_error}
 use Rattle.ggrammar.specs.declared.ends.Ends.{Ends}
 use Rattle.ggrammar.specs.declared.ends.Ends.TheVariants.{Plain, Response}
 use Rattle.ggrammar.specs.declared.fault.Why.TheVariants as why
+use Rattle.ggrammar.specs.declared.limits.Limits.{Limits}
 use Rattle.ggrammar.proofs.VerdictLemmas.{open_unless, past_error, room_goes_on, room_left, whole_unless}
 use Rattle.gfetchreply.specs.FetchManual.{IsDataOrProgress}
 use Rattle.gfetchreply.specs.FetchReplies.{Reading, State, Point, Start, Acking, AfterNak, BeforePack, InPack, Over}
@@ -183,10 +184,12 @@ part_start : (form : ReplyForm) → IsPart (judge_start form)
 part_start Packfile = tt
 part_start form = tt
 
-part_acking : (format : Format) (state : State) (form : ReplyForm) → IsPart (judge_acking format state form)
-part_acking format state Nak = part_test (nat_lt 0 state.ack_count) (Refused why.WrongSection) Open tt tt
-part_acking format state (Ack id) = part_test (is_some (id_of_text format id)) _ (Refused why.BadId) (part_room _) tt
-part_acking format state form = tt
+part_acking : (limits : Limits) (format : Format) (state : State) (form : ReplyForm)
+    → IsPart (judge_acking limits format state form)
+part_acking limits format state Nak = part_test (nat_lt 0 state.ack_count) (Refused why.WrongSection) Open tt tt
+part_acking limits format state (Ack id) =
+    part_test (is_some (id_of_text format id)) _ (Refused why.BadId) (part_room _) tt
+part_acking limits format state form = tt
 
 part_late : (form : ReplyForm) → IsPart (judge_late form)
 part_late OtherForm = tt
@@ -203,7 +206,7 @@ part_band limit state (Err fault) = tt
 
 part_payload : (reading : Reading) (place : Point) (state : State) (payload : List ℕ) → IsPart (judge_payload reading place state payload)
 part_payload reading Start state payload = part_start _
-part_payload reading Acking state payload = part_acking reading.format state _
+part_payload reading Acking state payload = part_acking reading.limits reading.format state _
 part_payload reading BeforePack state payload = part_before _
 part_payload reading InPack state payload = part_band reading.limit state _
 part_payload reading Over state payload = tt
@@ -255,33 +258,42 @@ before_open Packfile e = refl
 before_open form e = cc
 
 -- the forms that the acknowledgments go on with
-pub data AckingOn (format : Format) (state : State) : ReplyForm → Type 0 where
-  an_ack : (digits id : List ℕ) → id_of_text format digits ≡ Some id → state.ack_count < max_acks → AckingOn format state (Ack digits)
-  a_nak : state.ack_count ≡ 0 → AckingOn format state Nak
-  a_readiness : AckingOn format state Readiness
+pub data AckingOn (limits : Limits) (format : Format) (state : State) : ReplyForm → Type 0 where
+  an_ack : (digits id : List ℕ) → id_of_text format digits ≡ Some id → state.ack_count < max_acks limits
+      → AckingOn limits format state (Ack digits)
+  a_nak : state.ack_count ≡ 0 → AckingOn limits format state Nak
+  a_readiness : AckingOn limits format state Readiness
 
 nak_open : (state : State) (test : Bool) → nat_lt 0 state.ack_count ≡ test → cond test (Refused why.WrongSection) Open ≡ Open → state.ack_count ≡ 0
 nak_open state true is e = cc
 nak_open state false is e = omega (arith, ltb-false 0 state.ack_count is)
 
-ack_open : (format : Format) (state : State) (digits : List ℕ) (id : Option (List ℕ)) → id_of_text format digits ≡ id
-    → cond (is_some id) (if_room (nat_lt state.ack_count max_acks)) (Refused why.BadId) ≡ Open → AckingOn format state (Ack digits)
-ack_open format state digits None is e = cc
-ack_open format state digits (Some id) is e = an_ack digits id is (ltb-true state.ack_count max_acks (room_left _ e))
+ack_open : (limits : Limits) (format : Format) (state : State) (digits : List ℕ) (id : Option (List ℕ))
+    → id_of_text format digits ≡ id
+    → cond (is_some id) (if_room (nat_lt state.ack_count (max_acks limits))) (Refused why.BadId) ≡ Open
+    → AckingOn limits format state (Ack digits)
+ack_open limits format state digits None is e = cc
+ack_open limits format state digits (Some id) is e =
+    an_ack digits id is (ltb-true state.ack_count (max_acks limits) (room_left _ e))
 
-pub acking_open : (format : Format) (state : State) (form : ReplyForm) → judge_acking format state form ≡ Open → AckingOn format state form
-acking_open format state Nak e = a_nak (nak_open state _ refl e)
-acking_open format state Readiness e = a_readiness
-acking_open format state (Ack digits) e = ack_open format state digits _ refl e
-acking_open format state form e = cc
+pub acking_open : (limits : Limits) (format : Format) (state : State) (form : ReplyForm)
+    → judge_acking limits format state form ≡ Open → AckingOn limits format state form
+acking_open limits format state Nak e = a_nak (nak_open state _ refl e)
+acking_open limits format state Readiness e = a_readiness
+acking_open limits format state (Ack digits) e = ack_open limits format state digits _ refl e
+acking_open limits format state form e = cc
 
-pub open_acking : (format : Format) (state : State) (form : ReplyForm) → AckingOn format state form → judge_acking format state form ≡ Open
-open_acking format state (Ack digits) (an_ack d id is few) =
-    ap (λ (o : Option (List ℕ)). cond (is_some o) (if_room (nat_lt state.ack_count max_acks)) (Refused why.BadId)) is
-    ∙ room_goes_on _ (lt-ltb state.ack_count max_acks few)
-open_acking format state Nak (a_nak none) = ap (λ (n : ℕ). cond (nat_lt 0 n) (Refused why.WrongSection) Open) none
-open_acking format state Readiness a_readiness = refl
-open_acking format state form on = elim on [ ]
+pub open_acking : (limits : Limits) (format : Format) (state : State) (form : ReplyForm)
+    → AckingOn limits format state form → judge_acking limits format state form ≡ Open
+open_acking limits format state (Ack digits) (an_ack d id is few) =
+    ap
+    (λ (o : Option (List ℕ)). cond (is_some o) (if_room (nat_lt state.ack_count (max_acks limits))) (Refused why.BadId))
+    is
+    ∙ room_goes_on _ (lt-ltb state.ack_count (max_acks limits) few)
+open_acking limits format state Nak (a_nak none) =
+    ap (λ (n : ℕ). cond (nat_lt 0 n) (Refused why.WrongSection) Open) none
+open_acking limits format state Readiness a_readiness = refl
+open_acking limits format state form on = elim on [ ]
 
 -- a packet of the pack's section that goes on
 pub record BandOn (limit : ℕ) (state : State) (form : Result BandPacket BandFault) : Type 0 where

@@ -22,6 +22,7 @@ use Rattle.std.proofs.lemmas.List.Folds.{list_any-append}
 use Rattle.ggrammar.specs.Grammar.{Judge, Verdict}
 use Rattle.ggrammar.specs.MessageReading.{IsReason, TakesAs, TakesPacket}
 use Rattle.ggrammar.specs.declared.fault.Why.{Why}
+use Rattle.ggrammar.specs.declared.limits.Limits.{Limits}
 use Rattle.ggrammar.specs.declared.message.Step.{Step}
 use Rattle.ggrammar.specs.declared.message.Step.TheVariants as step
 use Rattle.gfetchreply.specs.Values.{Acks}
@@ -179,17 +180,18 @@ state-band format state payload here =
 
 -- ---- what is kept
 
-same_acks : {a b : Acks} → a.format ≡ b.format → a.ids ≡ b.ids → a ≡ b
-same_acks format ids = λ i. record { format = format i; ids = ids i }
+same_acks : {a b : Acks} → a.limits ≡ b.limits → a.format ≡ b.format → a.ids ≡ b.ids → a ≡ b
+same_acks limits format ids = λ i. record { limits = limits i; format = format i; ids = ids i }
 
 same_kept : {a b : Kept} → a.place ≡ b.place → a.acks ≡ b.acks → a.ready ≡ b.ready → a.band_count ≡ b.band_count → a.byte_count ≡ b.byte_count → a ≡ b
 same_kept place acks ready band_count byte_count =
     λ i. record { place = place i; acks = acks i; ready = ready i; band_count = band_count i; byte_count = byte_count i }
 
-pub kept_of-nil : (format : Format) (direct : Bool) → first_kept format direct ≡ kept_of format direct []
-kept_of-nil format direct =
+pub kept_of-nil : (limits : Limits) (format : Format) (direct : Bool)
+    → first_kept limits format direct ≡ kept_of limits format direct []
+kept_of-nil limits format direct =
     same_kept refl
-    (same_acks refl (ap (acks_of format) (sym (ack_texts-nil direct))))
+    (same_acks refl refl (ap (acks_of format) (sym (ack_texts-nil direct))))
     (ap is_ready (sym (ack_texts-nil direct)))
     (ap length (sym (band_payloads-nil direct)))
     (ap (λ xs. length (data_of xs)) (sym (band_payloads-nil direct)))
@@ -198,19 +200,21 @@ kept_of-nil format direct =
 grown : Kept → Point → List (List ℕ) → List (List ℕ) → Kept
 grown kept place texts payloads = record {
   place = place;
-  acks = record { format = kept.acks.format; ids = kept.acks.ids ++ acks_of kept.acks.format texts };
+  acks = record kept.acks { ids = kept.acks.ids ++ acks_of kept.acks.format texts };
   ready = kept.ready || is_ready texts;
   band_count = kept.band_count + length payloads;
   byte_count = kept.byte_count + length (data_of payloads);
 }
 
-kept_of-push : (format : Format) (direct : Bool) (front : List Packet) (packet : Packet)
-    → kept_of format direct (front ++ packet ∷ [])
-    ≡ grown (kept_of format direct front) (next_place (place_of direct front) packet) (texts_there (place_of direct front) packet) (bands_there (place_of direct front) packet)
+kept_of-push : (limits : Limits) (format : Format) (direct : Bool) (front : List Packet) (packet : Packet)
+    → kept_of limits format direct (front ++ packet ∷ [])
+    ≡ grown (kept_of limits format direct front) (next_place (place_of direct front) packet)
+    (texts_there (place_of direct front) packet) (bands_there (place_of direct front) packet)
 unfolding grown
-kept_of-push format direct front packet =
+kept_of-push limits format direct front packet =
     same_kept (place_of-push direct front packet)
-    (same_acks refl (ap (acks_of format) (ack_texts-push direct front packet) ∙ acks_of-append format (ack_texts direct front) (texts_there (place_of direct front) packet)))
+    (same_acks refl refl (ap (acks_of format) (ack_texts-push direct front packet)
+    ∙ acks_of-append format (ack_texts direct front) (texts_there (place_of direct front) packet)))
     (ap is_ready (ack_texts-push direct front packet) ∙ list_any-append (λ line. is_readiness (reply_form line)) (ack_texts direct front) (texts_there (place_of direct front) packet))
     (ap length (band_payloads-push direct front packet) ∙ length-append (band_payloads direct front) (bands_there (place_of direct front) packet))
     (ap length (data-push direct front packet) ∙ length-append (data_of (band_payloads direct front)) (data_of (bands_there (place_of direct front) packet)))
@@ -219,7 +223,8 @@ kept_of-push format direct front packet =
 grown-none : (kept : Kept) (place : Point) → grown kept place [] [] ≡ record kept { place = place }
 unfolding grown
 grown-none kept place =
-    same_kept refl (same_acks refl (append-nil kept.acks.ids)) (or-false kept.ready) (add-zero kept.band_count) (add-zero kept.byte_count)
+    same_kept refl (same_acks refl refl (append-nil kept.acks.ids)) (or-false kept.ready) (add-zero kept.band_count)
+    (add-zero kept.byte_count)
 
 -- and none at all where the place stays
 grown-same : (kept : Kept) (place : Point) → kept.place ≡ place → grown kept place [] [] ≡ kept
@@ -229,10 +234,14 @@ grown-same kept place here = grown-none kept place ∙ same_kept (sym here) refl
 grown-text : (kept : Kept) (place : Point) (line : List ℕ) (ids : List (List ℕ)) (ready : Bool) → acks_of kept.acks.format (line ∷ []) ≡ ids
     → is_readiness (reply_form line) ≡ ready
     → grown kept place (line ∷ []) []
-    ≡ record { place = place; acks = record { format = kept.acks.format; ids = kept.acks.ids ++ ids }; ready = kept.ready || ready; band_count = kept.band_count; byte_count = kept.byte_count }
+    ≡ record kept {
+      place = place;
+      acks = record kept.acks { ids = kept.acks.ids ++ ids };
+      ready = kept.ready || ready;
+    }
 unfolding grown
 grown-text kept place line ids ready acks is =
-    same_kept refl (same_acks refl (ap (λ xs. kept.acks.ids ++ xs) acks))
+    same_kept refl (same_acks refl refl (ap (λ xs. kept.acks.ids ++ xs) acks))
     (ap (λ (b : Bool). kept.ready || b) (or-false (is_readiness (reply_form line)) ∙ is)) (add-zero kept.band_count) (add-zero kept.byte_count)
 
 -- one that acknowledges nothing
@@ -240,7 +249,7 @@ grown-word : (kept : Kept) (place : Point) (line : List ℕ) (form : ReplyForm) 
     → is_readiness form ≡ false → grown kept place (line ∷ []) [] ≡ record kept { place = place }
 grown-word kept place line form is none word =
     grown-text kept place line [] false (acks_of-one kept.acks.format line None (ap (ack_id kept.acks.format) is ∙ none)) (ap is_readiness is ∙ word)
-    ∙ same_kept refl (same_acks refl (append-nil kept.acks.ids)) (or-false kept.ready) refl refl
+    ∙ same_kept refl (same_acks refl refl (append-nil kept.acks.ids)) (or-false kept.ready) refl refl
 
 stays : (kept : Kept) (place : Point) → kept.place ≡ place → record kept { place = place } ≡ kept
 stays kept place here = same_kept (sym here) refl refl refl refl
@@ -256,7 +265,7 @@ acking_adds : (kept : Kept) (line : List ℕ) (form : ReplyForm) → kept.place 
 acking_adds kept line Nak here is = grown-word kept AfterNak line Nak is refl refl
 acking_adds kept line Readiness here is =
     grown-text kept AfterReady line [] true (acks_of-one kept.acks.format line None (ap (ack_id kept.acks.format) is)) (ap is_readiness is)
-    ∙ same_kept refl (same_acks refl (append-nil kept.acks.ids)) (or-true kept.ready) refl refl
+    ∙ same_kept refl (same_acks refl refl (append-nil kept.acks.ids)) (or-true kept.ready) refl refl
 acking_adds kept line (Ack id) here is =
     grown-text kept Acking line (id_list (id_of_text kept.acks.format id)) false (acks_of-one kept.acks.format line _ (ap (ack_id kept.acks.format) is)) (ap is_readiness is)
     ∙ same_kept (sym here) refl (or-false kept.ready) refl refl
@@ -271,7 +280,7 @@ before_adds kept form here = grown-same kept BeforePack here
 band_adds : (kept : Kept) (payload : List ℕ) → kept.place ≡ InPack → grown kept InPack [] (payload ∷ []) ≡ with_band kept (length (data_in (band_form payload)))
 unfolding grown
 band_adds kept payload here =
-    same_kept (sym here) (same_acks refl (append-nil kept.acks.ids)) (or-false kept.ready) refl
+    same_kept (sym here) (same_acks refl refl (append-nil kept.acks.ids)) (or-false kept.ready) refl
     (ap (λ (xs : List ℕ). kept.byte_count + length xs) (data_of-one payload))
 
 -- any packet, by where it stands
@@ -286,10 +295,11 @@ packet_adds kept InPack (Data payload) = band_adds (record kept { place = InPack
 packet_adds kept Over (Data payload) = grown-none (record kept { place = Over }) Over
 packet_adds kept place packet = grown-none (record kept { place = place }) (next_place place packet)
 
-pub kept_push : (format : Format) (direct : Bool) (front : List Packet) (packet : Packet)
-    → kept_of format direct (front ++ packet ∷ []) ≡ with_packet (kept_of format direct front) packet
-kept_push format direct front packet =
-    kept_of-push format direct front packet ∙ packet_adds (kept_of format direct front) (place_of direct front) packet
+pub kept_push : (limits : Limits) (format : Format) (direct : Bool) (front : List Packet) (packet : Packet)
+    → kept_of limits format direct (front ++ packet ∷ []) ≡ with_packet (kept_of limits format direct front) packet
+kept_push limits format direct front packet =
+    kept_of-push limits format direct front packet
+    ∙ packet_adds (kept_of limits format direct front) (place_of direct front) packet
 
 -- the pack's data of a packet more
 bands_data : (packet : Packet) (place : Point) → data_of (bands_there place packet) ≡ data_there place packet
@@ -319,7 +329,8 @@ takes_also {verdict} {other} {some} {same} is brings more less (Err why) h =
     (subst (λ (v : Verdict). IsReason v same why) (sym is) (subst (λ (b : Bool). IsReason verdict b why) (sym brings) h.0), less h.1)
 
 -- what the sink has with a packet more
-longer : (reading : Reading) (kept : Kept) (front : List Packet) (packet : Packet) (before : List ℕ) → kept ≡ kept_of reading.format reading.direct front
+longer : (reading : Reading) (kept : Kept) (front : List Packet) (packet : Packet) (before : List ℕ)
+    → kept ≡ kept_of reading.limits reading.format reading.direct front
     → (before ++ data_of (band_payloads reading.direct front)) ++ data_there kept.place packet ≡ before ++ data_of (band_payloads reading.direct (front ++ packet ∷ []))
 longer reading kept front packet before counts =
     append_assoc before _ _
@@ -349,12 +360,13 @@ module _ {S : Type 0} (taken : S → List ℕ → Type 0) where
 
 module _ {S : Type 0} (taken : S → List ℕ → Type 0) (same : S → S → Type 0) (had : List ℕ → Type 0) (starts : S → Type 0) (seat : ℕ) (asked : Reading) where
   -- what is held before the first packet
-  pub begins : (reading : Reading) (kept : Kept) (sink : S) (name : ℕ) → reading ≡ asked → kept ≡ first_kept reading.format reading.direct
+  pub begins : (reading : Reading) (kept : Kept) (sink : S) (name : ℕ) → reading ≡ asked
+      → kept ≡ first_kept reading.limits reading.format reading.direct
       → ((before : List ℕ) → had before → taken sink before) → ((start : S) → starts start → same start sink) → name ≡ seat
       → Holds taken same had starts seat asked reading kept sink name []
   begins reading kept sink name kind first has is_same in_place = record {
     kind = kind;
-    counts = first ∙ kept_of-nil reading.format reading.direct;
+    counts = first ∙ kept_of-nil reading.limits reading.format reading.direct;
     pack = λ before h. subst (taken sink) (sym (ap (λ xs. before ++ data_of xs) (band_payloads-nil reading.direct) ∙ append-nil before)) (has before h);
     is_same = is_same;
     in_place = in_place;
@@ -364,17 +376,22 @@ module _ {S : Type 0} (taken : S → List ℕ → Type 0) (same : S → S → Ty
   pub takes_after : (refuses : Bool) (reading : Reading) (kept now : Kept) (old new : S) (name next : ℕ) (front : List Packet) (packet : Packet)
       (result : Result Step Why) → Holds taken same had starts seat asked reading kept old name front → next ≡ name
       → ((start : S) → same start old → same start new)
-      → TakesBoth taken (judge_at (record reading { format = kept.acks.format }) (state_kept kept) packet) (brings_there refuses kept.place packet)
+      → TakesBoth taken
+      (judge_at (record reading { limits = kept.acks.limits; format = kept.acks.format }) (state_kept kept) packet)
+      (brings_there refuses kept.place packet)
       (with_packet kept packet) now (data_there kept.place packet) old new result
       → TakesOr (judge reading front packet) (brings_into refuses reading front packet) (Holds taken same had starts seat asked reading now new next (front ++ packet ∷ []))
       (Leaves taken same had starts seat asked reading new next front) result
   takes_after refuses reading kept now old new name next front packet result held stays onward h =
       takes_also
-      (sym (ap (λ (k : Kept). judge_at (record reading { format = k.acks.format }) (state_kept k) packet) held.counts))
+      (sym (ap
+      (λ (k : Kept). judge_at (record reading { limits = k.acks.limits; format = k.acks.format }) (state_kept k) packet)
+      held.counts))
       (brings_at refuses reading front packet ∙ sym (ap (λ (k : Kept). brings_there refuses k.place packet) held.counts))
       (λ p. record {
         kind = held.kind;
-        counts = p.0 ∙ (ap (λ (k : Kept). with_packet k packet) held.counts ∙ sym (kept_push reading.format reading.direct front packet));
+        counts = p.0 ∙ (ap (λ (k : Kept). with_packet k packet) held.counts
+            ∙ sym (kept_push reading.limits reading.format reading.direct front packet));
         pack = λ before t. subst (taken new) (longer reading kept front packet before held.counts) (p.1 _ (held.pack before t));
         is_same = λ start from. onward start (held.is_same start from);
         in_place = stays ∙ held.in_place;

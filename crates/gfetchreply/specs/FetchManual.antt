@@ -7,6 +7,7 @@ use Rattle.gpkt.specs.Bands.{BandPacket, band_form, Data as BandData, Progress}
 use Rattle.gpkt.specs.declared.fault.BandFault.{BandFault}
 use Rattle.gname.specs.declared.formats.Format.{Format}
 use Rattle.ggrammar.specs.Endings.{ends_with}
+use Rattle.ggrammar.specs.declared.limits.Limits.{Limits}
 use Rattle.gfetchreply.specs.FetchReplies.{Reading, FetchReply, Acks, Ready, Pack, reply_form, ack_id, acks_of, data_of}
 use Rattle.gfetchreply.specs.FetchReplies.{max_acks, max_packets}
 
@@ -21,13 +22,14 @@ IsDataOrProgress (Ok (Progress bytes)) = Unit {0}
 IsDataOrProgress _ = ⊥
 
 -- the section of acknowledgments: the heading `acknowledgments` and the acknowledged ids
-pub record IsAckSection (format : Format) (packets : List Packet) (ids : List Id) : Type 0 where
+pub record IsAckSection (limits : Limits) (format : Format) (packets : List Packet)
+    (ids : List Id) : Type 0 where
   pub heading : Bytes
   pub acks : List Bytes
   pub parts : packets ≡ Data heading ∷ map Data acks
   pub is_heading : text heading ≡ codes "acknowledgments"
   pub are_acks : All (IsAck format) (map text acks)
-  pub few : length acks ≤ max_acks
+  pub few : length acks ≤ max_acks limits
   pub are : ids ≡ acks_of format (map text acks)
 
 -- the section of the pack: the heading `packfile`, side-band packets and a flush
@@ -42,26 +44,27 @@ pub record IsPackSection (limit : ℕ) (packets : List Packet) (pack : Bytes) : 
   pub is_data : pack ≡ data_of payloads
 
 -- a reply of NAK, which acknowledges no ids, with no `ready` and no pack
-pub record IsNakReply (format : Format) (packets : List Packet) : Type 0 where
+pub record IsNakReply (limits : Limits) (format : Format) (packets : List Packet) : Type 0 where
   pub section : List Packet
   pub nak : Bytes
-  pub acks : IsAckSection format section []
+  pub acks : IsAckSection limits format section []
   pub is_nak : text nak ≡ codes "NAK"
   pub parts : packets ≡ section ++ Data nak ∷ Flush ∷ []
 
 -- a reply of acknowledged ids, possibly none, with no NAK, no `ready` and no pack
-pub record IsAckReply (format : Format) (packets : List Packet) (ids : List Id) : Type 0 where
+pub record IsAckReply (limits : Limits) (format : Format) (packets : List Packet)
+    (ids : List Id) : Type 0 where
   pub section : List Packet
-  pub acks : IsAckSection format section ids
+  pub acks : IsAckSection limits format section ids
   pub parts : packets ≡ section ++ Flush ∷ []
 
 -- a reply of acknowledged ids, possibly none, `ready` and the pack
-pub record IsReadyReply (format : Format) (limit : ℕ) (packets : List Packet) (ids : List Id)
+pub record IsReadyReply (limits : Limits) (format : Format) (limit : ℕ) (packets : List Packet) (ids : List Id)
     (pack : Bytes) : Type 0 where
   pub section : List Packet
   pub readiness : Bytes
   pub rest : List Packet
-  pub acks : IsAckSection format section ids
+  pub acks : IsAckSection limits format section ids
   pub is_readiness : text readiness ≡ codes "ready"
   pub packs : IsPackSection limit rest pack
   pub parts : packets ≡ section ++ Data readiness ∷ Delim ∷ rest
@@ -69,9 +72,10 @@ pub record IsReadyReply (format : Format) (limit : ℕ) (packets : List Packet) 
 abbrev pub IsBody : Reading → List Packet → FetchReply → Type 0
 IsBody reading packets (Acks ids) =
     (reading.direct ≡ false)
-    × (((ids ≡ []) × IsNakReply reading.format packets) ⊎ IsAckReply reading.format packets ids)
+    × (((ids ≡ []) × IsNakReply reading.limits reading.format packets)
+    ⊎ IsAckReply reading.limits reading.format packets ids)
 IsBody reading packets (Ready ids pack) =
-    (reading.direct ≡ false) × IsReadyReply reading.format reading.limit packets ids pack
+    (reading.direct ≡ false) × IsReadyReply reading.limits reading.format reading.limit packets ids pack
 IsBody reading packets (Pack pack) = (reading.direct ≡ true) × IsPackSection reading.limit packets pack
 
 -- the packets encode this reply

@@ -8,7 +8,7 @@
 -- reply begins with the acknowledgments, and the pack follows exactly if the acknowledgments end with `ready`. If the
 -- peer ends each reply with a response-end, this packet follows the flush.
 use Rattle.std.specs.Prelude.{◌≡◌, ℕ, zero, suc, ◌+◌, Bool, true, false, ◌&&◌, List, [], ◌∷◌, ◌++◌, length, map, take, drop}
-use Rattle.std.specs.Prelude.{if◌then◌else◌, codes, nat_le, nat_lt, Option, Some, None, is_some, Result, Ok, Err}
+use Rattle.std.specs.Prelude.{if◌then◌else◌, codes, min, nat_le, nat_lt, Option, Some, None, is_some, Result, Ok, Err}
 use Rattle.std.specs.List.{filter_map, flat_map, list_any}
 use Rattle.std.specs.Str.{bytes_eq}
 use Rattle.gpkt.specs.Packets.{Bytes, Packet, Data, Flush, Delim, ResponseEnd, text}
@@ -19,6 +19,7 @@ use Rattle.gname.specs.declared.formats.Format.{Format}
 use Rattle.ggrammar.specs.Grammar.{Verdict, Open, Refused, IsWhole, if_room}
 use Rattle.ggrammar.specs.Endings.{ends_with, at_flush, after_flush}
 use Rattle.ggrammar.specs.declared.ends.Ends.{Ends}
+use Rattle.ggrammar.specs.declared.limits.Limits.{Limits}
 use Rattle.ggrammar.specs.Places.{place_after, collect}
 use Rattle.ggrammar.specs.Texts.{text_packet}
 use Rattle.ggrammar.specs.Faults.{kept_text}
@@ -32,17 +33,22 @@ pub data FetchReply : Type 0 where
   Ready : (ids : List Id) (pack : Bytes) → FetchReply
   Pack : (pack : Bytes) → FetchReply
 
--- the parameters of reading a reply: the id format, whether the reply starts with the pack, the pack's size limit, and
--- the last packet
+-- the parameters of reading a reply: the limits on acknowledged ids, the id format, whether the reply starts with the
+-- pack, the pack's size limit, and the last packet
 pub record Reading : Type 0 where
+  pub limits : Limits
   pub format : Format
   pub direct : Bool
   pub limit : ℕ
   pub ends : Ends
 
--- the maximum number of ids that a reply acknowledges
-abbrev pub max_acks : ℕ
-max_acks = 4096
+-- the maximum number of packets in the section of a pack, and of ids that a reply acknowledges with any limits
+abbrev pub max_packets : ℕ
+max_packets = 4294967295
+
+-- the maximum number of ids that a reply acknowledges with these limits
+abbrev pub max_acks : Limits → ℕ
+max_acks limits = min limits.haves max_packets
 
 -- ---- texts
 
@@ -176,21 +182,17 @@ state_of reading packets = record {
   byte_count = length (data_of (band_payloads reading.direct packets));
 }
 
--- the maximum number of packets in the section of a pack
-abbrev pub max_packets : ℕ
-max_packets = 4294967295
+abbrev pub judge_ack : Limits → Format → State → Bytes → Verdict
+judge_ack limits format state id =
+    if is_some (id_of_text format id) then if_room (nat_lt state.ack_count (max_acks limits)) else Refused why.BadId
 
-abbrev pub judge_ack : Format → State → Bytes → Verdict
-judge_ack format state id =
-    if is_some (id_of_text format id) then if_room (nat_lt state.ack_count max_acks) else Refused why.BadId
-
-abbrev pub judge_acking : Format → State → ReplyForm → Verdict
-judge_acking format state (Ack id) = judge_ack format state id
-judge_acking format state Nak = if nat_lt 0 state.ack_count then Refused why.WrongSection else Open
-judge_acking format state Readiness = Open
-judge_acking format state Acknowledgments = Refused why.WrongSection
-judge_acking format state Packfile = Refused why.WrongSection
-judge_acking format state OtherForm = Refused why.BadText
+abbrev pub judge_acking : Limits → Format → State → ReplyForm → Verdict
+judge_acking limits format state (Ack id) = judge_ack limits format state id
+judge_acking limits format state Nak = if nat_lt 0 state.ack_count then Refused why.WrongSection else Open
+judge_acking limits format state Readiness = Open
+judge_acking limits format state Acknowledgments = Refused why.WrongSection
+judge_acking limits format state Packfile = Refused why.WrongSection
+judge_acking limits format state OtherForm = Refused why.BadText
 
 -- the verdict on a text after NAK or `ready`, where no text is allowed
 abbrev pub judge_late : ReplyForm → Verdict
@@ -216,7 +218,8 @@ judge_band limit state (Ok (Progress bytes)) = if_room (nat_lt state.band_count 
 
 abbrev pub judge_payload : Reading → Point → State → Bytes → Verdict
 judge_payload reading Start state payload = judge_start (reply_form (text payload))
-judge_payload reading Acking state payload = judge_acking reading.format state (reply_form (text payload))
+judge_payload reading Acking state payload =
+    judge_acking reading.limits reading.format state (reply_form (text payload))
 judge_payload reading AfterNak state payload = judge_late (reply_form (text payload))
 judge_payload reading AfterReady state payload = judge_late (reply_form (text payload))
 judge_payload reading BeforePack state payload = judge_before_pack (reply_form (text payload))

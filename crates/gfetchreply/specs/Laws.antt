@@ -7,8 +7,9 @@ use Rattle.ggrammar.specs.MessageBytes.{known_bytes, IsFront, IsOfBytes}
 use Rattle.ggrammar.specs.MessageReading.{ReadsRefused}
 use Rattle.ggrammar.specs.declared.fault.MessageFault.{MessageFault}
 use Rattle.ggrammar.specs.declared.fault.Why.TheVariants.{Limit}
-use Rattle.gfetchreply.specs.FetchReplies.{FetchReply, Reading, Says, brings, canonical_reply, judge}
-use Rattle.gfetchreply.specs.FetchHeads.{FetchHead, head_of, pack_of}
+use Rattle.ggrammar.specs.declared.limits.Limits.{Limits}
+use Rattle.gfetchreply.specs.FetchReplies.{FetchReply, Reading, Says, brings, canonical_reply, judge, max_acks}
+use Rattle.gfetchreply.specs.FetchHeads.{FetchHead, acknowledged_by, head_of, pack_of}
 use Rattle.gfetchreply.specs.ReplyReading.{ReadsReply, TakesReply}
 use Rattle.gfetchreply.specs.WellFormed.{IsReplyIn}
 
@@ -31,17 +32,25 @@ OneInWhateverReading =
     → other.ends ≡ reading.ends → Says reading packets one → Says other (packets ++ back) also
     → (back ≡ []) × (also ≡ one)
 
--- a reply is accepted with every limit that its pack does not exceed
+-- a reply is accepted with every size limit that its pack does not exceed
 abbrev pub IsInAnyLimit : Type 0
 IsInAnyLimit =
     (reading : Reading) (limit : ℕ) (packets : List Packet) (reply : FetchReply) → Says reading packets reply
     → length (pack_of reply) ≤ limit → Says (record reading { limit = limit }) packets reply
 
--- if a reply is refused for its content when it is read with another limit, the fault is `Limit`
+-- a reply is accepted with all limits that the number of its acknowledged ids does not exceed
+abbrev pub IsInAnyLimits : Type 0
+IsInAnyLimits =
+    (reading : Reading) (limits : Limits) (packets : List Packet) (reply : FetchReply) → Says reading packets reply
+    → length (acknowledged_by reply) ≤ max_acks limits → Says (record reading { limits = limits }) packets reply
+
+-- if a reply is refused for its content when it is read with another size limit or with other limits, the fault is
+-- `Limit`
 abbrev pub IsRefusedOverLimit : Type 0
 IsRefusedOverLimit =
-    (reading : Reading) (limit : ℕ) (packets front : List Packet) (reply : FetchReply) (bytes new rest : Bytes)
-    (fault : MessageFault) → Says (record reading { limit = limit }) packets reply → IsFront packets bytes rest
+    (reading : Reading) (limit : ℕ) (limits : Limits) (packets front : List Packet) (reply : FetchReply)
+    (bytes new rest : Bytes) (fault : MessageFault)
+    → Says (record reading { limit = limit; limits = limits }) packets reply → IsFront packets bytes rest
     → ReadsRefused (judge reading) (brings reading) front (known_bytes bytes new) fault → IsOfBytes fault.why
     → fault.why ≡ Limit
 

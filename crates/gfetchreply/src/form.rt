@@ -1,4 +1,4 @@
-//! The texts of a fetch reply.
+//! The lines of a fetch reply, which are payloads without a line feed.
 
 ghost use Rattle.std.specs.Prelude.{◌≡◌, codes};
 ghost use Rattle.gfetchreply.specs.FetchReplies.{ack_or_other, reply_form};

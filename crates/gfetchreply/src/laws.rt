@@ -4,11 +4,12 @@
 ghost use Rattle.std.specs.Prelude.{◌≡◌, ◌≤◌};
 ghost use Rattle.gname.specs.Limits.{max_pack};
 ghost use Rattle.ggrammar.specs.Grammar.{HasEndings, IsPrefixFree, RefusesFirstMisfits};
+ghost use Rattle.ggrammar.specs.Limits.{profile};
 ghost use Rattle.ggrammar.specs.Kinds.{AsInManual, CanonicalSays, OneMeaning, ReadsBack, ReadsExactly, SaysWhole};
 ghost use Rattle.ggrammar.specs.MessageBytes.{BeginsOrIsRefused, RefusesPackets, SpellingsPrefixFree};
 ghost use Rattle.gfetchreply.specs.FetchManual.{IsFetchReply};
 ghost use Rattle.gfetchreply.specs.FetchReplies.{IsCanonical, Reading, Says, brings, judge, max_acks};
-ghost use Rattle.gfetchreply.specs.Laws.{HasShortEndings, IsInAnyLimit, IsRefusedOverLimit, OneInWhateverReading, ReadsBackInto, ReadsIntoOnlySaid, ReadsIntoWhereSaid};
+ghost use Rattle.gfetchreply.specs.Laws.{HasShortEndings, IsInAnyLimit, IsInAnyLimits, IsRefusedOverLimit, OneInWhateverReading, ReadsBackInto, ReadsIntoOnlySaid, ReadsIntoWhereSaid};
 ghost use Rattle.gfetchreply.specs.WellFormed.{IsReplyIn};
 
 use crate::sink::PackSink;
@@ -42,9 +43,9 @@ impl MessageKind for Replies {
     ghost is_canonical = { λ given. IsCanonical given.1.ends };
 }
 
-/// Proves that the constant `MAX_ACKS` equals the limit in the specifications of this crate.
+/// Proves that the constant `MAX_ACKS` equals the default limit in the specifications.
 pub fn limits_are_the_constants()
-    ensures acks { MAX_ACKS ≡ max_acks }
+    ensures acks { MAX_ACKS ≡ max_acks profile }
 {}
 
 /// Proves that a list of packets is read as a reply exactly if Git's manual allows the list, and
@@ -142,13 +143,15 @@ pub fn reads_back_into<T: PackSink>()
     kinds_are_read::<Replies>();
 }
 
-/// Proves that reading the same packets for another request or with another limit returns no other
+/// Proves that reading the same packets for another request or with other limits returns no other
 /// reply. The format of the ids and the end of the reply must be the same. A reply is accepted with
-/// every limit that its pack does not exceed. If a reply is refused because of its content with
-/// another limit, the fault is `Limit`.
+/// every size limit that its pack does not exceed, and with all limits that the number of its ids
+/// does not exceed. If a reply is refused because of its content with other limits, the fault is
+/// `Limit`.
 pub fn other_readings()
     ensures whatever_reading { OneInWhateverReading }
     ensures any_limit { IsInAnyLimit }
+    ensures any_limits { IsInAnyLimits }
     ensures over_limit { IsRefusedOverLimit }
 {
     grammars_are_exact();

@@ -5,26 +5,29 @@
 //! # Proved
 //!
 //! - [`read_fetch_reply_into_in`] reads a reply exactly to its end, however its bytes are split
-//!   into pieces. The call returns the head of the reply, whose ids have the requested format. The
-//!   sink has accepted the reply's pack after its previous bytes. The length of the pack is within
-//!   the limit. Any other input is rejected at the first packet that does not fit, for the reason
-//!   that the grammar states (`judge` in `specs/FetchReplies.antt`). The sink has then accepted
-//!   exactly the data of the packets before the rejected packet, which does not exceed the limit.
-//!   Whatever the result, `PackSink::same` relates the sink before the call to the sink after the
-//!   call. The reader never passes an empty piece to the sink.
+//!   into pieces. The call returns the head of the reply, whose acknowledgments have the requested
+//!   format and limits. The sink has accepted the reply's pack after its previous bytes. The length
+//!   of the pack is within the limit. Any other input is rejected at the first packet that does not
+//!   fit, for the reason that the grammar states (`judge` in `specs/FetchReplies.antt`). The sink
+//!   has then accepted exactly the data of the packets before the rejected packet, which does not
+//!   exceed the limit. Whatever the result, `PackSink::same` relates the sink before the call to the
+//!   sink after the call. The reader never passes an empty piece to the sink.
 //! - Out of memory never replaces another fault, and is reported only at a packet that the grammar
 //!   accepts. The packet contains an acknowledged id, or a piece of the pack if the sink's type may
 //!   refuse pieces. Each implementation of [`PackSink`] states whether it may refuse pieces; a
-//!   vector may. [`read_fetch_reply_into`] has the same contract for SHA-1 ids. The functions
-//!   [`read_fetch_reply_in`] and [`read_fetch_reply`] store the pack in memory.
-//! - [`Acks`] has at most 4,096 ids of one format. [`PackBytes`] has at most `gname::MAX_PACK`
-//!   bytes, and a [`PackLimit`] is at most `gname::MAX_PACK`. A call that builds a value of these
-//!   types checks the format of ids before the limit. A failed [`Acks::push`] changes nothing.
-//!   Building a reply moves existing ids and an existing pack into it, unchanged.
+//!   vector may. [`read_fetch_reply_into`] has the same contract for SHA-1 ids and the default
+//!   limits. The functions [`read_fetch_reply_in`] and [`read_fetch_reply`] store the pack in
+//!   memory.
+//! - [`Acks`] has ids of one format. Their number is within the limit on haves of its
+//!   [`ggrammar::Limits`], which is 4,096 by default. With any limits, the number is at most
+//!   4,294,967,295. [`PackBytes`] has at most `gname::MAX_PACK` bytes, and a [`PackLimit`] is at
+//!   most `gname::MAX_PACK`. A call that builds a value of these types checks the format of ids
+//!   before the limit. A failed [`Acks::push`] changes nothing. Building a reply moves existing ids
+//!   and an existing pack into it, unchanged.
 //! - [`write_fetch_reply`] writes exactly the bytes of a reply's packets (`canonical_reply`), or a
 //!   prefix of the bytes if the sink fails. A payload is never too long. The written reply reads
-//!   back if the pack is within the reader's limit and `direct` in [`FetchReading`] is true exactly
-//!   for a direct reply.
+//!   back with the limits of its acknowledgments, if the pack is within the reader's size limit.
+//!   The field `direct` of [`FetchReading`] must be true exactly for a direct reply.
 //! - By [`laws`], a list of packets is a reply exactly if Git's manual allows the list, and with
 //!   the meaning that the manual states (`specs/FetchManual.antt`). A list of packets encodes at
 //!   most one reply, and no reply is a prefix of another, as packets or as bytes. Each unfinished
@@ -32,9 +35,9 @@
 //!   not fit. The packets written for a reply encode it, and it reads back, whatever bytes follow.
 //!   A reply is read exactly if the bytes begin with packets that encode it. Every byte sequence
 //!   begins with a reply or is rejected because of its content. If the same bytes are read for
-//!   another request, the result is the same reply or no reply. If they are read with another
-//!   limit, the result is the same reply or a rejection because of the limit. The constant
-//!   `MAX_ACKS` equals the limit in the specifications.
+//!   another request, the result is the same reply or no reply. If they are read with other
+//!   limits, the result is the same reply or a rejection because of a limit. The constant
+//!   `MAX_ACKS` equals the default limit in the specifications.
 //!
 //! # Only tested
 //!

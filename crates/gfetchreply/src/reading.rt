@@ -7,12 +7,13 @@ ghost use Rattle.ggrammar.specs.PeerErrors.{peer_error, unless_error};
 ghost use Rattle.gpkt.specs.Change.{change_of};
 ghost use Rattle.gname.specs.declared.formats.Format.TheVariants.{Sha1};
 ghost use Rattle.ggrammar.specs.Kinds.{ReadsOrRefuses};
+ghost use Rattle.ggrammar.specs.Limits.{profile};
 ghost use Rattle.ggrammar.specs.MessageReading.{LeavesReader};
 ghost use Rattle.gfetchreply.specs.FetchReplies.{Says, band_brings, brings, data_in, judge, judge_at, judge_band, judge_payload, payload_brings};
 ghost use Rattle.gfetchreply.specs.FetchHeads.{pack_of};
 ghost use Rattle.gfetchreply.specs.steps.ReplyState.{TakesBoth, brings_there, data_there, first_kept, kept_in, place_in, state_in, with_band, with_packet, with_payload};
 ghost use Rattle.gfetchreply.specs.ReplyReading.{ReadsReply};
-ghost use Rattle.gfetchreply.specs.Views.{IsHeadOf, IsReplyOf, head_result, reading_in, reply_in, reply_result, sha1_reading};
+ghost use Rattle.gfetchreply.specs.Views.{AreAcksOf, IsHeadOf, IsReplyOf, head_result, reading_in, reply_in, reply_result, sha1_reading};
 ghost use Rattle.gfetchreply.specs.steps.Views.{head_after, reading_with};
 
 use crate::form::reply_form;
@@ -20,7 +21,9 @@ use crate::limit::PackLimit;
 use crate::sections::{Point, Sections, late};
 use crate::sink::PackSink;
 use crate::value::{FetchHead, FetchReply};
-use ggrammar::{Ends, Message, MessageFault, PeerText, Step, Why, peer_error, read_message};
+use ggrammar::{
+    Ends, Limits, Message, MessageFault, PeerText, Step, Why, peer_error, read_message,
+};
 use gname::Format;
 use gpkt::{Band, Packet, PacketReader, Source, band_of, text_of};
 use std::alloc::Allocator;
@@ -29,6 +32,8 @@ use std::marker::{Brand, PhantomData};
 /// The parameters of reading a fetch reply.
 #[derive(Clone, Copy, Debug, PartialEq, Eq)]
 pub struct FetchReading {
+    /// The limits on the number of acknowledged ids.
+    pub limits: Limits,
     /// The format of the ids.
     pub format: Format,
     /// Whether the reply starts with the pack, as after a request with `done` or without haves.
@@ -84,11 +89,12 @@ impl<'s, T: PackSink, A: Allocator + Copy, L: Lent<T>> ReplyReader<'s, T, A, L> 
         ensures in_place { result.sink.ghost_name ≡ sink.entry.ghost_name }
         ensures sink { result.sink.now ≡ sink.old }
         ensures reading { result.reading ≡ reading }
-        ensures kept { kept_in result.sections ≡ first_kept reading.format reading.direct }
+        ensures kept { kept_in result.sections
+            ≡ first_kept reading.limits reading.format reading.direct }
     {
         ReplyReader {
             reading,
-            sections: Sections::new(alloc, reading.format, reading.direct),
+            sections: Sections::new(alloc, reading.limits, reading.format, reading.direct),
             sink,
             lent: PhantomData,
         }
@@ -216,8 +222,8 @@ impl<T: PackSink, A: Allocator + Copy, L: Lent<T>> Message for ReplyReader<'_, T
     }
 }
 
-/// Reads a fetch reply with SHA-1 ids, as [`read_fetch_reply_into_in`] does. For the arguments
-/// `direct`, `limit` and `ends`, see the fields of [`FetchReading`].
+/// Reads a fetch reply with SHA-1 ids and the default limits, as [`read_fetch_reply_into_in`] does.
+/// For the arguments `direct`, `limit` and `ends`, see the fields of [`FetchReading`].
 pub fn read_fetch_reply_into<S: Source, T: PackSink, A: Allocator + Copy, B: Allocator + Copy>(
     reader: &mut PacketReader<S, A>,
     direct: bool,
@@ -229,12 +235,13 @@ pub fn read_fetch_reply_into<S: Source, T: PackSink, A: Allocator + Copy, B: All
     ensures read { ReadsReply T.taken T.refuses (sha1_reading direct limit ends)
         (change_of S.remaining reader.old.source reader.new.source) (T.taken sink.old) sink.new
         (head_result result) }
-    ensures format { IfOk result (IsHeadOf Sha1) }
+    ensures format { IfOk result (IsHeadOf profile Sha1) }
     ensures same { T.same sink.old sink.new }
     ensures loans { S.loans reader.new.source ≡ S.loans reader.old.source }
     ensures reader { LeavesReader S.is_down reader.old reader.new result }
 {
     let reading = FetchReading {
+        limits: Limits::default(),
         format: Format::Sha1,
         direct,
         limit,
@@ -250,9 +257,10 @@ pub fn read_fetch_reply_into<S: Source, T: PackSink, A: Allocator + Copy, B: All
 /// A fault contains the reason, and the position of the first packet that does not fit. A fault of
 /// the packet reader ([`Why::Line`]) takes precedence over the end of the input ([`Why::Ended`]).
 /// An error that the peer reports ([`Why::RemoteErr`]) comes third, and a fault of the grammar
-/// last. A well-formed 4,097th id is rejected with [`Why::Limit`]. A packet with which the pack
-/// would exceed its limit is also rejected with [`Why::Limit`]. The fault [`Why::Memory`] is
-/// reported only at an acknowledged id or, if the sink may refuse a piece, at data of the pack.
+/// last. A well-formed id is rejected with [`Why::Limit`] if there are already as many ids as the
+/// limits allow (see [`Acks`](crate::Acks)). A packet with which the pack would exceed its limit is
+/// also rejected with [`Why::Limit`]. The fault [`Why::Memory`] is reported only at an acknowledged
+/// id or, if the sink may refuse a piece, at data of the pack.
 ///
 /// If the reply is rejected, the sink has accepted the data of the packets before the rejected
 /// packet, within the limit. After a rejection, the packet reader has failed exactly if the fault
@@ -267,7 +275,7 @@ pub fn read_fetch_reply_into_in<S: Source, T: PackSink, A: Allocator + Copy, B: 
     ensures read { ReadsReply T.taken T.refuses (reading_in reading)
         (change_of S.remaining reader.old.source reader.new.source)
         (T.taken sink.old) sink.new (head_result result) }
-    ensures format { IfOk result (IsHeadOf reading.format) }
+    ensures format { IfOk result (IsHeadOf reading.limits reading.format) }
     ensures same { T.same sink.old sink.new }
     ensures loans { S.loans reader.new.source ≡ S.loans reader.old.source }
     ensures reader { LeavesReader S.is_down reader.old reader.new result }
@@ -289,8 +297,8 @@ pub fn read_fetch_reply_into_in<S: Source, T: PackSink, A: Allocator + Copy, B: 
     }
 }
 
-/// Reads a fetch reply with SHA-1 ids, and stores its pack in memory, as [`read_fetch_reply_in`]
-/// does.
+/// Reads a fetch reply with SHA-1 ids and the default limits, and stores its pack in memory, as
+/// [`read_fetch_reply_in`] does.
 pub fn read_fetch_reply<S: Source, A: Allocator + Copy, B: Allocator + Copy>(
     reader: &mut PacketReader<S, A>,
     direct: bool,
@@ -302,11 +310,12 @@ pub fn read_fetch_reply<S: Source, A: Allocator + Copy, B: Allocator + Copy>(
         (brings (sha1_reading direct limit ends)) (Says (sha1_reading direct limit ends))
         (change_of S.remaining reader.old.source reader.new.source) (reply_result result) }
     ensures short { IfOk result (λ reply. length (pack_of (reply_in reply)) ≤ limit) }
-    ensures format { IfOk result (IsReplyOf Sha1) }
+    ensures format { IfOk result (IsReplyOf profile Sha1) }
     ensures loans { S.loans reader.new.source ≡ S.loans reader.old.source }
     ensures reader { LeavesReader S.is_down reader.old reader.new result }
 {
     let reading = FetchReading {
+        limits: Limits::default(),
         format: Format::Sha1,
         direct,
         limit,
@@ -327,7 +336,7 @@ pub fn read_fetch_reply_in<S: Source, A: Allocator + Copy, B: Allocator + Copy>(
         (Says (reading_in reading))
         (change_of S.remaining reader.old.source reader.new.source) (reply_result result) }
     ensures short { IfOk result (λ reply. length (pack_of (reply_in reply)) ≤ reading.limit) }
-    ensures format { IfOk result (IsReplyOf reading.format) }
+    ensures format { IfOk result (IsReplyOf reading.limits reading.format) }
     ensures loans { S.loans reader.new.source ≡ S.loans reader.old.source }
     ensures reader { LeavesReader S.is_down reader.old reader.new result }
 {
@@ -346,7 +355,7 @@ fn read_to_end<S: Source, T: PackSink, A: Allocator + Copy, B: Allocator + Copy,
     reply: &mut ReplyReader<'_, T, B, L>,
 ) -> Result<(), MessageFault>
     requires kept { kept_in reply.old.sections
-        ≡ first_kept reply.old.reading.format reply.old.reading.direct }
+        ≡ first_kept reply.old.reading.limits reply.old.reading.format reply.old.reading.direct }
     requires asked { reading_in reply.old.reading ≡ L.asked }
     requires seat { reply.old.sink.ghost_name ≡ L.seat }
     requires had { (before : Bytes) → L.had before → T.taken reply.old.sink.now before }
@@ -355,7 +364,8 @@ fn read_to_end<S: Source, T: PackSink, A: Allocator + Copy, B: Allocator + Copy,
     ensures read { ReadsReply T.taken T.refuses (reading_in reply.old.reading)
         (change_of S.remaining reader.old.source reader.new.source)
         L.had reply.new.sink.now (head_after reply.old.reading.direct reply.new.sections result) }
-    ensures format { OnOk result (reply.new.sections.acks.format ≡ reply.old.reading.format) }
+    ensures format { OnOk result (AreAcksOf reply.old.reading.limits reply.old.reading.format
+        reply.new.sections.acks) }
     ensures same { (start : T) → L.starts start → T.same start reply.new.sink.now }
     ensures loans { S.loans reader.new.source ≡ S.loans reader.old.source }
     ensures reader { LeavesReader S.is_down reader.old reader.new result }

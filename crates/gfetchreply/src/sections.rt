@@ -14,7 +14,7 @@ ghost use Rattle.gfetchreply.specs.steps.Views.{form_in};
 use crate::form::ReplyForm;
 use crate::limit::PackLimit;
 use crate::value::{Acks, FetchHead};
-use ggrammar::{Ends, Step, Why, id_of_text};
+use ggrammar::{Ends, Limits, Step, Why, id_of_text};
 use gname::Format;
 use gname::laws::texts_have_one_reading;
 use std::alloc::Allocator;
@@ -54,8 +54,8 @@ pub(crate) struct Sections<A: Allocator + Copy> {
 
 impl<A: Allocator + Copy> Sections<A> {
     /// Returns the contents of a reply before its first packet.
-    pub(crate) fn new(alloc: A, format: Format, direct: bool) -> Sections<A>
-        ensures { kept_in result ≡ first_kept format direct }
+    pub(crate) fn new(alloc: A, limits: Limits, format: Format, direct: bool) -> Sections<A>
+        ensures { kept_in result ≡ first_kept limits format direct }
     {
         Sections {
             place: if direct {
@@ -63,7 +63,7 @@ impl<A: Allocator + Copy> Sections<A> {
             } else {
                 Point::Start
             },
-            acks: Acks::new(alloc, format),
+            acks: Acks::within(alloc, format, limits),
             ready: false,
             band_count: 0,
             byte_count: 0,
@@ -87,8 +87,8 @@ impl<A: Allocator + Copy> Sections<A> {
 
     /// Accepts a text of the acknowledgments.
     pub(crate) fn take_acking(&mut self, form: ReplyForm<'_>) -> Result<Step, Why>
-        ensures { TakesAs (judge_acking self.old.acks.format (state_in self.old)
-            (form_in form.entry)) (form_brings (form_in form.entry))
+        ensures { TakesAs (judge_acking self.old.acks.limits self.old.acks.format
+            (state_in self.old) (form_in form.entry)) (form_brings (form_in form.entry))
             (kept_in self.new ≡ with_text Acking (kept_in self.old) (form_in form.entry)) result }
     {
         match form {
@@ -105,7 +105,8 @@ impl<A: Allocator + Copy> Sections<A> {
     }
 
     fn take_ack(&mut self, id: &[u8]) -> Result<Step, Why>
-        ensures { TakesAs (judge_ack self.old.acks.format (state_in self.old) id.now) true
+        ensures { TakesAs (judge_ack self.old.acks.limits self.old.acks.format
+            (state_in self.old) id.now) true
             (kept_in self.new ≡ with_text Acking (kept_in self.old) (Ack id.now)) result }
     {
         // Laws.
@@ -121,7 +122,8 @@ impl<A: Allocator + Copy> Sections<A> {
     }
 
     fn take_nak(&mut self) -> Result<Step, Why>
-        ensures { TakesAs (judge_acking self.old.acks.format (state_in self.old) Nak) false
+        ensures { TakesAs (judge_acking self.old.acks.limits self.old.acks.format
+            (state_in self.old) Nak) false
             (kept_in self.new ≡ with_text Acking (kept_in self.old) Nak) result }
     {
         if self.acks.ids().is_empty() {
@@ -234,7 +236,7 @@ impl<A: Allocator + Copy> Sections<A> {
     /// Returns the contents of the complete reply, without its pack.
     pub(crate) fn into_head(self, direct: bool) -> FetchHead<A>
         ensures head { head_in result ≡ head_by direct self.ready self.acks.ids }
-        ensures format { IsHeadOf self.acks.format result }
+        ensures format { IsHeadOf self.acks.limits self.acks.format result }
     {
         let Sections { acks, ready, .. } = self;
         if direct {

@@ -5,6 +5,7 @@ ghost use Rattle.std.specs.List.{list_all};
 ghost use Rattle.gname.specs.Ids.{IsIdOf, has_format};
 ghost use Rattle.gname.specs.Limits.{max_pack};
 ghost use Rattle.ggrammar.specs.Building.{Builds};
+ghost use Rattle.ggrammar.specs.Limits.{profile};
 ghost use Rattle.gfetchreply.specs.FetchReplies.{max_acks};
 ghost use Rattle.gfetchreply.specs.WellFormed.{AreAcks};
 ghost use Rattle.gfetchreply.specs.steps.FetchHeads.{reply_with};
@@ -13,18 +14,23 @@ ghost use Rattle.gfetchreply.specs.Views.{head_in, reply_in};
 ghost use Rattle.gfetchreply.specs.steps.Values.{AddsId};
 ghost use Rattle.gfetchreply.specs.Values.{MakesAcks, MakesPack, with_id};
 
-use ggrammar::{MessageFault, Why};
+use ggrammar::{Limits, MessageFault, Why};
 use gname::{Format, MAX_PACK, Oid};
 use std::alloc::Allocator;
 use std::marker::Model;
 
-/// The maximum number of ids that a reply acknowledges.
+/// The maximum number of ids that a reply acknowledges with the default limits.
 pub const MAX_ACKS: usize = 4_096;
 
-/// The ids that a server acknowledges: the haves of a request that the server holds. The list
-/// contains at most 4,096 ids, which all have the same format.
+// The maximum number of ids that a reply acknowledges with any limits.
+const MAX_COUNT: usize = 4_294_967_295;
+
+/// The ids that a server acknowledges: the haves of a request that the server holds. All ids have
+/// the same format. The limit on haves is also the limit on the number of ids. A limit above
+/// 4,294,967,295 counts as 4,294,967,295.
 #[derive(Debug, Drop)]
 pub struct Acks<A: Allocator + Copy> {
+    limits: Limits,
     format: Format,
     ids: Vec<Oid, A>,
 }
@@ -35,38 +41,70 @@ impl<A: Allocator + Copy> Model for Acks<A> {
 
     ghost Value = { Acks };
 
-    ghost view = { λ acks. record { format = acks.format; ids = acks.ids.items } };
+    ghost view = { λ acks. record { limits = acks.limits; format = acks.format; ids = acks.ids.items } };
 
-    ghost invariant = { λ acks. AreAcks acks.format acks.ids.items };
+    ghost invariant = { λ acks. AreAcks acks.limits acks.format acks.ids.items };
 }
 
 impl<A: Allocator + Copy> Acks<A> {
-    /// Returns an empty list of ids. Allocates nothing.
+    /// Returns an empty list of ids with the default limits. Allocates nothing.
     pub fn new(alloc: A, format: Format) -> Acks<A>
-        ensures { result ≡ record { format = format; ids = [] } }
+        ensures { result ≡ record { limits = profile; format = format; ids = [] } }
+    {
+        Acks::within(alloc, format, Limits::default())
+    }
+
+    /// Returns an empty list of ids with these limits. Allocates nothing.
+    pub fn within(alloc: A, format: Format, limits: Limits) -> Acks<A>
+        ensures { result ≡ record { limits = limits; format = format; ids = [] } }
     {
         Acks {
+            limits,
             format,
             ids: Vec::new(alloc),
         }
     }
 
-    /// Returns acknowledgments of these ids, without copying the ids. Allocates nothing.
+    /// Returns acknowledgments of these ids with the default limits, as [`Acks::from_ids_within`]
+    /// does.
+    pub fn from_ids(format: Format, ids: Vec<Oid, A>) -> Result<Acks<A>, MessageFault>
+        ensures { MakesAcks profile format ids.items result }
+    {
+        Acks::from_ids_within(format, ids, Limits::default())
+    }
+
+    /// Returns acknowledgments of these ids with these limits, without copying the ids. Allocates
+    /// nothing.
     ///
     /// Fails with [`Why::BadText`] if an id has another format. Otherwise fails with [`Why::Limit`]
-    /// if there are more than 4,096 ids. The fault reports packet position 0. A failed call drops
-    /// the ids.
-    pub fn from_ids(format: Format, ids: Vec<Oid, A>) -> Result<Acks<A>, MessageFault>
-        ensures { MakesAcks format ids.items result }
+    /// if there are more ids than the limits allow. The fault reports packet position 0. A failed
+    /// call drops the ids.
+    pub fn from_ids_within(
+        format: Format,
+        ids: Vec<Oid, A>,
+        limits: Limits,
+    ) -> Result<Acks<A>, MessageFault>
+        ensures { MakesAcks limits format ids.items result }
     {
         if !are_of(format, ids.as_slice()) {
             return Err(MessageFault::of_value(Why::BadText));
         }
-        if ids.len() <= MAX_ACKS {
-            Ok(Acks { format, ids })
+        if ids.len() <= max_acks(limits) {
+            Ok(Acks {
+                limits,
+                format,
+                ids,
+            })
         } else {
             Err(MessageFault::of_value(Why::Limit))
         }
+    }
+
+    /// Returns the limits on the number of ids.
+    pub fn limits(&self) -> Limits
+        ensures { result ≡ self.now.limits }
+    {
+        self.limits
     }
 
     /// Returns the format of the ids.
@@ -76,10 +114,10 @@ impl<A: Allocator + Copy> Acks<A> {
         self.format
     }
 
-    /// Returns the ids, of which there are at most 4,096.
+    /// Returns the ids, of which there are at most as many as the limits allow.
     pub fn ids(&self) -> &[Oid]
         ensures ids { result.now ≡ self.now.ids }
-        ensures well_formed { AreAcks self.now.format result.now }
+        ensures well_formed { AreAcks self.now.limits self.now.format result.now }
     {
         self.ids.as_slice()
     }
@@ -87,11 +125,13 @@ impl<A: Allocator + Copy> Acks<A> {
     /// Appends an id.
     ///
     /// Fails with [`Why::BadText`] if the id has another format. Otherwise fails with
-    /// [`Why::Limit`] if there are already 4,096 ids, or with [`Why::Memory`] if memory runs out.
-    /// The fault reports packet position 0. A failed call changes nothing.
+    /// [`Why::Limit`] if there are already as many ids as the limits allow, or with
+    /// [`Why::Memory`] if memory runs out. The fault reports packet position 0. A failed call
+    /// changes nothing.
     pub fn push(&mut self, id: Oid) -> Result<(), MessageFault>
-        ensures { Builds (has_format self.old.format id) (nat_lt (length self.old.ids) max_acks)
-            self.old self.new (with_id self.old id) result }
+        ensures { Builds (has_format self.old.format id)
+            (nat_lt (length self.old.ids) (max_acks self.old.limits)) self.old self.new
+            (with_id self.old id) result }
     {
         if !is_of(self.format, &id) {
             return Err(MessageFault::of_value(Why::BadText));
@@ -107,7 +147,7 @@ impl<A: Allocator + Copy> Acks<A> {
         requires { IsIdOf self.old.format id }
         ensures { AddsId self.old self.new id result }
     {
-        if self.ids.len() >= MAX_ACKS {
+        if self.ids.len() >= max_acks(self.limits) {
             return Err(Why::Limit);
         }
         match self.ids.push(id) {
@@ -115,6 +155,13 @@ impl<A: Allocator + Copy> Acks<A> {
             Err(_) => Err(Why::Memory),
         }
     }
+}
+
+// Returns the maximum number of ids that a reply acknowledges with these limits.
+fn max_acks(limits: Limits) -> usize
+    ensures { result ≡ max_acks limits }
+{
+    limits.haves.min(MAX_COUNT)
 }
 
 // Returns whether the id has this format.

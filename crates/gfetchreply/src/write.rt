@@ -25,9 +25,9 @@ use std::slice::Chunks;
 ///
 /// Fails with `Io` if the sink fails, after writing a prefix of the reply. Fails with `Failed` if
 /// the writer failed before the call. Every reply meets the conditions of
-/// [`reads_back`](crate::laws::reads_back). So a written reply reads back, if the pack is within
-/// the reader's limit and `direct` in [`FetchReading`](crate::FetchReading) is true exactly for a
-/// direct reply.
+/// [`reads_back`](crate::laws::reads_back). So a written reply reads back with the limits of its
+/// acknowledgments, if the pack is within the reader's size limit. The field `direct` of
+/// [`FetchReading`](crate::FetchReading) must be true exactly for a direct reply.
 #[tactic(auto, unfolding(crate::specs::FetchReplies::canonical_reply))]
 pub fn write_fetch_reply<A: Allocator + Copy, W: Sink>(
     reply: &FetchReply<A>,
@@ -36,7 +36,7 @@ pub fn write_fetch_reply<A: Allocator + Copy, W: Sink>(
 ) -> Result<(), WriteFault>
     ensures lines { WritesPackets W.contents W.passed_on W.is_down W.loans writer.old writer.new
         result (canonical_reply ends (reply_in reply.now)) }
-    ensures form { (reading : Reading) → IsReplyOf reading.format reply.now
+    ensures form { (reading : Reading) → IsReplyOf reading.limits reading.format reply.now
         → reading.direct ≡ is_alone (reply_in reply.now)
         → length (pack_of (reply_in reply.now)) ≤ reading.limit
         → IsReplyIn reading (reply_in reply.now) }

@@ -9,6 +9,7 @@ pub mod PeerErrors
 pub mod Capabilities
 pub mod Ids
 pub mod Endings
+pub mod Limits
 pub mod Writing
 pub mod Texts
 pub mod Places

@@ -36,7 +36,8 @@
 //!   memory.
 //! - If the bytes of a source are unknown, the contracts do not state which packets are read. The
 //!   contracts still state whether the source has failed.
-//! - Each kind of message defines the state of a rejected message.
+//! - The contracts of this crate do not state what a reader of messages holds after it rejects a
+//!   packet. Each kind of message states that itself.
 //!
 //! # Dependencies
 //!
@@ -52,6 +53,7 @@ mod fault;
 mod id;
 mod kind;
 pub mod laws;
+mod limits;
 mod message;
 mod peer;
 
@@ -63,5 +65,6 @@ pub use crate::ends::Ends;
 pub use crate::fault::{MAX_PEER_TEXT, MessageFault, PeerText, Why};
 pub use crate::id::id_of_text;
 pub use crate::kind::MessageKind;
+pub use crate::limits::Limits;
 pub use crate::message::{Message, Step, read_message};
 pub use crate::peer::{after_word, peer_error};

@@ -44,8 +44,8 @@
 //! - If an object is missing and a pack was left out, the fault names that pack. Git says that the
 //!   object is missing.
 //! - If a delta base is broken in its pack, another copy is used, as in Git. In this crate the copy
-//!   must have at most 4 MiB, and all its own bases must be intact. At most 15 bases of a chain may
-//!   be replaced by copies.
+//!   must be no larger than 4 MiB, and all its own bases must be intact. At most 15 bases of a
+//!   chain may be replaced by copies.
 //! - A quoted path in `info/alternates`, or a path that is not UTF-8, is a fault. Git reads quoted
 //!   paths and paths that are not UTF-8.
 //! - A missing alternate is left out. Git also leaves the alternate out, and prints an error.

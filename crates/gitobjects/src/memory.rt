@@ -154,7 +154,8 @@ impl<A: Allocator + Copy> ObjectFiles for MemoryFiles<A> {
         }
     }
 
-    // The field `seconds` has the number of all files, which changes when a file is added.
+    // In place of a time, the field `seconds` holds the number of all files, which changes when a
+    // file is added.
     fn change_time(&self, path: &str) -> Result<Option<FolderTime>, Cause> {
         if self.exists(path)? {
             Ok(Some(FolderTime {

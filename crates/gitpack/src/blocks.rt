@@ -113,8 +113,8 @@ impl<A: Allocator + Copy> Blocks<A> {
         None
     }
 
-    // Returns the longest match that begins at `at` in the target. `start` is the hash of the block
-    // at `at`, and the number of the first block in the slot of this hash.
+    // Returns the longest match that begins at `at` in the target. `start` is a pair: the hash of
+    // the target's block at `at`, and the number of the first base block with this hash's slot.
     fn longest(&self, base: &[u8], target: &[u8], at: usize, start: (u32, u32)) -> Match {
         let mut best = Match {
             at,

@@ -3,6 +3,7 @@
 use crate::current::fetched_already;
 use crate::directory::{Directories, find_repository};
 use crate::fault::Fault;
+use crate::limits::LIMITS;
 use crate::opening::{open_client, repository_fault};
 use crate::output::Output;
 use crate::progress::{Progress, Watched};
@@ -593,6 +594,7 @@ fn fetch_of(wanted: Wanted<'_>, progress: bool) -> GitFetch<'_, Global> {
         options: PackOptions {
             ofs_delta: true,
             progress,
+            limits: LIMITS,
         },
     }
 }

@@ -21,9 +21,10 @@
 //!
 //! - No call panics, overflows or reads out of bounds, and every call returns, for any arguments,
 //!   files, standard streams and peers.
-//! - `ls` prints the refs in the format of git-ls-remote(1) (`specs/Listing.antt`). A private
-//!   function derives the HEAD of a clone from the server's reply (`specs/Heads.antt`). Another
-//!   private function finds version 2 among the keys of `GIT_PROTOCOL` (`specs/Versions.antt`).
+//! - A private function makes the text that `ls` prints, in the format of git-ls-remote(1)
+//!   (`specs/Listing.antt`). A private function derives the HEAD of a clone from the server's reply
+//!   (`specs/Heads.antt`). Another private function finds version 2 among the keys of
+//!   `GIT_PROTOCOL` (`specs/Versions.antt`).
 //! - `serve` and `upload-pack` run each connection as a `Dialogue`, so the proofs of `gserver`
 //!   apply to each connection. `serve` runs the dialogues in an event loop of `gevents`, and
 //!   `upload-pack` runs one dialogue by `gtalk::drive`. A pack that is sent to its end is complete.
@@ -56,8 +57,9 @@
 //!   permissions, and no reflog is written.
 //! - `serve` and `upload-pack` serve only protocol version 2. `upload-pack` does not check
 //!   who owns a repository.
-//! - A request has at most 1,024 wants, 4,096 haves and 64 ref prefixes. A pack has at most 64 MiB.
-//!   So a clone of a repository with more than 1,024 distinct tips fails.
+//! - A request has at most 65,537 wants, 65,536 haves and 1,024 ref prefixes. A repository has at
+//!   most 65,536 refs. `clone` and `fetch` accept a pack of at most 64 MiB, and `serve` and
+//!   `upload-pack` send packs of less than 4 GiB.
 //! - The progress line shows the object count from the pack header, and the number of received
 //!   bytes.
 //! - `ls` and `fetch` print ref names as the server sent them, unless standard output is a
@@ -69,7 +71,8 @@
 //! which contracts cannot describe. No contract says how many repositories are cached, or that an
 //! object store is ever closed. A cached repository lists its refs even if their objects have since
 //! been removed. `Repositories` may find any repository and report any text. A packer may fail with
-//! any fault.
+//! any fault, and a pack may have objects of another repository. A failed command may exit with any
+//! status. Output may be lost before it is written, and any call may fail.
 //!
 //! Text for a terminal may be written without the removal of control bytes. `upload-pack` may pass
 //! other bytes to the dialogue than it reads. A client whose first packet is malformed may get no
@@ -94,6 +97,7 @@ mod fault;
 mod fetching;
 mod first_line;
 mod kept;
+mod limits;
 mod listing;
 mod notes;
 mod opening;

@@ -1,6 +1,7 @@
 //! The error messages of failed commands. Each message names the file or URL, the cause, and
 //! usually a remedy.
 
+use crate::limits::LIMITS;
 use ganswer::{BuildFault, ServeFault};
 use gclient::{ClientFault, FetchFault, MAX_SPECS, RepoFault};
 use ggrammar::Why;
@@ -11,7 +12,6 @@ use gitrepository::{FormFault, RepositoryFault};
 use gitwords::{Shown, clean_byte};
 use gname::{MAX_ID_TEXT, MAX_PACK, OUT_OF_MEMORY_TEXT, Oid};
 use gpkt::PacketFault;
-use grequest::{MAX_HAVES, MAX_PREFIXES, MAX_WANTS};
 use gtcp::MAX_SILENCE;
 use std::alloc::Global;
 use std::io::ErrorKind;
@@ -392,7 +392,7 @@ fn write_client<W: fmt::Write>(
         ClientFault::TooManyWants => write!(
             f,
             "more than {} objects are wanted at once: fetch fewer refs at a time",
-            Thousands(MAX_WANTS)
+            Thousands(LIMITS.wants)
         ),
         ClientFault::Repo(fault) => write_repo(fault, f),
         _ => fmt::Display::fmt(fault, f),
@@ -459,11 +459,9 @@ fn write_request<W: fmt::Write>(fault: &ServeFault, f: &mut fmt::Formatter<W>) -
             f.write_str("the client wants an object that no ref reaches: ")?;
             write_id(id, f)
         }
-        ServeFault::Pack(PackFault::TooLarge) => write!(
-            f,
-            "the pack would have more than {} MiB: fetch fewer refs at a time",
-            MAX_PACK / 1_048_576
-        ),
+        ServeFault::Pack(PackFault::TooLarge) => {
+            f.write_str("the pack would have more than 4 GiB: fetch fewer refs at a time")
+        }
         _ => fmt::Display::fmt(fault, f),
     }
 }
@@ -483,9 +481,10 @@ fn write_request_message<W: fmt::Write>(
         }
         Why::Limit => write!(
             f,
-            "the request has more than {} wants, {} haves or {MAX_PREFIXES} prefixes of ref names",
-            Thousands(MAX_WANTS),
-            Thousands(MAX_HAVES)
+            "the request has more than {} wants, {} haves or {} prefixes of ref names",
+            Thousands(LIMITS.wants),
+            Thousands(LIMITS.haves),
+            Thousands(LIMITS.prefixes)
         ),
         Why::Memory | Why::Line(PacketFault::Memory) => f.write_str(OUT_OF_MEMORY_TEXT),
         _ => write!(f, "packet {frame} of the request is refused: {why}"),

@@ -66,7 +66,7 @@ impl<'d, D> Shared<'d, D> {
         })
     }
 
-    /// Returns the handle without a ticket, for a connection that does not need objects.
+    /// Returns the handle without access to the objects, for a connection that does not need them.
     pub(crate) fn without_objects(self) -> Shared<'d, D> {
         let mut shared = self;
         shared.objects = None;

@@ -3,6 +3,7 @@
 ghost use Rattle.gtalk.specs.Talks.{no_talk};
 
 use crate::fault::Fault;
+use crate::limits::LIMITS;
 use crate::notes::Notes;
 use crate::sentences::{Clean, Sentence};
 use crate::shared::Blames;
@@ -32,7 +33,7 @@ where
     K: ServedRepository<Global> + PartPacker<Global> + Drop,
     ensures { ⟦<Held<'h, H, K> as Conversation>⟧.holds result no_talk }
 {
-    let side = ServerSide::new(host, alloc, Ends::Plain);
+    let side = ServerSide::within(host, alloc, Ends::Plain, LIMITS);
     Dialogue::new(Visitor::new(side, notes))
 }
 

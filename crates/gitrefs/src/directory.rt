@@ -9,10 +9,10 @@ use crate::texts::{branch_text, ref_text};
 use gname::RefName;
 use grefs::{Head, Refs, Target};
 use std::alloc::{Allocator, Global};
-use std::fs;
 use std::fs::{File, Files};
-use std::io::{ErrorKind, Read};
+use std::io::ErrorKind;
 use std::path::Path;
+use std::{fs, io};
 
 /// The refs of a Git directory (gitrepository-layout(5)).
 #[derive(Drop)]
@@ -323,7 +323,8 @@ impl<'r, R: Files, A: Allocator + Copy> GitDirectory<'r, R, A> {
             Err(error) if is_absent(error.kind()) => return Ok(None),
             Err(error) => return Err(RefFault::system(self.alloc, path.as_str(), error)),
         };
-        match file.read_to_end(&mut text) {
+        // `copy` is quicker than `read_to_end`, which first fills the text with zeros.
+        match io::copy(&mut file, &mut text) {
             Ok(_) => Ok(Some(text)),
             Err(error) => Err(RefFault::system(self.alloc, path.as_str(), error)),
         }

@@ -1,6 +1,5 @@
 -- A pack that is returned in parts (gitformat-pack(5)).
 use Rattle.std.specs.Prelude.{◌≡◌, ℕ, ◌+◌, ◌≤◌, Bool, true, false, IsTrue, List, [], ◌++◌, length, drop, take, Option, Some, None}
-use Rattle.gname.specs.Limits.{max_pack}
 use Rattle.sha1.specs.Sha1.{Holds}
 use Rattle.gitpack.specs.Packs.{with_trailer}
 use Rattle.gitrepository.specs.Packs.{HasPut, IsWholePack}

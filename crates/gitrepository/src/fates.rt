@@ -76,8 +76,8 @@ impl<A: Allocator + Copy> Fates<A> {
         }
     }
 
-    /// Returns the fate of an object that was found loose. If Git packs the object meanwhile, the
-    /// fate does not change.
+    /// Returns whether an object that was found loose is sent. The result is the same if Git packs
+    /// the object later.
     pub(crate) fn of_loose(&self, id: &Oid) -> Fate {
         // This early return avoids hashing the id if there are no loose objects.
         if self.loose.is_empty() {

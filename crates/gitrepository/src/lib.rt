@@ -8,7 +8,7 @@
 //!   `ls-refs` needs no other objects. [`lead_with_newest`] puts refs to the newest objects first.
 //! - A [`StorePacker`] packs commits and tags with their trees and blobs. The packer copies stored
 //!   pack entries unchanged, and sends other objects as deltas if the deltas are smaller. A pack is
-//!   returned whole, or in parts with one entry in memory at a time.
+//!   returned in parts, with one entry in memory at a time.
 //! - A [`StoreIndexer`] indexes a pack while receiving it, and keeps the pack. The function
 //!   [`install_pack`] writes the received pack to the directory.
 //! - [`open_store`] refuses a repository in an unsupported format, and [`is_bare`] returns whether
@@ -26,11 +26,11 @@
 //!   object.
 //! - A pack that is sent has a header, as many entries as the header says, and the SHA-1 of all
 //!   preceding bytes. Each entry of a sent pack has a well-formed header. The pack has at most
-//!   `MAX_PACK` bytes. If a pack is returned in parts, the concatenation of the parts is the pack.
-//!   If a later part fails, no contract describes the parts returned before.
+//!   `gparts::MAX_PARTS` bytes. The concatenation of the returned parts is the pack. If a later
+//!   part fails, no contract describes the parts returned before.
 //! - A pack is accepted only if its trailer is the SHA-1 of all preceding bytes. Each entry that
-//!   the indexer returns describes an object, or is a tree or blob that a tag names. The entry of
-//!   the tag is also returned.
+//!   the indexer returns describes an object, or is a tree or blob that a tag names. In the second
+//!   case the entry of the tag is also returned.
 //! - [`install_files`] installs a pack in a [`PackFolder`] before its index. After `Ok` both files
 //!   exist, with the given bytes. A file gets its final name only once both files are written and
 //!   synced. After a fault the folder has neither file, only the pack, or both.
@@ -63,24 +63,28 @@
 //!
 //! # What the contracts do not rule out
 //!
-//! - The packer might send objects other than the wanted ones, or send the entry of one object in
-//!   place of another. No contract says which trees and blobs are sent. The stream of an entry may
-//!   be any bytes, and a delta may name a base that is not sent. The reader compares the CRC-32 of
-//!   each copied entry with the index, but no contract covers this comparison.
+//! - The packer might send objects other than the wanted ones, leave out listed commits and tags,
+//!   or send the entry of one object in place of another. The header of an entry may state the
+//!   wrong type or size, a wrong offset of its base, or a base of another type. No contract says
+//!   which trees and blobs are sent. The stream of an entry may be any bytes, and a delta may name
+//!   a base that is not sent. The reader compares the CRC-32 of each copied entry with the index,
+//!   but no contract covers this comparison.
 //! - If a commit-graph is wrong, the graph may be wrong too. The commit-graph is used only for
 //!   commits in the store. No contract covers which commits are looked up in the commit-graph, or
 //!   from which file it is read.
-//! - The graph might contain objects that no ref reaches, and a ref might be left out. No contract
-//!   covers HEAD.
+//! - The graph might contain objects that no ref reaches. A ref might be left out, or point to
+//!   another object of the graph. No contract covers HEAD.
 //! - [`open_tips`] might find objects other than those of the refs, or peel a tag to the wrong
 //!   object. [`open_tips`] trusts the peeled ids in `packed-refs`, as Git does. The function
 //!   [`lead_with_newest`] might leave refs out or put other refs first.
-//! - [`check_refs`] might look at objects other than those that the refs reach. [`check_refs`]
-//!   might count the nodes of another graph, and no contract covers the number of objects.
+//! - [`check_refs`] might accept a repository whose objects are missing or malformed.
+//!   [`check_refs`] might count the nodes of another graph, and no contract covers the number of
+//!   objects. The function [`check_repository`] has no contract.
 //! - [`Tips`] might forget an id, [`add_leaves`] might add or remove other nodes, and a repository
 //!   in any format might be opened or refused. The function [`is_bare`] might return any result.
 //!   The names of peeled refs in a new repository might be wrong.
-//! - The indexer might leave out an entry, or return one for an object that the pack does not have.
+//! - The indexer might leave out an entry, return one for an object that the pack does not have, or
+//!   accept a pack with a malformed object.
 //!   The indexer looks up the named trees and blobs, and compares objects that the store already
 //!   has. No contract covers these look-ups and comparisons, or states when the indexer reads an
 //!   object. The indexer may miss a loose object that is added meanwhile.
@@ -92,10 +96,11 @@
 //!   [`StoreIndexer::take_received`] may return a pack that was not received, or `None`.
 //! - A [`NewRepository`] might lack its pack, its refs or HEAD, or be removed once it is finished.
 //! - No contract can describe the contents of a system file: only the order of the calls in
-//!   [`install_pack`] is proved. [`install_pack`] might not create the file `.keep`, or might
-//!   install nothing.
-//! - Any call may fail if out of memory. The contracts do not cover which fault is returned, the
-//!   text of a fault, running time, or memory use.
+//!   [`install_pack`] is proved. [`install_pack`] might not create the file `.keep`, might
+//!   remove one that it did not create, or might install nothing. Its folder might not write, sync
+//!   or rename a file.
+//! - Any call may fail although nothing is wrong. The contracts do not cover which fault is
+//!   returned, the text of a fault, running time, or memory use.
 //!
 //! This crate has no tests.
 //!

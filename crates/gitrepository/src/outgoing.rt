@@ -1,12 +1,12 @@
 //! A pack returned in parts, with as many entries as its header says.
 
 ghost use Rattle.std.specs.Prelude.{◌≡◌, ◌+◌, ◌≤◌, ◌↔◌, [], ◌++◌, List, ℕ, IfOk, IsTrue, OnOk, length, take};
-ghost use Rattle.gname.specs.Limits.{max_pack};
+ghost use Rattle.gparts.specs.Parts.{max_parts};
 ghost use Rattle.gitrepository.specs.Parts.{GoesOn, IsGivenWhole, IsGoing};
 
 use crate::fault::RepositoryFault;
 use gitpack::{EntryForm, PackFileFault, put_entry, put_header};
-use gname::MAX_PACK;
+use gparts::MAX_PARTS;
 use sha1::Sha1;
 use std::alloc::{AllocError, Allocator};
 
@@ -20,7 +20,7 @@ pub(crate) struct Outgoing<A: Allocator + Copy> {
     // The most recently built bytes, and how many of them were already returned.
     bytes: Vec<u8, A>,
     given: usize,
-    // The total number of built bytes, and the number of bytes by which `MAX_PACK` exceeds the
+    // The total number of built bytes, and the number of bytes by which `MAX_PARTS` exceeds the
     // bytes returned so far.
     made: usize,
     left: usize,
@@ -38,7 +38,7 @@ impl<A: Allocator + Copy> Outgoing<A> {
     /// Returns a pack with a header for `count` entries, and no entries yet.
     pub(crate) fn new(alloc: A, count: u32) -> Result<Outgoing<A>, AllocError>
         ensures going { IfOk result (λ pack. IsGoing pack []) }
-        ensures left { IfOk result (λ pack. pack.left ≡ max_pack) }
+        ensures left { IfOk result (λ pack. pack.left ≡ max_parts) }
     {
         let mut bytes = Vec::new(alloc);
         put_header(&mut bytes, count)?;
@@ -48,7 +48,7 @@ impl<A: Allocator + Copy> Outgoing<A> {
             made: bytes.len(),
             bytes,
             given: 0,
-            left: MAX_PACK,
+            left: MAX_PARTS,
             sum,
             count,
             put: 0,
@@ -94,7 +94,7 @@ impl<A: Allocator + Copy> Outgoing<A> {
             return Err(RepositoryFault::Count);
         }
         self.is_whole = false;
-        let most = MAX_PACK.saturating_sub(TRAILER).saturating_sub(self.made);
+        let most = MAX_PARTS.saturating_sub(TRAILER).saturating_sub(self.made);
         self.bytes.clear();
         self.given = 0;
         put_entry(&mut self.bytes, form, size, stream, most)?;

@@ -1,23 +1,19 @@
 //! A packer of the objects of a Git directory.
 
 ghost use Rattle.std.specs.Prelude.{◌≡◌, ◌+◌, ◌<◌, ◌≤◌, ⊤, [], ◌++◌, List, ℕ, IfOk, None, length, take};
-ghost use Rattle.gname.specs.Limits.{max_pack};
-ghost use Rattle.gobject.specs.Packs.{MayPack};
+ghost use Rattle.gparts.specs.Parts.{max_parts};
 ghost use Rattle.gitrepository.specs.Packs.{IsWholePack};
 ghost use Rattle.gitrepository.specs.Parts.{IsGivenWhole, IsGoing};
 
 use crate::copying::PackCounts;
 use crate::fault::RepositoryFault;
 use crate::parts::StoreParts;
-use ggraph::{Entry, PackFault, Packer};
+use ggraph::{Entry, PackFault};
 use gitobjects::{ObjectFiles, ObjectReader};
 use gitpack::PackFileFault;
 use gparts::PartPacker;
 use std::alloc::Allocator;
 use std::cell::{Cell, RefCell};
-
-// The size of the parts in which a whole pack is built.
-const PART: usize = 65_536;
 
 /// A packer of the objects of a Git directory.
 ///
@@ -56,27 +52,10 @@ impl<'f, F: ObjectFiles, A: Allocator + Copy> StorePacker<'f, F, A> {
         }
     }
 
-    // Returns the whole pack of the listed commits and tags.
-    fn write(&self, alloc: A, entries: &[Entry<A>]) -> Result<Vec<u8, A>, RepositoryFault<A>>
-        ensures { IfOk result (λ pack. MayPack (λ list bytes. IsWholePack bytes) entries.now pack.items) }
-    {
-        let mut parts = self.start(alloc, entries)?;
-        let mut pack = Vec::new(alloc);
-        let mut part = [0; PART];
-        for _ in 0..u64::MAX {
-            let count = self.fill(&mut parts, &mut part)?;
-            if count == 0 {
-                return Ok(pack);
-            }
-            pack.extend_from_slice(&part[..count])?;
-        }
-        Err(RepositoryFault::Count)
-    }
-
     // Starts the pack of the listed commits and tags.
     fn start(&self, alloc: A, entries: &[Entry<A>]) -> Result<StoreParts<A>, RepositoryFault<A>>
         ensures going { IfOk result (λ parts. IsGoing parts.outgoing []) }
-        ensures left { IfOk result (λ parts. parts.outgoing.left ≡ max_pack) }
+        ensures left { IfOk result (λ parts. parts.outgoing.left ≡ max_parts) }
     {
         let Ok(mut reader) = self.reader.try_borrow_mut() else {
             return Err(RepositoryFault::Busy);
@@ -110,19 +89,6 @@ impl<'f, F: ObjectFiles, A: Allocator + Copy> StorePacker<'f, F, A> {
                 let _ = self.fault.try_replace(Some(fault));
                 PackFault::Other
             }
-        }
-    }
-}
-
-impl<F: ObjectFiles, A: Allocator + Copy> Packer<A> for StorePacker<'_, F, A> {
-    ghost packs = { λ _ _ pack. IsWholePack pack };
-
-    ghost pack_fails = { λ _ _ _. ⊤ };
-
-    fn pack(&self, alloc: A, entries: &[Entry<A>]) -> Result<Vec<u8, A>, PackFault> {
-        match self.write(alloc, entries) {
-            Ok(pack) => Ok(pack),
-            Err(fault) => Err(self.keep(fault)),
         }
     }
 }

@@ -1,7 +1,7 @@
 //! A pack of the objects of a Git directory, returned in parts.
 
 ghost use Rattle.std.specs.Prelude.{◌≡◌, ◌+◌, ◌<◌, ◌≤◌, [], ◌++◌, List, ℕ, IfOk, OnOk, length, take};
-ghost use Rattle.gname.specs.Limits.{max_pack};
+ghost use Rattle.gparts.specs.Parts.{max_parts};
 ghost use Rattle.gitrepository.specs.Packs.{IsWholePack};
 ghost use Rattle.gitrepository.specs.Parts.{GoesOn, IsGoing, IsGivenWhole};
 
@@ -29,7 +29,7 @@ impl<A: Allocator + Copy> StoreParts<A> {
         entries: &[Entry<A>],
     ) -> Result<StoreParts<A>, RepositoryFault<A>>
         ensures going { IfOk result (λ parts. IsGoing parts.outgoing []) }
-        ensures left { IfOk result (λ parts. parts.outgoing.left ≡ max_pack) }
+        ensures left { IfOk result (λ parts. parts.outgoing.left ≡ max_parts) }
     {
         let fates = gather(reader, entries)?;
         let outgoing = Outgoing::new(alloc, fates.sent_count())?;

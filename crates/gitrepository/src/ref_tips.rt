@@ -28,8 +28,9 @@ struct Tag {
 /// needs nothing more. If `packed-refs` lists a peeled object for a tag, the tag counts as pointing
 /// directly to that object.
 ///
-/// Returns `None` if an object is missing or unreadable, or if there are too many objects. The
-/// caller must then open the repository. Fails only if out of memory.
+/// Returns `None` if an object is missing or unreadable, if there are too many objects, or if
+/// `packed-refs` contradicts itself or a tag that was read. The caller must then open the
+/// repository. Fails only if out of memory.
 pub fn open_tips<F: ObjectFiles, A: Allocator + Copy>(
     reader: &mut QuickReader<'_, F, A>,
     peels: &PackedPeels<A>,
@@ -42,6 +43,7 @@ pub fn open_tips<F: ObjectFiles, A: Allocator + Copy>(
     let alloc = reader.allocator();
     let peels = held_peels(reader, peels)?;
     let mut graph = Graph::new(alloc);
+    graph.make_room(peels.fronts.len());
     for pair in listed.as_slice() {
         if !add_tip(&mut graph, reader, &peels, &pair.1)? {
             return Ok(None);
@@ -57,17 +59,24 @@ pub fn open_tips<F: ObjectFiles, A: Allocator + Copy>(
     Ok(Some(Repository { graph, refs, head }))
 }
 
-// The peeled ids that `packed-refs` lists for objects in the store, sorted by id.
+// The peeled ids that `packed-refs` lists for objects in the store, sorted by the front of the
+// object's id.
 #[derive(Drop)]
 struct HeldPeels<A: Allocator + Copy> {
     peels: Vec<(Oid, Peel), A>,
+    // The front of each object's id.
+    fronts: Vec<u64, A>,
 }
 
 impl<A: Allocator + Copy> HeldPeels<A> {
-    // Returns the peeled id of the object with this id, or `None` if the list lacks the object.
+    // Returns the peeled id of the object with this id, or `None` if the list lacks the object. The
+    // search may also miss an object if two ids have the same front. The object is then read.
     fn get(&self, id: &Oid) -> Option<Peel> {
-        let place = self.peels.binary_search_by_key(id, |pair| pair.0).ok()?;
-        Some(self.peels.get(place)?.1)
+        let place = self.fronts.binary_search(&front_of(id)).ok()?;
+        match self.peels.get(place) {
+            Some(pair) if pair.0 == *id => Some(pair.1),
+            _ => None,
+        }
     }
 
     // Returns whether the list has the object with this id.
@@ -82,14 +91,25 @@ fn held_peels<F: ObjectFiles, A: Allocator + Copy>(
     reader: &mut QuickReader<'_, F, A>,
     peels: &PackedPeels<A>,
 ) -> Result<HeldPeels<A>, AllocError> {
+    let alloc = reader.allocator();
     let listed = peels.as_slice();
-    let mut peels = Vec::with_capacity(reader.allocator(), listed.len())?;
+    let mut peels = Vec::with_capacity(alloc, listed.len())?;
     for pair in listed {
         if reader.holds(&pair.0)? {
             peels.push(*pair)?;
         }
     }
-    Ok(HeldPeels { peels })
+    let fronts = peels.iter().map(|pair| front_of(&pair.0)).collect(alloc)?;
+    Ok(HeldPeels { peels, fronts })
+}
+
+// Returns the front of an id, which is its first eight bytes as a big-endian number. Numbers are
+// compared faster than ids.
+fn front_of(id: &Oid) -> u64 {
+    match id.as_bytes().first_chunk::<8>() {
+        Some(front) => u64::from_be_bytes(*front),
+        None => 0,
+    }
 }
 
 // Adds the object with this id, and its peeled object. Returns whether the objects were found.
@@ -99,15 +119,15 @@ fn add_tip<F: ObjectFiles, A: Allocator + Copy>(
     peels: &HeldPeels<A>,
     id: &Oid,
 ) -> Result<bool, RepositoryFault<A>> {
-    if graph.contains(id) {
-        return Ok(true);
-    }
     let Some(peel) = peels.get(id) else {
         return add_read(graph, reader, id);
     };
     match peel_target(&peel) {
         None => add_leaf(graph, id),
         Some(target) => {
+            if graph.contains(id) {
+                return Ok(true);
+            }
             if !peels.has(&target) {
                 return add_read(graph, reader, id);
             }

@@ -12,8 +12,8 @@
 //!   accepted path is empty or begins with a dot, and the path may end with one slash. A path names
 //!   at most one directory ([`paths_have_one_reading`](laws::paths_have_one_reading)).
 //! - [`ServedPath::candidate`] returns the path without its first and last slash, followed by an
-//!   ending. No component of the result is empty, `.` or `..`, so the result can't leave the base
-//!   directory.
+//!   [`Ending`] such as `.git`. No component of the result is empty, `.` or `..`, so the result
+//!   can't leave the base directory.
 //! - [`Ending::in_order`] returns the endings in Git's order.
 //! - [`clean`] and [`push_clean`] keep printable ASCII, line feeds and tabs. Progress lines also
 //!   keep carriage returns. Any other byte becomes a question mark. Cleaning a text piece by piece

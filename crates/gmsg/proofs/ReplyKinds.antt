@@ -13,6 +13,7 @@ use Rattle.glsreply.specs.RefTexts.{RefLine, unborn_text}
 use Rattle.gfetchreply.specs.FetchManual.{IsAckReply, IsAckSection, IsBody, IsFetchReply, IsNakReply, IsPackSection}
 use Rattle.gfetchreply.specs.FetchReplies.{FetchReply, Acks, Ready, Pack, Reading}
 use Rattle.gfetchreply.specs.FetchReplies as fetch
+use Rattle.ggrammar.specs.declared.limits.Limits.{Limits}
 use Rattle.gmsg.specs.Laws.{NoneBeginsAsBoth}
 
 -- ---- words without a space
@@ -116,24 +117,24 @@ ls_begins format ends packets reply is =
 
 -- ---- of a reply to fetch
 
-acks_begin : (format : Format) (packets : List Packet) (ids : List (List ℕ)) → IsAckSection format packets ids → BeginsSo IsHeading packets
-acks_begin format packets ids is = record { first = Data is.heading; rest = map Data is.acks; parts = is.parts; is = inl is.is_heading }
+acks_begin : (limits : Limits) (format : Format) (packets : List Packet) (ids : List (List ℕ)) → IsAckSection limits format packets ids → BeginsSo IsHeading packets
+acks_begin limits format packets ids is = record { first = Data is.heading; rest = map Data is.acks; parts = is.parts; is = inl is.is_heading }
 
 pack_begins : (limit : ℕ) (packets : List Packet) (pack : List ℕ) → IsPackSection limit packets pack → BeginsSo IsHeading packets
 pack_begins limit packets pack is =
     record { first = Data is.heading; rest = map Data is.payloads ++ Flush ∷ []; parts = is.parts; is = inr is.is_heading }
 
-nak_or_acks : (format : Format) (packets : List Packet) (ids : List (List ℕ)) → ((ids ≡ []) × IsNakReply format packets) ⊎ IsAckReply format packets ids
+nak_or_acks : (limits : Limits) (format : Format) (packets : List Packet) (ids : List (List ℕ)) → ((ids ≡ []) × IsNakReply limits format packets) ⊎ IsAckReply limits format packets ids
     → BeginsSo IsHeading packets
-nak_or_acks format packets ids (inl none) =
-    longer IsHeading packets none.1.section _ none.1.parts (acks_begin format none.1.section [] none.1.acks)
-nak_or_acks format packets ids (inr some) =
-    longer IsHeading packets some.section _ some.parts (acks_begin format some.section ids some.acks)
+nak_or_acks limits format packets ids (inl none) =
+    longer IsHeading packets none.1.section _ none.1.parts (acks_begin limits format none.1.section [] none.1.acks)
+nak_or_acks limits format packets ids (inr some) =
+    longer IsHeading packets some.section _ some.parts (acks_begin limits format some.section ids some.acks)
 
 body_begins : (reading : Reading) (packets : List Packet) (reply : FetchReply) → IsBody reading packets reply → BeginsSo IsHeading packets
-body_begins reading packets (Acks ids) is = nak_or_acks reading.format packets ids is.1
+body_begins reading packets (Acks ids) is = nak_or_acks reading.limits reading.format packets ids is.1
 body_begins reading packets (Ready ids pack) is =
-    longer IsHeading packets is.1.section _ is.1.parts (acks_begin reading.format is.1.section ids is.1.acks)
+    longer IsHeading packets is.1.section _ is.1.parts (acks_begin reading.limits reading.format is.1.section ids is.1.acks)
 body_begins reading packets (Pack pack) is = pack_begins reading.limit packets pack is.1
 
 fetch_begins : (reading : Reading) (packets : List Packet) (reply : FetchReply) → IsFetchReply reading packets reply → BeginsSo IsHeading packets

@@ -10,6 +10,7 @@ pub use Rattle.gname.specs.Names
 pub use Rattle.gname.specs.Limits
 pub use Rattle.ggrammar.specs.Grammar
 pub use Rattle.ggrammar.specs.Kinds
+pub use Rattle.ggrammar.specs.Limits as MessageLimits
 pub use Rattle.ggrammar.specs.MessageReading
 pub use Rattle.ggrammar.specs.MessageBytes
 pub use Rattle.ggrammar.specs.Building

@@ -1,13 +1,14 @@
 //! Laws of all five kinds of message. Each function does nothing, and its contract states a proved
 //! property. The kinds are the hello (the first line of a `git://` connection), the advertisement,
 //! the request, the ls-refs reply and the fetch reply. Each law holds for all parameters of a
-//! kind's grammar, such as the object format.
+//! kind's grammar, such as the object format and the limits on a message.
 
 ghost use Rattle.std.specs.Prelude.{◌≤◌};
 ghost use Rattle.gname.specs.Limits.{max_pack};
 ghost use Rattle.gname.specs.declared.formats.Format.{Format};
 ghost use Rattle.ggrammar.specs.Kinds.{AsInManual, CanonicalSays, OneMeaning, SaysWhole};
 ghost use Rattle.ggrammar.specs.declared.ends.Ends.{Ends};
+ghost use Rattle.ggrammar.specs.declared.limits.Limits.{Limits};
 ghost use Rattle.ghello.specs.Hello as hello;
 ghost use Rattle.ghello.specs.Adverts as advert;
 ghost use Rattle.grequest.specs.Manual as request_manual;
@@ -26,7 +27,8 @@ ghost use Rattle.gmsg.specs.Laws.{NoneBeginsAnother, NoneBeginsAsBoth};
 pub fn one_meaning()
     ensures hello { OneMeaning hello.Says }
     ensures advert { OneMeaning advert.Says }
-    ensures request { (format : Format) → OneMeaning (request.Says format) }
+    ensures request { (limits : Limits) (format : Format)
+        → OneMeaning (request.Says limits format) }
     ensures ls_reply { (format : Format) (ends : Ends) → OneMeaning (ls_reply.Says format ends) }
     ensures fetch_reply { (reading : fetch_reply.Reading) → OneMeaning (fetch_reply.Says reading) }
 {
@@ -41,7 +43,8 @@ pub fn one_meaning()
 pub fn prefix_free()
     ensures hello { NoneBeginsAnother hello.judge }
     ensures advert { NoneBeginsAnother advert.judge }
-    ensures request { (format : Format) → NoneBeginsAnother (request.judge format) }
+    ensures request { (limits : Limits) (format : Format)
+        → NoneBeginsAnother (request.judge limits format) }
     ensures ls_reply { (format : Format) (ends : Ends)
         → NoneBeginsAnother (ls_reply.judge format ends) }
     ensures fetch_reply { (reading : fetch_reply.Reading)
@@ -70,8 +73,8 @@ pub fn replies_differ()
 pub fn manual()
     ensures hello { SaysWhole hello.judge hello.Says }
     ensures advert { AsInManual advert.Says advert.IsAdvert }
-    ensures request { (format : Format)
-        → AsInManual (request.Says format) (request_manual.IsRequest format) }
+    ensures request { (limits : Limits) (format : Format)
+        → AsInManual (request.Says limits format) (request_manual.IsRequest limits format) }
     ensures ls_reply { (format : Format) (ends : Ends) → AsInManual (ls_reply.Says format ends)
         (ls_reply_manual.IsLsReply format ends) }
     ensures fetch_reply { (reading : fetch_reply.Reading) → AsInManual (fetch_reply.Says reading)
@@ -89,8 +92,8 @@ pub fn manual()
 pub fn canonical_says()
     ensures hello { CanonicalSays hello.Says hello.IsHello hello.IsCanonical }
     ensures advert { CanonicalSays advert.Says advert.AreCapabilities advert.IsCanonical }
-    ensures request { (format : Format)
-        → CanonicalSays (request.Says format) (request_form.IsAsked format)
+    ensures request { (limits : Limits) (format : Format)
+        → CanonicalSays (request.Says limits format) (request_form.IsAsked limits format)
         (request_writing.IsCanonicalRequest format) }
     ensures ls_reply { (format : Format) (ends : Ends) → CanonicalSays (ls_reply.Says format ends)
         (ls_reply_form.IsLsReplyIn format) (ls_reply.IsCanonicalReply ends) }

@@ -4,24 +4,24 @@
 //!
 //! # Proved
 //!
-//! - [`laws`] hold for every kind of message. A list of packets encodes at most one message. No
-//!   message is a prefix of another message of its kind, as packets or as bytes. The readers accept
-//!   exactly the messages that Git's manual defines. The packets written for a message encode that
-//!   message, and each payload fits into a packet. No byte string begins with both an ls-refs reply
-//!   and a fetch reply. The `laws` of each crate prove that reading a written message returns the
-//!   same message.
+//! - [`laws`] hold for every kind of message, with any [`Limits`]. A list of packets encodes at
+//!   most one message. No message is a prefix of another message of its kind, as packets or as
+//!   bytes. Within the limits, the readers accept exactly the messages that Git's manual defines.
+//!   The packets written for a message encode that message, and each payload fits into a packet. No
+//!   byte string begins with both an ls-refs reply and a fetch reply. The `laws` of each crate
+//!   prove that reading a written message returns the same message.
 //!
 //! The following crates define the messages, and prove further properties:
 //!
 //! - `ghello`: [`Hello`] and [`Advert`], their readers [`read_hello`] and [`read_advert`], their
 //!   writers [`write_hello`] and [`write_advert`], and look-ups in an advertisement.
 //! - `grequest`: [`Request`], [`LsRefsRequest`] and [`FetchRequest`] with their flags,
-//!   [`read_request`] and [`write_request`].
+//!   [`read_request`], [`read_request_within`], which takes limits, and [`write_request`].
 //! - `glsreply`: [`LsReply`], [`read_ls_reply`] and [`write_ls_reply`].
 //! - `gfetchreply`: [`FetchReply`], [`read_fetch_reply`], [`read_fetch_reply_into`], which writes
 //!   the pack to a [`PackSink`], and [`write_fetch_reply`].
-//! - `ggrammar`: [`MessageFault`] and [`Why`], the faults of all messages, and a reader for
-//!   messages of any kind.
+//! - `ggrammar`: [`MessageFault`] and [`Why`], the faults of all messages, [`Limits`], and a reader
+//!   for messages of any kind.
 //!
 //! [`MsgFault`] is a shorter name for [`MessageFault`], and [`laws::canon_says`] for
 //! [`laws::canonical_says`].
@@ -46,8 +46,8 @@ pub use gfetchreply::{
 };
 pub use ggrammar::compat::MsgFault;
 pub use ggrammar::{
-    Capability, Ends, MAX_CAPABILITY, MAX_PEER_TEXT, MessageFault, PeerText, Why, is_key, is_value,
-    is_word_value,
+    Capability, Ends, Limits, MAX_CAPABILITY, MAX_PEER_TEXT, MessageFault, PeerText, Why, is_key,
+    is_value, is_word_value,
 };
 pub use ghello::{
     Advert, Hello, MAX_ADVERTISED, MAX_HOST, MAX_PATH, is_host, is_path, read_advert, read_hello,
@@ -59,5 +59,5 @@ pub use glsreply::{
 };
 pub use grequest::{
     FetchFlag, FetchRequest, LsRefsFlag, LsRefsRequest, MAX_HAVES, MAX_PREFIXES, MAX_WANTS,
-    Request, read_request, read_request_in, write_request,
+    Request, read_request, read_request_in, read_request_within, write_request,
 };

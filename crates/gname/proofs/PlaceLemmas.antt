@@ -1,11 +1,11 @@
 -- The first place of a text that passes a test: what it is, and which searches find it.
 use Rattle.std.proofs.Common.{◌≡◌, ℕ, zero, suc, ◌+◌, ◌<◌, ◌≤◌, Bool, true, false, cond, inl, inr, List, length, take, drop, slice_index, Option, Some, None, MatchOption, refl, sym, ap, ◌∙◌, arith, take_all, le_refl, length-drop}
 use Rattle.std.proofs.Math.ListN.{length-take}
-use Rattle.std.proofs.lemmas.Bool.{cases_eq, cases_order, false_from_ne_true}
+use Rattle.std.proofs.lemmas.Bool.{cases_eq, cases_order, eq-eqb, false_from_ne_true}
 use Rattle.std.proofs.lemmas.Slice.Eq.{bytes_eq-Decides}
 use Rattle.std.proofs.lemmas.List.Sums.{position_or_len_is}
 use Rattle.std.specs.List.{before_first}
-use Rattle.memchr.specs.Find.{IsFirst, IsFirstByte, OccursAt, is_byte}
+use Rattle.memchr.specs.Find.{FindsNeedle, IsFirst, IsFirstByte, OccursAt, is_byte}
 use Rattle.memchr.proofs.lemmas.MatchLemmas.{OccursAt-part, OccursAt-from_part}
 use Rattle.gname.specs.Names.{first_place, first_place_from, is_slash, stands_at}
 
@@ -113,3 +113,12 @@ component_of_search rest (Some len) h =
     let place = position_or_len_is is_slash rest len 0 (omega (arith, high))
     (λ j b. false_from_ne_true (is_slash (slice_index rest j)) (λ t. first.before j (omega arith) b t)) (λ _. h.1) in
     sym (ap (λ n. take n rest) place)
+
+-- a text without the first of two bytes lacks both in a row
+pub no_pair : (text pair : List ℕ) → length pair ≡ 2 → IsFirstByte (is_byte (slice_index pair 0)) text None
+    → FindsNeedle text pair 0 None
+no_pair text pair two none = λ k low high occurs.
+    let fits = occurs.fits in
+    let here : k + 0 ≡ k = omega arith in
+    none k low (omega (arith, fits, two))
+    (eq-eqb (slice_index text k) (slice_index pair 0) (rw here at (occurs.reads 0 (omega (arith, two)))))

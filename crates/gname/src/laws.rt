@@ -17,7 +17,7 @@ pub fn ids_have_texts()
 {}
 
 /// Proves that the text of an id has only hexadecimal digits, so it has no control characters and
-/// no spaces. Every value that the text encodes is a valid id.
+/// no spaces. A value that has such a text is a valid id.
 #[tactic(auto, using(crate::proofs::IdLemmas::id_texts_are_digits))]
 pub fn id_texts_are_digits()
     ensures { IdTextsAreDigits }

@@ -2,6 +2,7 @@
 
 ghost use Rattle.std.specs.Prelude.{◌≡◌, ◌≤◌, length, position};
 ghost use Rattle.gname.specs.Names.{Finds, name_fault, prefix_fault, empty, too_long, not_ref, is_bad_byte, bad_byte, is_bad_component, component_at, begins_bad_component, component, double_dot, at_brace, end, max_name};
+ghost use Rattle.memchr.specs.Find.{FindsNeedle};
 
 use crate::faults::NameFault;
 use memchr::{memchr, memmem};
@@ -127,7 +128,7 @@ fn check_components(text: &[u8]) -> Result<(), NameFault>
 fn check_dots(text: &[u8]) -> Result<(), NameFault>
     ensures { Finds double_dot text.now result }
 {
-    match memmem::find(text, b"..") {
+    match find_pair(text, b"..") {
         Some(at) => Err(NameFault::DoubleDot { at }),
         None => Ok(()),
     }
@@ -137,9 +138,21 @@ fn check_dots(text: &[u8]) -> Result<(), NameFault>
 fn check_braces(text: &[u8]) -> Result<(), NameFault>
     ensures { Finds at_brace text.now result }
 {
-    match memmem::find(text, b"@{") {
+    match find_pair(text, b"@{") {
         Some(at) => Err(NameFault::AtBrace { at }),
         None => Ok(()),
+    }
+}
+
+// Returns the position at which two bytes first occur. Most names lack the first byte, and the
+// search for one byte is quick.
+#[tactic(auto, using(crate::proofs::PlaceLemmas::no_pair))]
+fn find_pair(text: &[u8], pair: &[u8; 2]) -> Option<usize>
+    ensures { FindsNeedle text.now pair.now 0 result }
+{
+    match memchr(pair[0], text) {
+        Some(_) => memmem::find(text, pair),
+        None => None,
     }
 }
 

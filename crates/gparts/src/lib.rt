@@ -3,9 +3,10 @@
 //! # Proved
 //!
 //! - The parts that a [`PartPacker`] returns, in order, form a pack of the entries. The pack has at
-//!   most `gname::MAX_PACK` bytes. A packer fails only with a fault that its `pack_fails` permits.
+//!   most [`MAX_PARTS`] bytes, which is the limit of the specs ([`laws`]). A packer fails only
+//!   with a fault that its `pack_fails` permits.
 //! - A [`WholePack`] turns any packer of `gobject` into a [`PartPacker`], with the same packs and
-//!   faults.
+//!   faults. Its packs have at most `gname::MAX_PACK` bytes.
 //! - No call panics, overflows or reads out of bounds, and each call returns.
 //!
 //! # What the contracts do not rule out
@@ -18,11 +19,12 @@
 //!
 //! # Dependencies
 //!
-//! `gobject` defines entries, packers and faults. The proofs use `gname`.
+//! `gobject` defines entries, packers and faults.
 #![tactic(auto)]
 
+pub mod laws;
 mod parts;
 mod whole;
 
-pub use crate::parts::PartPacker;
+pub use crate::parts::{MAX_PARTS, PartPacker};
 pub use crate::whole::{WholePack, WholeParts};

@@ -8,6 +8,9 @@ ghost use Rattle.gparts.specs.Parts.{Begins, GivesPart};
 use gobject::{Entry, PackFault};
 use std::alloc::Allocator;
 
+/// The maximum number of bytes of a pack that is returned in parts.
+pub const MAX_PARTS: usize = 4_294_967_295;
+
 /// A packer that writes entries as a pack, and returns it in parts.
 ///
 /// `packs` states which packs the packer may return for a list of entries, and `pack_fails` states
@@ -27,8 +30,8 @@ pub trait PartPacker<A: Allocator + Copy> {
     // The maximum number of bytes that may still be returned.
     ghost most: { Self → Self.Parts → ℕ };
 
-    /// Starts a pack of the entries. The pack has at most `gname::MAX_PACK` bytes, and its memory
-    /// is allocated with `alloc`.
+    /// Starts a pack of the entries. The pack has at most [`MAX_PARTS`] bytes, and its memory is
+    /// allocated with `alloc`.
     fn begin(&self, alloc: A, entries: &[Entry<A>]) -> Result<Self::Parts, PackFault>
         ensures { MatchResult result
             (λ parts. Begins (packs self.now) (pack_fails self.now) entries.now

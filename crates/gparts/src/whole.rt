@@ -1,6 +1,7 @@
 //! A packer that builds the whole pack first, and returns it in parts.
 
 ghost use Rattle.std.specs.Prelude.{◌<◌, ◌≡◌, None, length};
+ghost use Rattle.gobject.specs.Packs.{MayPack};
 ghost use Rattle.gparts.specs.steps.Whole.{TakesSome};
 
 use crate::parts::PartPacker;
@@ -64,7 +65,7 @@ impl<A: Allocator + Copy> WholeParts<A> {
 impl<'a, A: Allocator + Copy, K: Packer<A>> PartPacker<A> for WholePack<'a, K> {
     type Parts = WholeParts<A>;
 
-    ghost packs = { λ whole. K.packs whole.packer.now };
+    ghost packs = { λ whole. MayPack (K.packs whole.packer.now) };
 
     ghost pack_fails = { λ whole. K.pack_fails whole.packer.now };
 

@@ -14,6 +14,7 @@ use Rattle.gname.specs.Laws.{PrefixesAreClean}
 use Rattle.gname.specs.Names.{IsPrefix}
 use Rattle.ggrammar.specs.Grammar.{Judge, LawsOf}
 use Rattle.ggrammar.specs.Kinds.{CanonicalSays}
+use Rattle.ggrammar.specs.declared.limits.Limits.{Limits}
 use Rattle.ggrammar.specs.Texts.{text_packet}
 use Rattle.grequest.proofs.AskedLemmas.{same_asked, same_ls}
 use Rattle.grequest.proofs.Sections.{at_most_one}
@@ -54,10 +55,10 @@ command_parts format command agent packets texts e =
     (λ i. Data (line_of (codes "command=" ++ command_name command)) ∷ (front i ++ Delim ∷ (back i ++ Flush ∷ [])))
     ∙ ap (λ (xs : List Packet). Data (line_of (codes "command=" ++ command_name command)) ∷ xs) (sym (append_assoc (map Data words) (Delim ∷ map Data (map line_of texts)) (Flush ∷ [])))
 
-command_request : (format : Format) (command : Command) (agent : Option (List ℕ)) (packets : List Packet) (texts : List (List ℕ)) (asked : Asked) → packets ≡ map text_packet texts
-    → Capable format agent → All (IsArgument format command) texts → AreFew format command texts → length texts ≤ max_arguments
-    → asked ≡ asked_by_command format command (capability_words format agent) texts → IsCommandRequest format (command_packets format command agent packets) asked
-command_request format command agent packets texts asked e able are few room asks =
+command_request : (limits : Limits) (format : Format) (command : Command) (agent : Option (List ℕ)) (packets : List Packet) (texts : List (List ℕ)) (asked : Asked) → packets ≡ map text_packet texts
+    → Capable format agent → All (IsArgument format command) texts → AreFew limits format command texts → length texts ≤ max_arguments
+    → asked ≡ asked_by_command format command (capability_words format agent) texts → IsCommandRequest limits format (command_packets format command agent packets) asked
+command_request limits format command agent packets texts asked e able are few room asks =
     let words = capability_words format agent in
     let read : map text (map line_of words) ≡ words = texts_of_lines words in
     let back : map text (map line_of texts) ≡ texts = texts_of_lines texts in
@@ -74,7 +75,7 @@ command_request format command agent packets texts asked e able are few room ask
       are_arguments = subst (All (IsArgument format command)) (sym back) are;
       one_agent = (let count : length (agents (map text (map line_of words))) ≡ length (option_to_list agent) = ap (λ (xs : List (List ℕ)). length (agents xs)) read ∙ ap length able.named in omega (arith, at_most_one agent));
       one_format = subst (NamesFormat format) (sym read) able.one_format;
-      few = subst (AreFew format command) (sym back) few;
+      few = subst (AreFew limits format command) (sym back) few;
       few_arguments = omega (arith, room, length-map texts line_of);
       asks = asks ∙ sym (λ i. asked_by_command format command (read i) (back i));
     }
@@ -86,42 +87,44 @@ count_both xs ys m n a b = omega (arith, length-append xs ys)
 count_values : (give : List ℕ → List ℕ) (values : List (List ℕ)) (n : ℕ) → length values ≤ n → length (map give values) ≤ n
 count_values give values n h = omega (arith, length-map values give)
 
-ls_count : (asked : LsRefsAsked) → length asked.prefixes ≤ max_prefixes → length (ls_texts asked) ≤ length ls_flags + max_prefixes
-ls_count asked few =
-    count_both _ _ (length ls_flags) max_prefixes (flags_count ls_flags asked.flags) (count_values prefix_text asked.prefixes max_prefixes few)
+ls_count : (limits : Limits) (asked : LsRefsAsked) → length asked.prefixes ≤ max_prefixes limits → length (ls_texts asked) ≤ length ls_flags + max_prefixes limits
+ls_count limits asked few =
+    count_both _ _ (length ls_flags) (max_prefixes limits) (flags_count ls_flags asked.flags) (count_values prefix_text asked.prefixes (max_prefixes limits) few)
 
-fetch_count : (asked : FetchAsked) → length asked.wants ≤ max_wants → length asked.haves ≤ max_haves → length (fetch_texts asked) ≤ length fetch_flags + max_wants + max_haves + 1
-fetch_count asked few many =
-    count_both _ _ (length fetch_flags + max_wants + max_haves) 1
-    (count_both _ _ (length fetch_flags + max_wants) max_haves
-    (count_both _ _ (length fetch_flags) max_wants (flags_count fetch_flags (fetch_with asked Done false).flags)
-    (count_values want_text asked.wants max_wants few)) (count_values have_text asked.haves max_haves many))
+fetch_count : (limits : Limits) (asked : FetchAsked) → length asked.wants ≤ max_wants limits → length asked.haves ≤ max_haves limits → length (fetch_texts asked) ≤ length fetch_flags + max_wants limits + max_haves limits + 1
+fetch_count limits asked few many =
+    count_both _ _ (length fetch_flags + max_wants limits + max_haves limits) 1
+    (count_both _ _ (length fetch_flags + max_wants limits) (max_haves limits)
+    (count_both _ _ (length fetch_flags) (max_wants limits)
+    (flags_count fetch_flags (fetch_with asked Done false).flags)
+    (count_values want_text asked.wants (max_wants limits) few))
+    (count_values have_text asked.haves (max_haves limits) many))
     (flag_count (codes "done") (fetch_has asked Done))
 
-ls_request : (format : Format) (asked : LsRefsAsked) → IsLsRefsAsked asked → IsCommandRequest format (command_packets format LsRefs asked.agent (ls_argument_packets asked)) (Ls asked)
-ls_request format asked h =
-    let says = says_ls format asked h in
+ls_request : (limits : Limits) (format : Format) (asked : LsRefsAsked) → IsLsRefsAsked limits asked → IsCommandRequest limits format (command_packets format LsRefs asked.agent (ls_argument_packets asked)) (Ls asked)
+ls_request limits format asked h =
+    let says = says_ls limits format asked h in
     let able = capable format asked.agent h.agent in
-    command_request format LsRefs asked.agent (ls_argument_packets asked) (ls_texts asked) (Ls asked) (ls_lines asked) able says.are
+    command_request limits format LsRefs asked.agent (ls_argument_packets asked) (ls_texts asked) (Ls asked) (ls_lines asked) able says.are
     (omega (arith, ap length says.prefixes, h.few))
-    (omega (arith, ls_count asked h.few))
+    (omega (arith, ls_count limits asked h.few))
     (ap Ls (same_ls (sym (ap first_of able.named ∙ first_of_list asked.agent)) (sym says.flags) (sym says.prefixes)))
 
-fetch_request : AreSpelt → (format : Format) (asked : FetchAsked) → IsFetchAsked format asked → IsCommandRequest format (command_packets format Fetch asked.agent (fetch_argument_packets asked)) (Fetches asked)
-fetch_request spelt format asked h =
+fetch_request : AreSpelt → (limits : Limits) (format : Format) (asked : FetchAsked) → IsFetchAsked limits format asked → IsCommandRequest limits format (command_packets format Fetch asked.agent (fetch_argument_packets asked)) (Fetches asked)
+fetch_request spelt limits format asked h =
     let able = capable format asked.agent h.agent in
     let want = wants_said spelt format asked h.wants in
     let have = haves_said spelt format asked h.haves in
-    command_request format Fetch asked.agent (fetch_argument_packets asked) (fetch_texts asked) (Fetches asked) (fetch_lines asked) able (are_fetch spelt format asked h)
+    command_request limits format Fetch asked.agent (fetch_argument_packets asked) (fetch_texts asked) (Fetches asked) (fetch_lines asked) able (are_fetch spelt limits format asked h)
     (omega (arith, ap length want, h.few_wants), omega (arith, ap length have, h.few_haves))
-    (omega (arith, fetch_count asked h.few_wants h.few_haves))
+    (omega (arith, fetch_count limits asked h.few_wants h.few_haves))
     (sym (ap Fetches (same_asked _ _ (ap first_of able.named ∙ first_of_list asked.agent) (want, have) (fetch_flags_said asked))))
 
-canonical_is_request : AreSpelt → (format : Format) (asked : Asked) → IsAsked format asked → IsRequest format (canonical_request format asked) asked
+canonical_is_request : AreSpelt → (limits : Limits) (format : Format) (asked : Asked) → IsAsked limits format asked → IsRequest limits format (canonical_request format asked) asked
 unfolding canonical_request
-canonical_is_request spelt format Empty h = inl (refl, refl)
-canonical_is_request spelt format (Ls asked) h = inr (ls_request format asked h)
-canonical_is_request spelt format (Fetches asked) h = inr (fetch_request spelt format asked h)
+canonical_is_request spelt limits format Empty h = inl (refl, refl)
+canonical_is_request spelt limits format (Ls asked) h = inr (ls_request limits format asked h)
+canonical_is_request spelt limits format (Fetches asked) h = inr (fetch_request spelt limits format asked h)
 
 -- ---- each payload fits a packet
 
@@ -169,15 +172,16 @@ is_short_row row = nat_le (length row.1) longest
 short_flags : {F : Type 0} (table : Table F) (flags : FlagsOf table) → list_all is_short_row table ≡ true → All IsShort (flags_texts table flags)
 short_flags table flags h = flags_are is_short_row IsShort (λ row is. leb-true (length row.1) longest is) table flags h
 
-short_ls : PrefixesAreClean → (asked : LsRefsAsked) → IsLsRefsAsked asked → All IsShort (ls_texts asked)
-short_ls clean asked h =
+short_ls : PrefixesAreClean → (limits : Limits) (asked : LsRefsAsked) → IsLsRefsAsked limits asked
+    → All IsShort (ls_texts asked)
+short_ls clean limits asked h =
     let short : (prefix : List ℕ) → IsPrefix prefix → IsShort (prefix_text prefix) =
     λ prefix well. omega (arith, length-append (codes "ref-prefix ") prefix, (clean prefix well).within) in
     All-append IsShort _ _ (short_flags ls_flags asked.flags refl)
     (All-map IsShort prefix_text asked.prefixes (λ k d lt. short _ (h.prefixes k d lt)))
 
-short_fetch : AreSpelt → (format : Format) (asked : FetchAsked) → IsFetchAsked format asked → All IsShort (fetch_texts asked)
-short_fetch spelt format asked h =
+short_fetch : AreSpelt → (limits : Limits) (format : Format) (asked : FetchAsked) → IsFetchAsked limits format asked → All IsShort (fetch_texts asked)
+short_fetch spelt limits format asked h =
     let few : (word id : List ℕ) → length word ≤ 5 → IsIdOf format id → IsShort (word ++ id_text id) =
     λ word id few is. omega (arith, few, length-append word (id_text id), id_text_is_short spelt format id is) in
     All-append IsShort _ _
@@ -186,13 +190,13 @@ short_fetch spelt format asked h =
     (All-map IsShort have_text asked.haves (λ k d lt. few (codes "have ") _ (omega arith) (h.haves k d lt))))
     (All-flag IsShort (codes "done") (fetch_has asked Done) (omega arith))
 
-pub canonical_fits : AreSpelt → PrefixesAreClean → (format : Format) (asked : Asked) → IsAsked format asked → All Fits (canonical_request format asked)
+pub canonical_fits : AreSpelt → PrefixesAreClean → (limits : Limits) (format : Format) (asked : Asked) → IsAsked limits format asked → All Fits (canonical_request format asked)
 unfolding canonical_request
-canonical_fits spelt clean format Empty h = All-cons Fits Flush [] (omega arith) (All-nil Fits)
-canonical_fits spelt clean format (Ls asked) h = request_fits format LsRefs asked.agent (ls_argument_packets asked) (ls_texts asked) (ls_lines asked) h.agent (short_ls clean asked h)
-canonical_fits spelt clean format (Fetches asked) h = request_fits format Fetch asked.agent (fetch_argument_packets asked) (fetch_texts asked) (fetch_lines asked) h.agent (short_fetch spelt format asked h)
+canonical_fits spelt clean limits format Empty h = All-cons Fits Flush [] (omega arith) (All-nil Fits)
+canonical_fits spelt clean limits format (Ls asked) h = request_fits format LsRefs asked.agent (ls_argument_packets asked) (ls_texts asked) (ls_lines asked) h.agent (short_ls clean limits asked h)
+canonical_fits spelt clean limits format (Fetches asked) h = request_fits format Fetch asked.agent (fetch_argument_packets asked) (fetch_texts asked) (fetch_lines asked) h.agent (short_fetch spelt limits format asked h)
 
-pub canonical_says_all : ((j : Judge) → LawsOf j) → AreSpelt → PrefixesAreClean → (format : Format) → CanonicalSays (Says format) (IsAsked format) (IsCanonicalRequest format)
-canonical_says_all laws spelt clean format lines asked h is =
-    subst (λ (packets : List Packet). Says format packets asked × All Fits packets) (sym is)
-    (judge_from_manual laws format (canonical_request format asked) asked (canonical_is_request spelt format asked h), canonical_fits spelt clean format asked h)
+pub canonical_says_all : ((j : Judge) → LawsOf j) → AreSpelt → PrefixesAreClean → (limits : Limits) (format : Format) → CanonicalSays (Says limits format) (IsAsked limits format) (IsCanonicalRequest format)
+canonical_says_all laws spelt clean limits format lines asked h is =
+    subst (λ (packets : List Packet). Says limits format packets asked × All Fits packets) (sym is)
+    (judge_from_manual laws limits format (canonical_request format asked) asked (canonical_is_request spelt limits format asked h), canonical_fits spelt clean limits format asked h)

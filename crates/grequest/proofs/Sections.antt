@@ -11,6 +11,7 @@ use Rattle.gname.specs.Formats.{format_name}
 use Rattle.gname.specs.declared.formats.Format.{Format}
 use Rattle.ggrammar.specs.Grammar.{Verdict, Open, Refused, if_room}
 use Rattle.ggrammar.specs.Ids.{id_of_text}
+use Rattle.ggrammar.specs.declared.limits.Limits.{Limits}
 use Rattle.ggrammar.specs.declared.fault.Why.{Why}
 use Rattle.ggrammar.specs.declared.fault.Why.TheVariants.{Format as WrongFormat, BadName, BadId}
 use Rattle.std.specs.List.{filter_map}
@@ -146,21 +147,21 @@ one_of (Some x) e = refl
 
 -- ---- the arguments
 
-pub record AreArguments (format : Format) (command : Command) (lines : List (List ℕ)) : Type 0 where
+pub record AreArguments (limits : Limits) (format : Format) (command : Command) (lines : List (List ℕ)) : Type 0 where
   pub are : All (IsArgument format command) lines
-  pub few : AreFew format command lines
+  pub few : AreFew limits format command lines
   pub room : length lines ≤ max_arguments
 
-AreFew-nil : (format : Format) (command : Command) → AreFew format command []
-AreFew-nil format LsRefs = omega arith
-AreFew-nil format Fetch = (omega arith, omega arith)
+AreFew-nil : (limits : Limits) (format : Format) (command : Command) → AreFew limits format command []
+AreFew-nil limits format LsRefs = omega arith
+AreFew-nil limits format Fetch = (omega arith, omega arith)
 
-pub AreArguments-nil : (format : Format) (command : Command) → AreArguments format command []
-AreArguments-nil format command = record { are = All-nil (IsArgument format command); few = AreFew-nil format command; room = omega arith }
+pub AreArguments-nil : (limits : Limits) (format : Format) (command : Command) → AreArguments limits format command []
+AreArguments-nil limits format command = record { are = All-nil (IsArgument format command); few = AreFew-nil limits format command; room = omega arith }
 
 -- the judge takes the text after these
-abbrev pub TakesArgument : Format → Command → List (List ℕ) → List (List ℕ) → List ℕ → Type 0
-TakesArgument format command capabilities lines line = judge_argument format command (state_at format (InArguments command) capabilities lines) line ≡ Open
+abbrev pub TakesArgument : Limits → Format → Command → List (List ℕ) → List (List ℕ) → List ℕ → Type 0
+TakesArgument limits format command capabilities lines line = judge_argument limits format command (state_at format (InArguments command) capabilities lines) line ≡ Open
 
 room_for : (b : Bool) → b ≡ true → if_room b ≡ Open
 room_for true e = refl
@@ -187,65 +188,67 @@ record Found (kind : Type 0) (is : Type 0) (lines : List (List ℕ)) : Type 0 wh
   room : length lines < max_arguments
   few : kind
 
-ls_found : (lines : List (List ℕ)) (form : LsArgument) → length (prefixes lines) ≤ max_prefixes
-    → judge_ls_argument (length lines) (prefixes lines) form ≡ Open
-    → Found (length (prefixes lines) + length (option_to_list (prefix_value form)) ≤ max_prefixes) (IsLsArgument form) lines
-ls_found lines (KnownLsFlag flag) few e = record { form = tt; room = ltb-true (length lines) max_arguments (room_left _ e); few = omega (arith, few) }
-ls_found lines (RefPrefix prefix) few e =
-    let h = few_found (is_none (prefix_fault prefix)) lines (prefixes lines) max_prefixes BadName e in
+ls_found : (limits : Limits) (lines : List (List ℕ)) (form : LsArgument) → length (prefixes lines) ≤ max_prefixes limits
+    → judge_ls_argument limits (length lines) (prefixes lines) form ≡ Open
+    → Found (length (prefixes lines) + length (option_to_list (prefix_value form)) ≤ max_prefixes limits) (IsLsArgument form) lines
+ls_found limits lines (KnownLsFlag flag) few e = record { form = tt; room = ltb-true (length lines) max_arguments (room_left _ e); few = omega (arith, few) }
+ls_found limits lines (RefPrefix prefix) few e =
+    let h = few_found (is_none (prefix_fault prefix)) lines (prefixes lines) (max_prefixes limits) BadName e in
     record { form = is_none-None (prefix_fault prefix) h.0; room = h.1; few = omega (arith, h.2) }
-ls_found lines UnknownLsArgument few e = absurd cc
+ls_found limits lines UnknownLsArgument few e = absurd cc
 
-ls_taken : (lines : List (List ℕ)) (form : LsArgument) → IsLsArgument form → length lines < max_arguments
-    → length (prefixes lines) + length (option_to_list (prefix_value form)) ≤ max_prefixes
-    → judge_ls_argument (length lines) (prefixes lines) form ≡ Open
-ls_taken lines (KnownLsFlag flag) h room few = room_for (nat_lt (length lines) max_arguments) (lt-ltb (length lines) max_arguments room)
-ls_taken lines (RefPrefix prefix) h room few =
-    few_taken (is_none (prefix_fault prefix)) lines (prefixes lines) max_prefixes BadName (ap is_none h) room (omega (arith, few))
-ls_taken lines UnknownLsArgument h room few = absurd h
+ls_taken : (limits : Limits) (lines : List (List ℕ)) (form : LsArgument) → IsLsArgument form
+    → length lines < max_arguments
+    → length (prefixes lines) + length (option_to_list (prefix_value form)) ≤ max_prefixes limits
+    → judge_ls_argument limits (length lines) (prefixes lines) form ≡ Open
+ls_taken limits lines (KnownLsFlag flag) h room few = room_for (nat_lt (length lines) max_arguments) (lt-ltb (length lines) max_arguments room)
+ls_taken limits lines (RefPrefix prefix) h room few =
+    few_taken (is_none (prefix_fault prefix)) lines (prefixes lines) (max_prefixes limits) BadName (ap is_none h) room (omega (arith, few))
+ls_taken limits lines UnknownLsArgument h room few = absurd h
 
 -- so many wants and haves are there
-abbrev FewIds : Format → List (List ℕ) → FetchArgument → Type 0
-FewIds format lines form =
-    (length (wants format lines) + length (option_to_list (want_value format form)) ≤ max_wants)
-    × (length (haves format lines) + length (option_to_list (have_value format form)) ≤ max_haves)
+abbrev FewIds : Limits → Format → List (List ℕ) → FetchArgument → Type 0
+FewIds limits format lines form =
+    (length (wants format lines) + length (option_to_list (want_value format form)) ≤ max_wants limits)
+    × (length (haves format lines) + length (option_to_list (have_value format form)) ≤ max_haves limits)
 
-fetch_found : (format : Format) (lines : List (List ℕ)) (form : FetchArgument) → length (wants format lines) ≤ max_wants → length (haves format lines) ≤ max_haves
-    → judge_fetch_argument format (length lines) (wants format lines) (haves format lines) form ≡ Open
-    → Found (FewIds format lines form) (IsFetchArgument format form) lines
-fetch_found format lines (KnownFetchFlag flag) few many e = record { form = tt; room = ltb-true (length lines) max_arguments (room_left _ e); few = (omega (arith, few), omega (arith, many)) }
-fetch_found format lines (Want id) few many e =
-    let h = few_found (is_some (id_of_text format id)) lines (wants format lines) max_wants BadId e in
+fetch_found : (limits : Limits) (format : Format) (lines : List (List ℕ)) (form : FetchArgument) → length (wants format lines) ≤ max_wants limits → length (haves format lines) ≤ max_haves limits
+    → judge_fetch_argument limits format (length lines) (wants format lines) (haves format lines) form ≡ Open
+    → Found (FewIds limits format lines form) (IsFetchArgument format form) lines
+fetch_found limits format lines (KnownFetchFlag flag) few many e = record { form = tt; room = ltb-true (length lines) max_arguments (room_left _ e); few = (omega (arith, few), omega (arith, many)) }
+fetch_found limits format lines (Want id) few many e =
+    let h = few_found (is_some (id_of_text format id)) lines (wants format lines) (max_wants limits) BadId e in
     let one = at_most_one (id_of_text format id) in
     record { form = h.0; room = h.1; few = (omega (arith, one, h.2), omega (arith, many)) }
-fetch_found format lines (Have id) few many e =
-    let h = few_found (is_some (id_of_text format id)) lines (haves format lines) max_haves BadId e in
+fetch_found limits format lines (Have id) few many e =
+    let h = few_found (is_some (id_of_text format id)) lines (haves format lines) (max_haves limits) BadId e in
     let one = at_most_one (id_of_text format id) in
     record { form = h.0; room = h.1; few = (omega (arith, few), omega (arith, one, h.2)) }
-fetch_found format lines UnknownFetchArgument few many e = absurd cc
+fetch_found limits format lines UnknownFetchArgument few many e = absurd cc
 
-fetch_taken : (format : Format) (lines : List (List ℕ)) (form : FetchArgument) → IsFetchArgument format form → length lines < max_arguments → FewIds format lines form
-    → judge_fetch_argument format (length lines) (wants format lines) (haves format lines) form ≡ Open
-fetch_taken format lines (KnownFetchFlag flag) h room few = room_for (nat_lt (length lines) max_arguments) (lt-ltb (length lines) max_arguments room)
-fetch_taken format lines (Want id) h room few =
-    few_taken (is_some (id_of_text format id)) lines (wants format lines) max_wants BadId h room
+fetch_taken : (limits : Limits) (format : Format) (lines : List (List ℕ)) (form : FetchArgument) → IsFetchArgument format form → length lines < max_arguments → FewIds limits format lines form
+    → judge_fetch_argument limits format (length lines) (wants format lines) (haves format lines) form ≡ Open
+fetch_taken limits format lines (KnownFetchFlag flag) h room few = room_for (nat_lt (length lines) max_arguments) (lt-ltb (length lines) max_arguments room)
+fetch_taken limits format lines (Want id) h room few =
+    few_taken (is_some (id_of_text format id)) lines (wants format lines) (max_wants limits) BadId h room
     (omega (arith, few.0, one_of (id_of_text format id) h))
-fetch_taken format lines (Have id) h room few =
-    few_taken (is_some (id_of_text format id)) lines (haves format lines) max_haves BadId h room
+fetch_taken limits format lines (Have id) h room few =
+    few_taken (is_some (id_of_text format id)) lines (haves format lines) (max_haves limits) BadId h room
     (omega (arith, few.1, one_of (id_of_text format id) h))
-fetch_taken format lines UnknownFetchArgument h room few = absurd h
+fetch_taken limits format lines UnknownFetchArgument h room few = absurd h
 
-pub AreArguments-push : (format : Format) (command : Command) (capabilities lines : List (List ℕ)) (line : List ℕ)
-    → AreArguments format command lines → TakesArgument format command capabilities lines line → AreArguments format command (lines ++ line ∷ [])
-AreArguments-push format LsRefs capabilities lines line h takes =
-    let found = ls_found lines (ls_argument line) h.few takes in
+pub AreArguments-push : (limits : Limits) (format : Format) (command : Command)
+    (capabilities lines : List (List ℕ)) (line : List ℕ)
+    → AreArguments limits format command lines → TakesArgument limits format command capabilities lines line → AreArguments limits format command (lines ++ line ∷ [])
+AreArguments-push limits format LsRefs capabilities lines line h takes =
+    let found = ls_found limits lines (ls_argument line) h.few takes in
     record {
       are = All-push (IsArgument format LsRefs) lines line h.are found.form;
       few = omega (arith, count_push ls_argument prefix_value lines line _ refl, found.few);
       room = omega (arith, length_push lines line, found.room);
     }
-AreArguments-push format Fetch capabilities lines line h takes =
-    let found = fetch_found format lines (fetch_argument line) h.few.0 h.few.1 takes in
+AreArguments-push limits format Fetch capabilities lines line h takes =
+    let found = fetch_found limits format lines (fetch_argument line) h.few.0 h.few.1 takes in
     let want = count_push fetch_argument (want_value format) lines line _ refl in
     let have = count_push fetch_argument (have_value format) lines line _ refl in
     record {
@@ -254,22 +257,22 @@ AreArguments-push format Fetch capabilities lines line h takes =
       room = omega (arith, length_push lines line, found.room);
     }
 
-pub AreArguments-parts : (format : Format) (command : Command) (capabilities lines : List (List ℕ)) (line : List ℕ) → AreArguments format command (lines ++ line ∷ [])
-    → AreArguments format command lines × TakesArgument format command capabilities lines line
-AreArguments-parts format LsRefs capabilities lines line h =
+pub AreArguments-parts : (limits : Limits) (format : Format) (command : Command) (capabilities lines : List (List ℕ)) (line : List ℕ) → AreArguments limits format command (lines ++ line ∷ [])
+    → AreArguments limits format command lines × TakesArgument limits format command capabilities lines line
+AreArguments-parts limits format LsRefs capabilities lines line h =
     let parts = All-parts (IsArgument format LsRefs) lines line h.are in
     let count = count_push ls_argument prefix_value lines line _ refl in
     let few = h.few in
     let room : length lines < max_arguments = omega (arith, length_push lines line, h.room) in (
       record { are = parts.0; few = omega (arith, count, few); room = omega (arith, room) },
-      ls_taken lines (ls_argument line) parts.1 room (omega (arith, count, few)),
+      ls_taken limits lines (ls_argument line) parts.1 room (omega (arith, count, few)),
     )
-AreArguments-parts format Fetch capabilities lines line h =
+AreArguments-parts limits format Fetch capabilities lines line h =
     let parts = All-parts (IsArgument format Fetch) lines line h.are in
     let want = count_push fetch_argument (want_value format) lines line _ refl in
     let have = count_push fetch_argument (have_value format) lines line _ refl in
     let few = h.few in
     let room : length lines < max_arguments = omega (arith, length_push lines line, h.room) in (
       record { are = parts.0; few = (omega (arith, want, few.0), omega (arith, have, few.1)); room = omega (arith, room) },
-      fetch_taken format lines (fetch_argument line) parts.1 room (omega (arith, want, few.0), omega (arith, have, few.1)),
+      fetch_taken limits format lines (fetch_argument line) parts.1 room (omega (arith, want, few.0), omega (arith, have, few.1)),
     )

@@ -5,6 +5,7 @@ use Rattle.gpkt.specs.Packets.{Packet, Data, Flush, Delim, ResponseEnd, text}
 use Rattle.gname.specs.declared.formats.Format.{Format}
 use Rattle.ggrammar.specs.Grammar.{Judge, Open, IsOpen, LawsOf}
 use Rattle.ggrammar.specs.Places.{place_after, collect}
+use Rattle.ggrammar.specs.declared.limits.Limits.{Limits}
 use Rattle.gname.proofs.ListLemmas.{All-parts}
 use Rattle.grequest.specs.declared.command.Command.{Command}
 use Rattle.grequest.specs.declared.command.CommandForm.TheVariants.{Known}
@@ -118,7 +119,7 @@ pub record IsListed (format : Format) (front : List Packet) : Type 0 where
   pub is_command : command_form (text first) ≡ Known command
   pub are_capabilities : AreCapabilities format (map text capabilities)
 
-pub record IsArgued (format : Format) (front : List Packet) : Type 0 where
+pub record IsArgued (limits : Limits) (format : Format) (front : List Packet) : Type 0 where
   pub command : Command
   pub first : List ℕ
   pub capabilities : List (List ℕ)
@@ -127,30 +128,32 @@ pub record IsArgued (format : Format) (front : List Packet) : Type 0 where
   pub is_command : command_form (text first) ≡ Known command
   pub are_capabilities : AreCapabilities format (map text capabilities)
   pub named : NamesFormat format (map text capabilities)
-  pub are_arguments : AreArguments format command (map text arguments)
+  pub are_arguments : AreArguments limits format command (map text arguments)
 
-abbrev pub Shape : Format → List Packet → Type 0
-Shape format front = (front ≡ []) ⊎ (IsListed format front ⊎ IsArgued format front)
+abbrev pub Shape : Limits → Format → List Packet → Type 0
+Shape limits format front = (front ≡ []) ⊎ (IsListed format front ⊎ IsArgued limits format front)
 
 pub listed_state : (format : Format) (front : List Packet) (h : IsListed format front) → state_of format front ≡ state_at format (InCapabilities h.command) (map text h.capabilities) []
 listed_state format front h = ap (state_of format) h.parts ∙ state_of-listing format h.command h.first h.capabilities h.is_command
 
-pub argued_state : (format : Format) (front : List Packet) (h : IsArgued format front) → state_of format front ≡ state_at format (InArguments h.command) (map text h.capabilities) (map text h.arguments)
-argued_state format front h = ap (state_of format) h.parts ∙ state_of-arguing format h.command h.first h.capabilities h.arguments h.is_command
+pub argued_state : (limits : Limits) (format : Format) (front : List Packet) (h : IsArgued limits format front) → state_of format front ≡ state_at format (InArguments h.command) (map text h.capabilities) (map text h.arguments)
+argued_state limits format front h = ap (state_of format) h.parts ∙ state_of-arguing format h.command h.first h.capabilities h.arguments h.is_command
 
-first_push : (format : Format) (packet : Packet) → judge format [] packet ≡ Open → Shape format (packet ∷ [])
+first_push : (limits : Limits) (format : Format) (packet : Packet) → judge limits format [] packet ≡ Open
+    → Shape limits format (packet ∷ [])
 unfolding capability_texts argument_texts
-first_push format (Data payload) goes =
-    let h = known_command (command_form (text payload)) (text-open format (state_of format []) payload goes) in
+first_push limits format (Data payload) goes =
+    let h = known_command (command_form (text payload)) (text-open limits format (state_of format []) payload goes) in
     inr (inl (record { command = h.0; first = payload; capabilities = []; parts = refl; is_command = h.1; are_capabilities = AreCapabilities-nil format }))
-first_push format Flush goes = absurd (flush-never_open format (state_of format []) goes)
-first_push format Delim goes = absurd (let refuses = sym (judge-delim format (state_of format [])) ∙ goes in cc)
-first_push format ResponseEnd goes = absurd (response_end-never_open format (state_of format []) goes)
+first_push limits format Flush goes = absurd (flush-never_open limits format (state_of format []) goes)
+first_push limits format Delim goes =
+    absurd (let refuses = sym (judge-delim limits format (state_of format [])) ∙ goes in cc)
+first_push limits format ResponseEnd goes = absurd (response_end-never_open limits format (state_of format []) goes)
 
-listed_push : (format : Format) (front : List Packet) (packet : Packet) → IsListed format front → judge format front packet ≡ Open → Shape format (front ++ packet ∷ [])
-listed_push format front (Data payload) h goes =
+listed_push : (limits : Limits) (format : Format) (front : List Packet) (packet : Packet) → IsListed format front → judge limits format front packet ≡ Open → Shape limits format (front ++ packet ∷ [])
+listed_push limits format front (Data payload) h goes =
     let state = state_at format (InCapabilities h.command) (map text h.capabilities) [] in
-    let takes : TakesCapability format h.command (map text h.capabilities) [] (capability_form (text payload)) = text-open format state payload (subst (λ s. judge_at format s (Data payload) ≡ Open) (listed_state format front h) goes) in
+    let takes : TakesCapability format h.command (map text h.capabilities) [] (capability_form (text payload)) = text-open limits format state payload (subst (λ s. judge_at limits format s (Data payload) ≡ Open) (listed_state format front h) goes) in
     inr (inl (record {
       command = h.command;
       first = h.first;
@@ -159,10 +162,10 @@ listed_push format front (Data payload) h goes =
       is_command = h.is_command;
       are_capabilities = subst (AreCapabilities format) (sym (map_push text h.capabilities payload)) (AreCapabilities-push format h.command (map text h.capabilities) [] (text payload) h.are_capabilities takes);
     }))
-listed_push format front Flush h goes = absurd (flush-never_open format (state_of format front) goes)
-listed_push format front Delim h goes =
+listed_push limits format front Flush h goes = absurd (flush-never_open limits format (state_of format front) goes)
+listed_push limits format front Delim h goes =
     let state = state_at format (InCapabilities h.command) (map text h.capabilities) [] in
-    let ends = sym (judge-delim format state) ∙ subst (λ s. judge_at format s Delim ≡ Open) (listed_state format front h) goes in
+    let ends = sym (judge-delim limits format state) ∙ subst (λ s. judge_at limits format s Delim ≡ Open) (listed_state format front h) goes in
     inr (inr (record {
       command = h.command;
       first = h.first;
@@ -172,14 +175,15 @@ listed_push format front Delim h goes =
       is_command = h.is_command;
       are_capabilities = h.are_capabilities;
       named = names_format format h.command (map text h.capabilities) [] Open (λ why e. cc) h.are_capabilities.one_format ends;
-      are_arguments = AreArguments-nil format h.command;
+      are_arguments = AreArguments-nil limits format h.command;
     }))
-listed_push format front ResponseEnd h goes = absurd (response_end-never_open format (state_of format front) goes)
+listed_push limits format front ResponseEnd h goes =
+    absurd (response_end-never_open limits format (state_of format front) goes)
 
-argued_push : (format : Format) (front : List Packet) (packet : Packet) → IsArgued format front → judge format front packet ≡ Open → Shape format (front ++ packet ∷ [])
-argued_push format front (Data payload) h goes =
+argued_push : (limits : Limits) (format : Format) (front : List Packet) (packet : Packet) → IsArgued limits format front → judge limits format front packet ≡ Open → Shape limits format (front ++ packet ∷ [])
+argued_push limits format front (Data payload) h goes =
     let state = state_at format (InArguments h.command) (map text h.capabilities) (map text h.arguments) in
-    let takes : TakesArgument format h.command (map text h.capabilities) (map text h.arguments) (text payload) = text-open format state payload (subst (λ s. judge_at format s (Data payload) ≡ Open) (argued_state format front h) goes) in
+    let takes : TakesArgument limits format h.command (map text h.capabilities) (map text h.arguments) (text payload) = text-open limits format state payload (subst (λ s. judge_at limits format s (Data payload) ≡ Open) (argued_state limits format front h) goes) in
     inr (inr (record {
       command = h.command;
       first = h.first;
@@ -189,89 +193,95 @@ argued_push format front (Data payload) h goes =
       is_command = h.is_command;
       are_capabilities = h.are_capabilities;
       named = h.named;
-      are_arguments = subst (AreArguments format h.command) (sym (map_push text h.arguments payload)) (AreArguments-push format h.command (map text h.capabilities) (map text h.arguments) (text payload) h.are_arguments takes);
+      are_arguments = subst (AreArguments limits format h.command) (sym (map_push text h.arguments payload)) (AreArguments-push limits format h.command (map text h.capabilities) (map text h.arguments) (text payload) h.are_arguments takes);
     }))
-argued_push format front Flush h goes = absurd (flush-never_open format (state_of format front) goes)
-argued_push format front Delim h goes =
+argued_push limits format front Flush h goes = absurd (flush-never_open limits format (state_of format front) goes)
+argued_push limits format front Delim h goes =
     let state = state_at format (InArguments h.command) (map text h.capabilities) (map text h.arguments) in
-    absurd (let refuses = sym (judge-delim format state) ∙ subst (λ s. judge_at format s Delim ≡ Open) (argued_state format front h) goes in cc)
-argued_push format front ResponseEnd h goes = absurd (response_end-never_open format (state_of format front) goes)
+    absurd (let refuses = sym (judge-delim limits format state) ∙ subst (λ s. judge_at limits format s Delim ≡ Open) (argued_state limits format front h) goes in cc)
+argued_push limits format front ResponseEnd h goes =
+    absurd (response_end-never_open limits format (state_of format front) goes)
 
-shape_push : (format : Format) (front : List Packet) (packet : Packet) → Shape format front → judge format front packet ≡ Open → Shape format (front ++ packet ∷ [])
-shape_push format front packet (inl e) goes =
-    subst (λ (xs : List Packet). Shape format (xs ++ packet ∷ [])) (sym e) (first_push format packet (ap (λ (xs : List Packet). judge format xs packet) (sym e) ∙ goes))
-shape_push format front packet (inr (inl h)) goes = listed_push format front packet h goes
-shape_push format front packet (inr (inr h)) goes = argued_push format front packet h goes
+shape_push : (limits : Limits) (format : Format) (front : List Packet) (packet : Packet) → Shape limits format front → judge limits format front packet ≡ Open → Shape limits format (front ++ packet ∷ [])
+shape_push limits format front packet (inl e) goes =
+    subst (λ (xs : List Packet). Shape limits format (xs ++ packet ∷ [])) (sym e) (first_push limits format packet (ap (λ (xs : List Packet). judge limits format xs packet) (sym e) ∙ goes))
+shape_push limits format front packet (inr (inl h)) goes = listed_push limits format front packet h goes
+shape_push limits format front packet (inr (inr h)) goes = argued_push limits format front packet h goes
 
 -- an open list is one of these
-pub shape_of_open : ((j : Judge) → LawsOf j) → (format : Format) (front : List Packet) → IsOpen (judge format) front → Shape format front
-shape_of_open laws format front =
-    by_pushes (λ (xs : List Packet). IsOpen (judge format) xs → Shape format xs)
-    (λ xs x before opened. shape_push format xs x (before ((laws (judge format)).front xs (x ∷ []) opened)) (opened.each xs x [] refl)) [] front (λ _. inl refl)
+pub shape_of_open : ((j : Judge) → LawsOf j) → (limits : Limits) (format : Format) (front : List Packet) → IsOpen (judge limits format) front → Shape limits format front
+shape_of_open laws limits format front =
+    by_pushes (λ (xs : List Packet). IsOpen (judge limits format) xs → Shape limits format xs)
+    (λ xs x before opened. shape_push limits format xs x (before ((laws (judge limits format)).front xs (x ∷ []) opened)) (opened.each xs x [] refl)) [] front (λ _. inl refl)
 
 -- ---- and each of these is open
 
-first_open : (format : Format) (command : Command) (first : List ℕ) → text first ≡ codes "command=" ++ command_name command → judge format [] (Data first) ≡ Open
+first_open : (limits : Limits) (format : Format) (command : Command) (first : List ℕ) → text first ≡ codes "command=" ++ command_name command → judge limits format [] (Data first) ≡ Open
 unfolding capability_texts argument_texts
-first_open format command first is =
-    open-text format (state_of format []) first (no_error first (command_no_error (text first) command is))
+first_open limits format command first is =
+    open-text limits format (state_of format []) first (no_error first (command_no_error (text first) command is))
     (ap judge_command (command_form-line (text first) command is))
 
-pub listing-is_open : ((j : Judge) → LawsOf j) → (format : Format) (command : Command) (first : List ℕ) (capabilities : List (List ℕ)) → text first ≡ codes "command=" ++ command_name command
-    → AreCapabilities format (map text capabilities) → IsOpen (judge format) (listing first capabilities)
-listing-is_open laws format command first capabilities is =
-    let exact = laws (judge format) in
-    let start = exact.goes_on [] (Data first) exact.nothing (first_open format command first is) in
-    by_pushes (λ (xs : List (List ℕ)). AreCapabilities format (map text xs) → IsOpen (judge format) (listing first xs))
+pub listing-is_open : ((j : Judge) → LawsOf j) → (limits : Limits) (format : Format) (command : Command) (first : List ℕ) (capabilities : List (List ℕ)) → text first ≡ codes "command=" ++ command_name command
+    → AreCapabilities format (map text capabilities) → IsOpen (judge limits format) (listing first capabilities)
+listing-is_open laws limits format command first capabilities is =
+    let exact = laws (judge limits format) in
+    let start = exact.goes_on [] (Data first) exact.nothing (first_open limits format command first is) in
+    by_pushes
+    (λ (xs : List (List ℕ)). AreCapabilities format (map text xs) → IsOpen (judge limits format) (listing first xs))
     (λ xs x before h.
     let all = subst (AreCapabilities format) (map_push text xs x) h in
     let parts = AreCapabilities-parts format command (map text xs) [] (text x) all in
     let last = (All-parts (λ line. IsCapability format (capability_form line)) (map text xs) (text x) all.are).1 in
     let state = state_at format (InCapabilities command) (map text xs) [] in
-    let goes : judge format (listing first xs) (Data x) ≡ Open =
-    subst (λ s. judge_at format s (Data x) ≡ Open)
+    let goes : judge limits format (listing first xs) (Data x) ≡ Open =
+    subst (λ s. judge_at limits format s (Data x) ≡ Open)
     (sym (state_of-listing format command first xs (command_form-line (text first) command is)))
-    (open-text format state x (no_error x (λ rest. capability_no_error format (text x) rest last)) parts.1) in
-    subst (IsOpen (judge format)) (listing-push first xs x) (exact.goes_on (listing first xs) (Data x) (before parts.0) goes))
+    (open-text limits format state x (no_error x (λ rest. capability_no_error format (text x) rest last)) parts.1) in
+    subst (IsOpen (judge limits format)) (listing-push first xs x) (exact.goes_on (listing first xs) (Data x) (before parts.0) goes))
     [] capabilities (λ _. start)
 
-pub arguing-is_open : ((j : Judge) → LawsOf j) → (format : Format) (command : Command) (first : List ℕ) (capabilities arguments : List (List ℕ)) → text first ≡ codes "command=" ++ command_name command
-    → AreCapabilities format (map text capabilities) → NamesFormat format (map text capabilities) → AreArguments format command (map text arguments)
-    → IsOpen (judge format) (arguing first capabilities arguments)
-arguing-is_open laws format command first capabilities arguments is are named =
-    let exact = laws (judge format) in
+pub arguing-is_open : ((j : Judge) → LawsOf j) → (limits : Limits) (format : Format) (command : Command) (first : List ℕ) (capabilities arguments : List (List ℕ)) → text first ≡ codes "command=" ++ command_name command
+    → AreCapabilities format (map text capabilities) → NamesFormat format (map text capabilities) → AreArguments limits format command (map text arguments)
+    → IsOpen (judge limits format) (arguing first capabilities arguments)
+arguing-is_open laws limits format command first capabilities arguments is are named =
+    let exact = laws (judge limits format) in
     let known = command_form-line (text first) command is in
     let state = state_at format (InCapabilities command) (map text capabilities) [] in
-    let delimited : judge format (listing first capabilities) Delim ≡ Open =
-    subst (λ s. judge_at format s Delim ≡ Open) (sym (state_of-listing format command first capabilities known))
-    (judge-delim format state ∙ named-taken format command (map text capabilities) [] Open named) in
-    let start = exact.goes_on (listing first capabilities) Delim (listing-is_open laws format command first capabilities is are) delimited in
-    by_pushes (λ (xs : List (List ℕ)). AreArguments format command (map text xs) → IsOpen (judge format) (arguing first capabilities xs))
+    let delimited : judge limits format (listing first capabilities) Delim ≡ Open =
+    subst (λ s. judge_at limits format s Delim ≡ Open) (sym (state_of-listing format command first capabilities known))
+    (judge-delim limits format state ∙ named-taken format command (map text capabilities) [] Open named) in
+    let start = exact.goes_on (listing first capabilities) Delim (listing-is_open laws limits format command first capabilities is are) delimited in
+    by_pushes (λ (xs : List (List ℕ)). AreArguments limits format command (map text xs) → IsOpen (judge limits format) (arguing first capabilities xs))
     (λ xs x before h.
-    let all = subst (AreArguments format command) (map_push text xs x) h in
-    let parts = AreArguments-parts format command (map text capabilities) (map text xs) (text x) all in
+    let all = subst (AreArguments limits format command) (map_push text xs x) h in
+    let parts = AreArguments-parts limits format command (map text capabilities) (map text xs) (text x) all in
     let last = (All-parts (IsArgument format command) (map text xs) (text x) all.are).1 in
     let state = state_at format (InArguments command) (map text capabilities) (map text xs) in
-    let goes : judge format (arguing first capabilities xs) (Data x) ≡ Open =
-    subst (λ s. judge_at format s (Data x) ≡ Open) (sym (state_of-arguing format command first capabilities xs known))
-    (open-text format state x (no_error x (λ rest. argument_no_error format command (text x) rest last)) parts.1) in
-    subst (IsOpen (judge format)) (arguing-push first capabilities xs x) (exact.goes_on _ (Data x) (before parts.0) goes))
+    let goes : judge limits format (arguing first capabilities xs) (Data x) ≡ Open =
+    subst (λ s. judge_at limits format s (Data x) ≡ Open)
+    (sym (state_of-arguing format command first capabilities xs known))
+    (open-text limits format state x
+    (no_error x (λ rest. argument_no_error format command (text x) rest last)) parts.1) in
+    subst (IsOpen (judge limits format)) (arguing-push first capabilities xs x) (exact.goes_on _ (Data x) (before parts.0) goes))
     [] arguments (λ _. start)
 
 -- ---- how long it gets
 
 -- a command, two capabilities, a delimiter and the arguments at most
-bounded : (format : Format) (front : List Packet) → Shape format front → length front ≤ max_arguments + 4
-bounded format front (inl e) = let none : length front ≡ 0 = ap length e in omega arith
-bounded format front (inr (inl h)) =
+bounded : (limits : Limits) (format : Format) (front : List Packet) → Shape limits format front
+    → length front ≤ max_arguments + 4
+bounded limits format front (inl e) = let none : length front ≡ 0 = ap length e in omega arith
+bounded limits format front (inr (inl h)) =
     let long : length front ≡ suc (length h.capabilities) = ap length h.parts ∙ ap suc (length-map h.capabilities Data) in
     omega (arith, few_capabilities format (map text h.capabilities) h.are_capabilities, length-map h.capabilities text)
-bounded format front (inr (inr h)) =
+bounded limits format front (inr (inr h)) =
     let both = length-append (map Data h.capabilities) (Delim ∷ map Data h.arguments) in
     let long : length front ≡ length h.capabilities + length h.arguments + 2 =
     ap length h.parts ∙ omega (arith, both, length-map h.capabilities Data, length-map h.arguments Data) in
     let few = h.are_arguments.room in
     omega (arith, few_capabilities format (map text h.capabilities) h.are_capabilities, length-map h.capabilities text, length-map h.arguments text)
 
-pub open_is_bounded : ((j : Judge) → LawsOf j) → (format : Format) (front : List Packet) → IsOpen (judge format) front → length front ≤ max_arguments + 4
-open_is_bounded laws format front opened = bounded format front (shape_of_open laws format front opened)
+pub open_is_bounded : ((j : Judge) → LawsOf j) → (limits : Limits) (format : Format) (front : List Packet) → IsOpen (judge limits format) front → length front ≤ max_arguments + 4
+open_is_bounded laws limits format front opened =
+    bounded limits format front (shape_of_open laws limits format front opened)

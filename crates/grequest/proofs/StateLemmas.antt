@@ -6,6 +6,7 @@ use Rattle.std.proofs.lemmas.List.{length_push}
 use Rattle.gpkt.specs.Packets.{Packet, Data, Flush, Delim, ResponseEnd, text}
 use Rattle.gname.specs.declared.formats.Format.{Format}
 use Rattle.ggrammar.specs.Grammar.{Verdict, Open, Whole}
+use Rattle.ggrammar.specs.declared.limits.Limits.{Limits}
 use Rattle.ggrammar.specs.MessageReading.{IsAccepted}
 use Rattle.ggrammar.specs.PeerErrors.{peer_error}
 use Rattle.ggrammar.specs.Places.{place_after, collect}
@@ -180,33 +181,35 @@ no_text format place capabilities arguments =
     ap (λ (xs : List (List ℕ)). state_at format place xs (arguments ++ [])) (append-nil capabilities)
     ∙ ap (λ (xs : List (List ℕ)). state_at format place capabilities xs) (append-nil arguments)
 
-text_adds : (format : Format) (place : RequestPlace) (capabilities arguments : List (List ℕ)) (payload : List ℕ)
+text_adds : (limits : Limits) (format : Format) (place : RequestPlace)
+    (capabilities arguments : List (List ℕ)) (payload : List ℕ)
     → (place ≡ First → capabilities ≡ []) → (place ≡ First → arguments ≡ [])
-    → IsAccepted (judge_text format place (state_at format place capabilities arguments) (text payload))
+    → IsAccepted (judge_text limits format place (state_at format place capabilities arguments) (text payload))
     → state_more format place capabilities arguments (Data payload) ≡ with_text format place (state_at format place capabilities arguments) (text payload)
 unfolding state_more
-text_adds format First capabilities arguments payload no_capability no_argument h =
+text_adds limits format First capabilities arguments payload no_capability no_argument h =
     subst (λ (xs : List (List ℕ)). state_at format (place_of_command (command_form (text payload))) (xs ++ []) (arguments ++ []) ≡ with_command format (state_at format First xs arguments) (command_form (text payload))) (sym (no_capability refl))
     (subst (λ (xs : List (List ℕ)). state_at format (place_of_command (command_form (text payload))) [] (xs ++ []) ≡ with_command format (state_at format First [] xs) (command_form (text payload))) (sym (no_argument refl))
     (command_adds format (command_form (text payload))))
-text_adds format (InCapabilities command) capabilities arguments payload no_capability no_argument h =
+text_adds limits format (InCapabilities command) capabilities arguments payload no_capability no_argument h =
     ap (λ (xs : List (List ℕ)). state_at format (InCapabilities command) (capabilities ++ text payload ∷ []) xs) (append-nil arguments)
     ∙ capability_adds format command capabilities arguments (text payload) (capability_form (text payload)) refl h
-text_adds format (InArguments command) capabilities arguments payload no_capability no_argument h =
+text_adds limits format (InArguments command) capabilities arguments payload no_capability no_argument h =
     ap (λ (xs : List (List ℕ)). state_at format (InArguments command) xs (arguments ++ text payload ∷ [])) (append-nil capabilities)
     ∙ argument_adds format command capabilities arguments (text payload)
 
-packet_adds : (format : Format) (place : RequestPlace) (capabilities arguments : List (List ℕ)) (packet : Packet)
+packet_adds : (limits : Limits) (format : Format) (place : RequestPlace)
+    (capabilities arguments : List (List ℕ)) (packet : Packet)
     → (place ≡ First → capabilities ≡ []) → (place ≡ First → arguments ≡ [])
-    → IsAccepted (judge_at format (state_at format place capabilities arguments) packet)
+    → IsAccepted (judge_at limits format (state_at format place capabilities arguments) packet)
     → state_more format place capabilities arguments packet ≡ with_packet format (state_at format place capabilities arguments) packet
 unfolding state_more judge_at with_packet
-packet_adds format place capabilities arguments (Data payload) no_capability no_argument h =
-    text_adds format place capabilities arguments payload no_capability no_argument (accepted_unless (peer_error payload) _ h)
-packet_adds format (InCapabilities command) capabilities arguments Flush no_capability no_argument h = no_text format (InCapabilities command) capabilities arguments
-packet_adds format (InCapabilities command) capabilities arguments Delim no_capability no_argument h = no_text format (InArguments command) capabilities arguments
-packet_adds format place capabilities arguments ResponseEnd no_capability no_argument h = absurd h
-packet_adds format place capabilities arguments packet no_capability no_argument h = no_text format place capabilities arguments
+packet_adds limits format place capabilities arguments (Data payload) no_capability no_argument h =
+    text_adds limits format place capabilities arguments payload no_capability no_argument (accepted_unless (peer_error payload) _ h)
+packet_adds limits format (InCapabilities command) capabilities arguments Flush no_capability no_argument h = no_text format (InCapabilities command) capabilities arguments
+packet_adds limits format (InCapabilities command) capabilities arguments Delim no_capability no_argument h = no_text format (InArguments command) capabilities arguments
+packet_adds limits format place capabilities arguments ResponseEnd no_capability no_argument h = absurd h
+packet_adds limits format place capabilities arguments packet no_capability no_argument h = no_text format place capabilities arguments
 
 state_of-more : (format : Format) (front : List Packet) (packet : Packet)
     → state_of format (front ++ packet ∷ []) ≡ state_more format (place_of front) (capability_texts front) (argument_texts front) packet
@@ -217,16 +220,21 @@ state_of-more format front packet =
     ∙ ap (λ (xs : List (List ℕ)). state_at format (next_place (place_of front) packet) (capability_texts front ++ capability_there (place_of front) packet) xs) (argument_texts-push front packet)
 
 -- a packet that is taken adds this
-pub state_of-push : (format : Format) (front : List Packet) (packet : Packet) → IsAccepted (judge format front packet)
+pub state_of-push : (limits : Limits) (format : Format) (front : List Packet) (packet : Packet)
+    → IsAccepted (judge limits format front packet)
     → state_of format (front ++ packet ∷ []) ≡ with_packet format (state_of format front) packet
-state_of-push format front packet h =
+state_of-push limits format front packet h =
     state_of-more format front packet
-    ∙ packet_adds format (place_of front) (capability_texts front) (argument_texts front) packet (capability_texts-first front) (argument_texts-first front) h
+    ∙ packet_adds limits format (place_of front) (capability_texts front) (argument_texts front) packet (capability_texts-first front) (argument_texts-first front) h
 
-pub state_of-open : (format : Format) (front : List Packet) (packet : Packet) → judge format front packet ≡ Open
+pub state_of-open : (limits : Limits) (format : Format) (front : List Packet) (packet : Packet)
+    → judge limits format front packet ≡ Open
     → state_of format (front ++ packet ∷ []) ≡ with_packet format (state_of format front) packet
-state_of-open format front packet goes = state_of-push format front packet (subst IsAccepted (sym goes) tt)
+state_of-open limits format front packet goes =
+    state_of-push limits format front packet (subst IsAccepted (sym goes) tt)
 
-pub state_of-whole : (format : Format) (front : List Packet) (packet : Packet) → judge format front packet ≡ Whole
+pub state_of-whole : (limits : Limits) (format : Format) (front : List Packet) (packet : Packet)
+    → judge limits format front packet ≡ Whole
     → state_of format (front ++ packet ∷ []) ≡ with_packet format (state_of format front) packet
-state_of-whole format front packet ends = state_of-push format front packet (subst IsAccepted (sym ends) tt)
+state_of-whole limits format front packet ends =
+    state_of-push limits format front packet (subst IsAccepted (sym ends) tt)

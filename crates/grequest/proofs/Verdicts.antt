@@ -9,6 +9,7 @@ use Rattle.gname.specs.declared.formats.Format.{Format}
 use Rattle.gname.specs.declared.formats.Format.TheVariants.{Sha1, Sha256}
 use Rattle.ggrammar.specs.Grammar.{Verdict, Open, Whole, Refused, if_room}
 use Rattle.ggrammar.specs.Ids.{id_of_text}
+use Rattle.ggrammar.specs.declared.limits.Limits.{Limits}
 use Rattle.ggrammar.specs.MessageBytes.{IsForPacket, IsOfPacket, RefusesPackets}
 use Rattle.ggrammar.specs.PeerErrors.{peer_error, unless_error}
 use Rattle.ggrammar.specs.declared.fault.Why.TheVariants.{BadText, BadName, BadId, Limit, Format as WrongFormat}
@@ -68,28 +69,30 @@ of_few_fits : (test : Bool) (arguments : ℕ) (before : List (List ℕ)) (limit 
 of_few_fits test arguments before limit verdict h =
     by_test test (of_few arguments before limit) verdict (by_room (has_room arguments && nat_lt (length before) limit)) h
 
-of_ls_argument : (arguments : ℕ) (prefixes : List (List ℕ)) (argument : LsArgument) → IsForText (judge_ls_argument arguments prefixes argument)
-of_ls_argument arguments prefixes (KnownLsFlag flag) = by_room (has_room arguments)
-of_ls_argument arguments prefixes (RefPrefix prefix) =
-    of_few_fits (is_none (prefix_fault prefix)) arguments prefixes max_prefixes (Refused BadName) tt
-of_ls_argument arguments prefixes UnknownLsArgument = tt
+of_ls_argument : (limits : Limits) (arguments : ℕ) (prefixes : List (List ℕ)) (argument : LsArgument) → IsForText (judge_ls_argument limits arguments prefixes argument)
+of_ls_argument limits arguments prefixes (KnownLsFlag flag) = by_room (has_room arguments)
+of_ls_argument limits arguments prefixes (RefPrefix prefix) =
+    of_few_fits (is_none (prefix_fault prefix)) arguments prefixes (max_prefixes limits) (Refused BadName) tt
+of_ls_argument limits arguments prefixes UnknownLsArgument = tt
 
-of_fetch_argument : (format : Format) (arguments : ℕ) (wants haves : List (List ℕ)) (argument : FetchArgument)
-    → IsForText (judge_fetch_argument format arguments wants haves argument)
-of_fetch_argument format arguments wants haves (KnownFetchFlag flag) = by_room (has_room arguments)
-of_fetch_argument format arguments wants haves (Want id) =
-    of_few_fits (is_some (id_of_text format id)) arguments wants max_wants (Refused BadId) tt
-of_fetch_argument format arguments wants haves (Have id) =
-    of_few_fits (is_some (id_of_text format id)) arguments haves max_haves (Refused BadId) tt
-of_fetch_argument format arguments wants haves UnknownFetchArgument = tt
+of_fetch_argument : (limits : Limits) (format : Format) (arguments : ℕ) (wants haves : List (List ℕ))
+    (argument : FetchArgument)
+    → IsForText (judge_fetch_argument limits format arguments wants haves argument)
+of_fetch_argument limits format arguments wants haves (KnownFetchFlag flag) = by_room (has_room arguments)
+of_fetch_argument limits format arguments wants haves (Want id) =
+    of_few_fits (is_some (id_of_text format id)) arguments wants (max_wants limits) (Refused BadId) tt
+of_fetch_argument limits format arguments wants haves (Have id) =
+    of_few_fits (is_some (id_of_text format id)) arguments haves (max_haves limits) (Refused BadId) tt
+of_fetch_argument limits format arguments wants haves UnknownFetchArgument = tt
 
-pub of_text : (format : Format) (place : RequestPlace) (state : State) (line : List ℕ) → IsForText (judge_text format place state line)
-of_text format First state line = of_command (command_form line)
-of_text format (InCapabilities command) state line = of_capability format state (capability_form line)
-of_text format (InArguments LsRefs) state line =
-    of_ls_argument state.argument_lines (prefixes_of state.asked) (ls_argument line)
-of_text format (InArguments Fetch) state line =
-    of_fetch_argument format state.argument_lines (wants_of state.asked) (haves_of state.asked) (fetch_argument line)
+pub of_text : (limits : Limits) (format : Format) (place : RequestPlace) (state : State) (line : List ℕ) → IsForText (judge_text limits format place state line)
+of_text limits format First state line = of_command (command_form line)
+of_text limits format (InCapabilities command) state line = of_capability format state (capability_form line)
+of_text limits format (InArguments LsRefs) state line =
+    of_ls_argument limits state.argument_lines (prefixes_of state.asked) (ls_argument line)
+of_text limits format (InArguments Fetch) state line =
+    of_fetch_argument limits format state.argument_lines (wants_of state.asked) (haves_of state.asked)
+    (fetch_argument line)
 
 -- ---- packets
 
@@ -103,29 +106,30 @@ of_delim Sha256 (InCapabilities command) state = by_test (state.format_lines == 
 of_delim Sha1 (InCapabilities command) state = tt
 of_delim format _ state = tt
 
-of_packet : (format : Format) (state : State) (packet : Packet) → IsForPacket (judge_at format state packet)
+of_packet : (limits : Limits) (format : Format) (state : State) (packet : Packet)
+    → IsForPacket (judge_at limits format state packet)
 unfolding judge_at
-of_packet format state (Data payload) =
-    past_error (peer_error payload) (judge_text format state.place state (text payload))
-    (for_packet _ (of_text format state.place state (text payload)))
-of_packet format state Flush = of_flush format state.place state
-of_packet format state Delim = for_packet _ (of_delim format state.place state)
-of_packet format state ResponseEnd = tt
+of_packet limits format state (Data payload) =
+    past_error (peer_error payload) (judge_text limits format state.place state (text payload))
+    (for_packet _ (of_text limits format state.place state (text payload)))
+of_packet limits format state Flush = of_flush format state.place state
+of_packet limits format state Delim = for_packet _ (of_delim format state.place state)
+of_packet limits format state ResponseEnd = tt
 
-pub refuses_packets : (format : Format) → RefusesPackets (judge format)
-refuses_packets format front packet = of_packet format (state_of format front) packet
+pub refuses_packets : (limits : Limits) (format : Format) → RefusesPackets (judge limits format)
+refuses_packets limits format front packet = of_packet limits format (state_of format front) packet
 
 -- ---- the peer's errors come first
 
 -- a text that goes on is one of its place
-pub text-open : (format : Format) (state : State) (payload : List ℕ) → judge_at format state (Data payload) ≡ Open → judge_text format state.place state (text payload) ≡ Open
+pub text-open : (limits : Limits) (format : Format) (state : State) (payload : List ℕ) → judge_at limits format state (Data payload) ≡ Open → judge_text limits format state.place state (text payload) ≡ Open
 unfolding judge_at
-text-open format state payload e = open_unless (peer_error payload) _ e
+text-open limits format state payload e = open_unless (peer_error payload) _ e
 
 -- and a text of its place goes on, unless it reports an error
-pub open-text : (format : Format) (state : State) (payload : List ℕ) → peer_error payload ≡ None → judge_text format state.place state (text payload) ≡ Open → judge_at format state (Data payload) ≡ Open
+pub open-text : (limits : Limits) (format : Format) (state : State) (payload : List ℕ) → peer_error payload ≡ None → judge_text limits format state.place state (text payload) ≡ Open → judge_at limits format state (Data payload) ≡ Open
 unfolding judge_at
-open-text format state payload none e = ap (λ (said : Option (List ℕ)). unless_error said (judge_text format state.place state (text payload))) none ∙ e
+open-text limits format state payload none e = ap (λ (said : Option (List ℕ)). unless_error said (judge_text limits format state.place state (text payload))) none ∙ e
 
 pub known_command : (form : CommandForm) → judge_command form ≡ Open → (command : Command) × (form ≡ Known command)
 known_command (Known command) e = (command, refl)
@@ -133,17 +137,20 @@ known_command _ e = cc
 
 -- ---- delimiter, flush and response-end
 
-pub judge-delim : (format : Format) (state : State) → judge_at format state Delim ≡ judge_delim format state.place state
+pub judge-delim : (limits : Limits) (format : Format) (state : State)
+    → judge_at limits format state Delim ≡ judge_delim format state.place state
 unfolding judge_at
-judge-delim format state = refl
+judge-delim limits format state = refl
 
-pub judge-flush : (format : Format) (state : State) → judge_at format state Flush ≡ judge_flush format state.place state
+pub judge-flush : (limits : Limits) (format : Format) (state : State)
+    → judge_at limits format state Flush ≡ judge_flush format state.place state
 unfolding judge_at
-judge-flush format state = refl
+judge-flush limits format state = refl
 
-pub response_end-never_open : (format : Format) (state : State) → judge_at format state ResponseEnd ≡ Open → ⊥
+pub response_end-never_open : (limits : Limits) (format : Format) (state : State)
+    → judge_at limits format state ResponseEnd ≡ Open → ⊥
 unfolding judge_at
-response_end-never_open format state e = cc
+response_end-never_open limits format state e = cc
 
 unnamed_never : (b : Bool) (why : Why) → cond b (Refused why) Whole ≡ Open → ⊥
 unnamed_never true why e = cc
@@ -154,8 +161,9 @@ flush_at Sha256 (InCapabilities command) state e = unnamed_never (state.format_l
 flush_at Sha1 (InCapabilities command) state e = cc
 flush_at format _ state e = cc
 
-pub flush-never_open : (format : Format) (state : State) → judge_at format state Flush ≡ Open → ⊥
-flush-never_open format state e = flush_at format state.place state (sym (judge-flush format state) ∙ e)
+pub flush-never_open : (limits : Limits) (format : Format) (state : State) → judge_at limits format state Flush ≡ Open
+    → ⊥
+flush-never_open limits format state e = flush_at format state.place state (sym (judge-flush limits format state) ∙ e)
 
 -- ---- the packet that ends the capabilities
 
@@ -185,9 +193,9 @@ named-taken Sha256 command lines arguments verdict h = unless-named (length (for
 
 -- ---- only a flush ends
 
-pub ends-flush : (format : Format) (state : State) (packet : Packet) → judge_at format state packet ≡ Whole → packet ≡ Flush
+pub ends-flush : (limits : Limits) (format : Format) (state : State) (packet : Packet) → judge_at limits format state packet ≡ Whole → packet ≡ Flush
 unfolding judge_at
-ends-flush format state (Data payload) e = absurd (never_whole _ (of_text format state.place state (text payload)) (whole_unless (peer_error payload) _ e))
-ends-flush format state Flush e = refl
-ends-flush format state Delim e = absurd (never_whole _ (of_delim format state.place state) e)
-ends-flush format state ResponseEnd e = cc
+ends-flush limits format state (Data payload) e = absurd (never_whole _ (of_text limits format state.place state (text payload)) (whole_unless (peer_error payload) _ e))
+ends-flush limits format state Flush e = refl
+ends-flush limits format state Delim e = absurd (never_whole _ (of_delim format state.place state) e)
+ends-flush limits format state ResponseEnd e = cc

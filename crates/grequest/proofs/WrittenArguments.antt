@@ -12,6 +12,7 @@ use Rattle.gname.specs.declared.formats.Format.TheVariants.{Sha1, Sha256}
 use Rattle.ggrammar.specs.Capabilities.{capability_of, capability_split, has_length, is_equals_sign, is_graphic, is_key}
 use Rattle.ggrammar.specs.Capabilities.{is_printable, is_value, is_word_value, max_capability}
 use Rattle.ggrammar.specs.Ids.{id_of_text}
+use Rattle.ggrammar.specs.declared.limits.Limits.{Limits}
 use Rattle.ggrammar.proofs.IdLemmas.{is_spelt}
 use Rattle.grequest.specs.Arguments.{Agent, ObjectFormat, BadCapability, capability_with, capability_form, ls_flags}
 use Rattle.grequest.specs.Arguments.{LsArgument, KnownLsFlag, RefPrefix, UnknownLsArgument, ls_argument, fetch_flags}
@@ -164,8 +165,9 @@ pub record SaysLs (format : Format) (asked : LsRefsAsked) : Type 0 where
   pub flags : ls_flags_among (ls_texts asked) ≡ asked.flags
   pub prefixes : prefixes (ls_texts asked) ≡ asked.prefixes
 
-pub says_ls : (format : Format) (asked : LsRefsAsked) → IsLsRefsAsked asked → SaysLs format asked
-says_ls format asked h =
+pub says_ls : (limits : Limits) (format : Format) (asked : LsRefsAsked) → IsLsRefsAsked limits asked
+    → SaysLs format asked
+says_ls limits format asked h =
     let flags = flags_texts ls_flags asked.flags in
     let values = map prefix_text asked.prefixes in
     let P : List ℕ → Type 0 = IsArgument format LsRefs in
@@ -266,8 +268,8 @@ haves_said spelt format asked ids =
     (values_come_back F have_text asked.haves (λ k d lt. ap (have_value format) (have_form _) ∙ id_of_text-id_text spelt format _ (ids k d lt))))
     (flag_gives_none F (codes "done") (fetch_has asked Done) (ap (have_value format) done_form))
 
-pub are_fetch : AreSpelt → (format : Format) (asked : FetchAsked) → IsFetchAsked format asked → All (IsArgument format Fetch) (fetch_texts asked)
-are_fetch spelt format asked h =
+pub are_fetch : AreSpelt → (limits : Limits) (format : Format) (asked : FetchAsked) → IsFetchAsked limits format asked → All (IsArgument format Fetch) (fetch_texts asked)
+are_fetch spelt limits format asked h =
     let P : List ℕ → Type 0 = IsArgument format Fetch in
     let id : (id : List ℕ) → IsIdOf format id → IsSome (id_of_text format (id_text id)) =
     λ id is. ap is_some (id_of_text-id_text spelt format id is) in

@@ -1,4 +1,4 @@
--- The texts that a request is written from, flags that are set or not and values, with their packets, and what they say.
+-- The texts of a written request: its flags and its values, with their packets and what they say.
 use Rattle.std.proofs.Common.{◌≡◌, ℕ, ◌≤◌, ◌&&◌, ◌||◌, Bool, true, false, List, [], ◌∷◌, ◌++◌, length, map, Option}
 use Rattle.std.proofs.Common.{Some, None, refl, sym, ap, ◌∙◌, append-nil, arith, codes}
 use Rattle.std.specs.Prelude.{All}

@@ -1,9 +1,10 @@
 -- The contents of requests (gitprotocol-v2(5), "Command Request", "ls-refs", "fetch").
-use Rattle.std.specs.Prelude.{ℕ, Bool, ◌==◌, ◌||◌, List, length, Option}
+use Rattle.std.specs.Prelude.{ℕ, Bool, ◌==◌, ◌||◌, List, length, min, Option}
 use denote.Enum.Bare.{sameb}
 use denote.Enum.Declared.{tag_of}
 use Rattle.gname.specs.Ids.{Id}
 use Rattle.gpkt.specs.Packets.{Bytes}
+use Rattle.ggrammar.specs.declared.limits.Limits.{Limits}
 use Rattle.grequest.specs.declared.flag.LsRefsFlag.{LsRefsFlag}
 use Rattle.grequest.specs.declared.flag.FetchFlag.{FetchFlag}
 use Rattle.grequest.specs.declared.flag.FetchFlag.TheVariants.{Done}
@@ -66,15 +67,22 @@ fetch_with asked flag is_set = record asked { flags = with_flag same_fetch_flag 
 abbrev pub is_direct : FetchAsked → Bool
 is_direct asked = fetch_has asked Done || length asked.haves == 0
 
--- the maximum numbers of prefixes, wants, haves and arguments of a request
-abbrev pub max_prefixes : ℕ
-max_prefixes = 64
+-- ---- limits
 
-abbrev pub max_wants : ℕ
-max_wants = 1024
-
-abbrev pub max_haves : ℕ
-max_haves = 4096
-
+-- the maximum number of arguments of a request
 abbrev pub max_arguments : ℕ
 max_arguments = 4294967295
+
+-- the maximum length of each list of a request with any limits, so that all values fit into one request
+abbrev pub max_listed : ℕ
+max_listed = 1073741824
+
+-- the maximum numbers of prefixes, wants and haves of a request with these limits
+abbrev pub max_prefixes : Limits → ℕ
+max_prefixes limits = min limits.prefixes max_listed
+
+abbrev pub max_wants : Limits → ℕ
+max_wants limits = min limits.wants max_listed
+
+abbrev pub max_haves : Limits → ℕ
+max_haves limits = min limits.haves max_listed

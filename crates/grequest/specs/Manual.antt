@@ -5,7 +5,8 @@
 --   command-request = command capability-list delim-pkt command-args flush-pkt
 --
 -- The delimiter may be left out if there are no arguments. Each part is a list of payloads. The text of a payload is
--- the payload without one trailing line feed. The parameter `format` is the object format of the repository.
+-- the payload without one trailing line feed. The parameters are the limits on a request, and the object format of
+-- the repository.
 use Rattle.std.specs.Prelude.{◌≡◌, ◌≤◌, ◌⊎◌, List, [], ◌∷◌, ◌++◌, length, map, codes, All}
 use Rattle.gpkt.specs.Packets.{Bytes, Packet, Data, Flush, Delim, text}
 use Rattle.gname.specs.Names.{IsPrefix}
@@ -13,6 +14,7 @@ use Rattle.gname.specs.Formats.{format_name}
 use Rattle.gname.specs.declared.formats.Format.{Format}
 use Rattle.gname.specs.declared.formats.Format.TheVariants.{Sha1, Sha256}
 use Rattle.ggrammar.specs.Ids.{id_of_text}
+use Rattle.ggrammar.specs.declared.limits.Limits.{Limits}
 use Rattle.grequest.specs.declared.command.Command.{Command}
 use Rattle.grequest.specs.declared.command.Command.TheVariants.{LsRefs, Fetch}
 use Rattle.grequest.specs.Arguments.{command_name, CapabilityForm, Agent, ObjectFormat}
@@ -51,17 +53,17 @@ IsArgument format LsRefs line = IsLsArgument (ls_argument line)
 IsArgument format Fetch line = IsFetchArgument format (fetch_argument line)
 
 -- the numbers of prefixes, wants and haves are within their limits
-abbrev pub AreFew : Format → Command → List Bytes → Type 0
-AreFew format LsRefs arguments = length (prefixes arguments) ≤ max_prefixes
-AreFew format Fetch arguments =
-    (length (wants format arguments) ≤ max_wants) × (length (haves format arguments) ≤ max_haves)
+abbrev pub AreFew : Limits → Format → Command → List Bytes → Type 0
+AreFew limits format LsRefs arguments = length (prefixes arguments) ≤ max_prefixes limits
+AreFew limits format Fetch arguments =
+    (length (wants format arguments) ≤ max_wants limits) × (length (haves format arguments) ≤ max_haves limits)
 
 -- the packets of the arguments, with a delimiter that may be left out if there are no arguments
 abbrev pub IsSection : List Bytes → List Packet → Type 0
 IsSection arguments packets = (packets ≡ Delim ∷ map Data arguments) ⊎ ((arguments ≡ []) × (packets ≡ []))
 
 -- the packets are a command with its capabilities and arguments, and `asked` is the contents of this request
-pub record IsCommandRequest (format : Format) (lines : List Packet) (asked : Asked) : Type 0 where
+pub record IsCommandRequest (limits : Limits) (format : Format) (lines : List Packet) (asked : Asked) : Type 0 where
   pub command : Command
   pub first : Bytes
   pub capabilities : List Bytes
@@ -74,10 +76,11 @@ pub record IsCommandRequest (format : Format) (lines : List Packet) (asked : Ask
   pub are_arguments : All (IsArgument format command) (map text arguments)
   pub one_agent : length (agents (map text capabilities)) ≤ 1
   pub one_format : NamesFormat format (map text capabilities)
-  pub few : AreFew format command (map text arguments)
+  pub few : AreFew limits format command (map text arguments)
   pub few_arguments : length arguments ≤ max_arguments
   pub asks : asked ≡ asked_by_command format command (map text capabilities) (map text arguments)
 
 -- the packets encode a request with these contents
-abbrev pub IsRequest : Format → List Packet → Asked → Type 0
-IsRequest format lines asked = ((lines ≡ Flush ∷ []) × (asked ≡ Empty)) ⊎ IsCommandRequest format lines asked
+abbrev pub IsRequest : Limits → Format → List Packet → Asked → Type 0
+IsRequest limits format lines asked =
+    ((lines ≡ Flush ∷ []) × (asked ≡ Empty)) ⊎ IsCommandRequest limits format lines asked

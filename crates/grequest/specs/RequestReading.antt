@@ -3,6 +3,7 @@ use Rattle.std.specs.Prelude.{◌≡◌, ◌↔◌, ◌<◌, [], Option, None, R
 use Rattle.gname.specs.declared.formats.Format.{Format}
 use Rattle.gpkt.specs.Packets.{Bytes}
 use Rattle.ggrammar.specs.Kinds.{ReadsIfAny}
+use Rattle.ggrammar.specs.declared.limits.Limits.{Limits}
 use Rattle.ggrammar.specs.MessageBytes.{known_bytes, IsOfBytes}
 use Rattle.ggrammar.specs.declared.fault.Why.TheVariants.{Ended}
 use Rattle.ggrammar.specs.declared.fault.MessageFault.{MessageFault}
@@ -14,8 +15,8 @@ abbrev pub IsNotMissing : MessageFault → Type 0
 IsNotMissing fault = IsOfBytes fault.why × (fault.why ≡ Ended → 0 < fault.frame)
 
 -- the reader returns `None` exactly if the input is empty
-abbrev pub IsMissingWhereEmpty : Format → Type 0
-IsMissingWhereEmpty format =
+abbrev pub IsMissingWhereEmpty : Limits → Format → Type 0
+IsMissingWhereEmpty limits format =
     (bytes new : Bytes) (result : Result (Option Asked) MessageFault)
-    → ReadsIfAny (judge format) brings (Says format) (known_bytes bytes new) result → IfErr result IsNotMissing
-    → (result ≡ Ok None) ↔ (bytes ≡ [])
+    → ReadsIfAny (judge limits format) brings (Says limits format) (known_bytes bytes new) result
+    → IfErr result IsNotMissing → (result ≡ Ok None) ↔ (bytes ≡ [])

@@ -1,5 +1,6 @@
 -- The grammar of a request (gitprotocol-v2(5), "Command Request"): the packets that are rejected in each section, and
--- why. The verdict on a packet depends only on the `State` after the packets before it.
+-- why. The verdict on a packet depends only on the `State` after the packets before it. The parameters are the limits
+-- on a request, and the object format of the repository.
 use Rattle.std.specs.Prelude.{◌≡◌, ℕ, Bool, true, false, ◌&&◌, List, [], length, if◌then◌else◌, nat_lt, ◌==◌, Option}
 use Rattle.std.specs.Prelude.{None, is_none, is_some}
 use Rattle.gname.specs.Ids.{Id}
@@ -10,6 +11,7 @@ use Rattle.gname.specs.declared.formats.Format.{Format}
 use Rattle.gname.specs.declared.formats.Format.TheVariants.{Sha1, Sha256}
 use Rattle.ggrammar.specs.Grammar.{Verdict, Open, Whole, Refused, IsWhole, if_room}
 use Rattle.ggrammar.specs.Ids.{id_of_text}
+use Rattle.ggrammar.specs.declared.limits.Limits.{Limits}
 use Rattle.ggrammar.specs.PeerErrors.{judge_unless_error}
 use Rattle.ggrammar.specs.declared.fault.Why.TheVariants as why
 use Rattle.grequest.specs.declared.command.Command.{Command}
@@ -83,31 +85,32 @@ abbrev pub of_few : ℕ → List (List ℕ) → ℕ → Verdict
 of_few arguments before limit = if_room (has_room arguments && nat_lt (length before) limit)
 
 -- the verdict on an argument of ls-refs, given the number of arguments and the prefixes before it
-abbrev pub judge_ls_argument : ℕ → List Bytes → LsArgument → Verdict
-judge_ls_argument arguments prefixes (RefPrefix prefix) =
-    if is_none (prefix_fault prefix) then of_few arguments prefixes max_prefixes else Refused why.BadName
-judge_ls_argument arguments prefixes UnknownLsArgument = Refused why.UnknownArgument
-judge_ls_argument arguments prefixes _ = if_room (has_room arguments)
+abbrev pub judge_ls_argument : Limits → ℕ → List Bytes → LsArgument → Verdict
+judge_ls_argument limits arguments prefixes (RefPrefix prefix) =
+    if is_none (prefix_fault prefix) then of_few arguments prefixes (max_prefixes limits) else Refused why.BadName
+judge_ls_argument limits arguments prefixes UnknownLsArgument = Refused why.UnknownArgument
+judge_ls_argument limits arguments prefixes _ = if_room (has_room arguments)
 
 -- the verdict on an argument of fetch, given the number of arguments and the wants and haves before it
-abbrev pub judge_fetch_argument : Format → ℕ → List Id → List Id → FetchArgument → Verdict
-judge_fetch_argument format arguments wants haves (Want id) =
-    if is_some (id_of_text format id) then of_few arguments wants max_wants else Refused why.BadId
-judge_fetch_argument format arguments wants haves (Have id) =
-    if is_some (id_of_text format id) then of_few arguments haves max_haves else Refused why.BadId
-judge_fetch_argument format arguments wants haves UnknownFetchArgument = Refused why.UnknownArgument
-judge_fetch_argument format arguments wants haves _ = if_room (has_room arguments)
+abbrev pub judge_fetch_argument : Limits → Format → ℕ → List Id → List Id → FetchArgument → Verdict
+judge_fetch_argument limits format arguments wants haves (Want id) =
+    if is_some (id_of_text format id) then of_few arguments wants (max_wants limits) else Refused why.BadId
+judge_fetch_argument limits format arguments wants haves (Have id) =
+    if is_some (id_of_text format id) then of_few arguments haves (max_haves limits) else Refused why.BadId
+judge_fetch_argument limits format arguments wants haves UnknownFetchArgument = Refused why.UnknownArgument
+judge_fetch_argument limits format arguments wants haves _ = if_room (has_room arguments)
 
-abbrev pub judge_argument : Format → Command → State → Bytes → Verdict
-judge_argument format LsRefs state line =
-    judge_ls_argument state.argument_lines (prefixes_of state.asked) (ls_argument line)
-judge_argument format Fetch state line =
-    judge_fetch_argument format state.argument_lines (wants_of state.asked) (haves_of state.asked) (fetch_argument line)
+abbrev pub judge_argument : Limits → Format → Command → State → Bytes → Verdict
+judge_argument limits format LsRefs state line =
+    judge_ls_argument limits state.argument_lines (prefixes_of state.asked) (ls_argument line)
+judge_argument limits format Fetch state line =
+    judge_fetch_argument limits format state.argument_lines (wants_of state.asked) (haves_of state.asked)
+    (fetch_argument line)
 
-abbrev pub judge_text : Format → RequestPlace → State → Bytes → Verdict
-judge_text format First state line = judge_command (command_form line)
-judge_text format (InCapabilities command) state line = judge_capability format state (capability_form line)
-judge_text format (InArguments command) state line = judge_argument format command state line
+abbrev pub judge_text : Limits → Format → RequestPlace → State → Bytes → Verdict
+judge_text limits format First state line = judge_command (command_form line)
+judge_text limits format (InCapabilities command) state line = judge_capability format state (capability_form line)
+judge_text limits format (InArguments command) state line = judge_argument limits format command state line
 
 -- the given verdict, or a rejection if the request must name the object format and has not named it
 abbrev pub unless_unnamed : Format → State → Verdict → Verdict
@@ -123,15 +126,15 @@ abbrev pub judge_delim : Format → RequestPlace → State → Verdict
 judge_delim format (InCapabilities command) state = unless_unnamed format state Open
 judge_delim format _ state = Refused why.UnexpectedFrame
 
-unfoldable pub judge_at : Format → State → Packet → Verdict
-judge_at format state (Data payload) =
-    judge_unless_error (λ bytes. judge_text format state.place state (text bytes)) payload
-judge_at format state Flush = judge_flush format state.place state
-judge_at format state Delim = judge_delim format state.place state
-judge_at format state ResponseEnd = Refused why.UnexpectedFrame
+unfoldable pub judge_at : Limits → Format → State → Packet → Verdict
+judge_at limits format state (Data payload) =
+    judge_unless_error (λ bytes. judge_text limits format state.place state (text bytes)) payload
+judge_at limits format state Flush = judge_flush format state.place state
+judge_at limits format state Delim = judge_delim format state.place state
+judge_at limits format state ResponseEnd = Refused why.UnexpectedFrame
 
-abbrev pub judge : Format → List Packet → Packet → Verdict
-judge format lines packet = judge_at format (state_of format lines) packet
+abbrev pub judge : Limits → Format → List Packet → Packet → Verdict
+judge limits format lines packet = judge_at limits format (state_of format lines) packet
 
 -- ---- packets whose contents are stored
 
@@ -162,6 +165,6 @@ brings lines _ = false
 -- ---- the meaning of complete lists
 
 -- the packets encode a request with these contents
-pub record Says (format : Format) (lines : List Packet) (asked : Asked) : Type 0 where
-  pub whole : IsWhole (judge format) lines
+pub record Says (limits : Limits) (format : Format) (lines : List Packet) (asked : Asked) : Type 0 where
+  pub whole : IsWhole (judge limits format) lines
   pub asks : asked ≡ asked_by_lines format lines

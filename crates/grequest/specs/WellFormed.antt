@@ -5,25 +5,26 @@ use Rattle.gname.specs.Names.{IsPrefix}
 use Rattle.gname.specs.declared.formats.Format.{Format}
 use Rattle.gpkt.specs.Packets.{Bytes}
 use Rattle.ggrammar.specs.Capabilities.{is_word_value}
+use Rattle.ggrammar.specs.declared.limits.Limits.{Limits}
 use Rattle.grequest.specs.Asked.{LsRefsAsked, FetchAsked, Asked, Empty, Ls, Fetches, max_prefixes, max_wants, max_haves}
 
 abbrev pub IsAgent : Option Bytes → Type 0
 IsAgent agent = IfSome agent (λ value. IsTrue (is_word_value value))
 
-pub record IsLsRefsAsked (asked : LsRefsAsked) : Type 0 where
+pub record IsLsRefsAsked (limits : Limits) (asked : LsRefsAsked) : Type 0 where
   pub agent : IsAgent asked.agent
   pub prefixes : All IsPrefix asked.prefixes
-  pub few : length asked.prefixes ≤ max_prefixes
+  pub few : length asked.prefixes ≤ max_prefixes limits
 
-pub record IsFetchAsked (format : Format) (asked : FetchAsked) : Type 0 where
+pub record IsFetchAsked (limits : Limits) (format : Format) (asked : FetchAsked) : Type 0 where
   pub agent : IsAgent asked.agent
   pub wants : All (IsIdOf format) asked.wants
   pub haves : All (IsIdOf format) asked.haves
-  pub few_wants : length asked.wants ≤ max_wants
-  pub few_haves : length asked.haves ≤ max_haves
+  pub few_wants : length asked.wants ≤ max_wants limits
+  pub few_haves : length asked.haves ≤ max_haves limits
 
--- well-formed contents of a request to a repository with this object format
-abbrev pub IsAsked : Format → Asked → Type 0
-IsAsked format Empty = Unit {0}
-IsAsked format (Ls asked) = IsLsRefsAsked asked
-IsAsked format (Fetches asked) = IsFetchAsked format asked
+-- well-formed contents of a request with these limits, to a repository with this object format
+abbrev pub IsAsked : Limits → Format → Asked → Type 0
+IsAsked limits format Empty = Unit {0}
+IsAsked limits format (Ls asked) = IsLsRefsAsked limits asked
+IsAsked limits format (Fetches asked) = IsFetchAsked limits format asked

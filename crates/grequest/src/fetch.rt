@@ -1,43 +1,42 @@
 //! Fetch requests (gitprotocol-v2(5), "fetch").
 
-ghost use Rattle.std.specs.Prelude.{ℕ, All, ◌≡◌, ◌↔◌, ◌≤◌, ◌<◌, ◌++◌, ◌∷◌, [], true, false, length, nat_lt, IfOk, IfSome, IsTrue, OnOk, OnErr, Some};
+ghost use Rattle.std.specs.Prelude.{ℕ, All, ◌≡◌, ◌↔◌, ◌≤◌, ◌<◌, ◌&&◌, ◌++◌, ◌∷◌, [], true, false, length, nat_lt, IfOk, IfSome, IsTrue, OnOk, OnErr, Some};
 ghost use Rattle.std.specs.Option.{option_copied};
 ghost use Rattle.gname.specs.Ids.{IsIdOf, has_format};
 ghost use Rattle.ggrammar.specs.Building.{Builds};
 ghost use Rattle.ggrammar.specs.Capabilities.{is_word_value};
 ghost use Rattle.ggrammar.specs.Ids.{id_of_text};
+ghost use Rattle.ggrammar.specs.Limits.{profile};
 ghost use Rattle.ggrammar.specs.MessageReading.{AddsAs};
 ghost use Rattle.grequest.specs.declared.flag.FetchFlag.TheVariants.{Done};
 ghost use Rattle.grequest.specs.Flags.{flags_at};
 ghost use Rattle.grequest.specs.Arguments.{Have, Want, fetch_argument, fetch_flags};
-ghost use Rattle.grequest.specs.Asked.{fetch_has, fetch_number, fetch_with, is_direct, max_wants, max_haves, max_arguments};
-ghost use Rattle.grequest.specs.steps.Building.{HaveSameIds, KeepsAs};
+ghost use Rattle.grequest.specs.Asked.{Fetches, fetch_has, fetch_number, fetch_with, is_direct, max_wants, max_haves, max_arguments};
+ghost use Rattle.grequest.specs.steps.Building.{HaveSameIds, IsWithin, KeepsAs};
 ghost use Rattle.grequest.specs.Building.{no_fetch};
-ghost use Rattle.grequest.specs.Requests.{judge_fetch_argument, fetch_argument_brings};
+ghost use Rattle.grequest.specs.Requests.{fetch_argument_brings, has_room, judge_fetch_argument};
 ghost use Rattle.grequest.specs.steps.RequestState.{with_fetch_argument};
 ghost use Rattle.grequest.specs.WellFormed.{IsFetchAsked};
 
 use crate::flag::{FETCH_FLAGS, FetchFlag, Flag, MAX_FLAGS, are_same_flags};
 use crate::kept::NotKept;
+use crate::limits::{max_haves, max_wants};
 use crate::line::{FetchArgument, fetch_argument};
 use crate::parts::{are_same_ids, copy_agent, is_same_agent};
 use crate::reading::MAX_ARGUMENTS;
-use ggrammar::{MessageFault, Why, id_of_text, is_word_value};
+use ggrammar::{Limits, MessageFault, Why, id_of_text, is_word_value};
 use gname::laws::texts_have_one_reading;
 use gname::{Format, Oid};
 use std::alloc::{AllocError, Allocator, Global};
 use std::marker::Model;
 
-/// The maximum number of wants of a request.
-pub const MAX_WANTS: usize = 1_024;
-
-/// The maximum number of haves of a request.
-pub const MAX_HAVES: usize = 4_096;
-
 /// A fetch request (gitprotocol-v2(5), "fetch"), whose ids all have the same format.
+///
+/// Its limits bound the numbers of wants and haves. A limit above 2^30 counts as 2^30.
 #[derive(Debug, Drop)]
 pub struct FetchRequest<A: Allocator + Copy = Global> {
     format: Format,
+    limits: Limits,
     agent: Option<Vec<u8, A>>,
     wants: Vec<Oid, A>,
     haves: Vec<Oid, A>,
@@ -56,6 +55,7 @@ impl<A: Allocator + Copy> Model for FetchRequest<A> {
 
     ghost view = { λ r. record {
       format = r.format;
+      limits = r.limits;
       asked = record {
         agent = option_map (λ value. value.items) r.agent;
         wants = r.wants.items;
@@ -64,7 +64,7 @@ impl<A: Allocator + Copy> Model for FetchRequest<A> {
       };
     } };
 
-    ghost invariant = { λ r. IsFetchAsked r.format (record {
+    ghost invariant = { λ r. IsFetchAsked r.limits r.format (record {
       agent = option_map (λ value. value.items) r.agent;
       wants = r.wants.items;
       haves = r.haves.items;
@@ -73,12 +73,22 @@ impl<A: Allocator + Copy> Model for FetchRequest<A> {
 }
 
 impl<A: Allocator + Copy> FetchRequest<A> {
-    /// Returns a request without wants, for ids of this format. Allocates nothing.
+    /// Returns a request without wants and with the default limits, for ids of this format.
+    /// Allocates nothing.
     pub fn new(alloc: A, format: Format) -> FetchRequest<A>
-        ensures { result ≡ record { format = format; asked = no_fetch } }
+        ensures { result ≡ record { format = format; limits = profile; asked = no_fetch } }
+    {
+        FetchRequest::within(alloc, format, Limits::default())
+    }
+
+    /// Returns a request without wants and with these limits, for ids of this format. Allocates
+    /// nothing.
+    pub fn within(alloc: A, format: Format, limits: Limits) -> FetchRequest<A>
+        ensures { result ≡ record { format = format; limits = limits; asked = no_fetch } }
     {
         FetchRequest {
             format,
+            limits,
             agent: None,
             wants: Vec::new(alloc),
             haves: Vec::new(alloc),
@@ -93,9 +103,16 @@ impl<A: Allocator + Copy> FetchRequest<A> {
         self.format
     }
 
+    /// Returns the limits of the request.
+    pub fn limits(&self) -> Limits
+        ensures { result ≡ self.now.limits }
+    {
+        self.limits
+    }
+
     /// Proves that every fetch request satisfies its invariant.
     pub fn laws(&self)
-        ensures { IsFetchAsked self.now.format self.now.asked }
+        ensures { IsFetchAsked self.now.limits self.now.format self.now.asked }
     {
         let _ = &self.flags;
     }
@@ -103,25 +120,25 @@ impl<A: Allocator + Copy> FetchRequest<A> {
     /// Returns the client's agent string, if any: 1 to 1,000 bytes from `!` to `~`.
     pub fn agent(&self) -> Option<&[u8]>
         ensures agent { option_copied result ≡ self.now.asked.agent }
-        ensures well_formed { IsFetchAsked self.now.format self.now.asked }
+        ensures well_formed { IsFetchAsked self.now.limits self.now.format self.now.asked }
     {
         self.agent.as_ref().map(|value| value.as_slice())
     }
 
-    /// Returns the wants, which are the requested ids, in the order of the request. A request has
-    /// at most 1,024 wants.
+    /// Returns the wants, which are the requested ids, in the order of the request. Their number is
+    /// within the limits of the request.
     pub fn wants(&self) -> &[Oid]
         ensures wants { result.now ≡ self.now.asked.wants }
-        ensures well_formed { IsFetchAsked self.now.format self.now.asked }
+        ensures well_formed { IsFetchAsked self.now.limits self.now.format self.now.asked }
     {
         self.wants.as_slice()
     }
 
     /// Returns the haves, which are ids of objects that the client holds, in the order of the
-    /// request. A request has at most 4,096 haves.
+    /// request. Their number is within the limits of the request.
     pub fn haves(&self) -> &[Oid]
         ensures haves { result.now ≡ self.now.asked.haves }
-        ensures well_formed { IsFetchAsked self.now.format self.now.asked }
+        ensures well_formed { IsFetchAsked self.now.limits self.now.format self.now.asked }
     {
         self.haves.as_slice()
     }
@@ -152,7 +169,8 @@ impl<A: Allocator + Copy> FetchRequest<A> {
         self.has(FetchFlag::Done) || self.haves.is_empty()
     }
 
-    /// Returns a copy of the request, allocated with `alloc`. Fails only if memory runs out.
+    /// Returns a copy of the request with the same limits, allocated with `alloc`. Fails only if
+    /// memory runs out.
     pub fn copy_in<B: Allocator + Copy>(&self, alloc: B) -> Result<FetchRequest<B>, AllocError>
         ensures { IfOk result (λ copy. copy ≡ self.now) }
     {
@@ -161,6 +179,7 @@ impl<A: Allocator + Copy> FetchRequest<A> {
         let haves = Vec::from_slice(alloc, self.haves())?;
         Ok(FetchRequest {
             format: self.format,
+            limits: self.limits,
             agent,
             wants,
             haves,
@@ -169,7 +188,8 @@ impl<A: Allocator + Copy> FetchRequest<A> {
     }
 
     /// Returns whether both requests have the same agent, the same wants and haves in the same
-    /// order, and the same flags. The formats of requests without ids may differ.
+    /// order, and the same flags. The limits may differ, and so may the formats of requests without
+    /// ids.
     #[tactic(auto, using(crate::proofs::AskedLemmas::same_asked, crate::proofs::AskedLemmas::same_parts))]
     pub fn asks_as<B: Allocator + Copy>(&self, other: &FetchRequest<B>) -> bool
         ensures { IsTrue result ↔ (self.now.asked ≡ other.now.asked) }
@@ -221,17 +241,18 @@ impl<A: Allocator + Copy> FetchRequest<A> {
     /// Appends a want.
     ///
     /// Fails with `BadText` if the format of the id is not that of the request. Otherwise fails
-    /// with `Limit` if there are already 1,024 wants, or with `Memory` if memory runs out. The
-    /// fault reports packet position 0, and the request is unchanged.
+    /// with `Limit` if there are already as many wants as the limits of the request allow, or with
+    /// `Memory` if memory runs out. The fault reports packet position 0, and the request is
+    /// unchanged.
     pub fn push_want(&mut self, id: Oid) -> Result<(), MessageFault>
         ensures { Builds (has_format self.old.format id)
-            (nat_lt (length self.old.asked.wants) max_wants)
+            (nat_lt (length self.old.asked.wants) (max_wants self.old.limits))
             self.old self.new (record self.old {
               asked = record self.old.asked
                   { wants = self.old.asked.wants ++ id ∷ [] };
             }) result }
     {
-        let has_room = self.wants.len() < MAX_WANTS;
+        let has_room = self.wants.len() < max_wants(self.limits);
         keep_id(self.format, &mut self.wants, has_room, id)?;
         Ok(())
     }
@@ -239,19 +260,28 @@ impl<A: Allocator + Copy> FetchRequest<A> {
     /// Appends a have.
     ///
     /// Fails with `BadText` if the format of the id is not that of the request. Otherwise fails
-    /// with `Limit` if there are already 4,096 haves, or with `Memory` if memory runs out. The
-    /// fault reports packet position 0, and the request is unchanged.
+    /// with `Limit` if there are already as many haves as the limits of the request allow, or with
+    /// `Memory` if memory runs out. The fault reports packet position 0, and the request is
+    /// unchanged.
     pub fn push_have(&mut self, id: Oid) -> Result<(), MessageFault>
         ensures { Builds (has_format self.old.format id)
-            (nat_lt (length self.old.asked.haves) max_haves)
+            (nat_lt (length self.old.asked.haves) (max_haves self.old.limits))
             self.old self.new (record self.old {
               asked = record self.old.asked
                   { haves = self.old.asked.haves ++ id ∷ [] };
             }) result }
     {
-        let has_room = self.haves.len() < MAX_HAVES;
+        let has_room = self.haves.len() < max_haves(self.limits);
         keep_id(self.format, &mut self.haves, has_room, id)?;
         Ok(())
+    }
+
+    // Replaces the limits of the request by limits that the request is within.
+    pub(crate) fn set_limits(&mut self, limits: Limits)
+        requires { IsWithin limits (Fetches self.old.asked) }
+        ensures { self.new ≡ record self.old { limits = limits } }
+    {
+        self.limits = limits;
     }
 
     // Stores the client's agent string.
@@ -268,8 +298,8 @@ impl<A: Allocator + Copy> FetchRequest<A> {
 
     // Adds an argument to a request that has `arguments` arguments so far.
     pub(crate) fn take_argument(&mut self, arguments: u32, text: &[u8]) -> Result<(), Why>
-        ensures adds { AddsAs (judge_fetch_argument self.old.format arguments self.old.asked.wants
-            self.old.asked.haves (fetch_argument text.now))
+        ensures adds { AddsAs (judge_fetch_argument self.old.limits self.old.format arguments
+            self.old.asked.wants self.old.asked.haves (fetch_argument text.now))
             (fetch_argument_brings (fetch_argument text.now))
             (self.new ≡ record self.old {
               asked = with_fetch_argument self.old.format
@@ -277,6 +307,7 @@ impl<A: Allocator + Copy> FetchRequest<A> {
             }) result }
         ensures room { OnOk result (arguments < max_arguments) }
         ensures format { self.new.format ≡ self.old.format }
+        ensures limits { self.new.limits ≡ self.old.limits }
     {
         match fetch_argument(text) {
             FetchArgument::Want(id) => self.take_want(arguments, id),
@@ -291,16 +322,17 @@ impl<A: Allocator + Copy> FetchRequest<A> {
     }
 
     fn take_want(&mut self, arguments: u32, text: &[u8]) -> Result<(), Why>
-        ensures adds { AddsAs (judge_fetch_argument self.old.format arguments self.old.asked.wants
-            self.old.asked.haves (Want text.now)) true
+        ensures adds { AddsAs (judge_fetch_argument self.old.limits self.old.format arguments
+            self.old.asked.wants self.old.asked.haves (Want text.now)) true
             (self.new ≡ record self.old {
               asked = with_fetch_argument self.old.format
                   self.old.asked (Want text.now);
             }) result }
         ensures room { OnOk result (arguments < max_arguments) }
         ensures format { self.new.format ≡ self.old.format }
+        ensures limits { self.new.limits ≡ self.old.limits }
     {
-        let has_room = arguments < MAX_ARGUMENTS && self.wants.len() < MAX_WANTS;
+        let has_room = has_room(arguments, self.wants.len(), max_wants(self.limits));
         let Some(id) = id_in(self.format, text) else {
             return Err(Why::BadId);
         };
@@ -308,21 +340,31 @@ impl<A: Allocator + Copy> FetchRequest<A> {
     }
 
     fn take_have(&mut self, arguments: u32, text: &[u8]) -> Result<(), Why>
-        ensures adds { AddsAs (judge_fetch_argument self.old.format arguments self.old.asked.wants
-            self.old.asked.haves (Have text.now)) true
+        ensures adds { AddsAs (judge_fetch_argument self.old.limits self.old.format arguments
+            self.old.asked.wants self.old.asked.haves (Have text.now)) true
             (self.new ≡ record self.old {
               asked = with_fetch_argument self.old.format
                   self.old.asked (Have text.now);
             }) result }
         ensures room { OnOk result (arguments < max_arguments) }
         ensures format { self.new.format ≡ self.old.format }
+        ensures limits { self.new.limits ≡ self.old.limits }
     {
-        let has_room = arguments < MAX_ARGUMENTS && self.haves.len() < MAX_HAVES;
+        let has_room = has_room(arguments, self.haves.len(), max_haves(self.limits));
         let Some(id) = id_in(self.format, text) else {
             return Err(Why::BadId);
         };
         keep_id(self.format, &mut self.haves, has_room, id).map_err(|reason| reason.why(Why::BadId))
     }
+}
+
+// Returns whether a request with `arguments` arguments has room for another argument, and a list
+// with `len` values has room for another value.
+fn has_room(arguments: u32, len: usize, most: usize) -> bool
+    ensures room { result ≡ (has_room arguments && nat_lt len most) }
+    ensures few { result ≡ true → len < most }
+{
+    arguments < MAX_ARGUMENTS && len < most
 }
 
 // Appends the id if it has this format and `has_room` is true.

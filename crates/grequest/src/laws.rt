@@ -3,6 +3,8 @@
 ghost use Rattle.std.specs.Prelude.{◌≡◌};
 ghost use Rattle.gname.specs.declared.formats.Format.{Format};
 ghost use Rattle.ggrammar.specs.Grammar.{HasEndings, IsPrefixFree, RefusesFirstMisfits};
+ghost use Rattle.ggrammar.specs.Limits.{profile};
+ghost use Rattle.ggrammar.specs.declared.limits.Limits.{Limits};
 ghost use Rattle.ggrammar.specs.Kinds.{AsInManual, CanonicalSays, OneMeaning, ReadsBackIfAny, ReadsExactlyIfAny, SaysWhole};
 ghost use Rattle.ggrammar.specs.MessageBytes.{BeginsOrIsRefused, RefusesPackets, SpellingsPrefixFree};
 ghost use Rattle.grequest.specs.Asked.{max_haves, max_prefixes, max_wants};
@@ -18,18 +20,19 @@ use ggrammar::laws::{grammars_are_exact, kinds_are_read, messages_are_read};
 use gname::laws::{ids_have_one_format, ids_have_texts, prefixes_are_clean};
 use gpkt::laws::has_four_bytes;
 
-/// Proves that the public constants of this crate equal the limits in its specifications.
+/// Proves that the public constants of this crate equal the default limits in its specifications.
 pub fn limits_are_the_constants()
-    ensures prefixes { MAX_PREFIXES ≡ max_prefixes }
-    ensures wants { MAX_WANTS ≡ max_wants }
-    ensures haves { MAX_HAVES ≡ max_haves }
+    ensures prefixes { MAX_PREFIXES ≡ max_prefixes profile }
+    ensures wants { MAX_WANTS ≡ max_wants profile }
+    ensures haves { MAX_HAVES ≡ max_haves profile }
 {}
 
-/// Proves that a list of packets is read as a request exactly if Git's manual allows the list, and
-/// with the meaning that the manual states (gitprotocol-v2(5), "Command Request", "ls-refs" and
-/// "fetch").
+/// Proves that a list of packets is read as a request exactly if Git's manual and the limits allow
+/// the list, and with the meaning that the manual states (gitprotocol-v2(5), "Command Request",
+/// "ls-refs" and "fetch").
 pub fn manual()
-    ensures { (format : Format) → AsInManual (Says format) (IsRequest format) }
+    ensures { (limits : Limits) (format : Format)
+        → AsInManual (Says limits format) (IsRequest limits format) }
 {
     grammars_are_exact();
 }
@@ -37,15 +40,17 @@ pub fn manual()
 /// Proves that a list of packets encodes at most one request, and that each complete list encodes a
 /// request.
 pub fn one_meaning()
-    ensures one { (format : Format) → OneMeaning (Says format) }
-    ensures whole { (format : Format) → SaysWhole (judge format) (Says format) }
+    ensures one { (limits : Limits) (format : Format) → OneMeaning (Says limits format) }
+    ensures whole { (limits : Limits) (format : Format)
+        → SaysWhole (judge limits format) (Says limits format) }
 {}
 
 /// Proves that no request is a prefix of another, as packets or as bytes. A reader therefore finds
 /// the end of a request without reading further.
 pub fn prefix_free()
-    ensures packets { (format : Format) → IsPrefixFree (judge format) }
-    ensures spellings { (format : Format) → SpellingsPrefixFree (judge format) }
+    ensures packets { (limits : Limits) (format : Format) → IsPrefixFree (judge limits format) }
+    ensures spellings { (limits : Limits) (format : Format)
+        → SpellingsPrefixFree (judge limits format) }
 {
     grammars_are_exact();
     messages_are_read();
@@ -54,8 +59,9 @@ pub fn prefix_free()
 /// Proves that the packets accepted so far can always be completed to a request, and that a
 /// rejected packet is the first that does not fit.
 pub fn endings()
-    ensures each { (format : Format) → HasEndings (judge format) }
-    ensures first { (format : Format) → RefusesFirstMisfits (judge format) }
+    ensures each { (limits : Limits) (format : Format) → HasEndings (judge limits format) }
+    ensures first { (limits : Limits) (format : Format)
+        → RefusesFirstMisfits (judge limits format) }
 {
     grammars_are_exact();
 }
@@ -63,8 +69,9 @@ pub fn endings()
 /// Proves that a packet is rejected only because of its content. Every byte sequence begins with a
 /// request, or is rejected because of its content.
 pub fn every_input()
-    ensures packets { (format : Format) → RefusesPackets (judge format) }
-    ensures bytes { (format : Format) → BeginsOrIsRefused (judge format) brings }
+    ensures packets { (limits : Limits) (format : Format) → RefusesPackets (judge limits format) }
+    ensures bytes { (limits : Limits) (format : Format)
+        → BeginsOrIsRefused (judge limits format) brings }
 {
     endings();
     messages_are_read();
@@ -73,8 +80,8 @@ pub fn every_input()
 /// Proves that the packets written for a request encode the request, and that each payload fits a
 /// packet.
 pub fn canonical_says()
-    ensures { (format : Format)
-        → CanonicalSays (Says format) (IsAsked format) (IsCanonicalRequest format) }
+    ensures { (limits : Limits) (format : Format)
+        → CanonicalSays (Says limits format) (IsAsked limits format) (IsCanonicalRequest format) }
 {
     grammars_are_exact();
     ids_have_one_format();
@@ -85,8 +92,9 @@ pub fn canonical_says()
 /// Proves that a request is read exactly if the bytes begin with packets that encode it. Nothing
 /// after these packets is read. `None` is returned exactly if there are no bytes.
 pub fn reads_exactly()
-    ensures request { (format : Format) → ReadsExactlyIfAny (judge format) brings (Says format) }
-    ensures missing { (format : Format) → IsMissingWhereEmpty format }
+    ensures request { (limits : Limits) (format : Format)
+        → ReadsExactlyIfAny (judge limits format) brings (Says limits format) }
+    ensures missing { (limits : Limits) (format : Format) → IsMissingWhereEmpty limits format }
 {
     one_meaning();
     messages_are_read();
@@ -94,10 +102,11 @@ pub fn reads_exactly()
     kinds_are_read::<Requests>();
 }
 
-/// Proves that a written request reads back as the same request, whatever bytes follow.
+/// Proves that a written request, read with its limits, reads back as the same request, whatever
+/// bytes follow.
 pub fn reads_back()
-    ensures { (format : Format)
-        → ReadsBackIfAny (judge format) brings (Says format) (IsAsked format)
+    ensures { (limits : Limits) (format : Format)
+        → ReadsBackIfAny (judge limits format) brings (Says limits format) (IsAsked limits format)
         (IsCanonicalRequest format) }
 {
     one_meaning();
@@ -110,22 +119,24 @@ struct Requests;
 
 impl MessageKind for Requests {
     ghost use Rattle.gname.specs.declared.formats.Format.{Format};
+    ghost use Rattle.ggrammar.specs.declared.limits.Limits.{Limits};
     ghost use Rattle.grequest.specs.Asked.{Asked};
     ghost use Rattle.grequest.specs.Requests.{Says, brings, judge};
     ghost use Rattle.grequest.specs.RequestWriting.{IsCanonicalRequest};
     ghost use Rattle.grequest.specs.WellFormed.{IsAsked};
 
-    ghost Given = { Format };
+    // The limits on a request, and the format of the repository's objects.
+    ghost Given = { Limits × Format };
 
     ghost Said = { Asked };
 
-    ghost judge = { judge };
+    ghost judge = { λ given. judge given.0 given.1 };
 
-    ghost brings = { λ format. brings };
+    ghost brings = { λ given. brings };
 
-    ghost says = { Says };
+    ghost says = { λ given. Says given.0 given.1 };
 
-    ghost is_value = { IsAsked };
+    ghost is_value = { λ given. IsAsked given.0 given.1 };
 
-    ghost is_canonical = { IsCanonicalRequest };
+    ghost is_canonical = { λ given. IsCanonicalRequest given.1 };
 }

@@ -3,33 +3,36 @@
 //!
 //! # Proved
 //!
-//! - [`read_request_in`] reads a request exactly to its end, however its bytes are split into
+//! - [`read_request_within`] reads a request exactly to its end, however its bytes are split into
 //!   pieces. It returns the request that the packets encode, or `None` if the input ends before the
-//!   first packet. Any other input is rejected at the first packet that does not fit, for the
-//!   reason that the grammar states (`judge` in `specs/Requests.antt`). An error packet from the
-//!   peer takes precedence, then a malformed text, then an exceeded limit. Out of memory is
-//!   reported only at an agent, a prefix, a want or a have.
+//!   first packet. The request has the limits of the call. Any other input is rejected at the first
+//!   packet that does not fit, for the reason that the grammar states (`judge` in
+//!   `specs/Requests.antt`). An error packet from the peer takes precedence, then a malformed text,
+//!   then an exceeded limit. Out of memory is reported only at an agent, a prefix, a want or a
+//!   have.
 //! - A request to a SHA-256 repository must name the object format, and its ids have this format.
-//! - Every [`LsRefsRequest`] and every [`FetchRequest`] is well-formed and within its limits. A
+//! - Every [`LsRefsRequest`] and every [`FetchRequest`] is well-formed and within its limits. `new`
+//!   gives the default limits of 64 prefixes, 1,024 wants and 4,096 haves. `within` takes other
+//!   limits. A limit above 2^30 counts as 2^30, so the arguments of a request can be counted. A
 //!   call with an ill-formed value fails with `BadText`. Otherwise a call that would exceed a limit
 //!   fails with `Limit`, and a call that runs out of memory fails with `Memory`. Each fault reports
 //!   packet position 0, and the request is unchanged.
 //! - [`FetchRequest::is_direct`] returns whether the reply starts with the pack: the request has
 //!   `done` or no haves.
-//! - A copy of a request has the same contents, and its ids have the same format. `asks_as` returns
-//!   true exactly if both requests have the same contents.
+//! - A copy of a request has the same contents and limits, and its ids have the same format.
+//!   `asks_as` returns true exactly if both requests have the same contents.
 //! - [`write_request`] writes the canonical list of packets of a request
 //!   (`specs/RequestWriting.antt`), or a prefix of it if the sink fails. For a request with ids,
 //!   the caller passes the format of these ids, and the request then reads back.
-//! - By [`laws`], a list of packets is read as a request exactly if Git's manual allows the list
-//!   (`specs/Manual.antt`). A list of packets encodes at most one request. No request is a prefix
-//!   of another, as packets or as bytes. The packets accepted so far can always be completed to a
-//!   request, and a rejected packet is the first that does not fit. The packets written for a
-//!   request encode this request, and each payload fits a packet. A request is read exactly if the
-//!   bytes begin with packets that encode it, and `None` is returned exactly if there are no bytes.
-//!   Every byte sequence begins with a request or is rejected because of its content. A written
-//!   request reads back, whatever bytes follow. The public constants equal the limits in the
-//!   specifications.
+//! - By [`laws`], for all limits, a list of packets is read as a request exactly if Git's manual
+//!   and the limits allow the list (`specs/Manual.antt`). A list of packets encodes at most one
+//!   request. No request is a prefix of another, as packets or as bytes. The packets accepted so
+//!   far can always be completed to a request, and a rejected packet is the first that does not
+//!   fit. The packets written for a request encode this request, and each payload fits a packet. A
+//!   request is read exactly if the bytes begin with packets that encode it, and `None` is returned
+//!   exactly if there are no bytes. Every byte sequence begins with a request or is rejected
+//!   because of its content. A written request reads back with its limits, whatever bytes follow.
+//!   The public constants equal the default limits.
 //!
 //! # Only tested
 //!
@@ -54,6 +57,7 @@ mod fetch;
 mod flag;
 mod kept;
 pub mod laws;
+mod limits;
 mod line;
 mod ls_refs;
 mod parts;
@@ -63,10 +67,11 @@ mod request;
 mod section;
 mod write;
 
-pub use crate::fetch::{FetchRequest, MAX_HAVES, MAX_WANTS};
+pub use crate::fetch::FetchRequest;
 pub use crate::flag::{FetchFlag, LsRefsFlag};
-pub use crate::ls_refs::{LsRefsRequest, MAX_PREFIXES};
-pub use crate::read::{read_request, read_request_in};
+pub use crate::limits::{MAX_HAVES, MAX_PREFIXES, MAX_WANTS};
+pub use crate::ls_refs::LsRefsRequest;
+pub use crate::read::{read_request, read_request_in, read_request_within};
 pub use crate::reading::RequestReader;
 pub use crate::request::Request;
 pub use crate::write::write_request;

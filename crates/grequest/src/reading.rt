@@ -3,6 +3,7 @@
 ghost use Rattle.std.specs.Prelude.{◌≡◌, [], true, false, if◌then◌else◌};
 ghost use Rattle.gpkt.specs.Packets.{packet_of, text};
 ghost use Rattle.ggrammar.specs.Capabilities.{is_word_value};
+ghost use Rattle.ggrammar.specs.Limits.{profile};
 ghost use Rattle.ggrammar.specs.MessageReading.{TakesAs};
 ghost use Rattle.ggrammar.specs.PeerErrors.{judge_unless_error};
 ghost use Rattle.ggrammar.specs.Grammar.{Verdict, Refused};
@@ -18,7 +19,7 @@ use crate::ls_refs::LsRefsRequest;
 use crate::request::Request;
 use crate::section::Section;
 use ggrammar::laws::grammars_are_exact;
-use ggrammar::{Message, PeerText, Step, Why, peer_error};
+use ggrammar::{Limits, Message, PeerText, Step, Why, peer_error};
 use gname::Format;
 use gpkt::{Packet, text_of};
 use std::alloc::Allocator;
@@ -32,6 +33,7 @@ pub(crate) const MAX_ARGUMENTS: u32 = 4_294_967_295;
 pub struct RequestReader<A: Allocator + Copy> {
     alloc: A,
     format: Format,
+    limits: Limits,
     section: Section,
     names_format: bool,
     arguments: u32,
@@ -40,11 +42,12 @@ pub struct RequestReader<A: Allocator + Copy> {
 
 impl<A: Allocator + Copy> Model for RequestReader<A> {
     ghost use Rattle.grequest.specs.steps.RequestState.{RequestSoFar, one, place_in};
-    ghost use Rattle.grequest.specs.RequestValues.{asked_by_request, IsOfFormat};
+    ghost use Rattle.grequest.specs.RequestValues.{HasLimits, IsOfFormat, asked_by_request};
 
     ghost Value = { RequestSoFar };
 
     ghost view = { λ r. record {
+      limits = r.limits;
       format = r.format;
       state = record {
         place = place_in r.section (asked_by_request r.request);
@@ -54,20 +57,30 @@ impl<A: Allocator + Copy> Model for RequestReader<A> {
       };
     } };
 
-    ghost invariant = { λ r. IsOfFormat r.format r.request };
+    ghost invariant = { λ r. IsOfFormat r.format r.request × HasLimits r.limits r.request };
 }
 
 impl<A: Allocator + Copy> RequestReader<A> {
-    ghost use Rattle.grequest.specs.RequestValues.{asked_by_request, IsOfFormat};
+    ghost use Rattle.grequest.specs.RequestValues.{HasLimits, IsOfFormat, asked_by_request};
 
-    /// Returns the state of reading before the first packet of a request.
-    #[tactic(auto, unfolding(crate::specs::RequestLines::capability_texts, crate::specs::RequestLines::argument_texts))]
+    /// Returns the state of reading before the first packet of a request with the default limits.
     pub fn new(alloc: A, format: Format) -> RequestReader<A>
-        ensures { result ≡ record { format = format; state = state_of format [] } }
+        ensures { result
+            ≡ record { limits = profile; format = format; state = state_of format [] } }
+    {
+        RequestReader::within(alloc, format, Limits::default())
+    }
+
+    /// Returns the state of reading before the first packet of a request with these limits.
+    #[tactic(auto, unfolding(crate::specs::RequestLines::capability_texts, crate::specs::RequestLines::argument_texts))]
+    pub fn within(alloc: A, format: Format, limits: Limits) -> RequestReader<A>
+        ensures { result
+            ≡ record { limits = limits; format = format; state = state_of format [] } }
     {
         RequestReader {
             alloc,
             format,
+            limits,
             section: Section::Capabilities,
             names_format: false,
             arguments: 0,
@@ -79,6 +92,7 @@ impl<A: Allocator + Copy> RequestReader<A> {
     pub fn finish(self) -> Request<A>
         ensures asked { asked_by_request result ≡ self.state.asked }
         ensures format { IsOfFormat self.format result }
+        ensures limits { HasLimits self.limits result }
     {
         let RequestReader { request, .. } = self;
         request
@@ -86,11 +100,13 @@ impl<A: Allocator + Copy> RequestReader<A> {
 
     #[tactic(auto, unfolding(crate::specs::Requests::judge_at, crate::specs::steps::RequestState::with_packet))]
     fn take_packet(&mut self, line: Packet<'_>) -> Result<Step, Why>
-        ensures takes { TakesAs (judge_at self.old.format self.old.state (packet_of line.entry))
+        ensures takes { TakesAs (judge_at self.old.limits self.old.format self.old.state
+            (packet_of line.entry))
             (packet_brings self.old.state.place (packet_of line.entry))
             (self.new.state ≡ with_packet self.old.format self.old.state (packet_of line.entry))
             result }
         ensures format { self.new.format ≡ self.old.format }
+        ensures limits { self.new.limits ≡ self.old.limits }
     {
         match line {
             Packet::Data(payload) => self.take_data(payload),
@@ -105,6 +121,7 @@ impl<A: Allocator + Copy> RequestReader<A> {
         ensures takes { TakesAs (judge_flush self.old.format self.old.state.place self.old.state)
             false (self.new.state ≡ self.old.state) result }
         ensures format { self.new.format ≡ self.old.format }
+        ensures limits { self.new.limits ≡ self.old.limits }
     {
         match (&self.request, self.section) {
             (Request::Ls(_) | Request::Fetch(_), Section::Capabilities) if self.is_unnamed() => Err(
@@ -119,6 +136,7 @@ impl<A: Allocator + Copy> RequestReader<A> {
         ensures takes { TakesAs (judge_delim self.old.format self.old.state.place self.old.state)
             false (self.new.state ≡ with_delim self.old.state.place self.old.state) result }
         ensures format { self.new.format ≡ self.old.format }
+        ensures limits { self.new.limits ≡ self.old.limits }
     {
         match (&self.request, self.section) {
             (Request::Ls(_) | Request::Fetch(_), Section::Capabilities) if self.is_unnamed() => Err(
@@ -146,11 +164,12 @@ impl<A: Allocator + Copy> RequestReader<A> {
 
     fn take_data(&mut self, payload: &[u8]) -> Result<Step, Why>
         ensures takes { TakesAs (judge_unless_error
-            (λ bytes. judge_text self.old.format self.old.state.place self.old.state (text bytes))
-            payload.now) (text_brings self.old.state.place (text payload.now))
+            (λ bytes. judge_text self.old.limits self.old.format self.old.state.place self.old.state
+            (text bytes)) payload.now) (text_brings self.old.state.place (text payload.now))
             (self.new.state ≡ with_text self.old.format self.old.state.place self.old.state
             (text payload.now)) result }
         ensures format { self.new.format ≡ self.old.format }
+        ensures limits { self.new.limits ≡ self.old.limits }
     {
         match peer_error(payload) {
             Some(said) => Err(Why::RemoteErr(PeerText::new(said))),
@@ -159,11 +178,12 @@ impl<A: Allocator + Copy> RequestReader<A> {
     }
 
     fn take_text(&mut self, text: &[u8]) -> Result<Step, Why>
-        ensures takes { TakesAs (judge_text self.old.format self.old.state.place self.old.state
-            text.now) (text_brings self.old.state.place text.now)
+        ensures takes { TakesAs (judge_text self.old.limits self.old.format self.old.state.place
+            self.old.state text.now) (text_brings self.old.state.place text.now)
             (self.new.state ≡ with_text self.old.format self.old.state.place self.old.state
             text.now) result }
         ensures format { self.new.format ≡ self.old.format }
+        ensures limits { self.new.limits ≡ self.old.limits }
     {
         match (&mut self.request, self.section) {
             (Request::Empty, _) => self.take_command(text),
@@ -198,12 +218,17 @@ impl<A: Allocator + Copy> RequestReader<A> {
             (self.new.state ≡ with_command self.old.format self.old.state (command_form text.now))
             result }
         ensures format { self.new.format ≡ self.old.format }
+        ensures limits { self.new.limits ≡ self.old.limits }
     {
         self.request = match command_form(text) {
-            CommandForm::Known(Command::LsRefs) => Request::Ls(LsRefsRequest::new(self.alloc)),
-            CommandForm::Known(Command::Fetch) => Request::Fetch(FetchRequest::new(
+            CommandForm::Known(Command::LsRefs) => Request::Ls(LsRefsRequest::within(
+                self.alloc,
+                self.limits,
+            )),
+            CommandForm::Known(Command::Fetch) => Request::Fetch(FetchRequest::within(
                 self.alloc,
                 self.format,
+                self.limits,
             )),
             CommandForm::Unknown => return Err(Why::UnknownCommand),
             CommandForm::Bad => return Err(Why::BadText),
@@ -217,6 +242,7 @@ impl<A: Allocator + Copy> RequestReader<A> {
             (capability_form text.now)) (capability_brings (capability_form text.now))
             (self.new.state ≡ with_capability self.old.state (capability_form text.now)) result }
         ensures format { self.new.format ≡ self.old.format }
+        ensures limits { self.new.limits ≡ self.old.limits }
     {
         match capability_form(text) {
             CapabilityForm::Agent(agent) => self.take_agent(agent),
@@ -231,6 +257,7 @@ impl<A: Allocator + Copy> RequestReader<A> {
         ensures takes { TakesAs (judge_capability self.old.format self.old.state (Agent agent.now))
             true (self.new.state ≡ with_capability self.old.state (Agent agent.now)) result }
         ensures format { self.new.format ≡ self.old.format }
+        ensures limits { self.new.limits ≡ self.old.limits }
     {
         if self.request.agent().is_some() {
             return Err(Why::BadText);
@@ -246,6 +273,7 @@ impl<A: Allocator + Copy> RequestReader<A> {
             (ObjectFormat name.now)) false
             (self.new.state ≡ with_capability self.old.state (ObjectFormat name.now)) result }
         ensures format { self.new.format ≡ self.old.format }
+        ensures limits { self.new.limits ≡ self.old.limits }
     {
         if self.names_format {
             return Err(Why::BadText);
@@ -259,7 +287,7 @@ impl<A: Allocator + Copy> RequestReader<A> {
 }
 
 impl<A: Allocator + Copy> Message for RequestReader<A> {
-    ghost judge = { λ reader. judge reader.format };
+    ghost judge = { λ reader. judge reader.limits reader.format };
 
     ghost brings = { λ reader. brings };
 

@@ -6,6 +6,7 @@ ghost use Rattle.ggrammar.specs.Capabilities.{is_word_value};
 
 use crate::fetch::FetchRequest;
 use crate::ls_refs::LsRefsRequest;
+use ggrammar::Limits;
 use std::alloc::{AllocError, Allocator, Global};
 
 /// A request (gitprotocol-v2(5), "Command Request").
@@ -24,14 +25,16 @@ impl<A: Allocator + Copy> Request<A> {
     ghost use Rattle.grequest.specs.steps.RequestState.{with_agent};
     ghost use Rattle.grequest.specs.Building.{FormattedFetch};
     ghost use Rattle.gname.specs.declared.formats.Format.{Format};
-    ghost use Rattle.grequest.specs.RequestValues.{IsOfFormat, asked_by_request, ids_format};
+    ghost use Rattle.ggrammar.specs.declared.limits.Limits.{Limits};
+    ghost use Rattle.grequest.specs.RequestValues.{HasLimits, IsOfFormat, asked_by_request, ids_format, limits_of};
+    ghost use Rattle.grequest.specs.steps.Building.{IsWithin};
     ghost use Rattle.grequest.specs.WellFormed.{IsAsked};
 
-    /// Proves that every request is well-formed for the format of its ids. A request without ids is
-    /// well-formed for every format.
+    /// Proves that every request is well-formed for its limits and the format of its ids. A request
+    /// without ids is well-formed for every format, and the empty request for all limits.
     pub fn laws(&self)
-        ensures { (format : Format) → IsOfFormat format self.now
-            → IsAsked format (asked_by_request self.now) }
+        ensures { (limits : Limits) (format : Format) → HasLimits limits self.now
+            → IsOfFormat format self.now → IsAsked limits format (asked_by_request self.now) }
     {
         match self {
             Request::Empty => {}
@@ -51,10 +54,12 @@ impl<A: Allocator + Copy> Request<A> {
         }
     }
 
-    /// Returns a copy of the request, allocated with `alloc`. Fails only if memory runs out.
+    /// Returns a copy of the request with the same limits, allocated with `alloc`. Fails only if
+    /// memory runs out.
     pub fn copy_in<B: Allocator + Copy>(&self, alloc: B) -> Result<Request<B>, AllocError>
         ensures asked { IfOk result (λ copy. asked_by_request copy ≡ asked_by_request self.now) }
         ensures format { IfOk result (λ copy. ids_format copy ≡ ids_format self.now) }
+        ensures limits { IfOk result (λ copy. limits_of copy ≡ limits_of self.now) }
     {
         match self {
             Request::Empty => Ok(Request::Empty),
@@ -69,8 +74,8 @@ impl<A: Allocator + Copy> Request<A> {
         }
     }
 
-    /// Returns whether both requests have the same contents. The formats of fetch requests without
-    /// ids may differ.
+    /// Returns whether both requests have the same contents. The limits may differ, and so may the
+    /// formats of fetch requests without ids.
     pub fn asks_as<B: Allocator + Copy>(&self, other: &Request<B>) -> bool
         ensures { IsTrue result ↔ (asked_by_request self.now ≡ asked_by_request other.now) }
     {
@@ -82,12 +87,27 @@ impl<A: Allocator + Copy> Request<A> {
         }
     }
 
+    // Replaces the limits of the request by limits that the request is within.
+    pub(crate) fn set_limits(&mut self, limits: Limits)
+        requires { IsWithin limits (asked_by_request self.old) }
+        ensures asked { asked_by_request self.new ≡ asked_by_request self.old }
+        ensures format { ids_format self.new ≡ ids_format self.old }
+        ensures limits { HasLimits limits self.new }
+    {
+        match self {
+            Request::Empty => {}
+            Request::Ls(asked) => asked.set_limits(limits),
+            Request::Fetch(asked) => asked.set_limits(limits),
+        }
+    }
+
     // Stores the client's agent string.
     pub(crate) fn keep_agent(&mut self, agent: &[u8]) -> Result<(), AllocError>
         requires { is_word_value agent.now ≡ true }
         ensures ok { OnOk result (asked_by_request self.new
             ≡ with_agent agent.now (asked_by_request self.old)) }
         ensures format { ids_format self.new ≡ ids_format self.old }
+        ensures limits { limits_of self.new ≡ limits_of self.old }
     {
         match self {
             Request::Empty => Ok(()),

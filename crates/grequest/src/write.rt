@@ -5,6 +5,7 @@ ghost use Rattle.std.specs.Option.{option_copied};
 ghost use Rattle.gname.specs.declared.formats.Format.{Format};
 ghost use Rattle.gpkt.specs.Packets.{Delim};
 ghost use Rattle.ggrammar.specs.Capabilities.{max_capability};
+ghost use Rattle.ggrammar.specs.declared.limits.Limits.{Limits};
 ghost use Rattle.ggrammar.specs.Texts.{text_packet};
 ghost use Rattle.ggrammar.specs.Writing.{WritesPackets, WritesPart};
 ghost use Rattle.grequest.specs.Flags.{flags_at};
@@ -12,7 +13,7 @@ ghost use Rattle.grequest.specs.steps.Flags.{table_in};
 ghost use Rattle.grequest.specs.Asked.{Ls, Fetches};
 ghost use Rattle.grequest.specs.steps.RequestWriting.{AreShort, max_word};
 ghost use Rattle.grequest.specs.RequestWriting.{agent_packets, canonical_request, command_packet, flag_packets, flags_packets, format_packets, id_packet, prefix_packet};
-ghost use Rattle.grequest.specs.RequestValues.{IsOfFormat, asked_by_request};
+ghost use Rattle.grequest.specs.RequestValues.{HasLimits, IsOfFormat, asked_by_request};
 ghost use Rattle.grequest.specs.WellFormed.{IsAgent, IsAsked};
 
 use crate::command::Command;
@@ -40,7 +41,8 @@ pub fn write_request<A: Allocator + Copy, W: Sink>(
     requires { IsOfFormat format request.now }
     ensures lines { WritesPackets W.contents W.passed_on W.is_down W.loans writer.old writer.new
         result (canonical_request format (asked_by_request request.now)) }
-    ensures form { IsAsked format (asked_by_request request.now) }
+    ensures form { (limits : Limits) → HasLimits limits request.now
+        → IsAsked limits format (asked_by_request request.now) }
 {
     // Laws.
     writes_packets::<W>();
@@ -58,7 +60,7 @@ fn write_ls_refs<A: Allocator + Copy, W: Sink>(
     writer: &mut PacketWriter<W>,
 ) -> Result<(), WriteFault>
     ensures { WritesPackets W.contents W.passed_on W.is_down W.loans writer.old writer.new result
-        (canonical_request format (Ls asked.now)) }
+        (canonical_request format (Ls asked.now.asked)) }
 {
     // Laws.
     writes_packets::<W>();

@@ -10,6 +10,7 @@ use Rattle.ggrammar.specs.declared.ends.Ends.{Ends}
 use Rattle.ggrammar.specs.MessageReading.{IsReadFailure, ReadsRefused}
 use Rattle.ggrammar.specs.declared.fault.MessageFault.{MessageFault}
 use Rattle.ggrammar.specs.declared.fault.Why.TheVariants.{Ended as EndedEarly}
+use Rattle.ggrammar.specs.Limits.{profile}
 use Rattle.ggrammar.specs.Kinds.{ReadsMessage}
 use Rattle.gname.specs.declared.formats.Format.{Format}
 use Rattle.grequest.specs.Asked.{Asked, Empty, Fetches}
@@ -77,7 +78,7 @@ module _ {A : Type 0} (server : Server A) (packs : Packs A) (fails : PackFails A
   record Took (asked : Asked) : Type 0 where
     packets : List Packet
     lines : ReadsPackets input.read packets
-    says : Says server.graph.format packets asked
+    says : Says profile server.graph.format packets asked
     up : IsUp input
 
   abbrev turn_of : (asked : Asked) → Took asked → Reply → Turn
@@ -116,7 +117,7 @@ module _ {A : Type 0} (server : Server A) (packs : Packs A) (fails : PackFails A
     record {
       packets = took.packets;
       lines = took.lines;
-      says = subst (λ (a : Asked). Says server.graph.format took.packets a) h.0 took.says;
+      says = subst (λ (a : Asked). Says profile server.graph.format took.packets a) h.0 took.says;
       up = took.up;
     },
     h.1,
@@ -127,13 +128,13 @@ module _ {A : Type 0} (server : Server A) (packs : Packs A) (fails : PackFails A
 
   -- a request was read, and replied to
   pub exchanged : (format : Format) → format ≡ server.graph.format → (asked : Asked) (ended : ExchangeEnd)
-      → ReadsMessage (judge format) (Says format) input.read asked → IsUp input
+      → ReadsMessage (judge profile format) (Says profile format) input.read asked → IsUp input
       → Replies server packs fails ends asked output ended → Exchanges server packs fails ends input output ended
   exchanged format same asked ended read up h =
       exchanged_by asked ended (record {
         packets = read.lines;
         lines = read.read.bytes;
-        says = subst (λ (f : Format). Says f read.lines asked) same read.says;
+        says = subst (λ (f : Format). Says profile f read.lines asked) same read.says;
         up = up;
       }) h
 
@@ -155,12 +156,12 @@ goes_on_by (Err fault) how is holds answered = absurd cc
 
 -- why reading was refused, from what the reader says
 pub refused_to_read : (format own : Format) → format ≡ own → (input : Input) (cause : MessageFault) (failed : Bool) → failed ≡ false
-    → ((front : List Packet) × ReadsRefused (judge format) brings front input.read cause)
+    → ((front : List Packet) × ReadsRefused (judge profile format) brings front input.read cause)
     → IsReadFailure failed input.is_down cause.why → (cause.why ≡ EndedEarly → 0 < cause.frame)
     → RefusesToRead own input cause
 refused_to_read format own same input cause failed ready refused source begun = record {
   front = refused.0;
-  refused = subst (λ (f : Format). ReadsRefused (judge f) brings refused.0 input.read cause) same refused.1;
+  refused = subst (λ (f : Format). ReadsRefused (judge profile f) brings refused.0 input.read cause) same refused.1;
   source = subst (λ (f : Bool). IsReadFailure f input.is_down cause.why) ready source;
   begun = λ is zero. let more : 0 < cause.frame = begun is in omega arith;
 }

@@ -14,6 +14,7 @@ use Rattle.ggrammar.specs.declared.fault.MessageFault.{MessageFault}
 use Rattle.ggrammar.specs.declared.fault.Why.{Why}
 use Rattle.ggrammar.specs.declared.ends.Ends.{Ends}
 use Rattle.ggrammar.specs.Grammar.{Judge}
+use Rattle.ggrammar.specs.Limits.{profile}
 use Rattle.ggrammar.specs.Kinds.{OneMeaning}
 use Rattle.ggrammar.specs.declared.fault.Why.TheVariants as why
 use Rattle.grequest.specs.Asked.{Asked, FetchAsked, Empty, Fetches}
@@ -71,7 +72,7 @@ module _ {A : Type 0} (server : Server A) (fails : PackFails A) (old : List ℕ)
   refused_left : (cause : ServeFault)
       → IsRefused server fails (record { read = record { old = Some old; new = new }; was_down = was; is_down = down }) cause
       → (rest : List ℕ) × (new ≡ Some rest)
-  refused_left (serve.Request cause) h = reading_left (judge server.graph.format) h.front old new cause h.refused
+  refused_left (serve.Request cause) h = reading_left (judge profile server.graph.format) h.front old new cause h.refused
   refused_left cause h = lines_left old new h.packets h.lines
 
 -- ---- the turns, and what stops them
@@ -238,24 +239,24 @@ module _ {A : Type 0} (server : Server A) (fails : PackFails A) where
 front_of : (bytes rest : List ℕ) (lines : List Packet) → ReadsPackets (known_bytes bytes rest) lines → IsFront lines bytes rest
 front_of bytes rest lines h = record { front = h.0; parts = h.1; spelt = h.2 }
 
-module _ (format : Format) (laws : LawsOfBytes (judge format)) (meaning : OneMeaning (Says format)) (missing : IsMissingWhereEmpty format) where
+module _ (format : Format) (laws : LawsOfBytes (judge profile format)) (meaning : OneMeaning (Says profile format)) (missing : IsMissingWhereEmpty profile format) where
   one_request : (bytes rest after : List ℕ) (lines others : List Packet) (one other : Asked)
-      → ReadsPackets (known_bytes bytes rest) lines → Says format lines one → ReadsPackets (known_bytes bytes after) others
-      → Says format others other → (others ≡ lines) × (after ≡ rest) × (other ≡ one)
+      → ReadsPackets (known_bytes bytes rest) lines → Says profile format lines one → ReadsPackets (known_bytes bytes after) others
+      → Says profile format others other → (others ≡ lines) × (after ≡ rest) × (other ≡ one)
   one_request bytes rest after lines others one other read says next asks =
       let same = laws.no_other lines others bytes rest after says.whole (front_of bytes rest lines read) (record { whole = asks.whole; bytes = next }) in
-      (same.0, same.1, meaning lines other one (subst (λ (packets : List Packet). Says format packets other) same.0 asks) says)
+      (same.0, same.1, meaning lines other one (subst (λ (packets : List Packet). Says profile format packets other) same.0 asks) says)
 
   -- a request is not refused as it is read
   not_unread : (bytes rest after : List ℕ) (lines : List Packet) (asked : Asked) (cause : MessageFault)
-      → ReadsPackets (known_bytes bytes rest) lines → Says format lines asked → IsOfBytes cause.why
+      → ReadsPackets (known_bytes bytes rest) lines → Says profile format lines asked → IsOfBytes cause.why
       → RefusesToRead format (input_of_bytes bytes after) cause → ⊥
   not_unread bytes rest after lines asked cause read says certain h =
       laws.refused brings h.front lines bytes after rest cause h.refused certain (front_of bytes rest lines read) says.whole
 
   -- nor is it missing
   not_missing : (bytes rest : List ℕ) (lines : List Packet) (asked : Asked) → ReadsPackets (known_bytes bytes rest) lines
-      → Says format lines asked → bytes ≡ [] → ⊥
+      → Says profile format lines asked → bytes ≡ [] → ⊥
   not_missing bytes rest lines asked read says none =
       laws.ended lines bytes [] rest (none, refl) (front_of bytes rest lines read) says.whole
 
@@ -269,11 +270,11 @@ module _ (format : Format) (laws : LawsOfBytes (judge format)) (meaning : OneMea
 
 -- ---- what stops a conversation
 
-module _ {A : Type 0} (packs : Packs A) (fails : PackFails A) (server : Server A) (laws : LawsOfBytes (judge server.graph.format))
-    (meaning : OneMeaning (Says server.graph.format)) (missing : IsMissingWhereEmpty server.graph.format) where
+module _ {A : Type 0} (packs : Packs A) (fails : PackFails A) (server : Server A) (laws : LawsOfBytes (judge profile server.graph.format))
+    (meaning : OneMeaning (Says profile server.graph.format)) (missing : IsMissingWhereEmpty profile server.graph.format) where
   -- a request that is there is not refused but as it is answered, and then it asks the same
   refusal_asks : (bytes rest after : List ℕ) (lines : List Packet) (asked : Asked) (cause : ServeFault)
-      → ReadsPackets (known_bytes bytes rest) lines → Says server.graph.format lines asked → Refusal server fails bytes after cause
+      → ReadsPackets (known_bytes bytes rest) lines → Says profile server.graph.format lines asked → Refusal server fails bytes after cause
       → Declines server fails asked cause × ¬ IsOwnFault cause
   refusal_asks bytes rest after lines asked fault read says (reading cause certain h) =
       absurd (not_unread server.graph.format laws meaning missing bytes rest after lines asked cause read says certain h)

@@ -1,4 +1,5 @@
--- One request and its reply: the packets that are read and written (gitprotocol-v2(5), "Command Request").
+-- One request and its reply: the packets that are read and written (gitprotocol-v2(5), "Command Request"). Requests
+-- have the default limits.
 use Rattle.std.specs.Prelude.{◌≡◌, ◌≢◌, ◌⊎◌, false, List, [], All, Ok, None, flat_map}
 use Rattle.gname.specs.declared.formats.Format.{Format}
 use Rattle.gpkt.specs.Sending.{Input, Output, IsUnread, IsUp, IsUnwritten, Passes, SendsSome}
@@ -7,6 +8,7 @@ use Rattle.gpkt.specs.declared.fault.PacketFault.TheVariants.{Memory as NoBuffer
 use Rattle.gpkt.specs.Change.{Change}
 use Rattle.gpkt.specs.PacketReading.{Reads, ReadsPackets}
 use Rattle.gpkt.specs.Devices.{KeepsPassed}
+use Rattle.ggrammar.specs.Limits.{profile}
 use Rattle.ggrammar.specs.MessageReading.{ReadsRefused, IsReadFailure}
 use Rattle.ggrammar.specs.declared.ends.Ends.{Ends}
 use Rattle.ggrammar.specs.declared.fault.MessageFault.{MessageFault}
@@ -41,7 +43,7 @@ reply_packets ends (Fetch reply) = fetch_packets ends reply
 module _ {A : Type 0} (server : Server A) (packs : Packs A) where
   -- the packets encode a request that is not empty, and the server may give this answer to it
   pub record IsTurn (turn : Turn) : Type 0 where
-    pub says : Says server.graph.format turn.request turn.asked
+    pub says : Says profile server.graph.format turn.request turn.asked
     pub asks : turn.asked ≢ Empty
     pub answers : Answers server packs turn.asked turn.answer
 
@@ -62,7 +64,7 @@ module _ {A : Type 0} (server : Server A) (packs : Packs A) where
 pub record ReadsEmpty (format : Format) (input : Input) : Type 0 where
   pub packets : List Packet
   pub lines : ReadsPackets input.read packets
-  pub says : Says format packets Empty
+  pub says : Says profile format packets Empty
   pub up : IsUp input
 
 -- the input ends before a request, and the source has not failed
@@ -76,7 +78,7 @@ pub record ReadsEnd (input : Input) : Type 0 where
 -- end of the input is a fault only after the first packet.
 pub record RefusesToRead (format : Format) (input : Input) (cause : MessageFault) : Type 0 where
   pub front : List Packet
-  pub refused : ReadsRefused (judge format) brings front input.read cause
+  pub refused : ReadsRefused (judge profile format) brings front input.read cause
   pub source : IsReadFailure false input.is_down cause.why
   pub begun : cause.why ≡ EndedEarly → cause.frame ≢ 0
 
@@ -92,7 +94,7 @@ module _ {A : Type 0} (server : Server A) (fails : PackFails A) where
     pub packets : List Packet
     pub asked : Asked
     pub lines : ReadsPackets input.read packets
-    pub says : Says server.graph.format packets asked
+    pub says : Says profile server.graph.format packets asked
     pub declines : Declines server fails asked fault
     pub up : IsUp input
 

@@ -3,6 +3,7 @@
 ghost use Rattle.std.specs.Prelude.{◌≡◌, false, OnOk};
 ghost use Rattle.gpkt.specs.Packets.{canonical_all};
 ghost use Rattle.gpkt.specs.Sending.{input_of, output_of, Passes};
+ghost use Rattle.gobject.specs.Packs.{MayPack};
 ghost use Rattle.ganswer.specs.declared.one_pack.Packing.TheVariants.{Unasked};
 ghost use Rattle.gserve.specs.Conversations.{Serves, advert_packets};
 ghost use Rattle.gserve.specs.Packings.{ReportsLastPacking};
@@ -64,8 +65,9 @@ pub fn serve<S: Source, W: Sink, A: Allocator + Copy, K: Packer<A>>(
     sink: &mut W,
 ) -> Served
     requires unasked { packer.old.answered ≡ Unasked }
-    ensures serves { Serves server.now (K.packs packer.old.packer) (K.pack_fails packer.old.packer)
-        ends (input_of S.remaining S.is_down source.old source.new)
+    ensures serves { Serves server.now (MayPack (K.packs packer.old.packer))
+        (K.pack_fails packer.old.packer) ends
+        (input_of S.remaining S.is_down source.old source.new)
         (output_of W.contents W.passed_on W.is_down sink.old sink.new) result.requests result.end }
     ensures packing { ReportsLastPacking result.end packer.new.answered }
     ensures packer { packer.new.packer ≡ packer.old.packer }
@@ -88,8 +90,9 @@ fn serve_to<S: Source, W: Sink, A: Allocator + Copy, K: Packer<A>>(
 ) -> Served
     requires writer { writer.old.failed ≡ false }
     requires unasked { packer.old.answered ≡ Unasked }
-    ensures serves { Serves server.now (K.packs packer.old.packer) (K.pack_fails packer.old.packer)
-        ends (input_of S.remaining S.is_down source.old source.new)
+    ensures serves { Serves server.now (MayPack (K.packs packer.old.packer))
+        (K.pack_fails packer.old.packer) ends
+        (input_of S.remaining S.is_down source.old source.new)
         (output_of W.contents W.passed_on W.is_down writer.old.sink writer.new.sink)
         result.requests result.end }
     ensures packing { ReportsLastPacking result.end packer.new.answered }
@@ -121,8 +124,9 @@ fn converse<S: Source, W: Sink, A: Allocator + Copy, K: Packer<A>>(
     requires reader { reader.old.failed ≡ false }
     requires writer { writer.old.failed ≡ false }
     requires unasked { packer.old.answered ≡ Unasked }
-    ensures serves { Serves server.now (K.packs packer.old.packer) (K.pack_fails packer.old.packer)
-        ends (input_of S.remaining S.is_down reader.old.source reader.new.source)
+    ensures serves { Serves server.now (MayPack (K.packs packer.old.packer))
+        (K.pack_fails packer.old.packer) ends
+        (input_of S.remaining S.is_down reader.old.source reader.new.source)
         (output_of W.contents W.passed_on W.is_down writer.old.sink writer.new.sink)
         result.requests result.end }
     ensures packing { ReportsLastPacking result.end packer.new.answered }
@@ -151,7 +155,8 @@ fn answer_each<S: Source, W: Sink, A: Allocator + Copy, K: Packer<A>>(
     ensures serves { (start : W)
         → Passes (output_of W.contents W.passed_on W.is_down start writer.old.sink)
         (canonical_all (advert_packets server.now.graph.format))
-        → Serves server.now (K.packs packer.old.packer) (K.pack_fails packer.old.packer) ends
+        → Serves server.now (MayPack (K.packs packer.old.packer))
+        (K.pack_fails packer.old.packer) ends
         (input_of S.remaining S.is_down reader.old.source reader.new.source)
         (output_of W.contents W.passed_on W.is_down start writer.new.sink) result.requests
         result.end }

@@ -2,6 +2,7 @@
 
 ghost use Rattle.std.specs.Prelude.{◌≡◌, ◌≢◌, false};
 ghost use Rattle.gpkt.specs.Sending.{input_of, output_of};
+ghost use Rattle.gobject.specs.Packs.{MayPack};
 ghost use Rattle.grequest.specs.RequestValues.{asked_by_request};
 ghost use Rattle.ganswer.specs.declared.one_pack.Packing.TheVariants.{Unasked};
 ghost use Rattle.gserve.specs.Exchanges.{Exchanges, ServesOne};
@@ -48,7 +49,7 @@ pub fn serve_one<S: Source, W: Sink, A: Allocator + Copy, K: Packer<A>>(
     sink: &mut W,
 ) -> ExchangeEnd
     requires unasked { packer.old.answered ≡ Unasked }
-    ensures exchange { ServesOne server.now (K.packs packer.old.packer)
+    ensures exchange { ServesOne server.now (MayPack (K.packs packer.old.packer))
         (K.pack_fails packer.old.packer) ends
         (input_of S.remaining S.is_down source.old source.new)
         (output_of W.contents W.passed_on W.is_down sink.old sink.new) result }
@@ -73,7 +74,7 @@ fn serve_one_to<S: Source, W: Sink, A: Allocator + Copy, K: Packer<A>>(
 ) -> ExchangeEnd
     requires writer { writer.old.failed ≡ false }
     requires unasked { packer.old.answered ≡ Unasked }
-    ensures exchange { ServesOne server.now (K.packs packer.old.packer)
+    ensures exchange { ServesOne server.now (MayPack (K.packs packer.old.packer))
         (K.pack_fails packer.old.packer) ends
         (input_of S.remaining S.is_down source.old source.new)
         (output_of W.contents W.passed_on W.is_down writer.old.sink writer.new.sink) result }
@@ -104,7 +105,7 @@ pub(crate) fn exchange<S: Source, W: Sink, A: Allocator + Copy, K: Packer<A>>(
     requires reader { reader.old.failed ≡ false }
     requires writer { writer.old.failed ≡ false }
     requires unasked { packer.old.answered ≡ Unasked }
-    ensures exchange { Exchanges server.now (K.packs packer.old.packer)
+    ensures exchange { Exchanges server.now (MayPack (K.packs packer.old.packer))
         (K.pack_fails packer.old.packer) ends
         (input_of S.remaining S.is_down reader.old.source reader.new.source)
         (output_of W.contents W.passed_on W.is_down writer.old.sink writer.new.sink) result }
@@ -133,7 +134,7 @@ fn reply<W: Sink, A: Allocator + Copy, K: Packer<A>>(
 ) -> ExchangeEnd
     requires writer { writer.old.failed ≡ false }
     requires unasked { packer.old.answered ≡ Unasked }
-    ensures replies { Replies server.now (K.packs packer.old.packer)
+    ensures replies { Replies server.now (MayPack (K.packs packer.old.packer))
         (K.pack_fails packer.old.packer) ends (asked_by_request request.now)
         (output_of W.contents W.passed_on W.is_down writer.old.sink writer.new.sink) result }
     ensures goes_on { result ≡ ExchangeEnd.Answered → writer.new.failed ≡ false }

@@ -2,6 +2,7 @@
 
 ghost use Rattle.std.specs.Prelude.{◌≡◌, ◌↔◌, IsTrue};
 ghost use Rattle.gpkt.specs.Sending.{input_of, output_of};
+ghost use Rattle.gobject.specs.Packs.{MayPack};
 ghost use Rattle.ganswer.specs.declared.one_pack.Packing.TheVariants.{Unasked};
 ghost use Rattle.gserve.specs.GitConnections.{Hears, ReportsGitPacking, ServesGit, elsewhere_packets};
 ghost use Rattle.gserve.specs.Refusals.{err_packets};
@@ -59,7 +60,7 @@ pub fn serve_git<S: Source, W: Sink, A: Allocator + Copy, K: Packer<A>>(
     sink: &mut W,
 ) -> GitEnd
     requires unasked { packer.old.answered ≡ Unasked }
-    ensures serves { ServesGit export.now.server.now (K.packs packer.old.packer)
+    ensures serves { ServesGit export.now.server.now (MayPack (K.packs packer.old.packer))
         (K.pack_fails packer.old.packer) export.now.path.now export.now.ends
         (input_of S.remaining S.is_down source.old source.new)
         (output_of W.contents W.passed_on W.is_down sink.old sink.new) result }

@@ -1,6 +1,7 @@
 //! Laws about conversations: each function does nothing, and its contract proves a law.
 
 ghost use Rattle.std.specs.Prelude.{◌≡◌};
+ghost use Rattle.gobject.specs.Packs.{MayPack};
 ghost use Rattle.gserve.specs.Laws.{ServingIsTalking, TalksAreOne};
 ghost use Rattle.gserve.specs.Refusals.{max_err_text};
 ghost use Rattle.gserve.specs.Conversations.{max_requests};
@@ -22,14 +23,14 @@ pub fn limits_are_the_constants()
 /// Proves that a connection is a conversation over the bytes of its source, if the bytes are known
 /// and neither the source nor the sink fails. All output of the connection is flushed.
 pub fn serving_is_talking<A: Allocator + Copy, K: Packer<A>>()
-    ensures { (packer : K) → ServingIsTalking A (K.packs packer) (K.pack_fails packer) }
+    ensures { (packer : K) → ServingIsTalking A (MayPack (K.packs packer)) (K.pack_fails packer) }
 {}
 
 /// Proves that, with a faithful packer, a client's bytes determine the output and the end of the
 /// conversation, unless memory runs out or the packer fails. A packer that is not faithful may
 /// return different packs for the same objects, so the bytes of the pack may differ.
 pub fn talks_are_one<A: Allocator + Copy, K: Faithful<A>>(packer: &K)
-    ensures { TalksAreOne A (K.packs packer.now) (K.pack_fails packer.now) }
+    ensures { TalksAreOne A (MayPack (K.packs packer.now)) (K.pack_fails packer.now) }
 {
     answers_are_one(packer);
     messages_are_read();

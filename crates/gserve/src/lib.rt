@@ -7,10 +7,11 @@
 //!
 //! - [`serve`] serves a whole connection (`specs/Conversations.antt`). The requests depend only on
 //!   the bytes, not on how the bytes are split into pieces. Nothing after the last packet of a
-//!   request is read. The reply to each request is the answer that `ganswer` returns, with any
-//!   packer. An ls-refs request always gets a reply, since this reply needs no memory. The server
-//!   writes the advertisement and the replies in their canonical encoding, and flushes each
-//!   message. The field [`Served::requests`](Served) is the number of replies.
+//!   request is read. Requests have the default limits: 64 prefixes, 1,024 wants and 4,096 haves.
+//!   The reply to each request is the answer that `ganswer` returns, with any packer. An ls-refs
+//!   request always gets a reply, since this reply needs no memory. The server writes the
+//!   advertisement and the replies in their canonical encoding, and flushes each message. The field
+//!   [`Served::requests`](Served) is the number of replies.
 //! - The advertisement and each reply are flushed before anything more is read. If the sink fails
 //!   while a reply is written or flushed, nothing after the request of that reply was read. If the
 //!   sink fails while the advertisement is written, nothing was read.

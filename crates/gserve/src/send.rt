@@ -30,7 +30,7 @@ pub(crate) fn send_ls_answer<W: Sink, A: Allocator + Copy>(
     writer: &mut PacketWriter<W>,
 ) -> Result<(), WriteFault>
     requires { writer.old.failed ≡ false }
-    ensures sent { (reply : LsReply) × LsAnswer server.now asked.now reply
+    ensures sent { (reply : LsReply) × LsAnswer server.now asked.now.asked reply
         × PassesPackets (output_of W.contents W.passed_on W.is_down writer.old.sink
         writer.new.sink) result (ls_packets ends reply) }
     ensures goes_on { OnOk result (writer.new.failed ≡ false) }

@@ -3,8 +3,8 @@ use Rattle.std.proofs.Common.{◌≡◌, ℕ, inl, inr, Bool, true, false, List,
 use Rattle.gname.specs.Ids.{Id}
 use Rattle.gobject.specs.declared.node.Entry.{Entry}
 use Rattle.gobject.specs.declared.fault.PackFault.{PackFault}
-use Rattle.gobject.specs.Packs.{MayPack, PackFails, Packs}
-use Rattle.gparts.specs.Parts.{Begins, Gives}
+use Rattle.gobject.specs.Packs.{PackFails, Packs}
+use Rattle.gparts.specs.Parts.{Begins, Gives, MayGive}
 use Rattle.gpkt.specs.Packets.{Bytes, Packet, Flush, Delim}
 use Rattle.ggrammar.specs.Texts.{text_packet}
 use Rattle.ggrammar.specs.Endings.{ends_with}
@@ -53,7 +53,7 @@ module _ {A : Type 0} (server : Server A) (packs : Packs A) (fails : PackFails A
   pub acks_answer : (ids : List Id) (said : List Packet) (goes : Bool) → is_direct asked ≡ false → ids ≡ commons_of server asked
       → ¬ (IsReadyFor server asked)
       → SaysFirst (heading_packet ∷ nak_if_none (map ack_packet ids)) (SaysEnd ends goes_on) said goes
-      → SaysFetch server packs fails asked ends goes_on said goes
+      → SaysFetch server (MayGive packs) fails asked ends goes_on said goes
   acks_answer ids said goes direct commons not says = inl (record {
     reply = Acks ids;
     answers = record { can = can; replies = (direct, commons, not) };
@@ -64,15 +64,15 @@ module _ {A : Type 0} (server : Server A) (packs : Packs A) (fails : PackFails A
   module _ (list : List (Entry A)) (sent : IsSent server asked list) (gives : Gives) (most : ℕ) (begins : Begins packs fails list gives most) where
     -- the section of a pack, after these packets
     after : (front : List Packet) (due : IsPackDue server asked) (reply : Bytes → FetchReply)
-        → ((pack : Bytes) → MayPack packs list pack → FetchAnswer server packs asked (reply pack))
+        → ((pack : Bytes) → MayGive packs list pack → FetchAnswer server (MayGive packs) asked (reply pack))
         → ((pack : Bytes) → front ++ section (map data_packet (pieces pack)) ends ≡ canonical_reply ends (reply pack))
         → (said more rest : List Packet) (goes : Bool) → said ≡ front ++ more → more ≡ text_packet (codes "packfile") ∷ rest
         → (packets : List Packet) (end : Option PackFault) → SaysPack gives packets end
         → EndsPack ends goes_on packets end rest goes
-        → SaysFetch server packs fails asked ends goes_on said goes
+        → SaysFetch server (MayGive packs) fails asked ends goes_on said goes
     after front due reply answers spelt said more rest goes parts first packets None pack ended =
-        let whole : MayPack packs list pack.sent =
-        subst (MayPack packs list) (ap (λ l. pack.sent ++ l) (pack.all refl) ∙ append-nil pack.sent) (begins.whole (pack.sent ++ pack.lost) pack.given) in
+        let whole : MayGive packs list pack.sent =
+        subst (MayGive packs list) (ap (λ l. pack.sent ++ l) (pack.all refl) ∙ append-nil pack.sent) (begins.whole (pack.sent ++ pack.lost) pack.given) in
         inl (record {
           reply = reply pack.sent;
           answers = answers pack.sent whole;
@@ -91,7 +91,7 @@ module _ {A : Type 0} (server : Server A) (packs : Packs A) (fails : PackFails A
     })
 
     pub pack_answer : (said : List Packet) (goes : Bool) → is_direct asked ≡ true → SaysSection ends goes_on gives said goes
-        → SaysFetch server packs fails asked ends goes_on said goes
+        → SaysFetch server (MayGive packs) fails asked ends goes_on said goes
     pack_answer said goes direct says =
         after [] (inl direct) Pack
         (λ pack may. record { can = can; replies = (direct, record { list = list; sent = sent; packed = may }) })
@@ -100,7 +100,7 @@ module _ {A : Type 0} (server : Server A) (packs : Packs A) (fails : PackFails A
     pub ready_answer : (ids : List Id) (said : List Packet) (goes : Bool) → is_direct asked ≡ false → ids ≡ commons_of server asked
         → IsReadyFor server asked
         → SaysFirst (heading_packet ∷ map ack_packet ids) (SaysFirst (ready_packet ∷ Delim ∷ []) (SaysSection ends goes_on gives)) said goes
-        → SaysFetch server packs fails asked ends goes_on said goes
+        → SaysFetch server (MayGive packs) fails asked ends goes_on said goes
     ready_answer ids said goes direct commons ready says =
         let pack = says.then.then.then in
         after (heading_packet ∷ (map ack_packet ids ++ ready_packet ∷ Delim ∷ [])) (inr ready) (Ready ids)

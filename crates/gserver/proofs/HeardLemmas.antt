@@ -12,14 +12,14 @@ use Rattle.gserver.specs.declared.heard.Heard.TheVariants as heard
 
 module _ {A : Type 0} where
   pub endings_of : ((reader : HelloReader A) → HasEndings hello.judge)
-      → ((reader : RequestReader A) → HasEndings (request.judge reader.format))
+      → ((reader : RequestReader A) → HasEndings (request.judge reader.limits reader.format))
       → (message : Heard A) → HasEndings (judge_of message)
   endings_of hellos requests (heard.Hello reader) = hellos reader
   endings_of hellos requests (heard.Request reader) = requests reader
 
   pub bounded_of : (most : ℕ)
       → ((reader : HelloReader A) (front : List Packet) → IsOpen hello.judge front → length front < most)
-      → ((reader : RequestReader A) (front : List Packet) → IsOpen (request.judge reader.format) front → length front < most)
+      → ((reader : RequestReader A) (front : List Packet) → IsOpen (request.judge reader.limits reader.format) front → length front < most)
       → (message : Heard A) (front : List Packet) → IsOpen (judge_of message) front → length front < most
   bounded_of most hellos requests (heard.Hello reader) front goes = hellos reader front goes
   bounded_of most hellos requests (heard.Request reader) front goes = requests reader front goes

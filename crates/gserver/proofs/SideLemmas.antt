@@ -10,6 +10,7 @@ use Rattle.gname.specs.declared.formats.Format.{Format}
 use Rattle.gname.specs.declared.formats.Format.TheVariants.{Sha1, Sha256}
 use Rattle.ggrammar.specs.Grammar.{IsWhole, Judge, Refused, Whole}
 use Rattle.ggrammar.specs.declared.fault.Why.TheVariants as why
+use Rattle.ggrammar.specs.declared.limits.Limits.{Limits}
 use Rattle.ghello.specs.Hello.{Hello}
 use Rattle.ghello.specs.Hello as hello
 use Rattle.ghello.specs.steps.HelloReading.{hello_in}
@@ -137,27 +138,27 @@ module _ {A R P : Type 0} (server_of : R → Server A) (gives : R → P → Give
 whole_is_not_refused : ¬ (Whole ≡ Refused why.Format)
 whole_is_not_refused h = absurd (cc h)
 
-formats_differ : ¬ (request.judge Sha1 ≡ request.judge Sha256)
+formats_differ : (limits given : Limits) → ¬ (request.judge limits Sha1 ≡ request.judge given Sha256)
 unfolding judge_at capability_texts command_form after_word
-formats_differ h = whole_is_not_refused (ap (λ (judge : Judge). judge (Data (codes "command=fetch") ∷ []) Flush) h)
+formats_differ limits given h = whole_is_not_refused (ap (λ (judge : Judge). judge (Data (codes "command=fetch") ∷ []) Flush) h)
 
-judged_format : (one other : Format) → request.judge one ≡ request.judge other → one ≡ other
-judged_format Sha1 Sha1 h = refl
-judged_format Sha256 Sha256 h = refl
-judged_format Sha1 Sha256 h = absurd (formats_differ h)
-judged_format Sha256 Sha1 h = absurd (formats_differ (sym h))
+judged_format : (limits given : Limits) (one other : Format) → request.judge limits one ≡ request.judge given other → one ≡ other
+judged_format limits given Sha1 Sha1 h = refl
+judged_format limits given Sha256 Sha256 h = refl
+judged_format limits given Sha1 Sha256 h = absurd (formats_differ limits given h)
+judged_format limits given Sha256 Sha1 h = absurd (formats_differ given limits (sym h))
 
 -- a first line is not judged as a request
-first_is_no_request : (format : Format) → ¬ (hello.judge ≡ request.judge format)
+first_is_no_request : (limits : Limits) (format : Format) → ¬ (hello.judge ≡ request.judge limits format)
 unfolding judge_at capability_texts command_form after_word
-first_is_no_request Sha1 h = never_open [] (Data (codes "command=fetch")) (ap (λ (judge : Judge). judge [] (Data (codes "command=fetch"))) h)
-first_is_no_request Sha256 h = never_open [] (Data (codes "command=fetch")) (ap (λ (judge : Judge). judge [] (Data (codes "command=fetch"))) h)
+first_is_no_request limits Sha1 h = never_open [] (Data (codes "command=fetch")) (ap (λ (judge : Judge). judge [] (Data (codes "command=fetch"))) h)
+first_is_no_request limits Sha256 h = never_open [] (Data (codes "command=fetch")) (ap (λ (judge : Judge). judge [] (Data (codes "command=fetch"))) h)
 
 module _ {A H R : Type 0} (server_of : R → Server A) (packs_of : R → Packs A) (fails_of : R → PackFails A)
     (finds : H → Hello → Result R Bytes → Type 0) (opens : H → R → Result R Bytes → Type 0)
     (says : H → ServeFault → Bytes → Type 0) (old new : ServerSide A H R) where
   pub hello_answered : (repo : Option R) (lines said : List Packet) (goes : Bool) (kept : Option Hello)
-      → hello.judge ≡ side_judge server_of repo → IsWhole (side_judge server_of repo) lines → kept ≡ hello_in lines
+      → hello.judge ≡ side_judge old.limits server_of repo → IsWhole (side_judge old.limits server_of repo) lines → kept ≡ hello_in lines
       → ((asked : Hello) → kept ≡ Some asked → repo ≡ None
       → AnswersHello server_of says old.host.now (finds old.host.now asked) new.repo new.fault said goes)
       → new.requests ≡ old.requests
@@ -170,10 +171,10 @@ module _ {A H R : Type 0} (server_of : R → Server A) (packs_of : R → Packs A
         requests = requests;
       }
   hello_answered (Some repo) lines said goes kept judged whole is answers requests =
-      absurd (first_is_no_request (server_of repo).graph.format judged)
+      absurd (first_is_no_request old.limits (server_of repo).graph.format judged)
 
-  pub request_answered : (repo : Option R) (lines said : List Packet) (goes : Bool) (format : Format) (asked : Asked)
-      → request.judge format ≡ side_judge server_of repo → IsWhole (side_judge server_of repo) lines
+  pub request_answered : (repo : Option R) (lines said : List Packet) (goes : Bool) (limits : Limits) (format : Format) (asked : Asked)
+      → request.judge limits format ≡ side_judge old.limits server_of repo → IsWhole (side_judge old.limits server_of repo) lines
       → asked ≡ asked_by_lines format lines
       → ((one : R) → repo ≡ Some one
       → AnswersAsked server_of says old.host.now packs_of fails_of (opens old.host.now one) old.ends one asked
@@ -182,13 +183,13 @@ module _ {A H R : Type 0} (server_of : R → Server A) (packs_of : R → Packs A
       new.repo new.fault) said goes)
       → new.requests ≡ count_request asked old.requests
       → AnswersBy server_of packs_of fails_of finds opens says repo old new lines said goes
-  request_answered None lines said goes format asked judged whole asks answers requests =
-      absurd (first_is_no_request format (sym judged))
-  request_answered (Some repo) lines said goes format asked judged whole asks answers requests = record {
+  request_answered None lines said goes limits format asked judged whole asks answers requests =
+      absurd (first_is_no_request limits format (sym judged))
+  request_answered (Some repo) lines said goes limits format asked judged whole asks answers requests = record {
     asked = asked;
     says_so = record {
       whole = whole;
-      asks = asks ∙ ap (λ f. asked_by_lines f lines) (judged_format format (server_of repo).graph.format judged);
+      asks = asks ∙ ap (λ f. asked_by_lines f lines) (judged_format limits old.limits format (server_of repo).graph.format judged);
     };
     answers = answers repo refl;
     requests = requests;

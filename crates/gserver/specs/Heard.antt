@@ -11,7 +11,7 @@ use Rattle.gserver.specs.declared.heard.Heard.TheVariants as heard
 
 abbrev pub judge_of : {A : Type 0} → Heard A → Judge
 judge_of (heard.Hello reader) = hello.judge
-judge_of (heard.Request reader) = request.judge reader.format
+judge_of (heard.Request reader) = request.judge reader.limits reader.format
 
 abbrev pub brings_of : {A : Type 0} → Heard A → List Packet → Packet → Bool
 brings_of (heard.Hello reader) = hello.brings

@@ -13,7 +13,7 @@ module _ {A R P : Type 0} (server_of : R → Server A) where
   abbrev pub may_of : (R → P → Gives) → ServerReply A R P → May
   may_of gives (reply.Greeting greeting) = SaysGreeting greeting.next greeting.advert
   may_of gives (reply.Listing listing) =
-      SaysListing (server_of listing.repo) listing.asked listing.ends listing.goes_on listing.next
+      SaysListing (server_of listing.repo) listing.asked.asked listing.ends listing.goes_on listing.next
   may_of gives (reply.Speech speech) = SaysRest gives speech.ends speech.goes_on speech.rest
 
   abbrev pub reply_steps : (R → P → ℕ) → ServerReply A R P → ℕ

@@ -7,6 +7,7 @@ use Rattle.gpkt.specs.Packets.{Bytes, Packet}
 use Rattle.ggrammar.specs.Grammar.{Judge}
 use Rattle.ggrammar.specs.declared.ends.Ends.{Ends}
 use Rattle.ggrammar.specs.declared.fault.MessageFault.{MessageFault}
+use Rattle.ggrammar.specs.declared.limits.Limits.{Limits}
 use Rattle.ghello.specs.Adverts.{canonical_advert}
 use Rattle.ghello.specs.Hello.{Hello}
 use Rattle.ghello.specs.Hello as hello
@@ -61,12 +62,13 @@ module _ {H : Type 0} (says : H → ServeFault → Bytes → Type 0) (host : H) 
   abbrev pub LacksMemory : Option ServeFault → Bytes → Type 0
   LacksMemory = IsFault (λ fault. fault ≡ serve.Memory)
 
-module _ {A R : Type 0} (server_of : R → Server A) where
-  -- the grammar of the next message: the first line, or a request with ids in the object format of the repository
-  abbrev pub side_judge : Option R → Judge
-  side_judge None = hello.judge
-  side_judge (Some repo) = request.judge (server_of repo).graph.format
+-- the grammar of the next message: the first line, or a request with these limits, and with ids in the object format of
+-- the repository
+abbrev pub side_judge : {A R : Type 0} → Limits → (R → Server A) → Option R → Judge
+side_judge limits server_of None = hello.judge
+side_judge limits server_of (Some repo) = request.judge limits (server_of repo).graph.format
 
+module _ {A R : Type 0} (server_of : R → Server A) where
   -- The host finds a repository for the first line, and the server sends the advertisement of that repository. The
   -- connection serves the repository from then on.
   pub record Greets (Finds : Result R Bytes → Type 0) (new : Option R) (said : List Packet) (goes : Bool) : Type 0 where
@@ -128,10 +130,11 @@ module _ {A R : Type 0} (server_of : R → Server A) where
       CannotAnswer repo (Ls asked) new kept text = (new ≡ Some repo) × LacksMemory says host kept text
       CannotAnswer repo (Fetches asked) new kept text = CannotSend repo asked new kept text
 
--- the host stays the same, and each reply ends with the same packets
+-- the host and the limits on a request stay the same, and each reply ends with the same packets
 pub record Stays {A H R : Type 0} (old new : ServerSide A H R) : Type 0 where
   pub host : new.host ≡ old.host
   pub ends : new.ends ≡ old.ends
+  pub limits : new.limits ≡ old.limits
 
 -- a side that has received no message
 pub record IsFresh {A H R : Type 0} (side : ServerSide A H R) : Type 0 where
@@ -153,11 +156,11 @@ module _ {A H R : Type 0} (server_of : R → Server A) (packs_of : R → Packs A
     pub answers : AnswersHello server_of says old.host.now (finds old.host.now asked) new.repo new.fault said goes
     pub requests : new.requests ≡ old.requests
 
-  -- the packets are a request, and `said` is an answer to the request or an error packet
+  -- the packets are a request within the limits, and `said` is an answer to the request or an error packet
   pub record AnswersRequest (repo : R) (old new : ServerSide A H R) (lines said : List Packet)
       (goes : Bool) : Type 0 where
     pub asked : Asked
-    pub says_so : request.Says (server_of repo).graph.format lines asked
+    pub says_so : request.Says old.limits (server_of repo).graph.format lines asked
     pub answers : AnswersAsked server_of says old.host.now packs_of fails_of (opens old.host.now repo) old.ends
         repo asked (goes_on_after old.requests) new.repo said goes
         ⊎ Refuses (CannotAnswer server_of says old.host.now packs_of fails_of (opens old.host.now repo) old.ends

@@ -2,6 +2,7 @@
 //! reply in parts.
 
 ghost use Rattle.std.specs.Prelude.{Bool, List, MatchResult};
+ghost use Rattle.gparts.specs.Parts.{given_by};
 ghost use Rattle.gpkt.specs.Packets.{Packet};
 ghost use Rattle.ganswer.specs.Answers.{FetchRefuses};
 ghost use Rattle.gserver.specs.Fetching.{SaysFetch};
@@ -30,8 +31,8 @@ pub fn speak_fetch<A: Allocator + Copy, R: PartPacker<A> + Drop>(
     ensures { MatchResult result
         (λ speech. ((said : List Packet) (goes : Bool)
         → SaysRest R.gives speech.ends speech.goes_on speech.rest said goes
-        → SaysFetch server.now (R.packs packer) (R.pack_fails packer) asked.now.asked ends goes_on said
-        goes))
+        → SaysFetch server.now (given_by R.packs packer) (R.pack_fails packer) asked.now.asked ends
+        goes_on said goes))
         (FetchRefuses server.now (R.pack_fails packer) asked.now.asked) }
 {
     match server.begin_fetch(asked)? {

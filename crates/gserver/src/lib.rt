@@ -29,11 +29,13 @@
 //!   stored if the host can't find or open a repository. While the connection accepts messages, no
 //!   fault is stored.
 //! - A connection begins with no repository, no request and no fault (`OpensFresh`). The side
-//!   always uses the host, and the packets that end each reply, that were passed to
-//!   [`ServerSide::new`]. Each ls-refs or fetch request is counted. A connection ends only after an
-//!   error packet, an empty request, a failed pack or the last permitted request.
-//! - [`ServerSide::repo`], [`ServerSide::requests`] and [`ServerSide::fault`] return the state of
-//!   the side.
+//!   always uses the host, the packets that end each reply, and the limits on each request, that
+//!   were passed to [`ServerSide::within`]. [`ServerSide::new`] gives the default limits of 64
+//!   prefixes, 1,024 wants and 4,096 haves. Each ls-refs or fetch request is counted. A connection
+//!   ends only after an error packet, an empty request, a failed pack or the last permitted
+//!   request.
+//! - [`ServerSide::repo`], [`ServerSide::limits`], [`ServerSide::requests`] and
+//!   [`ServerSide::fault`] return the state of the side.
 //! - Each call to [`Reply::say`](gdialogue::Reply) decreases the number of remaining steps, so
 //!   every reply ends. A connection ends after at most 4,294,967,296 requests.
 //! - An [`ErrText`] stores the first bytes of a text, as many as fit.

@@ -11,6 +11,7 @@ use crate::host::ServedRepository;
 use crate::ref_lines::{say_head, say_ref, say_unborn};
 use gdialogue::Said;
 use ggrammar::Ends;
+use glsreply::RefText;
 use grequest::LsRefsRequest;
 use gtalk::Outgoing;
 use std::alloc::Allocator;
@@ -38,6 +39,8 @@ pub struct Listing<A: Allocator + Copy, R> {
     // Whether the connection accepts another request after the reply.
     pub(crate) goes_on: bool,
     pub(crate) next: NextLine,
+    // The buffer in which each line is composed.
+    text: RefText,
 }
 
 impl<A: Allocator + Copy, R> Listing<A, R> {
@@ -55,12 +58,13 @@ impl<A: Allocator + Copy, R> Listing<A, R> {
             ends,
             goes_on,
             next: NextLine::Unborn,
+            text: RefText::new(),
         }
     }
 }
 
 impl<A: Allocator + Copy, R: ServedRepository<A>> Cursor for Listing<A, R> {
-    ghost may = { λ l. SaysListing (R.server l.repo) l.asked l.ends l.goes_on l.next };
+    ghost may = { λ l. SaysListing (R.server l.repo) l.asked.asked l.ends l.goes_on l.next };
 
     ghost steps = { λ l. steps_of_listing (R.server l.repo) l.next };
 
@@ -72,7 +76,7 @@ impl<A: Allocator + Copy, R: ServedRepository<A>> Cursor for Listing<A, R> {
                 Said::More
             }
             NextLine::Head => {
-                say_head(self.repo.server(), &self.asked, out);
+                say_head(self.repo.server(), &self.asked, &mut self.text, out);
                 self.next = NextLine::Ref(0);
                 Said::More
             }
@@ -91,17 +95,17 @@ impl<A: Allocator + Copy, R: ServedRepository<A>> Listing<A, R> {
         requires room { length out.old + max_packet ≤ queue_room }
         requires next { self.old.next ≡ NextLine.Ref at }
         ensures { Advances
-            (SaysListing (R.server self.old.repo) self.old.asked self.old.ends self.old.goes_on
-            self.old.next)
-            (SaysListing (R.server self.new.repo) self.new.asked self.new.ends self.new.goes_on
-            self.new.next)
+            (SaysListing (R.server self.old.repo) self.old.asked.asked self.old.ends
+            self.old.goes_on self.old.next)
+            (SaysListing (R.server self.new.repo) self.new.asked.asked self.new.ends
+            self.new.goes_on self.new.next)
             (steps_of_listing (R.server self.old.repo) self.old.next)
             (steps_of_listing (R.server self.new.repo) self.new.next) out.old out.new result }
     {
         let server = self.repo.server();
         // Laws.
         server.laws();
-        if say_ref(server, &self.asked, at, out) {
+        if say_ref(server, &self.asked, at, &mut self.text, out) {
             self.next = NextLine::Ref(at + 1);
             return Said::More;
         }

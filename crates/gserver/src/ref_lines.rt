@@ -24,7 +24,7 @@ pub(crate) fn say_unborn<A: Allocator + Copy, B: Allocator + Copy>(
 )
     requires { length out.old + max_packet ≤ queue_room }
     ensures { out.new ≡ out.old
-        ++ canonical_all (unborn_packets (unborn_of server.now asked.now)) }
+        ++ canonical_all (unborn_packets (unborn_of server.now asked.now.asked)) }
 {
     match server.unborn(asked) {
         Some(target) => {
@@ -36,57 +36,60 @@ pub(crate) fn say_unborn<A: Allocator + Copy, B: Allocator + Copy>(
     }
 }
 
-/// Queues the line of HEAD, if HEAD has an id and the request includes HEAD.
+/// Queues the line of HEAD, if HEAD has an id and the request includes HEAD. The function uses
+/// `text` as a buffer.
 pub(crate) fn say_head<A: Allocator + Copy, B: Allocator + Copy>(
     server: &Server<A>,
     asked: &LsRefsRequest<A>,
+    text: &mut RefText,
     out: &mut Outgoing<B>,
 )
     requires { length out.old + max_packet ≤ queue_room }
-    ensures { SaysLines server.now asked.now (head_ref (head_id server.now.head server.now.refs)) out.old
-        out.new }
+    ensures { SaysLines server.now asked.now.asked
+        (head_ref (head_id server.now.head server.now.refs)) out.old out.new }
 {
     match server.head_id() {
         Some(id) => {
             let line = server.line(asked, server.name_of_head(), id, None);
-            say_line(line.as_ref(), out);
+            say_line(line.as_ref(), text, out);
         }
         None => {}
     }
 }
 
 /// Queues the line of the ref at this position, if the request includes this ref. The result is
-/// whether the server has a ref at this position.
+/// whether the server has a ref at this position. The function uses `text` as a buffer.
 pub(crate) fn say_ref<A: Allocator + Copy, B: Allocator + Copy>(
     server: &Server<A>,
     asked: &LsRefsRequest<A>,
     at: usize,
+    text: &mut RefText,
     out: &mut Outgoing<B>,
 ) -> bool
     requires { length out.old + max_packet ≤ queue_room }
-    ensures { SaysRefAt server.now asked.now at out.old out.new result }
+    ensures { SaysRefAt server.now asked.now.asked at out.old out.new result }
 {
     match server.refs().as_slice().get(at) {
         Some(found) => {
             let known = server.peeled_at(at);
             let line = server.line(asked, &found.0, found.1, known);
-            say_line(line.as_ref(), out);
+            say_line(line.as_ref(), text, out);
             true
         }
         None => false,
     }
 }
 
-// Queues the line, or nothing if `line` is `None`.
+// Queues the line, or nothing if `line` is `None`. The function uses `text` as a buffer.
 fn say_line<A: Allocator + Copy, B: Allocator + Copy>(
     line: Option<&LentLine<'_, A>>,
+    text: &mut RefText,
     out: &mut Outgoing<B>,
 )
     requires { length out.old + max_packet ≤ queue_room }
     ensures { out.new ≡ out.old ++ canonical_all (map ref_packet (line_list (option_copied line.entry))) }
 {
     if let Some(line) = line {
-        let mut text = RefText::new();
         text.set(line);
         out.put_text(text.as_bytes(), b"");
     }

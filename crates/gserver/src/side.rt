@@ -3,7 +3,9 @@
 
 ghost use Rattle.std.specs.Prelude.{◌≡◌, ◌<◌, ◌+◌, ◌⊎◌, Bool, IfOk, IsSome, List, MatchResult, None, OnOk, Some, false, min};
 ghost use Rattle.std.specs.Option.{option_copied};
+ghost use Rattle.gparts.specs.Parts.{given_by};
 ghost use Rattle.gpkt.specs.Packets.{Packet};
+ghost use Rattle.ggrammar.specs.Limits.{profile};
 ghost use Rattle.ghello.specs.Hello as first_line;
 ghost use Rattle.grequest.specs.RequestValues.{asked_by_request};
 ghost use Rattle.gdialogue.specs.Sides.{MayAnswer};
@@ -22,7 +24,7 @@ use crate::reply::ServerReply;
 use crate::speech::Speech;
 use ganswer::ServeFault;
 use gdialogue::{Answer, Side};
-use ggrammar::{Ends, MessageFault, Why};
+use ggrammar::{Ends, Limits, MessageFault, Why};
 use ghello::{Hello, HelloReader};
 use gparts::PartPacker;
 use grequest::{FetchRequest, LsRefsRequest, Request, RequestReader};
@@ -41,6 +43,8 @@ pub struct ServerSide<'h, A: Allocator + Copy, H, R> {
     host: &'h H,
     alloc: A,
     ends: Ends,
+    // The limits on each request.
+    limits: Limits,
     // The served repository, or `None` until the host finds a repository for the first line.
     repo: Option<R>,
     requests: u32,
@@ -48,20 +52,40 @@ pub struct ServerSide<'h, A: Allocator + Copy, H, R> {
 }
 
 impl<'h, A: Allocator + Copy, H, R> ServerSide<'h, A, H, R> {
-    /// Returns a side that has received no message.
+    /// Returns a side that has received no message, with the default limits on each request.
     pub fn new(host: &'h H, alloc: A, ends: Ends) -> ServerSide<'h, A, H, R>
         ensures fresh { IsFresh result }
         ensures host { result.host.now ≡ host.now }
         ensures ends { result.ends ≡ ends }
+        ensures limits { result.limits ≡ profile }
+    {
+        ServerSide::within(host, alloc, ends, Limits::default())
+    }
+
+    /// Returns a side that has received no message, with these limits on each request. A limit
+    /// above 2^30 counts as 2^30.
+    pub fn within(host: &'h H, alloc: A, ends: Ends, limits: Limits) -> ServerSide<'h, A, H, R>
+        ensures fresh { IsFresh result }
+        ensures host { result.host.now ≡ host.now }
+        ensures ends { result.ends ≡ ends }
+        ensures limits { result.limits ≡ limits }
     {
         ServerSide {
             host,
             alloc,
             ends,
+            limits,
             repo: None,
             requests: 0,
             fault: None,
         }
+    }
+
+    /// Returns the limits on each request.
+    pub fn limits(&self) -> Limits
+        ensures { result ≡ self.now.limits }
+    {
+        self.limits
     }
 
     /// Returns the served repository, or `None` until the host finds a repository for the first
@@ -156,11 +180,12 @@ where
     fn answer_request(&mut self, request: Request<A>) -> Answer<ServerReply<A, R, R::Parts>>
         ensures answers { (repo : R) → self.old.repo ≡ Some repo → (said : List Packet) (goes : Bool)
             → MayAnswer (may_of R.server R.gives) result said goes
-            → AnswersAsked R.server H.says self.old.host.now R.packs R.pack_fails
+            → AnswersAsked R.server H.says self.old.host.now (given_by R.packs) R.pack_fails
             (H.opens self.old.host.now repo) self.old.ends repo (asked_by_request request)
             (goes_on_after self.old.requests) self.new.repo said goes
-            ⊎ Refuses (CannotAnswer R.server H.says self.old.host.now R.packs R.pack_fails
-            (H.opens self.old.host.now repo) self.old.ends repo (asked_by_request request)
+            ⊎ Refuses (CannotAnswer R.server H.says self.old.host.now (given_by R.packs)
+            R.pack_fails (H.opens self.old.host.now repo) self.old.ends repo
+            (asked_by_request request)
             self.new.repo self.new.fault) said goes }
         ensures quiet { (said : List Packet) (goes : Bool)
             → MayAnswer (may_of R.server R.gives) result said goes
@@ -194,7 +219,7 @@ where
         ensures lists { (repo : R) → self.old.repo ≡ Some repo
             → MatchResult result (λ reply. (said : List Packet) (goes : Bool)
             → may_of R.server R.gives reply said goes
-            → SaysLsAnswer (R.server repo) asked self.old.ends goes_on said goes)
+            → SaysLsAnswer (R.server repo) asked.asked self.old.ends goes_on said goes)
             (LacksMemory H.says self.old.host.now self.new.fault) }
         ensures served { IfOk result (λ reply. IsSome self.old.repo) }
         ensures quiet { OnOk result (self.new.fault ≡ self.old.fault) }
@@ -225,9 +250,9 @@ where
         ensures sends { (repo : R) → self.old.repo ≡ Some repo
             → MatchResult result (λ reply. (said : List Packet) (goes : Bool)
             → may_of R.server R.gives reply said goes
-            → SendsFrom R.server H.says self.old.host.now R.packs R.pack_fails
+            → SendsFrom R.server H.says self.old.host.now (given_by R.packs) R.pack_fails
             (H.opens self.old.host.now repo) self.old.ends asked.now.asked goes_on self.new.repo said goes)
-            (CannotSend R.server H.says self.old.host.now R.packs R.pack_fails
+            (CannotSend R.server H.says self.old.host.now (given_by R.packs) R.pack_fails
             (H.opens self.old.host.now repo) self.old.ends repo asked.now.asked self.new.repo
             self.new.fault) }
         ensures served { IfOk result (λ reply. IsSome self.old.repo × IsSome self.new.repo) }
@@ -307,14 +332,15 @@ where
 {
     ghost use Rattle.gserver.specs.Serving.{AnswersMessage, OpensFresh, RefusesMessage, messages_of, side_brings, side_judge};
 
-    ghost judge = { λ side. side_judge R.server side.repo };
+    ghost judge = { λ side. side_judge side.limits R.server side.repo };
 
     ghost brings = { λ side. side_brings side.repo };
 
     ghost opens = { OpensFresh };
 
     ghost answers = { λ old lines said goes new.
-        AnswersMessage R.server R.packs R.pack_fails H.finds H.opens H.says old new lines said goes };
+        AnswersMessage R.server (given_by R.packs) R.pack_fails H.finds H.opens H.says old new lines
+        said goes };
 
     ghost refuses = { RefusesMessage H.says };
 
@@ -325,7 +351,7 @@ where
             None => Heard::Hello(HelloReader::new(self.alloc)),
             Some(repo) => {
                 let format = repo.server().graph().format();
-                Heard::Request(RequestReader::new(self.alloc, format))
+                Heard::Request(RequestReader::within(self.alloc, format, self.limits))
             }
         }
     }

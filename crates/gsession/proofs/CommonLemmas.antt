@@ -31,6 +31,7 @@ use Rattle.gdag.proofs.Positions.{held_id}
 use Rattle.gwalk.specs.Marks.{AreConnected}
 use Rattle.gclientrepo.specs.declared.ask.Ask.{Ask}
 use Rattle.gclientrepo.specs.Asks.{asked_ids}
+use Rattle.ggrammar.specs.declared.limits.Limits.{Limits}
 use Rattle.grequest.specs.Asked.{max_haves}
 use Rattle.gsession.specs.Asking.{AreWants}
 use Rattle.gsession.specs.Requesting.{batch_of}
@@ -83,16 +84,16 @@ joined_once xs (y ∷ ys) once also apart =
 -- ---- the batch
 
 -- it is the whole offer where there is room for that
-pub batch_room : (commons offer : List (List ℕ)) → length commons + length offer ≤ max_haves
-    → offer ≡ batch_of commons offer
-batch_room commons offer room =
-    ap (λ (b : Bool). if b then offer else []) (sym (le-leb (length commons + length offer) max_haves room))
+pub batch_room : (limits : Limits) (commons offer : List (List ℕ)) → length commons + length offer ≤ max_haves limits
+    → offer ≡ batch_of limits commons offer
+batch_room limits commons offer room =
+    ap (λ (b : Bool). if b then offer else []) (sym (le-leb (length commons + length offer) (max_haves limits) room))
 
 -- and else it is empty
-pub batch_none : (commons offer : List (List ℕ)) → max_haves < length commons + length offer
-    → [] ≡ batch_of commons offer
-batch_none commons offer over =
-    ap (λ (b : Bool). if b then offer else []) (sym (lt-leb (length commons + length offer) max_haves over))
+pub batch_none : (limits : Limits) (commons offer : List (List ℕ)) → max_haves limits < length commons + length offer
+    → [] ≡ batch_of limits commons offer
+batch_none limits commons offer over =
+    ap (λ (b : Bool). if b then offer else []) (sym (lt-leb (length commons + length offer) (max_haves limits) over))
 
 -- ---- which ids are connected
 
@@ -157,7 +158,7 @@ module _ {A : Type 0} where
 
   pub offer_fits : OffersAreExact A → PositionsAreNodes A → IdsHaveOneFormat
       → (s : SessionState A) (g : History A) (n : ℕ) (offer : List (List ℕ)) → IsSession s → IsGraph g
-      → IsOffer g.entries s.tips s.commons s.sent n offer → length s.commons + length offer ≤ max_haves
+      → IsOffer g.entries s.tips s.commons s.sent n offer → length s.commons + length offer ≤ max_haves s.options.limits
       → FitsBatch s offer
   offer_fits exact places one s g n offer is graph offered room =
       let offers = exact g.entries s.tips s.commons s.sent n in

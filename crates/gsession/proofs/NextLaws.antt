@@ -36,7 +36,7 @@ module _ {A : Type 0} where
       let of = (exact g s.tips s.commons s.sent (batch_size s.rounds)).each is.offer (get_or is.offer k d) is.offered
       (Contains-get_or is.offer k d low) in
       each (get_or is.offer k d) of.0.unsent of.1 in
-      rw is.is (elim (nat_le (length s.commons + length is.offer) max_haves)
+      rw is.is (elim (nat_le (length s.commons + length is.offer) (max_haves s.options.limits))
       as (λ b. All P (if b then is.offer else [])) [ true ↦ all | false ↦ All-nil P ])
 
   pub batch_unsent : OffersAreExact A → (g : List (Entry A)) (s : SessionState A) (batch : List (List ℕ))
@@ -48,7 +48,7 @@ module _ {A : Type 0} where
       → IsBatch s g batch → IsDistinct bytes_eq batch
   unfolding IsDistinct
   batch_once exact g s batch is =
-      rw is.is (elim (nat_le (length s.commons + length is.offer) max_haves)
+      rw is.is (elim (nat_le (length s.commons + length is.offer) (max_haves s.options.limits))
       as (λ b. IsDistinct bytes_eq (if b then is.offer else [])) [
         | true ↦ (exact g s.tips s.commons s.sent (batch_size s.rounds)).once is.offer is.offered
         | false ↦ tt
@@ -109,7 +109,7 @@ module _ {A : Type 0} where
   one_request exact s g (Fetches asked) (Fetches also) batch other is too =
       let offers = exact g s.tips s.commons s.sent (batch_size s.rounds) in
       let offer = offers.one is.2.offer too.2.offer is.2.offered too.2.offered in
-      let same : batch ≡ other = is.2.is ∙ ap (batch_of s.commons) offer ∙ sym too.2.is in
+      let same : batch ≡ other = is.2.is ∙ ap (batch_of s.options.limits s.commons) offer ∙ sym too.2.is in
       (ap Fetches (is.1 ∙ ap (fetch_request s.options s.wants s.commons) same ∙ sym too.1), same)
 
   pub one_next : OffersAreExact A → OneNext A

@@ -54,7 +54,8 @@ acks_reply (Pack pack) ids same = cc
 
 pub are_commons : {A : Type 0} (s : SessionState A) (asked : FetchAsked) (acks list : List (List ℕ)) → DistinctAreOnce
     → IsOpenFetch s asked
-    → All (Contains asked.haves) acks → list ≡ distinct_of (s.commons ++ acks) → AreCommons s.format list
+    → All (Contains asked.haves) acks → list ≡ distinct_of (s.commons ++ acks)
+    → AreCommons s.options.limits s.format list
 are_commons s asked acks list law opened named is =
     let haves = asked.haves in
     let ids = distinct_of (s.commons ++ acks) in

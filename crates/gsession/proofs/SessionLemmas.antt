@@ -124,7 +124,7 @@ some_wants (want ∷ wants) fetching = λ none. cc
 
 pub refs_taken : {A : Type 0} (s : SessionState A) (asks : List (Ask A)) (wants : List (List ℕ)) (st : Stage)
     → IsSession s → AwaitsRefs s
-    → All (IsIdOf s.format) wants → length wants ≤ max_wants → st ≡ stage_for wants
+    → All (IsIdOf s.format) wants → length wants ≤ max_wants s.options.limits → st ≡ stage_for wants
     → IsSession (record s { stage = st; pending = None; asks = asks; wants = wants })
 refs_taken s asks wants st is waits ids few same =
     let none = ls_waits s s.stage waits.0 (subst (FitsStage s s.stage) waits.1 is.stage) in
@@ -143,7 +143,7 @@ refs_taken s asks wants st is waits ids few same =
 
 pub acks_taken : {A : Type 0} (s : SessionState A) (asked : FetchAsked) (commons : List (List ℕ)) → IsSession s
     → s.pending ≡ Some (Fetches asked)
-    → is_direct asked ≡ false → AreCommons s.format commons
+    → is_direct asked ≡ false → AreCommons s.options.limits s.format commons
     → IsSession (record s { stage = Fetching; pending = None; commons = commons })
 acks_taken s asked commons is waits direct are = record {
   few_specs = is.few_specs;
@@ -158,7 +158,7 @@ acks_taken s asked commons is waits direct are = record {
 }
 
 pub pack_taken : {A : Type 0} (s : SessionState A) (commons : List (List ℕ)) → IsSession s
-    → AreCommons s.format commons → IsSession (record s { stage = Settling; pending = None; commons = commons })
+    → AreCommons s.options.limits s.format commons → IsSession (record s { stage = Settling; pending = None; commons = commons })
 pack_taken s commons is are = record {
   few_specs = is.few_specs;
   tips = is.tips;

@@ -4,6 +4,7 @@
 use Rattle.std.specs.Prelude.{◌≡◌, ℕ, ◌+◌, Bool, true, false, List, [], ◌++◌, length, map, nat_le, ◌==◌}
 use Rattle.std.specs.Prelude.{if◌then◌else◌, not, Option, Some, None, Result, Ok, Err}
 use Rattle.gname.specs.Ids.{Id}
+use Rattle.ggrammar.specs.declared.limits.Limits.{Limits}
 use Rattle.gobject.specs.declared.node.Entry.{Entry}
 use Rattle.gdag.specs.Levels.{distinct_of}
 use Rattle.gdag.specs.Offer.{IsOffer}
@@ -35,15 +36,16 @@ batch_size rounds =
     else if rounds == 3 then 128
     else 256
 
--- the batch: the new ids to offer, or an empty list if the new ids and the common ids do not fit into one request
-abbrev pub batch_of : List Id → List Id → List Id
-batch_of commons offer = if nat_le (length commons + length offer) max_haves then offer else []
+-- the batch: the new ids to offer, or an empty list if the new ids and the common ids do not fit into one request with
+-- these limits
+abbrev pub batch_of : Limits → List Id → List Id → List Id
+batch_of limits commons offer = if nat_le (length commons + length offer) (max_haves limits) then offer else []
 
 -- the ids that the next request offers, level by level from the tips
 pub record IsBatch {A : Type 0} (s : SessionState A) (g : List (Entry A)) (batch : List Id) : Type 0 where
   pub offer : List Id
   pub offered : IsOffer g s.tips s.commons s.sent (batch_size s.rounds) offer
-  pub is : batch ≡ batch_of s.commons offer
+  pub is : batch ≡ batch_of s.options.limits s.commons offer
 
 -- a request for objects without ids: it has `include-tag`, and `no-progress` and `ofs-delta` as the options require
 abbrev pub blank_request : PackOptions → FetchAsked

@@ -9,6 +9,8 @@ use Rattle.std.specs.Str.{bytes_eq}
 use Rattle.gname.specs.Ids.{Id, IsIdOf}
 use Rattle.gname.specs.declared.formats.Format.{Format}
 use Rattle.ggrammar.specs.declared.ends.Ends.{Ends}
+use Rattle.ggrammar.specs.declared.limits.Limits.{Limits}
+use Rattle.ggrammar.specs.Limits.{profile}
 use Rattle.gpkt.specs.PacketReading.{Reader}
 use Rattle.ggrammar.specs.Capabilities.{Capability}
 use Rattle.ggrammar.specs.MessageReading.{LeavesReader}
@@ -55,7 +57,7 @@ pub record IsOpenFetch {A : Type 0} (s : SessionState A) (asked : FetchAsked) : 
   pub wants : asked.wants ≡ s.wants
   pub commons : All (Contains asked.haves) s.commons
   pub ids : All (IsIdOf s.format) asked.haves
-  pub few : length asked.haves ≤ max_haves
+  pub few : length asked.haves ≤ max_haves s.options.limits
   pub goes_on : is_direct asked ≡ false → s.rounds ≤ length s.sent
 
 -- the open request fits the stage of the session, and no objects were requested before the session received the refs
@@ -68,10 +70,10 @@ FitsStage s Settling None = Unit {0}
 FitsStage s Over None = Unit {0}
 FitsStage s _ _ = ⊥
 
--- the common ids are distinct ids of the format, and fit into one request
-pub record AreCommons (format : Format) (commons : List Id) : Type 0 where
+-- the common ids are distinct ids of the format, and fit into one request with these limits
+pub record AreCommons (limits : Limits) (format : Format) (commons : List Id) : Type 0 where
   pub ids : All (IsIdOf format) commons
-  pub few : length commons ≤ max_haves
+  pub few : length commons ≤ max_haves limits
   pub once : IsDistinct bytes_eq commons
 
 -- the invariants of a session: its lists are within limits, no id is offered twice, and the open request fits the stage
@@ -79,8 +81,8 @@ pub record IsSession {A : Type 0} (s : SessionState A) : Type 0 where
   pub few_specs : length s.refspecs ≤ max_specs
   pub tips : All (IsIdOf s.format) s.tips
   pub wants : All (IsIdOf s.format) s.wants
-  pub few_wants : length s.wants ≤ max_wants
-  pub commons : AreCommons s.format s.commons
+  pub few_wants : length s.wants ≤ max_wants s.options.limits
+  pub commons : AreCommons s.options.limits s.format s.commons
   pub sent : IsDistinct bytes_eq s.sent
   pub rounds : s.rounds ≤ length s.sent + 1
   pub some : s.stage ≡ Fetching → s.wants ≢ []
@@ -116,9 +118,9 @@ no_memory = Repo (repo.Graph graph.Memory)
 abbrev pub tips_of : {A : Type 0} → RepoState A → List Id
 tips_of repo = distinct_of (values_of repo.refs)
 
--- the default pack options: no deltas by offset, and no progress
+-- the default pack options: no deltas by offset, no progress, and the default limits
 abbrev pub no_options : PackOptions
-no_options = record { ofs_delta = false; progress = false }
+no_options = record { ofs_delta = false; progress = false; limits = profile }
 
 -- a session that has just begun
 abbrev pub new_session : {A : Type 0} → Format → List Refspec → ℕ → Ends → List Id → SessionState A

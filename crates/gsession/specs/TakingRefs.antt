@@ -42,7 +42,7 @@ pub record TakesLines {A : Type 0} (old : SessionState A) (g : List (Entry A)) (
   pub named : AreNamed {A = A} (asks_by_all old.refspecs reply.lines)
   pub wants : List Id
   pub wanted : AreWants {A = A} g (asked_of old.refspecs reply.lines) wants
-  pub few : length wants ≤ max_wants
+  pub few : length wants ≤ max_wants old.options.limits
   pub after : new ≡ with_refs old reply wants
   pub asks : taken.asks ≡ length (asked_of {A = A} old.refspecs reply.lines)
   pub count : taken.wants ≡ length wants
@@ -60,7 +60,7 @@ pub record WantsTooMuch {A : Type 0} (s : SessionState A) (g : List (Entry A)) (
   pub named : AreNamed {A = A} (asks_by_all s.refspecs reply.lines)
   pub wants : List Id
   pub wanted : AreWants {A = A} g (asked_of s.refspecs reply.lines) wants
-  pub many : max_wants < length wants
+  pub many : max_wants s.options.limits < length wants
 
 -- a reason to reject the refs of a reply: an invalid ref name, too many wants, or out of memory
 abbrev pub IsRefsFault : {A : Type 0} → SessionState A → List (Entry A) → LsReply → ClientFault A → Type 0

@@ -100,7 +100,8 @@ module _ {A : Type 0} (indexes : Indexes A) (index_fails : IndexFails) where
 
 -- the parameters for reading the reply to a request
 abbrev pub reading_for : {A : Type 0} → SessionState A → FetchAsked → Reading
-reading_for s asked = record { format = s.format; direct = is_direct asked; limit = s.limit; ends = s.ends }
+reading_for s asked =
+    record { limits = s.options.limits; format = s.format; direct = is_direct asked; limit = s.limit; ends = s.ends }
 
 -- the session reads a complete fetch reply
 abbrev pub ReadsFetch : Reading → Change → FetchReply → Type 0

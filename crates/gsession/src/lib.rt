@@ -15,6 +15,9 @@
 //!   the request and the next session ([`laws`]). [`Session::request_on`] makes the same request,
 //!   but continues the walk of the previous request (`specs/Offering.antt`). This call requires
 //!   that the graph has not changed since the previous request.
+//! - The session's options contain its limits ([`ggrammar::Limits`]). They bound the numbers of
+//!   wants, haves and acknowledged ids. By default, the limits are 1,024 wants, 4,096 haves and
+//!   4,096 acknowledged ids.
 //! - [`Session::take_ls`] reads one ls-refs reply to its end, and nothing after it. Exactly one
 //!   update is requested for each local ref to which a refspec maps a line of the reply. The first
 //!   refspec that maps a line to the ref, and its first matching line, determine the update
@@ -52,6 +55,10 @@
 //!
 //! # What the contracts do not rule out
 //!
+//! A request for refs has the default limits, and at most 16 refspecs always fit into it. But no
+//! contract says which limits the returned request has. If the options allow fewer than 16 haves, a
+//! longer first batch may be left out.
+//!
 //! A call may report out of memory although memory is available, if no earlier fault occurs. A
 //! report of out of memory can hide the following faults, because the checks for them need memory:
 //!
@@ -60,8 +67,8 @@
 //! - Too many wants. The session counts the wants only after it stored the requested updates and
 //!   their distinct ids. The check whether an id is connected may need a walk.
 //! - A fault of the graph for a pack. The graph detects this fault while it allocates memory for
-//!   the objects. The session allocates the list of common ids earlier, because the graph can't
-//!   remove inserted objects.
+//!   the objects. The session allocates the list of common ids before the graph inserts an object,
+//!   because an insertion can't be undone.
 //! - An unconnected id or a ref that can't be set, if [`Session::settle`] needs a walk in
 //!   `gclientrepo`.
 //!
@@ -90,6 +97,7 @@ pub mod compat;
 mod fault;
 mod feed;
 pub mod laws;
+mod limits;
 mod options;
 mod requests;
 mod session;

@@ -4,11 +4,12 @@ ghost use Rattle.std.specs.Prelude.{◌≡◌};
 ghost use Rattle.gsession.specs.Sessions.{no_options};
 
 use gfetchreply::PackLimit;
-use ggrammar::Ends;
+use ggrammar::{Ends, Limits};
 use grefs::Spec;
 use std::alloc::{Allocator, Global};
 
-/// The options of a session's requests for packs (gitprotocol-v2(5), "fetch").
+/// The options of a session's requests for packs (gitprotocol-v2(5), "fetch"), with the limits of
+/// the session.
 #[derive(Clone, Copy, Debug, PartialEq, Eq)]
 pub struct PackOptions {
     /// Whether each request for objects has `ofs-delta`, which allows a delta to give its base as
@@ -17,9 +18,13 @@ pub struct PackOptions {
     /// Whether the server may report progress. If false, each request for objects has
     /// `no-progress`.
     pub progress: bool,
+    /// The limits on the wants, the haves and the acknowledged ids. With any limits, a request has
+    /// at most 2^30 wants and 2^30 haves. A request for refs has the default limits.
+    pub limits: Limits,
 }
 
 /// The default options. Each request for objects has `no-progress`, and no request has `ofs-delta`.
+/// The limits are the default limits.
 impl Default for PackOptions {
     ghost is_default = { λ options. options ≡ no_options };
 
@@ -27,6 +32,7 @@ impl Default for PackOptions {
         PackOptions {
             ofs_delta: false,
             progress: false,
+            limits: Limits::default(),
         }
     }
 }

@@ -58,9 +58,11 @@ fn add_prefix<A: Allocator + Copy>(
     prefix: &Prefix<A>,
     request: &mut LsRefsRequest<A>,
 ) -> Result<(), AllocError>
-    requires { length request.old.prefixes < max_prefixes }
-    ensures { OnOk result (request.new
-        ≡ record request.old { prefixes = with_prefix request.old.prefixes prefix.now }) }
+    requires { length request.old.asked.prefixes < max_prefixes request.old.limits }
+    ensures { OnOk result (request.new ≡ record request.old {
+      asked = record request.old.asked
+          { prefixes = with_prefix request.old.asked.prefixes prefix.now };
+    }) }
 {
     if has_prefix(request.prefixes(), prefix) {
         return Ok(());
@@ -80,15 +82,20 @@ fn has_prefix<A: Allocator + Copy>(prefixes: &[Prefix<A>], prefix: &Prefix<A>) -
         .any(|other| other.as_bytes() == prefix.as_bytes())
 }
 
-/// Returns a request for objects without wants and haves. Allocates nothing.
+/// Returns a request for objects without wants and haves, with the limits of the options. Allocates
+/// nothing.
 pub(crate) fn blank_request<A: Allocator + Copy>(
     alloc: A,
     format: Format,
     options: PackOptions,
 ) -> FetchRequest<A>
-    ensures { result ≡ record { format = format; asked = blank_request options } }
+    ensures { result ≡ record {
+      format = format;
+      limits = options.limits;
+      asked = blank_request options;
+    } }
 {
-    let mut request = FetchRequest::new(alloc, format);
+    let mut request = FetchRequest::within(alloc, format, options.limits);
     request.set(FetchFlag::NoProgress, !options.progress);
     request.set(FetchFlag::IncludeTag, true);
     request.set(FetchFlag::OfsDelta, options.ofs_delta);
@@ -105,10 +112,10 @@ pub(crate) fn objects_request<A: Allocator + Copy>(
 ) -> Result<Request<A>, AllocError>
     requires blank { (blank.asked.wants ≡ []) × (blank.asked.haves ≡ []) }
     requires wants { All (IsIdOf blank.format) wants.now }
-    requires few_wants { length wants.now ≤ max_wants }
+    requires few_wants { length wants.now ≤ max_wants blank.limits }
     requires commons { All (IsIdOf blank.format) commons.now }
     requires batch { All (IsIdOf blank.format) batch.now }
-    requires room { length commons.now + length batch.now ≤ max_haves }
+    requires room { length commons.now + length batch.now ≤ max_haves blank.limits }
     ensures asked { IfOk result (λ request. asked_by_request request
         ≡ Fetches (with_ids blank.asked wants.now commons.now batch.now)) }
     ensures format { IfOk result (λ request. ids_format request ≡ Some blank.format) }
@@ -126,7 +133,7 @@ fn add_wants<A: Allocator + Copy>(
     request: &mut FetchRequest<A>,
 ) -> Result<(), AllocError>
     requires ids { All (IsIdOf request.old.format) wants.now }
-    requires room { length request.old.asked.wants + length wants.now ≤ max_wants }
+    requires room { length request.old.asked.wants + length wants.now ≤ max_wants request.old.limits }
     ensures { OnOk result (request.new ≡ record request.old {
       asked = record request.old.asked { wants = request.old.asked.wants ++ wants.now };
     }) }
@@ -145,7 +152,7 @@ fn add_haves<A: Allocator + Copy>(
     request: &mut FetchRequest<A>,
 ) -> Result<(), AllocError>
     requires ids { All (IsIdOf request.old.format) haves.now }
-    requires room { length request.old.asked.haves + length haves.now ≤ max_haves }
+    requires room { length request.old.asked.haves + length haves.now ≤ max_haves request.old.limits }
     ensures { OnOk result (request.new ≡ record request.old {
       asked = record request.old.asked { haves = request.old.asked.haves ++ haves.now };
     }) }

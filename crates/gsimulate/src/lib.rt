@@ -5,7 +5,7 @@
 //! # Proved
 //!
 //! - [`cmd_simulate`] runs the events of the scenario, one after the other, with plain packs. The
-//!   events happen in a world (see `gworld`) of the server and of the client's repository. Each
+//!   events change a world (see `gworld`), which holds a server and the client's repository. Each
 //!   step keeps all promises that `gworld` states for a step. The output is exactly one line for
 //!   each outcome, and then one line for each ref of the client after the run. The program writes
 //!   and flushes all lines, or writes a prefix of the lines if the output fails

@@ -4,6 +4,7 @@ use Rattle.std.specs.Prelude.{◌≡◌, ◌⊎◌, ◌<◌, List, ℕ, ◌++◌
 use Rattle.std.specs.Fmt.{decimal}
 use Rattle.gpkt.specs.Sending.{Output, IsUnwritten, Sends}
 use Rattle.gpkt.specs.Packets.{Bytes}
+use Rattle.gobject.specs.Packs.{MayPack}
 use Rattle.ggrammar.specs.declared.ends.Ends.{Ends}
 use Rattle.ggrammar.specs.declared.ends.Ends.TheVariants.{Plain}
 use Rattle.ggrammar.specs.declared.fault.MessageFault.{MessageFault}
@@ -63,7 +64,7 @@ module _ {A : Type 0} (file path : Bytes) (ends : Ends) (connections : ℕ) (out
     pub server : Server A
     pub names : NamesServer file server
     pub announces : Announces {A = A} output (Ok tt)
-    pub serves : ServesEach server plain_packs plain_pack_fails path ends errors connections outcome
+    pub serves : ServesEach server (MayPack plain_packs) plain_pack_fails path ends errors connections outcome
 
   -- the effect of `serve` before it exits: the connections are served, or no client is served
   abbrev pub ServesRemote : Output → ProgramOutcome A → Type 0

@@ -4,6 +4,7 @@ use Rattle.std.specs.Prelude.{◌≡◌, ◌⊎◌, ◌<◌, ◌≤◌, ℕ, Boo
 use Rattle.gpkt.specs.Sending.{Input, Output}
 use Rattle.gpkt.specs.Packets.{Bytes}
 use Rattle.ggrammar.specs.Building.{IsBuildReason}
+use Rattle.ggrammar.specs.Limits.{profile}
 use Rattle.ggrammar.specs.declared.ends.Ends.{Ends}
 use Rattle.ggrammar.specs.declared.fault.MessageFault.{MessageFault}
 use Rattle.ghello.specs.Hello.{Hello, IsHello, MakesHello}
@@ -57,15 +58,15 @@ asked_for prefixes =
     let named = ls_with no_ls_refs Symrefs true in
     record (ls_with named Peel true) { prefixes = prefixes }
 
--- the reasons to refuse the request: too many prefixes, or out of memory
+-- the reasons to refuse the request: too many prefixes for the default limits, or out of memory
 abbrev pub RefusesPrefixes : List Bytes → MessageFault → Type 0
 RefusesPrefixes prefixes cause =
     (cause.frame ≡ 0) × ((has_room : Bool) × IsBuildReason true has_room cause.why
-    × (has_room ≡ false → max_prefixes < length prefixes))
+    × (has_room ≡ false → max_prefixes profile < length prefixes))
 
--- the number of prefixes is within the limit
+-- the number of prefixes is within the default limits
 abbrev pub FitPrefixes : List Bytes → Type 0
-FitPrefixes prefixes = length prefixes ≤ max_prefixes
+FitPrefixes prefixes = length prefixes ≤ max_prefixes profile
 
 module _ {A : Type 0} (asked : LsRefsAsked) (hello : Hello) where
   -- a listing over a socket, which begins with the first line

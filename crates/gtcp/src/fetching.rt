@@ -217,7 +217,7 @@ pub(crate) fn ls_from<A, S>(
 where
     A: Allocator + Copy,
     S: Read + Write + OpenStream,
-    ensures { ListsFrom asked hello.now result }
+    ensures { ListsFrom asked.asked hello.now result }
 {
     let Ok(mut reader) = BufReader::new(alloc, peer) else {
         return Err(FetchFault::NoBuffer);
@@ -239,7 +239,7 @@ fn list_between<A: Allocator + Copy, R: Read, W: Write>(
     hello: &Hello<A>,
     asked: LsRefsRequest<A>,
 ) -> Result<LsReply<A>, FetchFault<A>>
-    ensures { ListsBetween asked hello.now (change_of R.remaining reader.old reader.new)
+    ensures { ListsBetween asked.asked hello.now (change_of R.remaining reader.old reader.new)
         (change_of W.contents writer.old writer.new) result }
 {
     let mut source = FromRead::new(reader);

@@ -3,6 +3,7 @@
 ghost use Rattle.std.specs.Prelude.{◌≡◌};
 ghost use Rattle.gpkt.specs.Change.{change_of};
 ghost use Rattle.gpkt.specs.Sending.{output_of};
+ghost use Rattle.gobject.specs.Packs.{MayPack};
 ghost use Rattle.gcmd.specs.Serving.{outcome_of_connection};
 ghost use Rattle.gtcp.specs.Sockets.{HoldsServing, IsServed, ServesEach, outcome_of};
 ghost use Rattle.gtcp.specs.steps.Sockets.{ServesBetween, ServesFrom};
@@ -51,7 +52,8 @@ where
     L: OpenListener<Stream = S> + Drop,
     S: Read + Write + OpenStream + Drop,
     E: Sink,
-    ensures serves { ServesEach server.now (K.packs packer.now) (K.pack_fails packer.now) path.now
+    ensures serves { ServesEach server.now (MayPack (K.packs packer.now))
+        (K.pack_fails packer.now) path.now
         ends
         (output_of E.contents E.passed_on E.is_down errors.old errors.new) connections result }
     ensures loans { E.loans errors.new ≡ E.loans errors.old }
@@ -87,7 +89,8 @@ where
     L: OpenListener<Stream = S>,
     S: Read + Write + OpenStream + Drop,
     E: Sink,
-    ensures serves { ServesEach export.now.server.now (K.packs packer.now) (K.pack_fails packer.now)
+    ensures serves { ServesEach export.now.server.now (MayPack (K.packs packer.now))
+        (K.pack_fails packer.now)
         export.now.path.now export.now.ends
         (output_of E.contents E.passed_on E.is_down errors.old errors.new)
         listening.now.connections result }
@@ -134,7 +137,8 @@ where
     K: Packer<A>,
     S: Read + Write + OpenStream + Drop,
     T: Timer + Drop,
-    ensures { IsServed export.now.server.now (K.packs packer.now) (K.pack_fails packer.now)
+    ensures { IsServed export.now.server.now (MayPack (K.packs packer.now))
+        (K.pack_fails packer.now)
         export.now.path.now export.now.ends result }
 {
     let peer = Peer::new(stream, timer);
@@ -151,7 +155,8 @@ where
     K: Packer<A>,
     S: Read + Write + OpenStream,
     T: Timer,
-    ensures { HoldsServing export.now.server.now (K.packs packer.now) (K.pack_fails packer.now)
+    ensures { HoldsServing export.now.server.now (MayPack (K.packs packer.now))
+        (K.pack_fails packer.now)
         export.now.path.now export.now.ends result }
 {
     match BufReader::new(export.server.graph().allocator(), peer) {
@@ -176,7 +181,8 @@ where
     R: Read,
     S: Write + OpenStream,
     T: Timer,
-    ensures { ServesFrom export.now.server.now (K.packs packer.now) (K.pack_fails packer.now)
+    ensures { ServesFrom export.now.server.now (MayPack (K.packs packer.now))
+        (K.pack_fails packer.now)
         export.now.path.now export.now.ends (change_of R.remaining reader.old reader.new) result }
 {
     let alloc = export.server.graph().allocator();
@@ -201,7 +207,8 @@ fn serve_between<A: Allocator + Copy, K: Packer<A>, R: Read, W: Write>(
     reader: &mut R,
     writer: &mut W,
 ) -> GitEnd
-    ensures { ServesBetween export.now.server.now (K.packs packer.now) (K.pack_fails packer.now)
+    ensures { ServesBetween export.now.server.now (MayPack (K.packs packer.now))
+        (K.pack_fails packer.now)
         export.now.path.now export.now.ends (change_of R.remaining reader.old reader.new)
         (change_of W.contents writer.old writer.new) result }
 {

@@ -4,6 +4,7 @@ use Rattle.std.proofs.lemmas.List.Elements.{All-weaker, All-contains}
 use Rattle.gname.specs.Limits.{max_pack}
 use Rattle.gname.specs.declared.formats.Format.{Format}
 use Rattle.ggrammar.specs.Kinds.{ReadsMessage}
+use Rattle.ggrammar.specs.Limits.{profile}
 use Rattle.ggrammar.specs.MessageBytes.{known_bytes}
 use Rattle.ggrammar.specs.declared.ends.Ends.{Ends}
 use Rattle.ggrammar.specs.declared.ends.Ends.TheVariants.{Plain}
@@ -36,9 +37,10 @@ use Rattle.gworld.specs.Taking.{TakesObjects}
 use Rattle.gworld.specs.declared.outcome.Outcome.TheVariants.{PackTaken}
 use Rattle.gworld.proofs.Sessions.{Tells, WorldLaws, all_held}
 
--- how a reply to fetch is read by one who takes any pack
+-- how a reply to fetch is read by one who takes any pack, with the default limits
 abbrev pub any_reading : Format → FetchAsked → Reading
-any_reading format asked = record { format = format; direct = is_direct asked; limit = max_pack; ends = Plain }
+any_reading format asked =
+    record { limits = profile; format = format; direct = is_direct asked; limit = max_pack; ends = Plain }
 
 -- which is a limit that there can be
 pub largest : max_pack ≤ max_pack
@@ -48,11 +50,11 @@ module _ {A : Type 0} {tools : PackTools A} (laws : WorldLaws tools) where
   pack_small : (server : Server A) (asked : FetchAsked) (reply : FetchReply)
       → RepliesWith server tools.packs asked reply → length (pack_of reply) ≤ max_pack
   pack_small server asked (Acks ids) replies = omega arith
-  pack_small server asked (Ready ids pack) replies = replies.3.packed.few
-  pack_small server asked (Pack pack) replies = replies.1.packed.few
+  pack_small server asked (Ready ids pack) replies = laws.small _ pack replies.3.packed
+  pack_small server asked (Pack pack) replies = laws.small _ pack replies.1.packed
 
   pub reply_fits : {server : Server A} {asked : FetchAsked} {reply : FetchReply} → IsServer server
-      → length asked.haves ≤ max_haves → FetchAnswer server tools.packs asked reply
+      → length asked.haves ≤ max_haves profile → FetchAnswer server tools.packs asked reply
       → IsReplyIn (any_reading server.graph.format asked) reply
   reply_fits {server} {asked} {reply} is few answers =
       laws.objects_fit server asked reply (any_reading server.graph.format asked) is few answers refl refl
@@ -130,7 +132,7 @@ module _ {A : Type 0} {tools : PackTools A} (laws : WorldLaws tools) where
       (entries : List (Entry A)) → IsUnforgedAndFaithful tools w → (enough : IsEnough server tools.packs asked pack)
       → tools.indexes pack entries → entries ≡ enough.list
   read_is_sent {w} {server} {asked} {pack} entries honest enough read =
-      let same = honest.faithful.packs_image enough.list pack enough.entries enough.packed.packed in
+      let same = honest.faithful.packs_image enough.list pack enough.entries enough.packed in
       honest.faithful.reads_image enough.list entries enough.entries
       (subst (λ (bytes : List ℕ). tools.indexes bytes entries) same read)
 

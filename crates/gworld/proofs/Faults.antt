@@ -14,6 +14,7 @@ use Rattle.gpkt.specs.declared.fault.PacketFault.TheVariants as line
 use Rattle.ggrammar.specs.Faults.{why_row}
 use Rattle.ggrammar.specs.Grammar.{Judge}
 use Rattle.ggrammar.specs.Kinds.{ReadsExactly, SaysAtFront}
+use Rattle.ggrammar.specs.Limits.{profile}
 use Rattle.ggrammar.specs.MessageBytes.{IsFront, IsOfBytes, known_bytes}
 use Rattle.ggrammar.specs.MessageReading.{IsReadFailure, IsReasonAfter, ReadsRefused}
 use Rattle.ggrammar.specs.declared.ends.Ends.{Ends}
@@ -125,8 +126,8 @@ limited format asked = record (any_reading format asked) { limit = default_limit
 
 -- which differs in the limit alone from how one reads it who takes any pack
 reading_is : {A : Type 0} (s : SessionState A) (format : Format) (asked : FetchAsked) → s.format ≡ format
-    → s.limit ≡ default_limit → s.ends ≡ Plain → reading_for s asked ≡ limited format asked
-reading_is s format asked f l e = cc
+    → s.limit ≡ default_limit → s.ends ≡ Plain → s.options.limits ≡ profile → reading_for s asked ≡ limited format asked
+reading_is s format asked f l e o = cc
 
 -- an id that the server acknowledges is none that the request did not name
 none_strange : (haves acks : List (List ℕ)) (id : List ℕ) → All (Contains haves) acks → IsFirstStrange haves acks id → ⊥
@@ -162,7 +163,7 @@ module _ {A : Type 0} {tools : PackTools A} (answers : WorldLaws tools) (laws : 
         let reading = limited format asked in
         let kept = refused_for_bytes (judge reading) (brings_into false reading) (brings reading) front
         (known_bytes (objects_bytes reply) left) fault certain refused in
-        let over : fault.why ≡ why.Limit = laws.over_limit reading max_pack (canonical_reply Plain reply) front reply
+        let over : fault.why ≡ why.Limit = laws.over_limit reading max_pack profile (canonical_reply Plain reply) front reply
         (objects_bytes reply) left [] fault says spelt kept certain in
         elim (leb_tells (length (pack_of reply)) default_limit) [
           | inl short ↦ absurd (within_limit kept certain short.1)
@@ -199,6 +200,7 @@ module _ {A : Type 0} {tools : PackTools A} (answers : WorldLaws tools) (laws : 
     pub session_format : s.format ≡ w.repo.graph.format
     pub limit : s.limit ≡ default_limit
     pub ends : s.ends ≡ Plain
+    pub limits : s.options.limits ≡ profile
     pub request : IsSoundFetch w asked
     pub is_answer : FetchAnswer server tools.packs asked reply
     pub waits : Awaits s asked
@@ -225,7 +227,7 @@ module _ {A : Type 0} {tools : PackTools A} (answers : WorldLaws tools) (laws : 
         → tools.index_fails (pack_of reply) fault → fault ≡ index.Memory
     index_fault fault enough fails =
         let faithful = is.honest.faithful in
-        let same = faithful.packs_image enough.list (pack_of reply) enough.entries enough.packed.packed in
+        let same = faithful.packs_image enough.list (pack_of reply) enough.entries enough.packed in
         faithful.reads_each enough.list fault enough.entries
         (subst (λ (bytes : List ℕ). tools.index_fails bytes fault) same fails)
 
@@ -252,7 +254,8 @@ module _ {A : Type 0} {tools : PackTools A} (answers : WorldLaws tools) (laws : 
         let any = any_reading server.graph.format asked in
         let reading : reading_for s fault.0 ≡ limited server.graph.format asked =
         ap (λ (f : FetchAsked). reading_for s f) (same_awaited fault.0 fault.1)
-        ∙ reading_is s server.graph.format asked (is.session_format ∙ sym is.format) is.limit is.ends in
+        ∙ reading_is s server.graph.format asked (is.session_format ∙ sym is.format) is.limit is.ends
+        is.limits in
         let refused = subst (λ (b : List ℕ). ReadsRefused (judge (reading_for s fault.0))
         (brings_into false (reading_for s fault.0)) fault.2.0 (known_bytes b left) cause) (take_all count bytes all)
         fault.2.1 in

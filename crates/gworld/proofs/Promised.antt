@@ -200,6 +200,7 @@ module _ {A : Type 0} {tools : PackTools A} (laws : WorldLaws tools) where
             session_format = session.format;
             limit = session.limit;
             ends = session.ends;
+            limits = session.limits;
             request = is.request;
             is_answer = is.answers;
             waits = waits;

@@ -1,14 +1,16 @@
 -- What stays sound: where objects only come, and over each call of a session.
 use Rattle.std.proofs.Common.{[], ◌≡◌, ℕ, false, List, All, Option, Some, None, inl, inr, sym, ◌∙◌, ◌⊎◌, Contains, Ok}
-use Rattle.std.proofs.Common.{refl, ap, subst, Bool, true, Err, if◌then◌else◌, ◌+◌, ◌++◌}
+use Rattle.std.proofs.Common.{refl, ap, subst, Bool, true, Err, if◌then◌else◌, ◌+◌, ◌++◌, ◌≤◌, length}
 use Rattle.std.specs.Prelude.{IfSome, MatchOption}
 use Rattle.std.proofs.lemmas.List.Elements.{All-weaker, All-contains, All-map, All-nil}
+use Rattle.gname.specs.Limits.{max_pack}
 use Rattle.gobject.specs.declared.node.Entry.{Entry}
 use Rattle.gdag.specs.Graphs.{Holds}
 use Rattle.gdag.specs.Laws.{ConnectedStaysConnected, GrowingGoesOn, GrowingKeeps, KeepingHolds, KeepingReaches, KeepingHasAll}
 use Rattle.gdag.specs.Laws.{AgreeingStays, ComingGrows}
 use Rattle.gdag.specs.Reach.{Grows, IsConnected, SomeReaches}
-use Rattle.grequest.specs.Asked.{Asked, Empty, Ls, Fetches, FetchAsked}
+use Rattle.ggrammar.specs.declared.limits.Limits.{Limits}
+use Rattle.grequest.specs.Asked.{Asked, Empty, Ls, Fetches, FetchAsked, max_haves}
 use Rattle.gclientrepo.specs.Asks.{asked_ids}
 use Rattle.gsession.specs.Bounds.{BeganOn, BeganBegins, BeganStays}
 use Rattle.gsession.specs.Sessions.{SessionState, Begins, IsSession, new_session, over, tells_unborn, tips_of}
@@ -85,6 +87,7 @@ pub record WorldLaws {A : Type 0} (tools : PackTools A) : Type 0 where
   pub objects_fit : FetchAnswersFit A tools.packs
   pub acks : AcksAreCommon A tools.packs
   pub enough : PacksAreEnough A tools.packs
+  pub small : (list : List (Entry A)) (pack : List ℕ) → tools.packs list pack → length pack ≤ max_pack
   pub serves : ServesWhatIsHeld A tools.pack_fails
 
 -- what the bytes say, where nothing was forged: the server holds the objects of refs, and the acknowledged ids
@@ -157,6 +160,7 @@ module _ {A : Type 0} where
     format = is.format;
     limit = is.limit;
     ends = is.ends;
+    limits = is.limits;
     began = record { connected = is.began.connected; sent = is.began.sent };
     commons = connected;
     shared = shared;
@@ -190,6 +194,7 @@ module _ {A : Type 0} where
     format = is.format;
     limit = is.limit;
     ends = is.ends;
+    limits = is.limits;
     began = began;
     commons = is.commons;
     shared = is.shared;
@@ -276,6 +281,7 @@ module _ {A : Type 0} {tools : PackTools A} (laws : WorldLaws tools) where
           format = is.format ∙ sym e.client_format;
           limit = is.limit;
           ends = is.ends;
+          limits = is.limits;
           began = began_grown is.began;
           commons = connected_after s.commons is.commons;
           shared = held_after s.commons is.shared;
@@ -309,6 +315,7 @@ module _ {A : Type 0} {tools : PackTools A} (laws : WorldLaws tools) where
         format = refl;
         limit = refl;
         ends = refl;
+        limits = refl;
         began = record { connected = on.connected; sent = on.sent };
         commons = All-nil (IsConnected w.repo.graph.entries);
         shared = λ unforged. All-nil (Holds w.server.graph.entries);
@@ -332,7 +339,8 @@ module _ {A : Type 0} {tools : PackTools A} (laws : WorldLaws tools) where
         let wants : asked.wants ≡ s.wants = ap (λ (x : FetchAsked). x.wants) next.1 in
         let open_fetch = laws.waits after asked session (ap (λ (x : SessionState A). x.pending) made.2) in record {
           connected = laws.haves w.repo.graph.entries s after asked sound.began.connected sound.commons made;
-          few = open_fetch.few;
+          few = subst (λ (l : Limits). length asked.haves ≤ max_haves l)
+              (ap (λ (x : SessionState A). x.options.limits) made.2 ∙ sound.limits) open_fetch.few;
           some = λ none.
               session.some (ap (λ (x : SessionState A). x.stage) made.2 ∙ next.0)
               (ap (λ (x : SessionState A). x.wants) made.2 ∙ sym wants ∙ none);

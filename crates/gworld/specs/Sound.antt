@@ -5,6 +5,7 @@ use Rattle.gpkt.specs.Packets.{Bytes}
 use Rattle.gobject.specs.Packs.{LosesNothing, Packs}
 use Rattle.gobject.specs.declared.node.Entry.{Entry}
 use Rattle.ggrammar.specs.declared.ends.Ends.TheVariants.{Plain}
+use Rattle.ggrammar.specs.Limits.{profile}
 use Rattle.gfetchreply.specs.Values.{default_limit}
 use Rattle.gdag.specs.Graphs.{Holds, IsGraph}
 use Rattle.gdag.specs.Reach.{Agree, Grows, IsConnected}
@@ -36,7 +37,7 @@ module _ {A : Type 0} where
   -- unless bytes were forged
   pub record IsSoundFetch (w : WorldState A) (asked : FetchAsked) : Type 0 where
     pub connected : All (IsConnected w.repo.graph.entries) asked.haves
-    pub few : length asked.haves ≤ max_haves
+    pub few : length asked.haves ≤ max_haves profile
     pub some : asked.wants ≢ []
     pub held : w.forged ≡ false → All (Holds w.server.graph.entries) asked.wants
 
@@ -67,6 +68,7 @@ module _ {A : Type 0} where
     pub format : s.format ≡ w.repo.graph.format
     pub limit : s.limit ≡ default_limit
     pub ends : s.ends ≡ Plain
+    pub limits : s.options.limits ≡ profile
     pub began : BeganOn w.repo.graph.entries s
     pub commons : All (IsConnected w.repo.graph.entries) s.commons
     pub shared : w.forged ≡ false → All (Holds w.server.graph.entries) s.commons

@@ -2,7 +2,7 @@
 use Rattle.std.specs.Prelude.{Bool, false, List, [], Option, None}
 use Rattle.gpkt.specs.Packets.{Bytes, canonical_all}
 use Rattle.ggrammar.specs.declared.ends.Ends.TheVariants.{Plain}
-use Rattle.gobject.specs.Packs.{Indexes, IndexFails, Packs, PackFails}
+use Rattle.gobject.specs.Packs.{Indexes, IndexFails, MayPack, PackFails, Packs}
 use Rattle.grequest.specs.Asked.{Asked}
 use Rattle.ganswer.specs.Answers.{Reply}
 use Rattle.ganswer.specs.Servers.{Server}
@@ -51,9 +51,10 @@ pub record PackTools (A : Type 0) : Type 1 where
   pub indexes : Indexes A
   pub index_fails : IndexFails
 
+-- the packs of a packer, which have a maximum length, with its faults, and the results and faults of an indexer
 abbrev pub tools_of : {A : Type 0} → Packs A → PackFails A → Indexes A → IndexFails → PackTools A
 tools_of packs pack_fails indexes index_fails = record {
-  packs = packs;
+  packs = MayPack packs;
   pack_fails = pack_fails;
   indexes = indexes;
   index_fails = index_fails;

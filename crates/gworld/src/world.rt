@@ -83,9 +83,9 @@ impl<K: Packer<A> + Indexer<A> + Drop, A: Allocator + Copy> World<K, A> {
     ///   the flag `forged` of the world is set.
     /// - `StrangeRequest`: 28 (`NoBuffer`), 53 (`Memory`), 64 (`Memory`) or 65 (`Pack`) if the
     ///   server ran out of memory. The world is unchanged.
-    /// - `Settle`: 83 (`NoOpenRequest`) if the session can't settle yet. The faults 85
-    ///   (`NotConnected`), 69 (`Refs`) and 64 (`Memory`) end the session and leave the refs
-    ///   unchanged.
+    /// - `Settle`: 83 (`NoOpenRequest`) if there is no session, or the session cannot settle yet.
+    ///   The faults 85 (`NotConnected`), 69 (`Refs`) and 64 (`Memory`) end the session and leave
+    ///   the refs unchanged.
     /// - `ServerAdd`, `ClientAdd`: 90 (`Disagree`) if the other end holds a different object under
     ///   the id. Otherwise 72 (`MissingParent`) if a parent is missing, and otherwise 75
     ///   (`OtherFormat`), 62 (`TooManyParents`), 63 (`TagShape`), 60 (`Conflict`), 61 (`TooMany`)

@@ -9,6 +9,7 @@ use Rattle.ggrammar.specs.Grammar.{Verdict, Open, Whole}
 use Rattle.ggrammar.specs.Ids.{id_of_text}
 use Rattle.ggrammar.specs.MessageReading.{IsReason}
 use Rattle.ggrammar.specs.declared.fault.Why.{Why}
+use Rattle.ggrammar.specs.declared.limits.Limits.{Limits}
 use Rattle.ggrammar.specs.declared.message.Step.{Step}
 use Rattle.ggrammar.specs.declared.message.Step.TheVariants as step
 use Rattle.gfetchreply.specs.FetchReplies.{Reading, State, next_place, payload_brings, place_of}
@@ -30,19 +31,19 @@ pub record Kept : Type 0 where
   pub byte_count : ℕ
 
 -- the values stored after these packets
-abbrev pub kept_of : Format → Bool → List Packet → Kept
-kept_of format direct packets = record {
+abbrev pub kept_of : Limits → Format → Bool → List Packet → Kept
+kept_of limits format direct packets = record {
   place = place_of direct packets;
-  acks = record { format = format; ids = acks_of format (ack_texts direct packets) };
+  acks = record { limits = limits; format = format; ids = acks_of format (ack_texts direct packets) };
   ready = is_ready (ack_texts direct packets);
   band_count = length (band_payloads direct packets);
   byte_count = length (data_of (band_payloads direct packets));
 }
 
-abbrev pub first_kept : Format → Bool → Kept
-first_kept format direct = record {
+abbrev pub first_kept : Limits → Format → Bool → Kept
+first_kept limits format direct = record {
   place = first_place direct;
-  acks = record { format = format; ids = [] };
+  acks = record { limits = limits; format = format; ids = [] };
   ready = false;
   band_count = 0;
   byte_count = 0;
@@ -157,7 +158,7 @@ module _ {S : Type 0} (taken : S → Bytes → Type 0) (same : S → S → Type 
   pub record Holds (had : Bytes → Type 0) (starts : S → Type 0) (seat : ℕ) (asked reading : Reading) (kept : Kept)
       (sink : S) (name : ℕ) (packets : List Packet) : Type 0 where
     pub kind : reading ≡ asked
-    pub counts : kept ≡ kept_of reading.format reading.direct packets
+    pub counts : kept ≡ kept_of reading.limits reading.format reading.direct packets
     pub pack : (before : Bytes) → had before → taken sink (before ++ data_of (band_payloads reading.direct packets))
     pub is_same : (start : S) → starts start → same start sink
     pub in_place : name ≡ seat

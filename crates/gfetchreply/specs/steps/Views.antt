@@ -4,6 +4,7 @@ use Rattle.std.specs.Prelude.{Bool, false, Result, Ok, Err}
 use Rattle.gname.specs.declared.formats.Format.{Format}
 use Rattle.ggrammar.specs.declared.ends.Ends.TheVariants.{Plain}
 use Rattle.ggrammar.specs.declared.fault.MessageFault.{MessageFault}
+use Rattle.ggrammar.specs.declared.limits.Limits.{Limits}
 use Rattle.gfetchreply.specs.FetchReplies.{Reading}
 use Rattle.gfetchreply.specs.FetchReplies.{ReplyForm, Acknowledgments, Nak, Readiness, Packfile, Ack, OtherForm}
 use Rattle.gfetchreply.specs.FetchHeads as head
@@ -24,13 +25,15 @@ form_in lent.Packfile = Packfile
 form_in (lent.Ack id) = Ack id.now
 form_in lent.Other = OtherForm
 
--- the ids of the head have the same format as the ids of the reply
+-- the acknowledgments of the head have the same limits and the same format as those of the reply
 abbrev pub KeepsFormat : {A : Type 0} → FetchHead A → FetchReply A → Type 0
-KeepsFormat head reply = (format : Format) → IsHeadOf format head → IsReplyOf format reply
+KeepsFormat head reply =
+    (limits : Limits) (format : Format) → IsHeadOf limits format head → IsReplyOf limits format reply
 
--- the parameters of reading, with the format of the stored ids
+-- the parameters of reading, with the limits and the format of the stored ids
 abbrev pub reading_with : {A : Type 0} → FetchReading → Sections A → Reading
-reading_with reading sections = record (reading_in reading) { format = sections.acks.format }
+reading_with reading sections =
+    record (reading_in reading) { limits = sections.acks.limits; format = sections.acks.format }
 
 -- the head of the reply after reading, or the fault
 abbrev pub head_after : {A : Type 0} → Bool → Sections A → Result Unit MessageFault → Result head.FetchHead MessageFault

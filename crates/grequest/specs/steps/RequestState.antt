@@ -5,6 +5,7 @@ use Rattle.std.specs.Option.{option_to_list}
 use Rattle.gpkt.specs.Packets.{Bytes, Packet, Data, Delim, text}
 use Rattle.gname.specs.declared.formats.Format.{Format}
 use Rattle.ggrammar.specs.Ids.{id_of_text}
+use Rattle.ggrammar.specs.declared.limits.Limits.{Limits}
 use Rattle.grequest.specs.declared.command.CommandForm.{CommandForm}
 use Rattle.grequest.specs.declared.command.CommandForm.TheVariants.{Known}
 use Rattle.grequest.specs.Arguments.{command_form, CapabilityForm, Agent, ObjectFormat}
@@ -90,8 +91,9 @@ place_in Arguments (Fetches asked) = InArguments Fetch
 
 -- ---- the stored parts
 
--- the part of a request read so far, for a repository with this object format
+-- the part of a request read so far, with these limits and for a repository with this object format
 pub record RequestSoFar : Type 0 where
+  pub limits : Limits
   pub format : Format
   pub state : State
 

@@ -49,7 +49,7 @@ with_prefix prefixes prefix = cond (is_in prefixes prefix) prefixes (prefixes ++
 -- the batch has only ids that were not offered before, and fits into a request with the common ids
 pub record FitsBatch {A : Type 0} (s : SessionState A) (batch : List Id) : Type 0 where
   pub ids : All (IsIdOf s.format) batch
-  pub room : length s.commons + length batch ≤ max_haves
+  pub room : length s.commons + length batch ≤ max_haves s.options.limits
   pub fresh : IsDistinct bytes_eq (s.sent ++ batch)
 
 -- ---- the ls-refs reply

@@ -6,6 +6,7 @@ ghost use Rattle.gobject.specs.declared.node.Entry.{Entry};
 ghost use Rattle.grequest.specs.Asked.{Fetches};
 
 use crate::fault::ClientFault;
+use crate::limits::max_haves;
 use crate::requests::{batch_size, blank_request, objects_request, refs_request};
 use crate::session::{Session, set_pending};
 use crate::stage::Stage;
@@ -14,7 +15,7 @@ use ggraph::graph_laws::{offers_are_exact, positions_are_nodes};
 use ggraph::{GraphFault, Offers};
 use gname::Oid;
 use gname::laws::ids_have_one_format;
-use grequest::{MAX_HAVES, Request};
+use grequest::Request;
 use std::alloc::{AllocError, Allocator};
 use std::mem;
 
@@ -42,8 +43,8 @@ impl<A: Allocator + Copy> Session<A> {
 
     /// Makes the next request, which then waits for its reply. The first request is for refs, and
     /// all later requests are for objects. The haves of a request for objects are the common ids
-    /// and a batch of new ids. The batch is empty if there would be more than 4,096 haves. A
-    /// request with an empty batch has `done`.
+    /// and a batch of new ids. The batch is empty if there would be more haves than the limits of
+    /// the session allow. A request with an empty batch has `done`.
     ///
     /// Fails with `NoOpenRequest` if there is no request to make, and leaves the session unchanged.
     /// Fails with `Repo` if out of memory, and ends the session.
@@ -193,7 +194,7 @@ impl<A: Allocator + Copy> Session<A> {
             self.commons.as_slice(),
             batch_size(self.rounds),
         )?;
-        if offer.len() <= MAX_HAVES - self.commons.len() {
+        if offer.len() <= max_haves(self.options.limits) - self.commons.len() {
             *offers = Some(walk);
             Ok(offer)
         } else {

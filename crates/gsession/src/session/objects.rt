@@ -93,6 +93,7 @@ impl<A: Allocator + Copy> Session<A> {
     {
         match &self.pending {
             Some(Request::Fetch(asked)) => Some(FetchReading {
+                limits: self.options.limits,
                 format: self.format,
                 direct: asked.is_direct(),
                 limit: self.limit,
@@ -174,7 +175,7 @@ impl<A: Allocator + Copy> Session<A> {
         ensures checks { (asked : FetchAsked) → Awaits self.now asked → MatchResult result
             (λ _. All (Contains asked.haves) acks.now)
             (IsStrangeAck asked.haves acks.now) }
-        ensures commons { OnOk result (AreCommons self.now.format
+        ensures commons { OnOk result (AreCommons self.now.options.limits self.now.format
             (distinct_of (self.now.commons ++ acks.now))) }
     {
         // Laws.

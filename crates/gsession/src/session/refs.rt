@@ -8,6 +8,7 @@ ghost use Rattle.gsession.specs.TakingRefs.{stage_for};
 
 use crate::asks::{are_named, asked_of, unborn_of, wants_of};
 use crate::fault::ClientFault;
+use crate::limits::max_wants;
 use crate::session::{Session, set_pending};
 use crate::stage::Stage;
 use crate::taken::LsTaken;
@@ -16,7 +17,7 @@ use ggrammar::{MessageFault, Why};
 use glsreply::{LsReply, read_ls_reply_in};
 use gname::Oid;
 use gpkt::{PacketReader, Source};
-use grequest::{MAX_WANTS, Request};
+use grequest::Request;
 use std::alloc::Allocator;
 
 impl<A: Allocator + Copy> Session<A> {
@@ -37,7 +38,7 @@ impl<A: Allocator + Copy> Session<A> {
     /// fault ends the session. Fails with `Message` if a packet of the reply is unreadable or
     /// malformed, or if the name of a local ref would be invalid. The fault for an invalid name
     /// gives the position of the reply's last packet. Otherwise fails with `TooManyWants` for more
-    /// than 1,024 wants, or with `Repo` if out of memory.
+    /// wants than the limits of the session allow, or with `Repo` if out of memory.
     pub fn take_ls<S: Source, B: Allocator + Copy>(
         &mut self,
         repo: &Repo<A>,
@@ -137,10 +138,10 @@ impl<A: Allocator + Copy> Session<A> {
             (with_refs self.now reply.now pair.0.items) pair.1)
             (IsRefsFault self.now repo.now.graph.entries reply.now) }
         ensures ids { IfOk result (λ pair. All (IsIdOf self.now.format) pair.0.items) }
-        ensures few { IfOk result (λ pair. length pair.0.items ≤ max_wants) }
+        ensures few { IfOk result (λ pair. length pair.0.items ≤ max_wants self.now.options.limits) }
     {
         let wants = wants_of(repo, asks)?;
-        if wants.len() > MAX_WANTS {
+        if wants.len() > max_wants(self.options.limits) {
             return Err(ClientFault::TooManyWants);
         }
         let taken = LsTaken {
@@ -155,7 +156,7 @@ impl<A: Allocator + Copy> Session<A> {
     fn keep_wants(&mut self, asks: Asks<A>, wants: Vec<Oid, A>)
         requires waits { AwaitsRefs self.old }
         requires ids { All (IsIdOf self.old.format) wants.items }
-        requires few { length wants.items ≤ max_wants }
+        requires few { length wants.items ≤ max_wants self.old.options.limits }
         ensures { self.new ≡ record self.old {
           stage = stage_for wants.items;
           pending = None;

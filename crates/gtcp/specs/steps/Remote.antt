@@ -5,7 +5,7 @@ use Rattle.gpkt.specs.Packets.{Bytes}
 use Rattle.ggrammar.specs.declared.ends.Ends.{Ends}
 use Rattle.ggrammar.specs.declared.fault.MessageFault.{MessageFault}
 use Rattle.gobject.specs.Packs.{PackFails, Packs}
-use Rattle.grequest.specs.Asked.{LsRefsAsked}
+use Rattle.grequest.specs.Building.{LimitedLsRefs}
 use Rattle.ganswer.specs.Servers.{Server}
 use Rattle.gclient.specs.declared.fault.FetchFault.{FetchFault}
 use Rattle.gcmd.specs.Printing.{fault_line}
@@ -18,8 +18,8 @@ use Rattle.gtcp.specs.Telling.{PrintsNone, fault_lines, faults_of}
 -- ---- listing
 
 -- the request for these prefixes, or the reason to refuse them
-abbrev pub MakesRequest : List Bytes → Result LsRefsAsked MessageFault → Type 0
-MakesRequest prefixes (Ok asked) = (asked ≡ asked_for prefixes) × FitPrefixes prefixes
+abbrev pub MakesRequest : List Bytes → Result LimitedLsRefs MessageFault → Type 0
+MakesRequest prefixes (Ok request) = (request.asked ≡ asked_for prefixes) × FitPrefixes prefixes
 MakesRequest prefixes (Err cause) = RefusesPrefixes prefixes cause
 
 -- ---- serving

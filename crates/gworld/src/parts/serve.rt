@@ -1,6 +1,7 @@
 //! The events of the server: conversations and replies.
 
 ghost use Rattle.std.specs.Prelude.{◌≡◌, ◌≢◌, ◌∷◌, ◌++◌, [], IfOk, IsSome, MatchResult, length, slice_get};
+ghost use Rattle.gobject.specs.Packs.{MayPack};
 ghost use Rattle.ganswer.specs.Answers.{reply_of};
 ghost use Rattle.ganswer.specs.Faults.{serve_fault_row};
 ghost use Rattle.grequest.specs.RequestValues.{asked_by_request};
@@ -26,7 +27,7 @@ impl<A: Allocator + Copy> Parts<A> {
         bytes: &[u8],
         packer: &K,
     ) -> Result<Outcome, AllocError>
-        ensures told { IfOk result (λ outcome. HearsStranger (K.packs packer.now)
+        ensures told { IfOk result (λ outcome. HearsStranger (MayPack (K.packs packer.now))
             (K.pack_fails packer.now) self.old bytes.now outcome self.new) }
         ensures same { self.new ≡ self.old }
     {
@@ -40,7 +41,8 @@ impl<A: Allocator + Copy> Parts<A> {
         packer: &K,
     ) -> Result<Outcome, AllocError>
         ensures { MatchResult result
-            (λ outcome. ServesRequest (K.packs packer.now) (K.pack_fails packer.now) self.old
+            (λ outcome. ServesRequest (MayPack (K.packs packer.now))
+            (K.pack_fails packer.now) self.old
             (slice_get self.old.sent number) outcome self.new)
             (λ _. (self.new ≡ self.old) × IsSome (slice_get self.old.sent number)) }
     {
@@ -88,7 +90,8 @@ fn talk<A: Allocator + Copy, K: Packer<A>>(
     bytes: &[u8],
     alloc: A,
 ) -> Result<Outcome, AllocError>
-    ensures { IfOk result (TalksTo server.now (K.packs packer.now) (K.pack_fails packer.now)
+    ensures { IfOk result (TalksTo server.now (MayPack (K.packs packer.now))
+        (K.pack_fails packer.now)
         bytes.now) }
 {
     // Laws.

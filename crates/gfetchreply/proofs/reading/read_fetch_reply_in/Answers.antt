@@ -27,4 +27,5 @@ pub returns-in-Err-clause-read : goal.returns-in-Err-clause-read
 returns-in-Err-clause-read g c = let read = c.in-Err.ensures.read in (read.packets, read.refused)
 
 pub returns-in-Ok-clause-format : goal.returns-in-Ok-clause-format
-returns-in-Ok-clause-format g c = c.with_pack.ensures.format c.args.reading.format c.in-Ok.ensures.format
+returns-in-Ok-clause-format g c =
+    c.with_pack.ensures.format c.args.reading.limits c.args.reading.format c.in-Ok.ensures.format

@@ -17,7 +17,10 @@ returns-in-Ok-clause-read g c =
 pub returns-in-Ok-clause-format : goal.returns-in-Ok-clause-format
 returns-in-Ok-clause-format g c =
     let held = c.in-Ok.ensures.read.held in
-    ap (λ (k : Kept). k.acks.format) held.counts ∙ ap (λ (r : Reading). r.format) (held.kind ∙ sym c.requires.asked)
+    let same = held.kind ∙ sym c.requires.asked in (
+      ap (λ (k : Kept). k.acks.limits) held.counts ∙ ap (λ (r : Reading). r.limits) same,
+      ap (λ (k : Kept). k.acks.format) held.counts ∙ ap (λ (r : Reading). r.format) same,
+    )
 
 pub returns-in-Ok-clause-same : goal.returns-in-Ok-clause-same
 returns-in-Ok-clause-same g c = c.in-Ok.ensures.read.held.is_same

@@ -3,7 +3,7 @@ use Rattle.gmsg.proofs.laws.prefix_free.Goals as goal
 pub returns-clause-request : goal.returns-clause-request
 returns-clause-request c =
     let kind = c.prefix_free-2.ensures in
-    λ format. record { packets = kind.packets format; spellings = kind.spellings format }
+    λ limits format. record { packets = kind.packets limits format; spellings = kind.spellings limits format }
 
 pub returns-clause-ls_reply : goal.returns-clause-ls_reply
 returns-clause-ls_reply c =

@@ -1,5 +1,6 @@
 use Rattle.std.proofs.Common.{◌≡◌, ℕ, refl, sym, subst, ◌∙◌, arith}
 use Rattle.gpkt.specs.Sending.{input_of, output_of}
+use Rattle.gobject.specs.Packs.{MayPack}
 use Rattle.gserve.specs.Exchanges.{Exchanges}
 use Rattle.gserve.specs.steps.Connections.{HasAnswered}
 use Rattle.gserve.specs.declared.exchange.ExchangeEnd.{ExchangeEnd}
@@ -11,7 +12,7 @@ use Rattle.gserve.proofs.connection.answer_each.Goals as goal
 
 pub loop-requests-init : goal.loop-requests-init
 loop-requests-init g c = record {
-  answered = λ start passed. answered_none c.args.server.now (g.K.Packer.packs c.args.packer.now.packer) (g.K.Packer.pack_fails c.args.packer.now.packer) c.args.ends
+  answered = λ start passed. answered_none c.args.server.now (MayPack (g.K.Packer.packs c.args.packer.now.packer)) (g.K.Packer.pack_fails c.args.packer.now.packer) c.args.ends
       g.S.Source.remaining g.S.Source.is_down g.W.Sink.contents g.W.Sink.passed_on g.W.Sink.is_down c.reads_join.ensures.none
       c.args.reader.now.source start c.args.writer.now.sink passed;
   unasked = c.requires.unasked;
@@ -33,13 +34,13 @@ loop-requests-preserved g c =
     let input = input_of g.S.Source.remaining g.S.Source.is_down c.loop-requests.reader.source c.exchange.new.reader.source in
     let output = output_of g.W.Sink.contents g.W.Sink.passed_on g.W.Sink.is_down c.loop-requests.writer.sink c.exchange.new.writer.sink in
     let answered : c.exchange.result ≡ ended.Answered = none_is_answered c.exchange.result (sym c.end_after.ensures ∙ c.in-None.is) in
-    let exchanged = subst (λ (k : g.row.K.Denot). Exchanges server (g.K.Packer.packs k) (g.K.Packer.pack_fails k) c.args.ends input output c.exchange.result)
+    let exchanged = subst (λ (k : g.row.K.Denot). Exchanges server (MayPack (g.K.Packer.packs k)) (g.K.Packer.pack_fails k) c.args.ends input output c.exchange.result)
     c.loop-requests.invariant.packer c.exchange.ensures.exchange in
     record {
-      answered = λ start passed. answered_more server (g.K.Packer.packs packer) (g.K.Packer.pack_fails packer) c.args.ends
+      answered = λ start passed. answered_more server (MayPack (g.K.Packer.packs packer)) (g.K.Packer.pack_fails packer) c.args.ends
           g.S.Source.remaining g.S.Source.is_down g.W.Sink.contents g.W.Sink.passed_on g.W.Sink.is_down c.canonical_spells.ensures.joins c.reads_join.ensures.join
           _ _ _ _ _ _ c.loop-requests.requests (c.loop-requests.invariant.answered start passed)
-          (subst (λ (e : ExchangeEnd). Exchanges server (g.K.Packer.packs packer) (g.K.Packer.pack_fails packer) c.args.ends input output e) answered exchanged);
+          (subst (λ (e : ExchangeEnd). Exchanges server (MayPack (g.K.Packer.packs packer)) (g.K.Packer.pack_fails packer) c.args.ends input output e) answered exchanged);
       unasked = c.renew.ensures.unasked;
       packer = c.renew.ensures.packer ∙ (c.exchange.ensures.packer ∙ c.loop-requests.invariant.packer);
       reader = (c.exchange.ensures.goes_on answered).0;
@@ -54,9 +55,9 @@ returns-in-Some-clause-serves g c = λ start passed.
     let packer = c.args.packer.now.packer in
     let input = input_of g.S.Source.remaining g.S.Source.is_down c.loop-requests.reader.source c.exchange.new.reader.source in
     let output = output_of g.W.Sink.contents g.W.Sink.passed_on g.W.Sink.is_down c.loop-requests.writer.sink c.exchange.new.writer.sink in
-    let exchanged = subst (λ (k : g.row.K.Denot). Exchanges server (g.K.Packer.packs k) (g.K.Packer.pack_fails k) c.args.ends input output c.exchange.result)
+    let exchanged = subst (λ (k : g.row.K.Denot). Exchanges server (MayPack (g.K.Packer.packs k)) (g.K.Packer.pack_fails k) c.args.ends input output c.exchange.result)
     c.loop-requests.invariant.packer c.exchange.ensures.exchange in
-    ended_by server (g.K.Packer.packs packer) (g.K.Packer.pack_fails packer) c.args.ends
+    ended_by server (MayPack (g.K.Packer.packs packer)) (g.K.Packer.pack_fails packer) c.args.ends
     g.S.Source.remaining g.S.Source.is_down g.W.Sink.contents g.W.Sink.passed_on g.W.Sink.is_down
     _ _ _ _ _ _ c.loop-requests.requests c.exchange.result (c.loop-requests.invariant.answered start passed) exchanged
     (omega arith) c.in-Some.end (sym c.end_after.ensures ∙ c.in-Some.is)
@@ -68,7 +69,7 @@ returns-in-Some-clause-packing g c =
 pub returns-clause-serves : goal.returns-clause-serves
 returns-clause-serves g c = λ start passed.
     let server = c.args.server.now in
-    let packs = g.K.Packer.packs c.args.packer.now.packer in
+    let packs = MayPack (g.K.Packer.packs c.args.packer.now.packer) in
     let fails = g.K.Packer.pack_fails c.args.packer.now.packer in
     let all : c.loop-requests.requests ≡ max_requests = omega arith in
     answered_all server packs fails c.args.ends

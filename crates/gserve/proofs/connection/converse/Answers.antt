@@ -1,3 +1,4 @@
+use Rattle.gobject.specs.Packs.{MayPack}
 use Rattle.gserve.proofs.ConnectionLemmas.{not_advertised, unadvertised_packing}
 use Rattle.gserve.proofs.connection.converse.Goals as goal
 
@@ -6,7 +7,7 @@ returns-in-Ok-clause-serves g c = c.answer_each.ensures.serves c.args.writer.now
 
 pub returns-in-Err-clause-serves : goal.returns-in-Err-clause-serves
 returns-in-Err-clause-serves g c =
-    not_advertised c.args.server.now (g.K.Packer.packs c.args.packer.now.packer) (g.K.Packer.pack_fails c.args.packer.now.packer) c.args.ends
+    not_advertised c.args.server.now (MayPack (g.K.Packer.packs c.args.packer.now.packer)) (g.K.Packer.pack_fails c.args.packer.now.packer) c.args.ends
     g.S.Source.remaining g.S.Source.is_down g.W.Sink.contents g.W.Sink.passed_on g.W.Sink.is_down
     c.args.reader.now.source _ _ c.in-Err.end c.in-Err.ensures.advertises
 

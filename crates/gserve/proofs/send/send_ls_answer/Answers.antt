@@ -5,7 +5,7 @@ use Rattle.gserve.proofs.send.send_ls_answer.Goals as goal
 
 pub returns-in_err-write_ls_answer-clause-sent : goal.returns-in_err-write_ls_answer-clause-sent
 returns-in_err-write_ls_answer-clause-sent g c =
-    let some = c.ls_requests_have_one_answer.ensures.exists c.args.server.now c.args.asked.now in (
+    let some = c.ls_requests_have_one_answer.ensures.exists c.args.server.now c.args.asked.now.asked in (
       some.0,
       some.1,
       passed_failed g.W.Sink.contents g.W.Sink.passed_on g.W.Sink.is_down g.W.Sink.loans _ _ _ _ _ c.requires
@@ -14,12 +14,12 @@ returns-in_err-write_ls_answer-clause-sent g c =
 
 pub returns-in_err-write_ls_answer-clause-loans : goal.returns-in_err-write_ls_answer-clause-loans
 returns-in_err-write_ls_answer-clause-loans g c =
-    let some = c.ls_requests_have_one_answer.ensures.exists c.args.server.now c.args.asked.now in
+    let some = c.ls_requests_have_one_answer.ensures.exists c.args.server.now c.args.asked.now.asked in
     (c.in_err-write_ls_answer.ensures some.0 some.1).written.loans
 
 pub returns-clause-sent : goal.returns-clause-sent
 returns-clause-sent g c =
-    let some = c.ls_requests_have_one_answer.ensures.exists c.args.server.now c.args.asked.now in (
+    let some = c.ls_requests_have_one_answer.ensures.exists c.args.server.now c.args.asked.now.asked in (
       some.0,
       some.1,
       passed_pushed g.W.Sink.contents g.W.Sink.passed_on g.W.Sink.is_down g.W.Sink.loans c.writes_join.ensures.pushed
@@ -32,5 +32,5 @@ returns-clause-goes_on g c =
 
 pub returns-clause-loans : goal.returns-clause-loans
 returns-clause-loans g c =
-    let some = c.ls_requests_have_one_answer.ensures.exists c.args.server.now c.args.asked.now in
+    let some = c.ls_requests_have_one_answer.ensures.exists c.args.server.now c.args.asked.now.asked in
     c.push.ensures.loans ∙ (c.in_ok-write_ls_answer.ensures some.0 some.1).written.loans

@@ -22,7 +22,7 @@ returns-in-Some g c =
       (
         ref,
         refs_from c.args.server.now.refs c.as_slice.result.now c.args.at ref same lookup.3.0 (lookup.3.1 ref),
-        some_lines c.args.server.now c.args.asked.now (ref ∷ []) (ref ∷ []) (line_list c.line-line.result)
+        some_lines c.args.server.now c.args.asked.now.asked (ref ∷ []) (ref ∷ []) (line_list c.line-line.result)
             c.args.out.now c.say_line.new.out refl c.line-line.ensures
             (c.say_line.ensures ∙ ap (λ o. c.args.out.now ++ canonical_all (map ref_packet (line_list o))) c.as_ref.ensures.value),
       ),

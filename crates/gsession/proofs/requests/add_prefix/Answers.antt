@@ -11,5 +11,5 @@ no_memory-requires g c =
     only_memory _ _ c.in-Err.fault.why
     (ap (λ (text : List ℕ). is_none (prefix_fault text)) c.as_bytes.ensures.bytes
     ∙ ap is_none c.as_bytes.ensures.prefix)
-    (lt-ltb (length c.args.request.now.prefixes) max_prefixes c.requires)
+    (lt-ltb (length c.args.request.now.asked.prefixes) (max_prefixes c.args.request.now.limits) c.requires)
     c.in-Err.ensures.2

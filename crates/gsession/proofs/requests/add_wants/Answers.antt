@@ -1,4 +1,5 @@
-use Rattle.std.proofs.Common.{ap}
+use Rattle.std.proofs.Common.{◌+◌, ◌≤◌, ap, length, subst, sym}
+use Rattle.ggrammar.specs.declared.limits.Limits.{Limits}
 use Rattle.grequest.specs.Asked.{max_wants}
 use Rattle.grequest.specs.Building.{FormattedFetch}
 use Rattle.ggrammar.proofs.BuildingLemmas.{only_memory}
@@ -10,9 +11,11 @@ no_memory-requires g c =
     let now = c.loop-id.request in
     let old = c.args.request.now in
     let ids = c.args.wants.now in
+    let room = subst (λ (l : Limits). length old.asked.wants + length ids ≤ max_wants l)
+    (sym (ap (λ (r : FormattedFetch). r.limits) c.loop-id.invariant)) c.requires.room in
     only_memory _ _ c.in-Err.fault.why
     (fits old.format now.format ids c.loop-id.id-index c.id-item.result c.requires.ids c.loop-id-test.true c.id-item.is
     (ap (λ (r : FormattedFetch). r.format) c.loop-id.invariant))
-    (has_room old.asked.wants now.asked.wants ids c.loop-id.id-index max_wants
-    (ap (λ (r : FormattedFetch). r.asked.wants) c.loop-id.invariant) c.loop-id-test.true c.requires.room)
+    (has_room old.asked.wants now.asked.wants ids c.loop-id.id-index (max_wants now.limits)
+    (ap (λ (r : FormattedFetch). r.asked.wants) c.loop-id.invariant) c.loop-id-test.true room)
     c.in-Err.ensures.2

@@ -8,6 +8,6 @@ pub returns : goal.returns
 returns g c =
     let prefixes = c.args.prefixes.now in
     let past : length prefixes ≤ c.loop-prefix.prefix-index = omega (arith, c.loop-prefix-test.false) in
-    let same : c.loop-prefix.asked ≡ asked_for prefixes =
+    let same : c.loop-prefix.asked.asked ≡ asked_for prefixes =
     c.loop-prefix.invariant.same ∙ ap asked_for (take_all c.loop-prefix.prefix-index prefixes past) in
     (same, subst FitPrefixes (ap (λ (asked : LsRefsAsked). asked.prefixes) same) c.loop-prefix.invariant.fits)

@@ -1,5 +1,6 @@
 use Rattle.std.proofs.Common.{ℕ, List, inl, inr, refl, ap, subst, ◌∙◌}
 use Rattle.gpkt.specs.Sending.{output_of}
+use Rattle.gobject.specs.Packs.{MayPack}
 use Rattle.ghello.specs.Hello.{Hello}
 use Rattle.gcmd.specs.Serving.{plain_pack_fails, plain_packs}
 use Rattle.gtcp.specs.Sockets.{ServesEach}
@@ -23,7 +24,7 @@ returns-in-Ok-announce-clause-serves g c =
       names = names;
       announces = c.in-Ok-announce.ensures.announces;
       serves =
-          subst (λ (path : List ℕ). ServesEach c.args.server.now plain_packs plain_pack_fails path service.ends errors
+          subst (λ (path : List ℕ). ServesEach c.args.server.now (MayPack plain_packs) plain_pack_fails path service.ends errors
           service.connections c.serve_listener.result)
           (c.path.ensures.path ∙ ap (λ (hello : Hello). hello.path) c.hello.ensures) c.serve_listener.ensures.serves;
     })

@@ -1,4 +1,5 @@
 use Rattle.std.proofs.Common.{◌≡◌, refl, ◌∙◌, arith}
+use Rattle.gobject.specs.Packs.{MayPack}
 use Rattle.gtcp.proofs.ServingLemmas.{serves_all, serves_fewer, serves_next, serves_none}
 use Rattle.gtcp.proofs.serving.serve_each.Goals as goal
 
@@ -6,7 +7,7 @@ pub loop-number-init : goal.loop-number-init
 loop-number-init g c = record {
   serves =
       serves_none g.E.Sink.contents g.E.Sink.passed_on g.E.Sink.is_down c.args.export.now.server.now
-      (g.K.Packer.packs c.args.packer.now) (g.K.Packer.pack_fails c.args.packer.now) c.args.export.now.path.now
+      (MayPack (g.K.Packer.packs c.args.packer.now)) (g.K.Packer.pack_fails c.args.packer.now) c.args.export.now.path.now
       c.args.export.now.ends c.args.errors.now;
   same_loans = refl;
 }

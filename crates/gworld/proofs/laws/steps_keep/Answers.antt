@@ -40,6 +40,7 @@ returns g c = λ k.
       objects_fit = c.fetch_answers_fit.ensures k;
       acks = c.acks_are_common.ensures k;
       enough = c.packs_are_enough.ensures k;
+      small = λ list pack may. may.few;
       serves = c.held_wants_are_served.ensures k;
     } in
     promised laws

@@ -1,5 +1,4 @@
-use Rattle.std.proofs.Common.{refl, List, ℕ, [], ◌≤◌, length, subst, arith}
-use Rattle.gname.specs.Limits.{max_pack}
+use Rattle.std.proofs.Common.{refl, [], ◌≤◌, length, subst, arith}
 use Rattle.gitrepository.proofs.packer.StorePackerPartPacker.begin.Goals as goal
 
 pub returns-in-Ok : goal.returns-in-Ok

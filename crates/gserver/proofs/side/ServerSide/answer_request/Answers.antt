@@ -1,4 +1,5 @@
 use Rattle.std.proofs.Common.{◌≡◌, IsSome, ◌∙◌, sym, subst}
+use Rattle.gparts.specs.Parts.{given_by}
 use Rattle.gserver.specs.Listings.{SaysLsAnswer}
 use Rattle.gserver.specs.Serving.{CannotSend, LacksMemory, SendsFrom}
 use Rattle.gserver.proofs.SideLemmas.{answered_so, either_so, fetch_ends, fewer_left, list_ends, quiet_so, went_on}
@@ -11,12 +12,12 @@ returns-in-Ls-clause-answers g c = rw c.in-Ls.is (λ repo some said goes may.
     let goes_on = c.count-goes_on.result in
     let served = g.R.ServedRepository.server repo in
     either_so said goes
-    (λ l. (c.list-listed.ensures.repo ∙ some, subst (λ b. SaysLsAnswer served c.in-Ls.asked old.ends b said goes) c.count-goes_on.ensures.goes l))
+    (λ l. (c.list-listed.ensures.repo ∙ some, subst (λ b. SaysLsAnswer served c.in-Ls.asked.asked old.ends b said goes) c.count-goes_on.ensures.goes l))
     (λ text why. (c.list-listed.ensures.repo ∙ some, why))
-    (answered_so g.R.ServedRepository.server g.R.PartPacker.gives (SaysLsAnswer served c.in-Ls.asked old.ends goes_on)
+    (answered_so g.R.ServedRepository.server g.R.PartPacker.gives (SaysLsAnswer served c.in-Ls.asked.asked old.ends goes_on)
     (LacksMemory g.H.Host.says old.host.now left.fault) c.list-listed.result goes_on c.answer_of.result
     (c.list-listed.ensures.lists repo some) c.answer_of.ensures
-    (list_ends g.R.ServedRepository.server g.R.PartPacker.gives served c.in-Ls.asked old.ends goes_on) said goes may))
+    (list_ends g.R.ServedRepository.server g.R.PartPacker.gives served c.in-Ls.asked.asked old.ends goes_on) said goes may))
 
 pub returns-in-Ls-clause-quiet : goal.returns-in-Ls-clause-quiet
 returns-in-Ls-clause-quiet g c = λ said goes may.
@@ -39,16 +40,16 @@ returns-in-Fetch-clause-answers g c = rw c.in-Fetch.is (λ repo some said goes m
     let goes_on = c.count-goes_on-in-Fetch.result in
     let opens = g.H.Host.opens old.host.now repo in
     either_so said goes
-    (λ l. subst (λ b. SendsFrom g.R.ServedRepository.server g.H.Host.says old.host.now g.R.PartPacker.packs g.R.PartPacker.pack_fails opens old.ends
+    (λ l. subst (λ b. SendsFrom g.R.ServedRepository.server g.H.Host.says old.host.now (given_by g.R.PartPacker.packs) g.R.PartPacker.pack_fails opens old.ends
     c.in-Fetch.asked.asked b left.repo said goes) c.count-goes_on-in-Fetch.ensures.goes l)
     (λ text why. why)
     (answered_so g.R.ServedRepository.server g.R.PartPacker.gives
-    (SendsFrom g.R.ServedRepository.server g.H.Host.says old.host.now g.R.PartPacker.packs g.R.PartPacker.pack_fails opens old.ends
+    (SendsFrom g.R.ServedRepository.server g.H.Host.says old.host.now (given_by g.R.PartPacker.packs) g.R.PartPacker.pack_fails opens old.ends
     c.in-Fetch.asked.asked goes_on left.repo)
-    (CannotSend g.R.ServedRepository.server g.H.Host.says old.host.now g.R.PartPacker.packs g.R.PartPacker.pack_fails opens old.ends
+    (CannotSend g.R.ServedRepository.server g.H.Host.says old.host.now (given_by g.R.PartPacker.packs) g.R.PartPacker.pack_fails opens old.ends
     repo c.in-Fetch.asked.asked left.repo left.fault)
     c.send-sent.result goes_on c.answer_of-in-Fetch.result (c.send-sent.ensures.sends repo some) c.answer_of-in-Fetch.ensures
-    (fetch_ends g.R.ServedRepository.server g.R.PartPacker.gives g.H.Host.says old.host.now g.R.PartPacker.packs g.R.PartPacker.pack_fails opens old.ends
+    (fetch_ends g.R.ServedRepository.server g.R.PartPacker.gives g.H.Host.says old.host.now (given_by g.R.PartPacker.packs) g.R.PartPacker.pack_fails opens old.ends
     c.in-Fetch.asked.asked goes_on left.repo) said goes may))
 
 pub returns-in-Fetch-clause-quiet : goal.returns-in-Fetch-clause-quiet

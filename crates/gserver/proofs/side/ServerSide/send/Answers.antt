@@ -1,4 +1,5 @@
 use Rattle.std.proofs.Common.{◌∙◌, Ok, inr, refl, subst, sym}
+use Rattle.gparts.specs.Parts.{given_by}
 use Rattle.ganswer.specs.Answers.{FetchRefuses}
 use Rattle.gserver.specs.Fetching.{SaysFetch}
 use Rattle.gserver.proofs.SideLemmas.{some_same}
@@ -13,7 +14,7 @@ returns-in-Ok-spoken-clause-sends g c = λ repo some said goes says.
           (some_same c.in-Some.repo repo (sym c.in-Some.is ∙ some)) c.in_ok-opened-in-Some.ensures;
       served = refl;
       same = c.in-Ok.ensures;
-      sends = subst (λ s. SaysFetch s (g.R.PartPacker.packs c.in-Ok.packer) (g.R.PartPacker.pack_fails c.in-Ok.packer) c.args.asked.now.asked c.args.self.now.ends c.args.goes_on said goes)
+      sends = subst (λ s. SaysFetch s (given_by g.R.PartPacker.packs c.in-Ok.packer) (g.R.PartPacker.pack_fails c.in-Ok.packer) c.args.asked.now.asked c.args.self.now.ends c.args.goes_on said goes)
           c.server.ensures (c.in-Ok-spoken.ensures said goes says);
     }
 

@@ -22,7 +22,9 @@ objects_request-requires-clause-commons g c =
 
 pub objects_request-requires-clause-room : goal.objects_request-requires-clause-room
 objects_request-requires-clause-room g c =
-    rw (c.as_slice.ensures.value, ap (λ (s : SessionState g.row.A.Denot). s.commons) c.self.view_is)
+    let limits = ap (λ (r : FormattedFetch). r.limits) c.blank_request-blank.ensures
+    ∙ ap (λ (s : SessionState g.row.A.Denot). s.options.limits) c.self.view_is in
+    rw (c.as_slice.ensures.value, ap (λ (s : SessionState g.row.A.Denot). s.commons) c.self.view_is, limits)
     c.requires.fits.room
 
 pub keep_request-requires-clause-asked : goal.keep_request-requires-clause-asked
@@ -72,7 +74,9 @@ objects_request-requires-clause-batch g c =
     subst (λ (f : Format). All (IsIdOf f) c.args.batch.now) (sym format) c.requires.fits.ids
 
 pub objects_request-requires-clause-few_wants : goal.objects_request-requires-clause-few_wants
-objects_request-requires-clause-few_wants g c = rw c.as_slice-wants.ensures.value c.self.invariant.0.few_wants
+objects_request-requires-clause-few_wants g c =
+    rw (c.as_slice-wants.ensures.value, ap (λ (r : FormattedFetch). r.limits) c.blank_request-blank.ensures)
+    c.self.invariant.0.few_wants
 
 pub returns-in_err-keep_request-clause-made : goal.returns-in_err-keep_request-clause-made
 returns-in_err-keep_request-clause-made g c =

@@ -21,8 +21,8 @@ next-requires g c =
           (sym c.graph.ensures) of.are,
     )
 
-pub returns-then-len-clause-batch : goal.returns-then-len-clause-batch
-returns-then-len-clause-batch g c =
+pub returns-then-len-max_haves-clause-batch : goal.returns-then-len-max_haves-clause-batch
+returns-then-len-max_haves-clause-batch g c =
     let s = c.args.self.now in
     let of = c.in_ok-walk.ensures.offers in
     let commons = c.as_slice.ensures.value ∙ ap (λ (s : SessionState g.row.A.Denot). s.commons) c.self.view_is in
@@ -36,17 +36,19 @@ returns-then-len-clause-batch g c =
     (sym c.graph.ensures) of.are)) in
     let offer = c.in_ok-offer.offer.items in
     let few = c.self.invariant.0.commons.few in
-    let room : length c.self.inside.commons.items + length offer ≤ max_haves = omega (arith, few) in
-    let fits = subst (λ (s : SessionState g.row.A.Denot). length s.commons + length offer ≤ max_haves) c.self.view_is
-    room in
+    let most = c.max_haves.ensures in
+    let room : length c.self.inside.commons.items + length offer ≤ max_haves c.self.inside.options.limits =
+    omega (arith, few, most) in
+    let fits = subst (λ (s : SessionState g.row.A.Denot). length s.commons + length offer ≤ max_haves s.options.limits)
+    c.self.view_is room in
     record {
       offer = offer;
       offered = answers.0;
-      is = batch_room c.args.self.now.commons offer fits;
+      is = batch_room c.args.self.now.options.limits c.args.self.now.commons offer fits;
     }
 
-pub returns-then-len-clause-fits : goal.returns-then-len-clause-fits
-returns-then-len-clause-fits g c =
+pub returns-then-len-max_haves-clause-fits : goal.returns-then-len-max_haves-clause-fits
+returns-then-len-max_haves-clause-fits g c =
     let s = c.args.self.now in
     let of = c.in_ok-walk.ensures.offers in
     let commons = c.as_slice.ensures.value ∙ ap (λ (s : SessionState g.row.A.Denot). s.commons) c.self.view_is in
@@ -60,15 +62,17 @@ returns-then-len-clause-fits g c =
     (sym c.graph.ensures) of.are)) in
     let offer = c.in_ok-offer.offer.items in
     let few = c.self.invariant.0.commons.few in
-    let room : length c.self.inside.commons.items + length offer ≤ max_haves = omega (arith, few) in
-    let fits = subst (λ (s : SessionState g.row.A.Denot). length s.commons + length offer ≤ max_haves) c.self.view_is
-    room in
+    let most = c.max_haves.ensures in
+    let room : length c.self.inside.commons.items + length offer ≤ max_haves c.self.inside.options.limits =
+    omega (arith, few, most) in
+    let fits = subst (λ (s : SessionState g.row.A.Denot). length s.commons + length offer ≤ max_haves s.options.limits)
+    c.self.view_is room in
     offer_fits c.offers_are_exact.ensures c.positions_are_nodes.ensures c.ids_have_one_format.ensures c.args.self.now
     c.args.repo.now.graph _ offer (subst IsSession c.self.view_is c.self.invariant.0) c.laws.ensures.graph
     answers.0 fits
 
-pub returns-then-len-clause-offers : goal.returns-then-len-clause-offers
-returns-then-len-clause-offers g c =
+pub returns-then-len-max_haves-clause-offers : goal.returns-then-len-max_haves-clause-offers
+returns-then-len-max_haves-clause-offers g c =
     let s = c.args.self.now in
     let of = c.in_ok-walk.ensures.offers in
     let commons = c.as_slice.ensures.value ∙ ap (λ (s : SessionState g.row.A.Denot). s.commons) c.self.view_is in
@@ -82,8 +86,8 @@ returns-then-len-clause-offers g c =
     (sym c.graph.ensures) of.are)) in
     answers.1
 
-pub returns-else-len-clause-batch : goal.returns-else-len-clause-batch
-returns-else-len-clause-batch g c =
+pub returns-else-len-max_haves-clause-batch : goal.returns-else-len-max_haves-clause-batch
+returns-else-len-max_haves-clause-batch g c =
     let s = c.args.self.now in
     let of = c.in_ok-walk.ensures.offers in
     let commons = c.as_slice.ensures.value ∙ ap (λ (s : SessionState g.row.A.Denot). s.commons) c.self.view_is in
@@ -97,11 +101,13 @@ returns-else-len-clause-batch g c =
     (sym c.graph.ensures) of.are)) in
     let offer = c.in_ok-offer.offer.items in
     let few = c.self.invariant.0.commons.few in
-    let over : max_haves < length c.self.inside.commons.items + length offer = omega (arith, few) in
-    let past = subst (λ (s : SessionState g.row.A.Denot). max_haves < length s.commons + length offer) c.self.view_is
-    over in
+    let most = c.max_haves.ensures in
+    let over : max_haves c.self.inside.options.limits < length c.self.inside.commons.items + length offer =
+    omega (arith, few, most) in
+    let past = subst (λ (s : SessionState g.row.A.Denot). max_haves s.options.limits < length s.commons + length offer)
+    c.self.view_is over in
     record {
       offer = offer;
       offered = answers.0;
-      is = c.new.ensures.items ∙ batch_none c.args.self.now.commons offer past;
+      is = c.new.ensures.items ∙ batch_none c.args.self.now.options.limits c.args.self.now.commons offer past;
     }

@@ -2,6 +2,7 @@ use Rattle.std.proofs.Common.{◌≡◌, List, length, refl, ap, subst, arith, �
 use Rattle.std.proofs.lemmas.Result.{err_from_is_err_and}
 use Rattle.gclientrepo.specs.declared.ask.Ask.{Ask}
 use Rattle.grefs.specs.Refspecs.{Refspec}
+use Rattle.grequest.specs.Asked.{max_wants}
 use Rattle.gsession.specs.Asking.{AreWants, unborn_told}
 use Rattle.gsession.specs.Sessions.{SessionState}
 use Rattle.gsession.proofs.session.Session.find_wants.Goals as goal
@@ -16,14 +17,18 @@ returns-in_err-unborn_of-clause-wanted g c =
     let p = err_from_is_err_and c.from_residual-in_err-unborn_of.result c.from_residual-in_err-unborn_of.ensures.1 in
     rw (p.1, p.2) c.requires.asked.1
 
-pub returns-then-len-gt-MAX_WANTS-clause-wanted : goal.returns-then-len-gt-MAX_WANTS-clause-wanted
-returns-then-len-gt-MAX_WANTS-clause-wanted g c =
+pub returns-then-len-max_wants-clause-wanted : goal.returns-then-len-max_wants-clause-wanted
+returns-then-len-max_wants-clause-wanted g c =
     let wants = c.in_ok-wants.wants.items in record {
       named = c.requires.asked.1;
       wants = wants;
       wanted = subst (λ (asks : List (Ask g.row.A.Denot)). AreWants c.args.repo.now.graph.entries asks wants)
           c.requires.asked.0 c.in_ok-wants.ensures.wants;
-      many = omega arith;
+      many = omega (
+        arith,
+        c.max_wants.ensures,
+        ap (λ (s : SessionState g.row.A.Denot). max_wants s.options.limits) c.self.view_is,
+      );
     }
 
 pub returns-clause-wanted : goal.returns-clause-wanted
@@ -36,7 +41,11 @@ returns-clause-wanted g c =
       wants = wants;
       wanted = subst (λ (asks : List (Ask g.row.A.Denot)). AreWants c.args.repo.now.graph.entries asks wants)
           c.requires.asked.0 c.in_ok-wants.ensures.wants;
-      few = omega arith;
+      few = omega (
+        arith,
+        c.max_wants.ensures,
+        ap (λ (s : SessionState g.row.A.Denot). max_wants s.options.limits) c.self.view_is,
+      );
       after = refl;
       asks = c.len-2.ensures.count ∙ ap length c.requires.asked.0;
       count = omega arith;

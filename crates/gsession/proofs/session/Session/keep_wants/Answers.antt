@@ -1,5 +1,6 @@
-use Rattle.std.proofs.Common.{◌∙◌, All, None, sym, ap, subst}
+use Rattle.std.proofs.Common.{◌∙◌, ◌≤◌, All, None, sym, ap, length, subst}
 use Rattle.gname.specs.Ids.{IsIdOf}
+use Rattle.grequest.specs.Asked.{max_wants}
 use Rattle.gsession.specs.Sessions.{SessionState}
 use Rattle.gsession.specs.steps.Fields.{session_of}
 use Rattle.gsession.specs.TakingRefs.{AwaitsRefs, stage_for}
@@ -16,4 +17,5 @@ invariant_of-self g c =
     (refs_taken _ _ _ _ c.self.invariant.0
     (subst (λ (s : SessionState g.row.A.Denot). AwaitsRefs s) (sym v) c.requires.waits)
     (subst (λ (s : SessionState g.row.A.Denot). All (IsIdOf s.format) wants) (sym v) c.requires.ids)
-    c.requires.few (c.stage_for-self-inside.ensures ∙ ap stage_for c.as_slice.ensures.value)) tt
+    (subst (λ (s : SessionState g.row.A.Denot). length wants ≤ max_wants s.options.limits) (sym v) c.requires.few)
+    (c.stage_for-self-inside.ensures ∙ ap stage_for c.as_slice.ensures.value)) tt

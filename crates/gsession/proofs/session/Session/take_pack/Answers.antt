@@ -82,6 +82,7 @@ invariant_of-self g c =
     waits (record (session_of c.self.inside) { stage = Settling; commons = commons })
     c.set_pending.new.pending None c.set_pending.ensures
     (pack_taken _ commons c.self.invariant.0
-    (subst (λ (s : SessionState g.row.A.Denot). AreCommons s.format commons) (sym c.self.view_is)
-    (subst (λ (l : List (List ℕ)). AreCommons c.args.self.now.format l) (sym is) c.in_ok-check_acks.ensures.commons)))
+    (subst (λ (s : SessionState g.row.A.Denot). AreCommons s.options.limits s.format commons) (sym c.self.view_is)
+    (subst (λ (l : List (List ℕ)). AreCommons c.args.self.now.options.limits c.args.self.now.format l) (sym is)
+    c.in_ok-check_acks.ensures.commons)))
     tt

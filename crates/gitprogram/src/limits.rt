@@ -1,0 +1,12 @@
+//! The limits on the messages that `gitrepo` reads and writes.
+
+use ggrammar::Limits;
+
+/// The limits on requests and replies.
+///
+/// With every request at its limits, a connection needs less than 5 MiB for its request.
+pub(crate) const LIMITS: Limits = Limits {
+    prefixes: 1_024,
+    wants: 65_537,
+    haves: 65_536,
+};
