@@ -19,9 +19,10 @@
 //! # What the contracts do not rule out
 //!
 //! No contract rules out that a call reports out of memory although memory is available, if the
-//! first line of the text begins with a command. The call could then report out of memory in place
-//! of a later malformed line. No contract limits the time of a call, or the memory that it takes.
-//! No contract rules out that formatting a fault returns `fmt::Error` for no reason.
+//! first line of the text begins with a command and has a line feed. The call could then report out
+//! of memory in place of a later malformed line. No contract limits the time of a call, or the
+//! memory that it takes. No contract rules out that formatting a fault returns `fmt::Error` for no
+//! reason.
 //!
 //! # Dependencies
 //!
