@@ -113,8 +113,8 @@ where
     conclude(rt, &found, report, outcome)
 }
 
-// Returns the server's refs that the refspecs may match. Fails if a refspec names a ref that the
-// server does not have.
+// Returns those refs of the server that could match the refspecs. Fails if a refspec names a ref
+// that the server does not have.
 fn list_sources<R>(
     rt: &R,
     remote: &Remote,
@@ -185,7 +185,7 @@ where
     }
 }
 
-/// Returns the progress of a fetch.
+/// Returns a `Progress` for a fetch.
 pub(crate) fn progress_of<E: Write + IsTerminal>(
     alloc: Global,
     verbosity: Verbosity,
@@ -216,7 +216,7 @@ fn check_sources(
     Ok(())
 }
 
-// Returns whether a refspec is a pattern, which may match any number of refs.
+// Returns whether a refspec is a pattern, which can match any number of refs.
 fn is_pattern(spec: &Spec<Global>) -> bool {
     spec.prefix().as_bytes().ends_with(b"/")
 }
@@ -397,7 +397,7 @@ where
     }
 }
 
-// Fetches into a repository with an indexer.
+// Fetches into a repository. The indexer indexes the received pack.
 fn receive_with<R, E>(
     rt: &R,
     found: &Directories,

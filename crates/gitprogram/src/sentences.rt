@@ -71,7 +71,7 @@ pub(crate) enum Sentence<'a> {
         path: &'a str,
         fault: &'a BuildFault<Global>,
     },
-    /// A repository cannot be fetched into.
+    /// The program cannot fetch into a repository.
     Client {
         path: &'a str,
         fault: &'a RepoFault<Global>,
@@ -329,7 +329,7 @@ fn write_refs<W: fmt::Write>(
     }
 }
 
-// The path of a ref file. Peers choose ref names, so their non-printable bytes are replaced.
+// The path of a ref file. Peers choose ref names, so non-printable bytes of ref names are replaced.
 #[derive(Clone, Copy)]
 struct RefFile<'a> {
     repository: &'a str,
