@@ -51,8 +51,8 @@ pub record SessionState (A : Type 0) : Type 0 where
 abbrev pub max_specs : ℕ
 max_specs = 16
 
--- An open request for objects has the session's wants, and its haves include each common id. If another request may
--- follow, the session has made at most as many requests for objects as it has offered ids.
+-- An open request for objects has the session's wants, and its haves include each common id. If the request has haves
+-- and no `done`, the session has made at most as many requests for objects as it has offered ids.
 pub record IsOpenFetch {A : Type 0} (s : SessionState A) (asked : FetchAsked) : Type 0 where
   pub wants : asked.wants ≡ s.wants
   pub commons : All (Contains asked.haves) s.commons

@@ -5,7 +5,7 @@ ghost use Rattle.grequest.specs.Asked.{max_haves, max_wants};
 
 use ggrammar::Limits;
 
-// The maximum length of each list of a request with any limits.
+// The maximum number of wants, and of haves, of a request under any limits.
 const MAX_LISTED: usize = 1_073_741_824;
 
 /// Returns the maximum number of wants of a session with these limits.

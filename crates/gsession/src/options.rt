@@ -12,13 +12,13 @@ use std::alloc::{Allocator, Global};
 /// the session.
 #[derive(Clone, Copy, Debug, PartialEq, Eq)]
 pub struct PackOptions {
-    /// Whether each request for objects has `ofs-delta`, which allows a delta to give its base as
-    /// an offset in the pack.
+    /// Whether each request for objects has `ofs-delta`, which allows the server to identify the
+    /// base of a delta by an offset in the pack.
     pub ofs_delta: bool,
     /// Whether the server may report progress. If false, each request for objects has
     /// `no-progress`.
     pub progress: bool,
-    /// The limits on the wants, the haves and the acknowledged ids. With any limits, a request has
+    /// The limits on the wants, the haves and the acknowledged ids. Under any limits, a request has
     /// at most 2^30 wants and 2^30 haves. A request for refs has the default limits.
     pub limits: Limits,
 }

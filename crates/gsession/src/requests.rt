@@ -34,7 +34,7 @@ pub(crate) fn batch_size(rounds: usize) -> usize
     }
 }
 
-/// Returns a request for the refs that the refspecs may match. Fails if out of memory.
+/// Returns a request for the refs that the refspecs can match. Fails if out of memory.
 pub(crate) fn refs_request<A: Allocator + Copy>(
     alloc: A,
     specs: &[Spec<A>],
@@ -166,8 +166,8 @@ fn add_haves<A: Allocator + Copy>(
     Ok(())
 }
 
-// Converts the fault of adding an argument that fits into its request. The fault is always out of
-// memory.
+// Converts the fault of adding an argument to a request that has room for it. Only out of memory is
+// possible.
 fn no_memory(fault: MessageFault) -> AllocError
     requires { fault.why ≡ Memory }
 {

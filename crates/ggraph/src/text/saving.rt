@@ -42,8 +42,8 @@ pub fn save<A: Allocator + Copy>(
     Ok(text)
 }
 
-// Returns the first id of a ref that does not have the format. If all refs have the format, returns
-// the id of a detached HEAD that does not have it.
+// Returns the first id that does not have the format, among the ids of the refs and then the id of
+// a detached HEAD.
 fn other_id<A: Allocator + Copy>(
     format: Format,
     refs: &[(RefName<A>, Oid)],

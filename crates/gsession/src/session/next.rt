@@ -83,7 +83,7 @@ impl<A: Allocator + Copy> Session<A> {
         }
     }
 
-    // Makes the next request, if the session can make one. A fault does not end the session here.
+    // Makes the next request, if the session can make one. A fault does not yet end the session.
     fn make_request(
         &mut self,
         repo: &Repo<A>,

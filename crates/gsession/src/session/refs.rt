@@ -55,8 +55,8 @@ impl<A: Allocator + Copy> Session<A> {
         }
     }
 
-    // Reads the ls-refs reply, if the open request is for refs. A fault does not end the session
-    // here.
+    // Reads the ls-refs reply, if the open request is for refs. A fault does not yet end the
+    // session.
     fn read_refs<S: Source, B: Allocator + Copy>(
         &mut self,
         repo: &Repo<A>,
@@ -103,7 +103,7 @@ impl<A: Allocator + Copy> Session<A> {
         self.take_asked(repo, reply, asks)
     }
 
-    // Stores the updates that the refs of a reply lead to, and the wants.
+    // Stores the requested updates that follow from a reply, and the wants.
     fn take_asked(
         &mut self,
         repo: &Repo<A>,
