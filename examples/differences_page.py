@@ -1,4 +1,4 @@
-"""Writes the tables of docs/DIFFERENCES.md: what stock git answers and asks otherwise, and why."""
+"""Writes the lists and tables of docs/DIFFERENCES.md: how the answers and requests of stock git differ, and why."""
 
 import os
 import re
@@ -119,28 +119,29 @@ def section(cases, known, version, server, client, notes):
     """The lines of the section."""
     yield "%s `--server '%s'` and `--client '%s'`.\n" % (VERSION % version, SERVER, CLIENT)
     yield from answered_alike(server, client)
-    yield "\n## What a server answers otherwise\n"
-    yield "The differing parts of the answers, ours first, follow the first row's name.\n"
+    yield "\n## How Git's server differs\n"
+    yield "For the named row, the parentheses show the packets in which the answers differ, with ` / ` between packets.\n"
     yield from reasons_of(known, "server", server)
-    yield "\n## What a client does otherwise\n"
+    yield "\n## How Git's client differs\n"
     yield from reasons_of(known, "client", client)
-    yield "\nGit's requests also have other lines. Numbers count the compared requests with such a line.\n"
+    yield "\nGit's requests also differ from the rows' requests. Each number counts the compared requests with such a line.\n"
     yield from ("- %s" % note for note in notes)
     yield "\n## What both servers refuse\n"
-    yield "Each line begins with the answer here.\n"
+    yield "Each item begins with the answer here.\n"
     yield from refused_rows(server)
-    yield "\n## Ref names\n\n| Name | Here | git | Why |\n|---|---|---|---|"
+    yield "\n## Ref names\n\n`{x*996}` is 996 times `x`.\n"
+    yield "| Name | Here | git | Why |\n|---|---|---|---|"
     yield from name_rows(cases.names)
 
 
 def refused_rows(server):
-    """A line for each answer to rows that both servers refuse: how many they are, and the first of them."""
+    """A line for each answer to rows that both servers refuse."""
     refused = {}
     for outcome in server:
         if outcome.kind == "refused alike":
             refused.setdefault(parted(outcome)[0], []).append(outcome.row.name)
     for here, names in refused.items():
-        yield "- %s (%d: %s)" % (code(here), len(names), names[0])
+        yield "- %s (%s)" % (code(here), rows_named(names))
 
 
 def answered_alike(server, client):
@@ -158,19 +159,27 @@ def answered_alike(server, client):
         yield "| %s | %d | %d |" % (text, *counts)
 
 
+def rows_named(names):
+    """How many rows there are, and one row's name."""
+    if len(names) == 1:
+        return '1 row, "%s"' % names[0]
+    return '%d rows, e.g. "%s"' % (len(names), names[0])
+
+
 def reasons_of(known, side, outcomes):
-    """A line for each reason why rows differ: how many they are, and the first of them."""
+    """A line for each reason why rows differ."""
     for word, why in known.whys.items():
         rows = [outcome for outcome in differing(outcomes) if known.word(side, outcome) == word]
         if rows:
-            yield "- %s (%d: %s%s)" % (why, len(rows), rows[0].row.name, answers_of(rows[0]) if side == "server" else "")
+            names = [outcome.row.name for outcome in rows]
+            yield "- %s (%s%s)" % (why, rows_named(names), answers_of(rows[0]) if side == "server" else "")
 
 
 def answers_of(outcome):
-    """What git's server answers in the place of ours."""
+    """The differing parts of our server's answer and of the answer by git's server."""
     if outcome.row.place == ADVERTISEMENT:
-        return ", `%s`" % outcome.why
-    return "; %s, %s" % tuple(code(part) for part in parted(outcome))
+        return ": `%s`" % outcome.why
+    return ": here %s; Git %s" % tuple(code(part) for part in parted(outcome))
 
 
 def parted(outcome):
