@@ -33,6 +33,9 @@ use std::rt::Files;
 // The size of a connection buffer.
 const BUFFER: usize = 65_536;
 
+// The maximum number of new haves in a request.
+const MAX_BATCH: usize = 16_384;
+
 // The prefix of branch names.
 const BRANCHES: &[u8] = b"refs/heads/";
 
@@ -595,6 +598,7 @@ fn fetch_of(wanted: Wanted<'_>, progress: bool) -> GitFetch<'_, Global> {
             ofs_delta: true,
             progress,
             limits: LIMITS,
+            max_batch: MAX_BATCH,
         },
     }
 }
