@@ -10,8 +10,8 @@
 //!   `fetch_over` reads nothing after the last reply. The client writes each request of the session
 //!   in its canonical encoding, and a lone flush packet after the last reply. The client flushes
 //!   each request before it reads the reply. At the end `fetch_over` updates the local refs.
-//!   [`fetch_over_with`] does the same with options for packs, which contain the limits on wants,
-//!   haves and acknowledged ids.
+//!   [`fetch_over_with`] does the same with options for packs. They contain the limits on wants,
+//!   haves and acknowledged ids, and the maximum number of new haves in a request.
 //! - [`Fetched`] contains the updates of the local refs, the number of requests for objects, and
 //!   the target of the server's unborn `HEAD`.
 //! - The first fault ends a conversation. With too many refspecs, or out of memory at the start,

@@ -33,6 +33,10 @@ use std::rt::Files;
 // The size of a connection buffer.
 const BUFFER: usize = 65_536;
 
+// The maximum number of new ids in a request. Git's batches double up to 16,384 ids. A server of
+// `gitv2` accepts 4,096 haves, so this maximum leaves room for common ids.
+const MAX_BATCH: usize = 2_048;
+
 // The prefix of branch names.
 const BRANCHES: &[u8] = b"refs/heads/";
 
@@ -595,6 +599,7 @@ fn fetch_of(wanted: Wanted<'_>, progress: bool) -> GitFetch<'_, Global> {
             ofs_delta: true,
             progress,
             limits: LIMITS,
+            max_batch: MAX_BATCH,
         },
     }
 }

@@ -118,9 +118,9 @@ no_memory = Repo (repo.Graph graph.Memory)
 abbrev pub tips_of : {A : Type 0} → RepoState A → List Id
 tips_of repo = distinct_of (values_of repo.refs)
 
--- the default pack options: no deltas by offset, no progress, and the default limits
+-- the default pack options: no deltas by offset, no progress, the default limits, and at most 256 new ids in a request
 abbrev pub no_options : PackOptions
-no_options = record { ofs_delta = false; progress = false; limits = profile }
+no_options = record { ofs_delta = false; progress = false; limits = profile; max_batch = 256 }
 
 -- a session that has just begun
 abbrev pub new_session : {A : Type 0} → Format → List Refspec → ℕ → Ends → List Id → SessionState A

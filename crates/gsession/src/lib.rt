@@ -19,6 +19,10 @@
 //! - The session's options contain its limits ([`ggrammar::Limits`]). They bound the numbers of
 //!   wants, haves and acknowledged ids. By default, the limits are 1,024 wants, 4,096 haves and
 //!   4,096 acknowledged ids.
+//! - The options also contain the maximum number of new ids in a request
+//!   ([`PackOptions::max_batch`]). A batch has at most 16 ids in the first request for objects. The
+//!   number doubles with each request up to this maximum, and at most to 16,384. By default, the
+//!   maximum is 256.
 //! - [`Session::take_ls`] reads one ls-refs reply to its end, and nothing after it. Exactly one
 //!   update is requested for each local ref to which a refspec maps a line of the reply. The first
 //!   refspec that maps a line to the ref, and its first matching line, determine the update

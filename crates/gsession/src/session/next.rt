@@ -192,7 +192,7 @@ impl<A: Allocator + Copy> Session<A> {
         let offer = walk.next(
             repo.graph(),
             self.commons.as_slice(),
-            batch_size(self.rounds),
+            batch_size(self.options.max_batch, self.rounds),
         )?;
         if offer.len() <= max_haves(self.options.limits) - self.commons.len() {
             *offers = Some(walk);
