@@ -123,8 +123,8 @@ impl<N: Source, F: Source, W: Sink, A: Allocator + Copy> Source for ClientInput<
     }
 }
 
-// Reads the client's first line as the server, and writes the advertisement or the reason to refuse
-// the line.
+// Acts as the server: reads the client's first line, and writes the advertisement or the reason to
+// refuse the line.
 fn greet<A: Allocator + Copy, F: Source, W: Sink>(server: &Server<A>, far: &mut F, sink: &mut W) {
     match hear(far, server.graph().allocator()) {
         Ok(_hello) => advertise(server, sink),
