@@ -70,7 +70,7 @@ fn applies_to_row(row: &Row<'_>, pace: Pace) -> bool {
         && (ends_well || pace != Pace::AtOnce)
 }
 
-// Tests a row at the pace `InTurns`, once for each allocation, which is refused in this run.
+// Tests a row at the pace `Turns`, once for each allocation, which is refused in that run.
 fn first_failure_with_refusals<R>(
     rt: &R,
     alloc: Global,

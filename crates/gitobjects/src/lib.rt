@@ -14,8 +14,8 @@
 //! - [`ObjectReader::read_checked`] and [`QuickReader::read_checked`] return an object only if it
 //!   has the requested id. The SHA-1 of the object is computed.
 //! - A private function inflates a pack entry, and returns the form and the size in its header. If
-//!   it succeeds, all bytes after the header are a zlib stream, which inflates to that size. Another
-//!   private function splits the text of a loose object into the type and the body.
+//!   it succeeds, all bytes after the header are a zlib stream, which inflates to that size.
+//!   Another private function splits the text of a loose object into the type and the body.
 //! - A private window caches blocks of the open packs: at most 64 blocks in total, each of at most
 //!   1 MiB. The window returns the correct bytes of a pack, no matter which blocks are in memory.
 //! - A private function decides whether a folder must be listed again: always, unless it was listed

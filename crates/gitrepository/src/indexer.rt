@@ -23,8 +23,8 @@ use std::cell::RefCell;
 /// MiB, less 224 bytes for each object of the pack. The same maximum applies to the total size of a
 /// delta, its bases in memory and its result. The maximum size of a commit, tree or tag is 64 MiB,
 /// and the maximum total size of all objects and deltas is 4 GiB. A delta chain may have at most
-/// 8,191 deltas. The commits, tags and named ids may use at most 112 MiB of memory. This is enough for about two
-/// million ids, or for 485,000 commits with a tree each.
+/// 8,191 deltas. The commits, tags and named ids may use at most 112 MiB of memory. This is enough
+/// for about two million ids, or for 485,000 commits with a tree each.
 #[derive(Drop)]
 pub struct StoreIndexer<'t, 'f, F: ObjectFiles, A: Allocator + Copy> {
     reader: RefCell<ObjectReader<'f, F, A>>,
