@@ -460,7 +460,7 @@ fn write_request<W: fmt::Write>(fault: &ServeFault, f: &mut fmt::Formatter<W>) -
             write_id(id, f)
         }
         ServeFault::Pack(PackFault::TooLarge) => {
-            f.write_str("the pack would have more than 4 GiB: fetch fewer refs at a time")
+            f.write_str("the pack would have 4 GiB or more: fetch fewer refs at a time")
         }
         _ => fmt::Display::fmt(fault, f),
     }

@@ -107,7 +107,6 @@ pub mod compat;
 mod fault;
 mod feed;
 pub mod laws;
-mod limits;
 mod options;
 mod requests;
 mod session;

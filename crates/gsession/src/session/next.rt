@@ -6,7 +6,6 @@ ghost use Rattle.gobject.specs.declared.node.Entry.{Entry};
 ghost use Rattle.grequest.specs.Asked.{Fetches};
 
 use crate::fault::ClientFault;
-use crate::limits::max_haves;
 use crate::requests::{batch_size, blank_request, objects_request, refs_request};
 use crate::session::{Session, set_pending};
 use crate::stage::Stage;
@@ -15,7 +14,7 @@ use ggraph::graph_laws::{offers_are_exact, positions_are_nodes};
 use ggraph::{GraphFault, Offers};
 use gname::Oid;
 use gname::laws::ids_have_one_format;
-use grequest::Request;
+use grequest::{Request, max_haves};
 use std::alloc::{AllocError, Allocator};
 use std::mem;
 

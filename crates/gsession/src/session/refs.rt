@@ -8,7 +8,6 @@ ghost use Rattle.gsession.specs.TakingRefs.{stage_for};
 
 use crate::asks::{are_named, asked_of, unborn_of, wants_of};
 use crate::fault::ClientFault;
-use crate::limits::max_wants;
 use crate::session::{Session, set_pending};
 use crate::stage::Stage;
 use crate::taken::LsTaken;
@@ -17,7 +16,7 @@ use ggrammar::{MessageFault, Why};
 use glsreply::{LsReply, read_ls_reply_in};
 use gname::Oid;
 use gpkt::{PacketReader, Source};
-use grequest::Request;
+use grequest::{Request, max_wants};
 use std::alloc::Allocator;
 
 impl<A: Allocator + Copy> Session<A> {
