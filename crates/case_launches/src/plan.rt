@@ -108,8 +108,8 @@ impl<'b> Plan<'b> {
         Ok(())
     }
 
-    // Adds to the plan that the file contains the named text after the launch, if `text` names a
-    // text.
+    // Makes the plan expect that the file contains the named text after the launch, if `text` names
+    // a text.
     fn expect_file(&mut self, file: &'b str, text: Option<&'b str>) -> Result<(), Trouble> {
         if let Some(text) = text {
             let name = file_name_for(file);

@@ -7,7 +7,7 @@ pub enum FactKind {
     ParsedText,
     /// The results of searches in a history of commits.
     HistorySearch,
-    /// The objects of a history that a client knows to be connected.
+    /// The objects of a history that a client marks as connected.
     ClientObjects,
     /// The line printed for a fault.
     PrintedFault,

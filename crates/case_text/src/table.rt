@@ -7,10 +7,11 @@
 //! | `change 18 2-9 a-f = OUTCOME` | the byte at an offset is one of these |
 //! | `change 18 other = OUTCOME` | the same for all other bytes |
 //!
-//! An outcome is `nothing`, `as it stands`, `use NAME` or `TEXT \| FAULT`. `use NAME` stands for
-//! the messages of a talk. In the last form, `TEXT` is the text of an error to the client, and
-//! `FAULT` the printed line of the fault. In `TEXT` and `FAULT`, `{}` stands for the input bytes at
-//! the line's positions, in lower case.
+//! An outcome is `nothing`, `as it stands`, `use NAME` or `TEXT \| FAULT`. `nothing` stands for no
+//! reply, `as it stands` for the result of the unchanged request, and `use NAME` for the messages
+//! of a talk. In the last form, `TEXT` is the text of an error to the client, and `FAULT` is the
+//! printed line of the fault. In `TEXT` and `FAULT`, `{}` stands for the input bytes at the line's
+//! positions, in lower case.
 
 use crate::escapes::{hex_value, parse_number};
 use crate::packets::packet;
@@ -117,7 +118,7 @@ impl<'a> TableLine<'a> {
         }
     }
 
-    /// Returns whether the table's line covers this change.
+    /// Returns whether this line covers the change.
     pub fn covers(&self, change: Change) -> bool {
         match change {
             Change::Cut(offset) => self.is_cut && self.covers_offset(offset),

@@ -62,7 +62,7 @@ pub(crate) trait WorldAction<A: Allocator + Copy> {
     fn run_on(&self, world: &mut World<Tools, A>) -> Result<Self::Output, Trouble>;
 }
 
-/// Runs the action on a world of the two repositories.
+/// Runs the action on a world of the two repositories in `inputs`.
 pub(crate) fn run_in_world<A: Allocator + Copy, P: WorldAction<A>>(
     tested_alloc: A,
     inputs: WorldInputs<'_>,

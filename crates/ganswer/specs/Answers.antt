@@ -34,7 +34,7 @@ HasFormat limits format (values.Fetch reply) =
     (given : Limits) × (limits ≡ Some given) × IsReplyOf given format reply
 HasFormat limits format _ = ⊤
 
--- the server may answer the request with this reply
+-- this reply is an allowed answer of the server to the request
 abbrev pub Answers : {A : Type 0} → Server A → Packs A → Asked → Reply → Type 0
 Answers server packs Empty Nothing = ⊤
 Answers server packs (LsAsked asked) (Ls reply) = LsAnswer server asked reply

@@ -71,8 +71,7 @@ LsAnswersAreHeld A =
 
 -- ---- objects
 
--- the client that sent a fetch request can read the answer, if the pack and the number of haves are within the
--- client's limits
+-- a client can read the answer to its fetch request, if the pack and the number of haves are within the client's limits
 abbrev pub FetchAnswersFit : (A : Type 0) → Packs A → Type 0
 FetchAnswersFit A packs =
     (server : Server A) (asked : FetchAsked) (reply : FetchReply) (reading : Reading)

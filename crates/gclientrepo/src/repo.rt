@@ -231,7 +231,7 @@ impl<A: Allocator + Copy> Repo<A> {
     /// Makes each requested update if the ref is new, or if the update is forced or a fast-forward.
     /// All updates happen at once, and all other refs are unchanged. Returns the outcome of each
     /// requested update, in the order of the list. All outcomes depend on the refs before the call.
-    /// Marks every object that the new ids reach before moving any ref.
+    /// Before it moves any ref, the call marks every object that the new ids reach.
     ///
     /// Fails with `NotConnected` if the repository does not hold an id that the new ids reach.
     /// Otherwise fails with `Refs` if an update is for HEAD or if there would be too many refs, and

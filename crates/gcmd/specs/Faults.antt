@@ -75,7 +75,7 @@ printed_of_text fault = record (plain (load_fault_row fault)) { line = line_in_t
 
 -- ---- repositories that are not served
 
--- the id that two different objects share, or the id of another object format
+-- the id that two different objects share, or the id that has another object format
 abbrev pub id_in_graph : GraphFault → Option Id
 id_in_graph (graph.Conflict id) = Some id
 id_in_graph (graph.OtherFormat id) = Some id

@@ -39,9 +39,9 @@ impl<A: Allocator + Copy> Graph<A> {
         Ok(is_new)
     }
 
-    /// Appends all entries or none of them, and returns the number of new ids. An id that already
-    /// has the same node is skipped. New entries keep the order of the list, and no entry is
-    /// copied.
+    /// Appends all entries or none of them, and returns the number of new ids. An entry whose id
+    /// already has the same node is skipped. New entries keep the order of the list, and no entry
+    /// is copied.
     ///
     /// The call checks the entries in order, and fails at the first entry that can't be added. A
     /// failed call leaves the graph unchanged. The fault is the first of the following that applies

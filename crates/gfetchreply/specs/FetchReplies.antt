@@ -42,7 +42,8 @@ pub record Reading : Type 0 where
   pub limit : ℕ
   pub ends : Ends
 
--- the maximum number of packets in the section of a pack, and of ids that a reply acknowledges with any limits
+-- the maximum number of packets in the section of a pack; also the maximum number of acknowledged ids, whatever the
+-- limits
 abbrev pub max_packets : ℕ
 max_packets = 4294967295
 
@@ -117,7 +118,7 @@ place_of direct packets = place_after next_place (first_place direct) packets
 
 -- ---- the contents of the packets so far
 
--- functions of the position: the acknowledged ids, the bytes of the pack, and the number of the pack's packets
+-- the id that a text acknowledges, if any
 abbrev pub ack_id : Format → ReplyForm → Option Id
 ack_id format (Ack id) = id_of_text format id
 ack_id format _ = None

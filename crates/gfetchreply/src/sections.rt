@@ -47,7 +47,7 @@ pub(crate) struct Sections<A: Allocator + Copy> {
     pub(crate) place: Point,
     acks: Acks<A>,
     ready: bool,
-    // The number of packets of the pack's section so far, including progress.
+    // The number of packets of the pack's section so far, including progress packets.
     band_count: u32,
     byte_count: usize,
 }

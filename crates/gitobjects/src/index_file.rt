@@ -75,7 +75,7 @@ enum SearchResult {
     Before,
     // The id follows the part.
     After,
-    // The id is missing, although its position would be inside the part.
+    // The index lacks the id, which would be between two ids of the part.
     Absent,
 }
 

@@ -22,7 +22,7 @@ use std::time::SystemTime;
 pub(crate) enum ServedFrom<'f> {
     /// The repositories below a directory.
     Below(Exports<'f>),
-    /// Only this repository, whatever the path that a client sends.
+    /// Only this repository, for any path that a client sends.
     Only(&'f Directories),
 }
 

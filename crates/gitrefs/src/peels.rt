@@ -48,8 +48,9 @@ impl<A: Allocator + Copy> PackedPeels<A> {
         Ok(PackedPeels { peels })
     }
 
-    /// Returns the objects that refs point to and the peeled objects, sorted by id. An object may
-    /// occur twice.
+    /// Returns pairs of an object and its peeled object, sorted by the id of the object. The
+    /// objects are those that refs point to, and the peeled objects of tags. An object may occur
+    /// twice.
     pub fn as_slice(&self) -> &[(Oid, Peel)] {
         self.peels.as_slice()
     }

@@ -15,8 +15,8 @@ pub record Folder : Type 0 where
   pub pack : Bytes
   pub index : Bytes
 
--- if the first folder is known, the second is known and the relation holds of the two; if the first is unknown, so is
--- the second
+-- If the first folder is known, the second is also known, and the relation holds between them. If the first folder is
+-- unknown, the second is also unknown.
 abbrev pub WhereKnown : Option Folder → Option Folder → (Folder → Folder → Type 0) → Type 0
 WhereKnown (Some before) (Some after) P = P before after
 WhereKnown None None P = ⊤

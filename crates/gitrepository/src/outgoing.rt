@@ -20,8 +20,8 @@ pub(crate) struct Outgoing<A: Allocator + Copy> {
     // The most recently built bytes, and how many of them were already returned.
     bytes: Vec<u8, A>,
     given: usize,
-    // The total number of built bytes, and the number of bytes by which `MAX_PARTS` exceeds the
-    // bytes returned so far.
+    // The total number of built bytes, and the number of bytes that can still be returned within
+    // the limit `MAX_PARTS`.
     made: usize,
     left: usize,
     // The SHA-1 of all built bytes, except the trailer.

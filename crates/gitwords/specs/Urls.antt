@@ -68,7 +68,7 @@ max_path = 1000
 abbrev pub is_path_text : List ℕ → Bool
 is_path_text text = nat_le (length text) max_path && list_all is_path_byte text
 
--- a path: a slash and any number of path bytes, of valid total length
+-- a path: a slash and any number of path bytes, with at most 1,000 bytes in total
 abbrev pub IsPath : List ℕ → Type 0
 IsPath path = ((rest : List ℕ) × (path ≡ 47 ∷ rest)) × IsTrue (is_path_text path)
 

@@ -11,9 +11,9 @@
 //!
 //! # What the contracts do not rule out
 //!
-//! A packer may be slow, use more memory than it needs, and need many calls, as long as each call
-//! returns at least one byte. A packer may fail after any part. The parts before a fault need not
-//! be the start of a pack.
+//! No contract rules out that a packer is slow, uses more memory than it needs, or returns only one
+//! byte per call. No contract rules out that a packer fails after any part. No contract requires
+//! that the parts before a fault are the start of a pack.
 //!
 //! This crate has no tests.
 //!

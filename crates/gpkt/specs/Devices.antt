@@ -1,4 +1,4 @@
--- Sources and sinks, and the results of calls to them, apart from the bytes read or written.
+-- The models of sources and sinks, the results of calls to them, and the flushed bytes.
 use Rattle.std.specs.Prelude.{◌≡◌, ℕ, ◌<◌, Bool, ◌++◌, length, Option, Result, IfOk, IsErr, IsSome, IsTrue}
 use Rattle.gpkt.specs.Change.{Change, WhereKnown}
 use Rattle.gpkt.specs.Packets.{Bytes}
@@ -11,7 +11,7 @@ TakesSome result bytes = 0 < length bytes → IfOk result (λ count. 0 < count)
 abbrev pub AnswersDown : {A E : Type 0} → Bool → Result A E → Type 0
 AnswersDown was_down result = IsTrue was_down → IsErr result
 
--- all written bytes are flushed after the call, if the flushed bytes were known before
+-- if the flushed bytes were known before the call, all written bytes are flushed after it
 abbrev pub PassesAll : Option Bytes → Change → Type 0
 PassesAll written passed_on = IsSome passed_on.old → passed_on.new ≡ written
 

@@ -46,14 +46,18 @@
 //!
 //! # What the contracts do not rule out
 //!
-//! - A source or sink may fail at any call, and may move only one byte per call. A sink over std's
-//!   writers may flush twice, or flush without a call to `flush`.
-//! - The allocation of a buffer may fail at any time, and a constructor may read from the source
-//!   before it fails.
-//! - A [`memory::Limited`] may ignore its limits, and a [`memory::VecSink`] need not count flushes.
+//! - No contract rules out that a source or sink fails at any call, or transfers only one byte per
+//!   call. No contract rules out that a sink over std's writers flushes twice, or flushes without a
+//!   call to `flush`.
+//! - No contract rules out that allocating a buffer fails at any time, or that a constructor reads
+//!   from the source before it fails.
+//! - No contract rules out that a [`memory::Limited`] ignores its limits, or that a
+//!   [`memory::VecSink`] does not count flushes.
 //! - A sink that flushes at every write has unknown flushed bytes, since a write must not change
-//!   known flushed bytes. A failed flush may have flushed any part of the buffered bytes.
-//! - Formatting a fault may return `fmt::Error` although the text was written correctly.
+//!   known flushed bytes. No contract rules out that a failed flush has flushed any part of the
+//!   buffered bytes.
+//! - No contract rules out that formatting a fault returns `fmt::Error` although the text was
+//!   written correctly.
 //!
 //! # Dependencies
 //!

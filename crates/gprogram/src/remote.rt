@@ -22,7 +22,7 @@ where
     }
 }
 
-// Serves the repository that this text describes to clients.
+// Serves clients over sockets. `text` describes the repository.
 fn listen_for<R, E>(rt: &R, asked: &Serve, text: &[u8], errors: &mut E) -> u8
 where
     R: Print + AllocGlobal + Clock + Net,

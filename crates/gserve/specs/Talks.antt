@@ -17,7 +17,7 @@ use Rattle.gserve.specs.Refusals.{err_packets}
 use Rattle.gserve.specs.declared.connection.End.{End}
 use Rattle.gserve.specs.declared.connection.End.TheVariants as end
 
--- the reads from a source that does not fail: all of `bytes` except `rest` is read
+-- the input if the source does not fail and all of `bytes` except `rest` is read
 abbrev pub input_of_bytes : Bytes → Bytes → Input
 input_of_bytes bytes rest = record { read = known_bytes bytes rest; was_down = false; is_down = false }
 

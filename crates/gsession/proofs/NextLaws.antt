@@ -33,7 +33,7 @@ module _ {A : Type 0} where
       → ((a : List ℕ) → ¬ (Contains s.sent a) → SomeReaches g s.tips a → P a) → All P batch
   batch_has exact P g s batch is each =
       let all : All P is.offer = λ k d low.
-      let of = (exact g s.tips s.commons s.sent (batch_size s.rounds)).each is.offer (get_or is.offer k d) is.offered
+      let of = (exact g s.tips s.commons s.sent (batch_size s.options.max_batch s.rounds)).each is.offer (get_or is.offer k d) is.offered
       (Contains-get_or is.offer k d low) in
       each (get_or is.offer k d) of.0.unsent of.1 in
       rw is.is (elim (nat_le (length s.commons + length is.offer) (max_haves s.options.limits))
@@ -50,7 +50,7 @@ module _ {A : Type 0} where
   batch_once exact g s batch is =
       rw is.is (elim (nat_le (length s.commons + length is.offer) (max_haves s.options.limits))
       as (λ b. IsDistinct bytes_eq (if b then is.offer else [])) [
-        | true ↦ (exact g s.tips s.commons s.sent (batch_size s.rounds)).once is.offer is.offered
+        | true ↦ (exact g s.tips s.commons s.sent (batch_size s.options.max_batch s.rounds)).once is.offer is.offered
         | false ↦ tt
       ])
 
@@ -107,7 +107,7 @@ module _ {A : Type 0} where
   one_request exact s g (Ls asked) (Fetches also) batch other is too = cc
   one_request exact s g (Fetches asked) (Ls also) batch other is too = cc
   one_request exact s g (Fetches asked) (Fetches also) batch other is too =
-      let offers = exact g s.tips s.commons s.sent (batch_size s.rounds) in
+      let offers = exact g s.tips s.commons s.sent (batch_size s.options.max_batch s.rounds) in
       let offer = offers.one is.2.offer too.2.offer is.2.offered too.2.offered in
       let same : batch ≡ other = is.2.is ∙ ap (batch_of s.options.limits s.commons) offer ∙ sym too.2.is in
       (ap Fetches (is.1 ∙ ap (fetch_request s.options s.wants s.commons) same ∙ sym too.1), same)

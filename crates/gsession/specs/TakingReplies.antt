@@ -150,7 +150,7 @@ module _ {A : Type 0} (indexes : Indexes A) (index_fails : IndexFails) where
   TakesReply old repo_old change new repo_new (Err fault) =
       IsTakeFault old repo_old change fault × (new ≡ after_fault old fault) × (repo_new ≡ repo_old)
 
-  -- the bytes of a fetch reply and the result of reading it determine the session afterwards
+  -- the bytes of a fetch reply, and the result of reading the reply, determine the next state of the session
   abbrev pub TakingIsDecided : Type 0
   TakingIsDecided =
       (old one other : SessionState A) (repo repo_one repo_other : RepoState A) (bytes left also : Bytes)

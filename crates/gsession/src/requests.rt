@@ -17,24 +17,15 @@ use grefs::Spec;
 use grequest::{FetchFlag, FetchRequest, LsRefsFlag, LsRefsRequest, Request};
 use std::alloc::{AllocError, Allocator};
 
-/// Returns the maximum number of new ids that a request offers after `rounds` rounds.
-pub(crate) fn batch_size(rounds: usize) -> usize
-    ensures { result ≡ batch_size rounds }
+/// Returns the maximum number of new ids that a request offers after `rounds` rounds, if no request
+/// may offer more than `most`.
+pub(crate) fn batch_size(most: usize, rounds: usize) -> usize
+    ensures { result ≡ batch_size most rounds }
 {
-    if rounds == 0 {
-        16
-    } else if rounds == 1 {
-        32
-    } else if rounds == 2 {
-        64
-    } else if rounds == 3 {
-        128
-    } else {
-        256
-    }
+    most.min(16 << rounds.min(10))
 }
 
-/// Returns a request for the refs that the refspecs may match. Fails if out of memory.
+/// Returns a request for the refs that the refspecs can match. Fails if out of memory.
 pub(crate) fn refs_request<A: Allocator + Copy>(
     alloc: A,
     specs: &[Spec<A>],
@@ -166,8 +157,8 @@ fn add_haves<A: Allocator + Copy>(
     Ok(())
 }
 
-// Converts the fault of adding an argument that fits into its request. The fault is always out of
-// memory.
+// Converts the fault of adding an argument to a request that has room for it. Only out of memory is
+// possible.
 fn no_memory(fault: MessageFault) -> AllocError
     requires { fault.why ≡ Memory }
 {

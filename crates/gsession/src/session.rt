@@ -135,7 +135,8 @@ impl<A: Allocator + Copy> Session<A> {
     }
 
     /// Reads from the advertisement whether the server can report an unborn `HEAD`
-    /// (gitprotocol-v2(5), "ls-refs"). If called several times, the last advertisement counts.
+    /// (gitprotocol-v2(5), "ls-refs"). If the method is called several times, only the last
+    /// advertisement counts.
     ///
     /// Fails with `NoOpenRequest` after the first request, and leaves the session unchanged.
     pub fn hear(&mut self, advert: &Advert<A>) -> Result<(), ClientFault<A>>

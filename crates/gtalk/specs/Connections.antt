@@ -26,7 +26,7 @@ bytes_in None = []
 bytes_in (Some bytes) = bytes
 
 -- if no bytes were sent before the last turn, the previously flushed bytes stay flushed; otherwise all bytes written
--- before the last turn are flushed, if known
+-- before the last turn are flushed, if the written and flushed bytes are known
 abbrev pub HasPassed : Bytes → Option Bytes → Change → Change → Type 0
 HasPassed said between written passed_on =
     ((said ≡ []) × KeepsPassed passed_on)

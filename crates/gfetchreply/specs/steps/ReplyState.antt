@@ -163,7 +163,8 @@ module _ {S : Type 0} (taken : S → Bytes → Type 0) (same : S → S → Type 
     pub is_same : (start : S) → starts start → same start sink
     pub in_place : name ≡ seat
 
-  -- the state after a refusal at these packets: the sink has accepted their data, and is still the same sink
+  -- the state after these packets and a refused packet: the sink has accepted the data of these packets, and is still
+  -- the same sink
   pub record Leaves (had : Bytes → Type 0) (starts : S → Type 0) (seat : ℕ) (asked reading : Reading) (sink : S)
       (name : ℕ) (packets : List Packet) : Type 0 where
     pub kind : reading ≡ asked

@@ -54,7 +54,8 @@ pub fn split_part(text: &[u8]) -> Option<(&[u8], Separator, &[u8])>
     Some((&text[..end], separator, &text[end + 1..]))
 }
 
-/// Returns the format of ids that have as many digits as the part has bytes.
+/// Returns the format of an id with as many digits as the part has bytes, or SHA-1 if no id has
+/// that many digits.
 fn format_of(part: &[u8]) -> Format
     ensures { result ≡ format_of_digits (length part.now) }
 {
@@ -162,7 +163,7 @@ fn after_id<A: Allocator + Copy>(
     }
 }
 
-/// Returns what is expected after `part`, or `None` if `part` is not allowed here.
+/// Returns what is expected after `part`, or `None` if `part` is not allowed next.
 fn after_part<A: Allocator + Copy>(
     alloc: A,
     entries: &mut Vec<Entry<A>, A>,

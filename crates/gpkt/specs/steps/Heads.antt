@@ -50,7 +50,7 @@ Classifies digits (Err _) = ⊥
 abbrev pub ConsumesBelow : Change → ℕ → Type 0
 ConsumesBelow bytes limit = (taken : Bytes) × Consumes bytes.old bytes.new taken × (length taken < limit)
 
--- fewer than `limit` bytes are consumed, and the input ends after them, if it is known
+-- if the input is known, fewer than `limit` bytes are consumed, and the input ends after them
 abbrev pub EndsBelow : Change → ℕ → Type 0
 EndsBelow bytes limit =
     (taken : Bytes) × Consumes bytes.old bytes.new taken × (length taken < limit) × IsAtEnd bytes.new

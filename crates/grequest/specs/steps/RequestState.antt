@@ -81,7 +81,7 @@ with_packet format state _ = state
 
 -- ---- sections of a request
 
--- the section of a request; before the command is read, the next packet is the first
+-- the section of a request, which is `First` until the command is read
 abbrev pub place_in : Section → Asked → RequestPlace
 place_in section Empty = First
 place_in Capabilities (Ls asked) = InCapabilities LsRefs
@@ -101,7 +101,7 @@ pub record RequestSoFar : Type 0 where
 abbrev pub HoldsPackets : RequestSoFar → List Packet → Type 0
 HoldsPackets reading lines = reading.state ≡ state_of reading.format lines
 
--- after a refused request, the state of reading may be any state
+-- no contract restricts the state of reading after a refused request
 abbrev pub LeavesNothing : RequestSoFar → List Packet → Type 0
 LeavesNothing reading front = Unit {0}
 

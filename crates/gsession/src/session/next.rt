@@ -6,7 +6,6 @@ ghost use Rattle.gobject.specs.declared.node.Entry.{Entry};
 ghost use Rattle.grequest.specs.Asked.{Fetches};
 
 use crate::fault::ClientFault;
-use crate::limits::max_haves;
 use crate::requests::{batch_size, blank_request, objects_request, refs_request};
 use crate::session::{Session, set_pending};
 use crate::stage::Stage;
@@ -15,7 +14,7 @@ use ggraph::graph_laws::{offers_are_exact, positions_are_nodes};
 use ggraph::{GraphFault, Offers};
 use gname::Oid;
 use gname::laws::ids_have_one_format;
-use grequest::Request;
+use grequest::{Request, max_haves};
 use std::alloc::{AllocError, Allocator};
 use std::mem;
 
@@ -83,7 +82,7 @@ impl<A: Allocator + Copy> Session<A> {
         }
     }
 
-    // Makes the next request, if the session can make one. A fault does not end the session here.
+    // Makes the next request, if the session can make one. A fault does not yet end the session.
     fn make_request(
         &mut self,
         repo: &Repo<A>,
@@ -192,7 +191,7 @@ impl<A: Allocator + Copy> Session<A> {
         let offer = walk.next(
             repo.graph(),
             self.commons.as_slice(),
-            batch_size(self.rounds),
+            batch_size(self.options.max_batch, self.rounds),
         )?;
         if offer.len() <= max_haves(self.options.limits) - self.commons.len() {
             *offers = Some(walk);

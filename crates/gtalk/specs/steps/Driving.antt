@@ -13,7 +13,8 @@ use Rattle.gtalk.specs.declared.fault.TalkFault.TheVariants.{Io, Memory}
 use Rattle.gtalk.specs.declared.conversation.Turn.{Turn}
 use Rattle.gtalk.specs.declared.conversation.Turn.TheVariants.{Listens, Speaks, Done}
 
--- the maximum number of remaining reads in a turn, given its remaining steps and the stored bytes of the next packet
+-- the maximum number of remaining reads in a turn, given its remaining steps and the number of stored bytes of the next
+-- packet
 abbrev pub reads_left : Turn → ℕ → ℕ → ℕ
 reads_left Listens steps kept = steps * (max_packet + 1) + (max_packet - kept) + 1
 reads_left Speaks steps kept = 0

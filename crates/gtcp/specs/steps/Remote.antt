@@ -1,4 +1,4 @@
--- The steps of the programs that open sockets: a listing, serving, and pairs.
+-- Definitions for private functions and proofs of the programs that open sockets: listings, servers and pairs.
 use Rattle.std.specs.Prelude.{◌≡◌, ◌⊎◌, ℕ, Bool, true, false, List, length, All, Result, Ok, Err}
 use Rattle.gpkt.specs.Sending.{Output, IsUnwritten, Passes, Sends, SendsSome}
 use Rattle.gpkt.specs.Packets.{Bytes}
@@ -38,8 +38,8 @@ Tells (Err fault) true true errors = Sends errors (fault_line fault)
 Tells (Err fault) true false errors = SendsSome errors (fault_line fault)
 
 module _ {A : Type 0} (server : Server A) (packs : Packs A) (fails : PackFails A) (path : Bytes) (ends : Ends) where
-  -- this number of connections is served so far, and their faults are printed; the flag states whether the error sink
-  -- still works
+  -- this number of connections has been served so far, and their faults are printed; the flag states whether the error
+  -- sink still works
   pub record ServesSoFar (errors : Output) (is_up : Bool) (connections : ℕ) : Type 0 where
     pub outcomes : List (ProgramOutcome A)
     pub each : All (IsServed server packs fails path ends) outcomes

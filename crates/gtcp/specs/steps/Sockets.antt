@@ -1,4 +1,4 @@
--- The steps of conversations over a socket: conversations over a reader and a writer.
+-- Definitions for private functions and proofs: conversations over a reader and a writer.
 use Rattle.std.specs.Prelude.{Bool, false, None, Result}
 use Rattle.gpkt.specs.Change.{Change}
 use Rattle.gpkt.specs.Sending.{Input, Output}

@@ -93,9 +93,10 @@ pub record IsCounted (wanted known : List Bool) (next pending : ℕ) : Type 0 wh
 
 -- ---- the pass down
 
--- The state of a pass down that has visited the positions from `next` up. The wants are marked as wanted and the common
--- ids as known, and every object with a mark is reachable from an id of the same mark. Each parent of a visited known
--- object is marked as known. Each parent of a visited wanted object is marked as wanted or as known.
+-- The state of a pass down that has visited `next` and all higher positions. The wants are marked as wanted, and the
+-- common ids as known. Every object marked as wanted is reachable from a want, and every object marked as known is
+-- reachable from a common id. Each parent of a visited known object is marked as known. Each parent of a visited wanted
+-- object is marked as wanted or as known.
 pub record IsPassed {A : Type 0} (g : List (Entry A)) (wants commons : IdList)
     (wanted known : List Bool) (next : ℕ) : Type 0 where
   pub wants_in : (p : ℕ) → IsPositionOf g wants p → IsMarked wanted p
