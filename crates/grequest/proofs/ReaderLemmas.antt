@@ -1,4 +1,4 @@
--- Reading a request. The state after some packets accepts exactly the packets that may follow them. A request is missing
+-- Reading a request. The state after some packets accepts exactly the packets that may follow them. No request is read
 -- exactly if the input is empty.
 use Rattle.std.proofs.Common.{◌≡◌, Bool, List, [], ◌∷◌, ◌++◌, codes, Result, Ok, Err, refl, sym, ap, subst, ◌∙◌, ℕ, ◌<◌}
 use Rattle.std.proofs.Common.{length, map, Option, Some, None, inl, inr, arith}
