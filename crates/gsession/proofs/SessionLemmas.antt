@@ -10,7 +10,7 @@ use Rattle.gclientrepo.specs.declared.ask.Ask.{Ask}
 use Rattle.grequest.specs.Asked.{Asked, Ls, Fetches, FetchAsked, LsRefsAsked, is_direct, max_wants}
 use Rattle.grequest.specs.RequestValues.{IsOfFormat, asked_by_request}
 use Rattle.grequest.specs.declared.request.Request.{Request}
-use Rattle.gsession.specs.Requesting.{fetch_request}
+use Rattle.gsession.specs.Requesting.{HasLimitsFor, fetch_request}
 use Rattle.gsession.specs.Sessions.{SessionState, AreCommons, FitsStage, IsOpenFetch, IsSession, max_specs}
 use Rattle.gsession.specs.steps.Calls.{FitsBatch}
 use Rattle.gsession.specs.TakingRefs.{AwaitsRefs, stage_for}
@@ -66,8 +66,10 @@ begun s few ids wants commons sent stage pending rounds = record {
 -- replacing the open request by an equal one preserves the invariants
 pub waits : {A : Type 0} (s : SessionState A) (now next : Option (Request A)) → now ≡ next
     → IsSession (record s { pending = option_map asked_by_request next }) → IfSome next (IsOfFormat s.format)
+    → IfSome next (HasLimitsFor s.options.limits)
     → IsSession (record s { pending = option_map asked_by_request now }) × IfSome now (IsOfFormat s.format)
-waits s now next same is format = rw same (is, format)
+      × IfSome now (HasLimitsFor s.options.limits)
+waits s now next same is format limits = rw same (is, format, limits)
 
 -- ---- requests
 

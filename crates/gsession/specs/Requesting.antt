@@ -4,6 +4,7 @@
 use Rattle.std.specs.Prelude.{◌≡◌, ℕ, ◌+◌, ◌*◌, ◌^◌, min, Bool, true, false, List, [], ◌++◌, length, map, nat_le, ◌==◌}
 use Rattle.std.specs.Prelude.{if◌then◌else◌, not, Option, Some, None, Result, Ok, Err}
 use Rattle.gname.specs.Ids.{Id}
+use Rattle.ggrammar.specs.Limits.{profile}
 use Rattle.ggrammar.specs.declared.limits.Limits.{Limits}
 use Rattle.gobject.specs.declared.node.Entry.{Entry}
 use Rattle.gdag.specs.Levels.{distinct_of}
@@ -14,6 +15,8 @@ use Rattle.gclientrepo.specs.declared.fault.RepoFault.TheVariants as repo
 use Rattle.grequest.specs.declared.flag.LsRefsFlag.TheVariants.{Unborn}
 use Rattle.grequest.specs.declared.flag.FetchFlag.TheVariants.{NoProgress, IncludeTag, OfsDelta, Done}
 use Rattle.grequest.specs.Building.{no_ls_refs, no_fetch}
+use Rattle.grequest.specs.declared.request.Request.{Request}
+use Rattle.grequest.specs.RequestValues.{asked_by_request, limits_of}
 use Rattle.grequest.specs.Asked.{Asked, Empty, Ls, Fetches, LsRefsAsked, FetchAsked, max_haves, ls_with, fetch_with}
 use Rattle.gsession.specs.Sessions.{SessionState, over}
 use Rattle.gsession.specs.declared.options.PackOptions.{PackOptions}
@@ -36,6 +39,17 @@ batch_size most rounds = min most (16 * 2 ^ min rounds 10)
 -- these limits
 abbrev pub batch_of : Limits → List Id → List Id → List Id
 batch_of limits commons offer = if nat_le (length commons + length offer) (max_haves limits) then offer else []
+
+-- the limits of a request with these contents that a session with these limits makes: a request for refs has the
+-- default limits
+abbrev pub limits_for : Limits → Asked → Option Limits
+limits_for limits Empty = None
+limits_for limits (Ls asked) = Some profile
+limits_for limits (Fetches asked) = Some limits
+
+-- the request has the limits of a request that a session with these limits makes
+abbrev pub HasLimitsFor : {A : Type 0} → Limits → Request A → Type 0
+HasLimitsFor limits request = limits_of request ≡ limits_for limits (asked_by_request request)
 
 -- the ids that the next request offers, level by level from the tips
 pub record IsBatch {A : Type 0} (s : SessionState A) (g : List (Entry A)) (batch : List Id) : Type 0 where

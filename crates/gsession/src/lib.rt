@@ -43,6 +43,8 @@
 //! - [`Session::open_request`] borrows the request that waits for its reply, so that the caller can
 //!   write it. The ids of the request have the session's format. [`Session::asks`] borrows the
 //!   requested ref updates, and [`Session::wants`] the wanted ids.
+//! - A request for objects has the limits of the session's options, and a request for refs has the
+//!   default limits.
 //! - A call that does not fit the stage of the session fails, reads nothing and changes nothing.
 //!   Every other fault ends the session, and leaves objects and refs unchanged. After the end of a
 //!   session, every call fails.
@@ -62,9 +64,8 @@
 //!
 //! # What the contracts do not rule out
 //!
-//! No contract says which limits a returned request has. In this implementation a request for refs
-//! has the default limits, and 16 refspecs always fit into the request. The first batch can have 16
-//! ids. If the options allow fewer haves than the batch has ids, the request has no haves.
+//! If the options allow fewer haves than a batch has ids, the request has no haves. The first batch
+//! can have 16 ids.
 //!
 //! No contract rules out that a call reports out of memory although memory is available, unless an
 //! earlier fault occurs. Out of memory can hide the following faults, because the session needs

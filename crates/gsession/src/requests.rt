@@ -4,7 +4,8 @@ ghost use Rattle.std.specs.Prelude.{◌≡◌, ◌+◌, ◌<◌, ◌≤◌, ◌+
 ghost use Rattle.gname.specs.Ids.{IsIdOf};
 ghost use Rattle.ggrammar.specs.declared.fault.Why.TheVariants.{Memory};
 ghost use Rattle.grequest.specs.Asked.{Ls, Fetches, max_haves, max_prefixes, max_wants};
-ghost use Rattle.grequest.specs.RequestValues.{asked_by_request, ids_format};
+ghost use Rattle.ggrammar.specs.Limits.{profile};
+ghost use Rattle.grequest.specs.RequestValues.{asked_by_request, ids_format, limits_of};
 ghost use Rattle.gdag.specs.Levels.{is_in};
 ghost use Rattle.gsession.specs.Requesting.{batch_size, blank_request, ls_request, with_ids};
 ghost use Rattle.gsession.specs.Sessions.{max_specs};
@@ -35,6 +36,7 @@ pub(crate) fn refs_request<A: Allocator + Copy>(
     ensures asked { IfOk result (λ request. asked_by_request request
         ≡ Ls (ls_request specs.now unborn)) }
     ensures format { IfOk result (λ request. ids_format request ≡ None) }
+    ensures limits { IfOk result (λ request. limits_of request ≡ Some profile) }
 {
     let mut request = LsRefsRequest::new(alloc);
     request.set(LsRefsFlag::Unborn, unborn);
@@ -110,6 +112,7 @@ pub(crate) fn objects_request<A: Allocator + Copy>(
     ensures asked { IfOk result (λ request. asked_by_request request
         ≡ Fetches (with_ids blank.asked wants.now commons.now batch.now)) }
     ensures format { IfOk result (λ request. ids_format request ≡ Some blank.format) }
+    ensures limits { IfOk result (λ request. limits_of request ≡ Some blank.limits) }
 {
     let mut request = blank;
     request.set(FetchFlag::Done, batch.is_empty());

@@ -22,7 +22,7 @@ impl<A: Allocator + Copy> Session<A> {
     ghost use Rattle.grequest.specs.RequestValues.{IsOfFormat, asked_by_request};
     ghost use Rattle.gwalk.specs.Offers.{AreOffers};
     ghost use Rattle.gsession.specs.Offering.{AreOffersOf};
-    ghost use Rattle.gsession.specs.Requesting.{IsBatch, MakesNext, Requests, fetch_request, is_due, waiting_for};
+    ghost use Rattle.gsession.specs.Requesting.{HasLimitsFor, IsBatch, MakesNext, Requests, fetch_request, is_due, waiting_for};
     ghost use Rattle.gsession.specs.Sessions.{after_fault, no_memory};
     ghost use Rattle.gsession.specs.steps.Calls.{FitsBatch};
 
@@ -53,6 +53,7 @@ impl<A: Allocator + Copy> Session<A> {
             (Ok (asked_by_request request)))
             (λ fault. Requests self.old repo.now.graph.entries self.new (Err fault)) }
         ensures format { IfOk result (IsOfFormat self.old.format) }
+        ensures limits { IfOk result (HasLimitsFor self.old.options.limits) }
     {
         self.request_on(repo, &mut None)
     }
@@ -73,6 +74,7 @@ impl<A: Allocator + Copy> Session<A> {
             (Ok (asked_by_request request)))
             (λ fault. Requests self.old repo.now.graph.entries self.new (Err fault)) }
         ensures format { IfOk result (IsOfFormat self.old.format) }
+        ensures limits { IfOk result (HasLimitsFor self.old.options.limits) }
         ensures offers { OnOk result (IfSome offers.new
             (AreOffersOf self.new repo.now.graph.entries)) }
     {
@@ -96,6 +98,7 @@ impl<A: Allocator + Copy> Session<A> {
             (Err fault)
             × (self.new ≡ self.old)) }
         ensures format { IfOk result (IsOfFormat self.old.format) }
+        ensures limits { IfOk result (HasLimitsFor self.old.options.limits) }
         ensures offers { OnOk result (IfSome offers.new
             (AreOffersOf self.new repo.now.graph.entries)) }
     {
@@ -117,6 +120,7 @@ impl<A: Allocator + Copy> Session<A> {
             (λ request. MakesNext self.old g self.new (asked_by_request request))
             (λ fault. (self.new ≡ self.old) × (fault ≡ no_memory)) }
         ensures format { IfOk result (IsOfFormat self.old.format) }
+        ensures limits { IfOk result (HasLimitsFor self.old.options.limits) }
     {
         let alloc = self.allocator();
         let request = refs_request(alloc, self.refspecs.as_slice(), self.offers_unborn)?;
@@ -138,6 +142,7 @@ impl<A: Allocator + Copy> Session<A> {
             (λ request. MakesNext self.old repo.now.graph.entries self.new
             (asked_by_request request)) (λ fault. (self.new ≡ self.old) × (fault ≡ no_memory)) }
         ensures format { IfOk result (IsOfFormat self.old.format) }
+        ensures limits { IfOk result (HasLimitsFor self.old.options.limits) }
         ensures offers { OnOk result (IfSome offers.new
             (AreOffersOf self.new repo.now.graph.entries)) }
     {
@@ -156,6 +161,7 @@ impl<A: Allocator + Copy> Session<A> {
             × (self.new ≡ waiting_for self.old (asked_by_request request) batch.now))
             (λ _. self.new ≡ self.old) }
         ensures format { IfOk result (IsOfFormat self.old.format) }
+        ensures limits { IfOk result (HasLimitsFor self.old.options.limits) }
     {
         let alloc = self.allocator();
         let blank = blank_request(alloc, self.format, self.options);
@@ -226,6 +232,7 @@ impl<A: Allocator + Copy> Session<A> {
             ≡ Fetches (fetch_request self.old.options self.old.wants self.old.commons batch.now) }
         requires fits { FitsBatch self.old batch.now }
         requires format { IsOfFormat self.old.format request }
+        requires limits { HasLimitsFor self.old.options.limits request }
         ensures { MatchResult result
             (λ _. self.new ≡ waiting_for self.old (asked_by_request request) batch.now)
             (λ _. self.new ≡ self.old) }
