@@ -68,7 +68,7 @@ pub waits : {A : Type 0} (s : SessionState A) (now next : Option (Request A)) �
     → IsSession (record s { pending = option_map asked_by_request next }) → IfSome next (IsOfFormat s.format)
     → IfSome next (HasLimitsFor s.options.limits)
     → IsSession (record s { pending = option_map asked_by_request now }) × IfSome now (IsOfFormat s.format)
-      × IfSome now (HasLimitsFor s.options.limits)
+    × IfSome now (HasLimitsFor s.options.limits)
 waits s now next same is format limits = rw same (is, format, limits)
 
 -- ---- requests
