@@ -9,7 +9,7 @@ use std::alloc::{Allocator, Global};
 pub struct Limits {
     /// The maximum number of bytes in one read or write.
     pub max_per_call: usize,
-    /// The number of the allocation to refuse, counted from 1. No allocation is refused for 0.
+    /// The number of the allocation to refuse, counted from 1. The number 0 refuses no allocation.
     pub refused_allocation: u64,
 }
 
@@ -22,8 +22,7 @@ pub struct ActualResult {
     pub was_refused: bool,
 }
 
-/// The allocation to refuse: the one with this `number`, counted from the call of `start_counting`
-/// on.
+/// The allocation to refuse. `number` is its number, counted from the call to `start_counting`.
 #[derive(Clone, Copy)]
 pub(crate) struct RefusedAllocation<'m> {
     refusing_alloc: &'m RefusingAllocator<Global>,

@@ -1,5 +1,5 @@
-//! The objects that a client knows to be connected, because its refs reach them. A `known` fact
-//! states the ids that the client has marked. An `unheld` or `counted-past` fact states an ancestor
+//! Facts about the objects that a client marks as connected, because its refs reach them. A `known`
+//! fact states the ids of the marked objects. An `unheld` or `counted-past` fact states an ancestor
 //! of the given ids that the graph lacks. A `counted-past` fact also counts the visited objects. A
 //! slash separates lists of ids, and the last list holds the ids of the refs.
 
@@ -15,8 +15,8 @@ use ggraph::{Count, Graph, GraphFault, Order, Refs, missing_known};
 use gname::{Oid, RefName};
 use std::alloc::{Allocator, Global};
 
-/// Returns the result of a fact about a client with this repository text. One allocation by the
-/// client may be refused.
+/// Returns the result of a fact about a client with this repository text. `refusal` states which
+/// allocation of the client to refuse, if any.
 pub(crate) fn actual_result<A: Allocator + Copy>(
     alloc: Global,
     tested_alloc: A,

@@ -32,8 +32,8 @@ enum SearchResult<A: Allocator + Copy> {
     YesNo(bool),
 }
 
-/// Returns the result of a fact's search in the repository with this text. One allocation of the
-/// search may be refused.
+/// Returns the result of a fact's search in the repository with this text. `refusal` states which
+/// allocation of the search to refuse, if any.
 pub(crate) fn actual_result<A: Allocator + Copy>(
     alloc: Global,
     tested_alloc: A,

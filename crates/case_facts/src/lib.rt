@@ -17,8 +17,8 @@
 //!
 //! `case_text` defines facts and an allocator that refuses an allocation. `gname`, `grefs`,
 //! `ghello`, `gpkt`, `gscenario` and `ggraph` parse texts. `gclient` defines clients and the
-//! objects that they know, and `gcmd` prints faults. `ganswer`, `gclient`, `ggrammar` and other
-//! crates define the faults.
+//! objects that they mark as connected, and `gcmd` prints faults. `ganswer`, `gclient`, `ggrammar`
+//! and other crates define the faults.
 #![tactic(auto)]
 
 mod checking;

@@ -19,15 +19,16 @@ const LONG_ID: &[u8] = b"00112233445566778899aabbccddeeff00112233445566778899aab
 /// The ref name in the tested faults.
 const REF_NAME: &[u8] = b"refs/heads/a\x80";
 
-// The expected line of a fault, without `gitv2: fault`, and its `Display` text.
+// The expected printed line of a fault, without its prefix `gitv2: fault`, and the expected
+// `Display` text of the fault.
 #[derive(Clone, Copy)]
 struct ExpectedPrint<'a> {
     line: &'a [u8],
     text: &'a [u8],
 }
 
-/// Returns the expected line if some fault prints this line and has this `Display` text, otherwise
-/// the text `of no fault`.
+/// Returns the expected line if a tested fault prints this line and has the expected `Display`
+/// text. Otherwise returns the string `"of no fault"`.
 pub(crate) fn actual_result(alloc: Global, fact: &Fact<'_>) -> Result<String, Trouble> {
     let expected = ExpectedPrint {
         line: fact.expected.as_slice(),
@@ -40,8 +41,8 @@ pub(crate) fn actual_result(alloc: Global, fact: &Fact<'_>) -> Result<String, Tr
     }
 }
 
-// Returns whether some fault has this line and this text. Each tested fault of a message reports
-// packet position 7.
+// Returns whether a tested fault prints the expected line and has the expected `Display` text. Each
+// tested fault of a message reports packet position 7.
 fn is_printed_by_any_fault(alloc: Global, expected: ExpectedPrint<'_>) -> Result<bool, Trouble> {
     Ok(
         is_packet_fault(alloc, expected)?

@@ -69,7 +69,7 @@ fn wide_commits(
     Ok(commits)
 }
 
-// Returns the commit with this number. The commit's parents have the `count` numbers after it.
+// Returns the commit with this number. The parents of the commit have the next `count` numbers.
 fn commit(alloc: Global, format: Format, number: usize, count: usize) -> Result<Entry, Trouble> {
     let mut parents = Parents::new(alloc);
     for place in 1..=count {

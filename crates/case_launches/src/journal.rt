@@ -1,4 +1,5 @@
-//! The journal of a program's operations, one of which may fail.
+//! The journal of a program's operations. A chosen operation fails whenever the program performs
+//! it.
 
 use std::alloc::{AllocError, Global};
 use std::cell::RefCell;

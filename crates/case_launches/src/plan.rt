@@ -13,7 +13,7 @@ use std::alloc::Global;
 /// The line that a listening server prints.
 const LISTENING_LINE: &[u8] = b"listening PORT\n";
 
-/// The exit status of the program if its arguments do not match the usage, in which case it prints
+/// The exit status of the program if its arguments do not match the usage. The program then prints
 /// the line `USAGE_LINE`.
 pub(crate) const WRONG_USAGE_STATUS: u8 = 2;
 
@@ -108,8 +108,8 @@ impl<'b> Plan<'b> {
         Ok(())
     }
 
-    // Adds to the plan that the file contains the named text after the launch, if `text` names a
-    // text.
+    // Makes the plan expect that the file contains the named text after the launch, if `text` names
+    // a text.
     fn expect_file(&mut self, file: &'b str, text: Option<&'b str>) -> Result<(), Trouble> {
         if let Some(text) = text {
             let name = file_name_for(file);

@@ -11,7 +11,7 @@ use std::io;
 use std::io::{ErrorKind, Read, Write};
 
 /// The limits of a source or sink. A call transfers at most `max_per_call` bytes. The call with the
-/// number `failing_call`, counted from 1, fails; no call fails for 0.
+/// number `failing_call`, counted from 1, fails. If the number is 0, no call fails.
 #[derive(Clone, Copy)]
 pub struct DeviceLimits {
     max_per_call: usize,
@@ -100,7 +100,7 @@ impl<'a, 'w> Reader<'a, 'w> {
         self.unread.len()
     }
 
-    /// Returns whether a call of the source failed.
+    /// Returns whether a call to the source failed.
     pub fn has_failed(&self) -> bool {
         self.call_counter.is_down
     }
@@ -171,7 +171,7 @@ impl Writer {
         self.flushed_len == self.written.len()
     }
 
-    /// Returns whether a call of the sink failed.
+    /// Returns whether a call to the sink failed.
     pub fn has_failed(&self) -> bool {
         self.call_counter.is_down
     }

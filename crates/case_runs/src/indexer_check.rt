@@ -36,8 +36,8 @@ impl IndexerCheck {
         self.has_failed.set(false);
     }
 
-    /// Records a piece that the indexer receives. The bytes returned so far must end with the
-    /// piece, and the piece must begin after all earlier pieces.
+    /// Records a piece that the indexer receives. The bytes that the reader has returned so far
+    /// must end with the piece. The piece must begin after all earlier pieces.
     pub(crate) fn note_piece(&self, input: &[u8], piece: &[u8]) {
         let read_count = self.read_count.get();
         let start = read_count.saturating_sub(piece.len());
@@ -60,7 +60,7 @@ impl IndexerCheck {
         self.has_failed.set(true);
     }
 
-    /// Returns whether any call of the indexer broke a rule of this check.
+    /// Returns whether any call to the indexer broke a rule of this check.
     pub fn is_wrong(&self) -> bool {
         self.is_wrong.get()
     }

@@ -24,7 +24,7 @@ pub struct CommandRun<'b, 'i, 'm, A: Allocator + Copy> {
     pub command: Invocation<'b>,
     pub repository_text: &'b [u8],
     pub input: &'i [u8],
-    /// The number of the allocation to refuse, counted from 1. No allocation is refused for 0.
+    /// The number of the allocation to refuse, counted from 1. The number 0 refuses no allocation.
     pub refused_allocation: u64,
 }
 

@@ -1,5 +1,5 @@
-//! A fetch of a client whose repository is in a file. The file is in memory. At a chosen call to
-//! the file, the call fails or the run stops.
+//! A fetch of a client whose repository is in a file in memory. A chosen call to the file fails, or
+//! the run stops at that call.
 
 ghost use Rattle.std.specs.Prelude.{◌≡◌, IfOk};
 ghost use Rattle.glockfile.specs.declared.storage.Lockfile.TheVariants.{Absent};

@@ -135,8 +135,8 @@ pub fn conclude_fetch<A: Allocator + Copy, R: Sink, E: Sink>(
     }
 }
 
-// Fetches over a source and a sink. If the command names a connection's first line, the client
-// sends that line first.
+// Fetches over a source and a sink. If the command names a path, the client first sends the first
+// line of the connection.
 fn fetch_over_devices<A: Allocator + Copy, K: Indexer<A>, I: Source, O: Sink>(
     run: &CommandRun<'_, '_, '_, A>,
     repo: &mut Repo<A>,

@@ -62,7 +62,7 @@ pub struct Case<'a> {
     pub packet_offsets: Vec<usize>,
     /// The expected results when the request is truncated or one of its bytes is changed.
     pub table: Vec<TableLine<'a>>,
-    /// Whether the case is tested only with the whole input and with the input in pieces.
+    /// Whether the case is tested only with its input unchanged, whole or in pieces.
     pub is_long: bool,
     /// Whether each byte of the input is changed to every other value.
     pub is_deep: bool,

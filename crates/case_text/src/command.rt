@@ -200,8 +200,7 @@ fn take_option_value<'a>(words: &'a str, option: &'static str) -> (&'a str, &'a 
     }
 }
 
-// Returns `words` without the option with which they begin, or all words if they do not begin with
-// the option.
+// Returns the words after the option if `words` begins with it. Otherwise returns all words.
 fn without_option<'a>(words: &'a str, option: &'static str) -> &'a str {
     match words.strip_prefix(option) {
         Some(rest) => rest,

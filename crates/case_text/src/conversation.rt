@@ -60,7 +60,7 @@ pub struct Conversation {
     adds_response_ends: bool,
     // Whether the client has sent a request. If so, the server's next message is a reply.
     has_request: bool,
-    // Whether the first line of the client's connection is still missing.
+    // Whether the first line of the client's connection has not been added yet.
     awaits_hello: bool,
 }
 
@@ -105,8 +105,8 @@ impl Conversation {
         packet
     }
 
-    /// Returns the packet at `offset` if a message begins or the input ends there, otherwise
-    /// `None`.
+    /// Returns the packet at `offset` if a message begins there, or if the input ends there after a
+    /// whole message. Otherwise returns `None`.
     pub fn message_at(&self, offset: usize) -> Option<PacketStart> {
         let packet_start = self.packet_at(offset)?;
         if packet_start.start == offset && packet_start.frame == 0 {
@@ -131,7 +131,7 @@ impl Conversation {
         offset == 0 || offset == self.output.len() || self.message_ends.as_slice().contains(&offset)
     }
 
-    /// Returns whether the packets of the most recently read message begin at these offsets in the
+    /// Returns whether the packets of the last message in the input begin at these offsets in the
     /// message. The last offset in `expected` is the end of the message.
     pub fn has_packet_offsets(&self, expected: &[usize]) -> bool {
         let mut base = 0usize;

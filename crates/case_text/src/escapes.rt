@@ -57,8 +57,8 @@ pub(crate) fn expand_escapes(
     Ok(bytes)
 }
 
-// Appends the bytes of the first character, escape or pair of braces, and returns the remaining
-// text.
+// Appends the bytes for the first escape, or the first byte if no escape begins there. Returns the
+// remaining text.
 fn add_next<'a>(
     alloc: Global,
     texts: &[NamedText<'_>],
@@ -113,7 +113,7 @@ pub(crate) fn hex_value(letter: u8) -> u8 {
     }
 }
 
-// Appends the bytes that the text in braces stands for.
+// Appends the bytes for an escape in braces. `inside` is the text between the braces.
 fn add_braced(
     alloc: Global,
     texts: &[NamedText<'_>],
@@ -169,7 +169,7 @@ fn add_text(texts: &[NamedText<'_>], name: &[u8], bytes: &mut Vec<u8>) -> Result
     }
 }
 
-// Appends a fixed number, or the number of the repetition after scaling and shifting. The number
+// Appends a fixed number, or the number of the repetition times a factor plus an offset. The number
 // has the given count of digits, or as many digits as an id.
 fn add_number_escape(
     alloc: Global,

@@ -7,13 +7,13 @@ pub enum FactKind {
     ParsedText,
     /// The results of searches in a history of commits.
     HistorySearch,
-    /// The objects of a history that a client knows to be connected.
+    /// The objects of a history that a client marks as connected.
     ClientObjects,
     /// The line printed for a fault.
     PrintedFault,
     /// The results of calls with inputs near the size limits.
     SizeLimits,
-    /// The request to which a command line parses.
+    /// The result of parsing a command line.
     CommandLine,
     /// The results of random simulations.
     RandomSimulation,

@@ -84,7 +84,8 @@ impl<'a> Launch<'a> {
         Ok(true)
     }
 
-    // Reads a line that names an item of the folder.
+    // Reads a line about an item that exists before the launch, or about an item expected after the
+    // launch.
     fn read_initial_item(&mut self, keyword: &str, value: &'a str) -> Result<bool, Trouble> {
         let (name, value) = split_first_word(value);
         match keyword {

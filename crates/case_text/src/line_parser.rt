@@ -78,8 +78,8 @@ fn add_band_packets(
     Ok(())
 }
 
-// Appends the `object-format` line of a SHA-256 request, with a line feed for `C:` and without one
-// for `C.`.
+// Appends the `object-format` line of a SHA-256 request. The line ends with a line feed after the
+// keyword `C:`, but not after `C.`.
 fn add_format_entry(
     alloc: Global,
     keyword: &str,

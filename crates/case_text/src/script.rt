@@ -150,7 +150,8 @@ impl<'a> Script<'a> {
         Ok(())
     }
 
-    // Returns whether the rows after this line run only with ids of the other format.
+    // Returns whether the rows after this line run only with SHA-1 ids, but this script has SHA-256
+    // ids.
     fn excludes_format(&self) -> bool {
         self.format == Format::Sha256 && !self.runs_both_formats
     }

@@ -3,14 +3,15 @@
 //!
 //! | Line | Meaning |
 //! |---|---|
-//! | `cut 1-17 = OUTCOME` | the input ends after this many bytes |
-//! | `change 18 2-9 a-f = OUTCOME` | the byte at an offset is one of these |
-//! | `change 18 other = OUTCOME` | the same for all other bytes |
+//! | `cut 1-17 = OUTCOME` | the input ends after 1 to 17 bytes |
+//! | `change 18 2-9 a-f = OUTCOME` | the byte at offset 18 becomes one of the listed bytes |
+//! | `change 18 other = OUTCOME` | the byte at offset 18 becomes any other byte |
 //!
-//! An outcome is `nothing`, `as it stands`, `use NAME` or `TEXT \| FAULT`. `use NAME` stands for
-//! the messages of a talk. In the last form, `TEXT` is the text of an error to the client, and
-//! `FAULT` the printed line of the fault. In `TEXT` and `FAULT`, `{}` stands for the input bytes at
-//! the line's positions, in lower case.
+//! An outcome is `nothing`, `as it stands`, `use NAME` or `TEXT \| FAULT`. `nothing` stands for no
+//! reply, `as it stands` for the result of the unchanged request, and `use NAME` for the messages
+//! of a talk. In the last form, `TEXT` is the text of an error to the client, and `FAULT` is the
+//! printed line of the fault. In `TEXT` and `FAULT`, `{}` stands for the input bytes at the line's
+//! positions, in lower case.
 
 use crate::escapes::{hex_value, parse_number};
 use crate::packets::packet;
@@ -117,7 +118,7 @@ impl<'a> TableLine<'a> {
         }
     }
 
-    /// Returns whether the table's line covers this change.
+    /// Returns whether this line covers the change.
     pub fn covers(&self, change: Change) -> bool {
         match change {
             Change::Cut(offset) => self.is_cut && self.covers_offset(offset),

@@ -52,7 +52,7 @@ pub struct Row<'b> {
     /// Whether the row is also tested with a late peer, and over a socket while each allocation is
     /// refused in turn.
     pub is_late: bool,
-    /// Whether the row is tested only with the whole input and with the input in pieces.
+    /// Whether the row is tested only with its input unchanged, whole or in pieces.
     pub is_long: bool,
 }
 
@@ -190,7 +190,8 @@ fn fault_line(
     }
 }
 
-/// Returns whether the run stopped at a failed write.
+/// Returns whether the run wrote only a prefix of the expected output, and reported the failed
+/// write.
 pub fn is_as_expected_after_failed_write(row: &Row<'_>, results: &RunResults) -> bool {
     results.status == 1
         && row
@@ -236,8 +237,8 @@ pub(crate) fn is_as_expected_after_failed_stderr(row: &Row<'_>, results: &RunRes
 }
 
 /// Returns whether the run succeeded, or ended as expected after a refused allocation. A run that
-/// stops writes only complete messages of the expected output, and then reports the fault. A server
-/// also reports the fault to the client.
+/// stops early writes only complete messages of the expected output, and then reports the fault. A
+/// server also reports the fault to the client.
 pub fn is_as_expected_after_refusal(row: &Row<'_>, results: &RunResults) -> bool {
     is_as_expected(row, results)
         || ran_out_of_memory_at_load(row, results)
@@ -395,15 +396,16 @@ pub(crate) fn printed_fault_number(errors: &[u8]) -> usize {
 }
 
 /// Returns whether a run with a changed input printed a fault exactly if the run failed. A server's
-/// output must also begin with the advertisement.
+/// output must also begin with the advertisement, if any. After a first line, an error packet may
+/// replace the advertisement.
 pub(crate) fn is_valid_for_changed_input(row: &Row<'_>, results: &RunResults) -> bool {
     let prints_fault_if_failed = (results.status == 1)
         == results.errors.written_bytes().starts_with(b"gitv2: fault ");
     prints_fault_if_failed && advertises_or_refuses(row, results)
 }
 
-// Returns whether the output of a server begins with the row's advertisement, if any. A connection
-// with a first line may have an error packet instead.
+// Returns whether the output of a server begins with the row's advertisement, if any. If the
+// connection has a first line, the output may instead be an error packet.
 fn advertises_or_refuses(row: &Row<'_>, results: &RunResults) -> bool {
     match row.command.program {
         Program::Upload => has_advertisement(row, results),

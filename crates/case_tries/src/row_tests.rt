@@ -18,8 +18,8 @@ use case_text::{Change, PackTool, Program, Trouble, fault_text};
 use case_worlds::{SimulationResults, WorldInputs, run_one_by_one, run_with_refusal};
 use std::alloc::Global;
 
-/// An upper bound on the number of calls to a source or sink, and on the number of allocations, in
-/// a run of any row.
+/// An upper bound on the number of runs in a series. Each run makes fewer calls to a source or sink
+/// than this bound, and fewer allocations.
 const MAX_RUNS: usize = 1_000_000;
 
 /// The eight bits of a byte.
@@ -50,9 +50,9 @@ impl SeriesStep {
 // The state of a series of runs, each of which refuses the next allocation.
 #[derive(Clone, Copy)]
 struct RefusalProgress {
-    // The number of faults in the row's list that runs have printed so far.
+    // The number of faults in the row's list that the runs so far have printed.
     faults_seen: usize,
-    // Whether a server has reported a fault to the client in an earlier run.
+    // Whether an earlier run ran out of memory, but not while a server loaded its repository.
     has_served: bool,
 }
 
@@ -129,7 +129,7 @@ impl<'a, 'b> RowTest<'a, 'b> {
         Ok(false)
     }
 
-    // Returns whether a run of the whole input has the results of the row.
+    // Returns whether a run of the whole input has the row's expected results.
     fn runs_as_expected(&mut self, parameters: RunParameters) -> Result<bool, Trouble> {
         let results = self.run_whole_input(parameters)?;
         let is_right = is_as_expected(self.row, &results);
@@ -162,7 +162,7 @@ impl<'a, 'b> RowTest<'a, 'b> {
         self.row.command.program == Program::Simulate && self.row.conversation.errors.is_empty()
     }
 
-    // Returns whether a simulation with a check after each event has the outcomes of the row.
+    // Returns whether a simulation with a check after each event has the row's expected outcomes.
     fn runs_one_by_one(&mut self) -> Result<bool, Trouble> {
         let row = self.row;
         self.runs = self.runs.saturating_add(1);
@@ -240,8 +240,8 @@ impl<'a, 'b> RowTest<'a, 'b> {
         Ok(failed_run)
     }
 
-    // Tests the row with each call to a source or sink failing in turn. Each call transfers at most
-    // one byte.
+    // Tests the row while each call to this source or sink fails in turn. Each call transfers at
+    // most one byte.
     fn test_failing_calls(&mut self, device: Device) -> Result<Option<usize>, Trouble> {
         for call in 1..MAX_RUNS {
             match self.test_failing_call(device, call)? {
@@ -295,7 +295,7 @@ impl<'a, 'b> RowTest<'a, 'b> {
 
     // Tests a fetch into a file: without a failure, while another process holds the lock, and with
     // a failure or a stop at each call. For thorough rows, each write to standard error also fails
-    // in turn. For deep rows, each allocation is also refused in turn.
+    // in turn. For rows with `ByteChanges::EveryValue`, each allocation is also refused in turn.
     fn test_stored_file(&mut self) -> Result<Option<usize>, Trouble> {
         if !has_stored_file(self.row) {
             return Ok(None);
@@ -552,8 +552,8 @@ impl<'a, 'b> RowTest<'a, 'b> {
     }
 
     // Tests the row with each allocation refused in turn. The row's memory faults must occur in
-    // order. Once a run has gone beyond loading a server's repository, no later run may run out of
-    // memory during that loading.
+    // order. Once a run has run out of memory after a server loaded its repository, no later run
+    // may run out of memory during this loading.
     fn test_refusals_in_turn(&mut self) -> Result<Option<usize>, Trouble> {
         let mut progress = RefusalProgress {
             faults_seen: 0,
@@ -612,8 +612,9 @@ impl<'a, 'b> RowTest<'a, 'b> {
         !self.lists_memory_faults() || faults_seen == self.row.memory_faults.len()
     }
 
-    // Returns whether the fault is the most recently printed fault of the row's list, or the next
-    // one in the list. Returns `true` if the row lists no faults.
+    // Returns whether the run's fault is the most recently printed fault of the row's list, or the
+    // next fault in the list. Returns `true` if the row lists no faults, or if the run has the
+    // expected results.
     fn is_listed_fault(&self, results: &RunResults, faults_seen: &mut usize) -> bool {
         let listed = self.row.memory_faults;
         if !self.lists_memory_faults() || is_as_expected(self.row, results) {
@@ -656,7 +657,7 @@ fn has_fault_at(listed: &[Vec<u8>], index: usize, text: &[u8]) -> bool {
     }
 }
 
-// Returns whether the tests include this change of the byte at the offset `offset`.
+// Returns whether the tests flip the bits in `change` of the byte at `offset`.
 fn includes_change(byte_changes: ByteChanges, offset: usize, change: u8) -> bool {
     match byte_changes {
         ByteChanges::EveryValue => true,

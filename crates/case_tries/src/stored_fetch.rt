@@ -1,5 +1,5 @@
-//! A fetch into a file in memory, and checks of its results. A call to the file may fail, or the
-//! run may stop there.
+//! A fetch into a file in memory, and checks of its results. A chosen call to the file fails, or
+//! the run stops at that call.
 
 use crate::judge::{Row, is_memory_fault, printed_fault_number};
 use case_runs::{
@@ -36,7 +36,7 @@ impl StoredFetchParameters {
 pub(crate) struct StoredFetchResults {
     fetch: StoredFetch,
     output: Writer,
-    // The standard error, which receives the report or the line that reports a fault.
+    // Standard error, which receives the report or the line that reports a fault.
     errors: Writer,
     // Whether no byte of the input was read.
     is_unread: bool,
@@ -133,8 +133,8 @@ pub(crate) fn is_stored_as_expected(row: &Row<'_>, results: &StoredFetchResults)
         && !results.fetch.file.is_locked()
 }
 
-/// Returns whether a fetch had the expected results for a file that fails or stops at a call. A
-/// fetch without a failure makes `calls` calls to the file.
+/// Returns whether a fetch with this file problem had the expected results. A fetch without a
+/// failure makes `calls` calls to the file.
 pub(crate) fn is_as_expected_after_problem(
     row: &Row<'_>,
     results: &StoredFetchResults,

@@ -68,8 +68,8 @@ impl Variation {
         matches!(&self, Variation::ChangedBytes)
     }
 
-    /// Returns whether the option `--edge` includes this variation: the unchanged run, a launch of
-    /// the program, a connection, or a failing file.
+    /// Returns whether the option `--edge` includes this variation. The option includes the
+    /// unchanged run, launches of the program, connections, and failing files.
     pub fn is_edge(self) -> bool {
         matches!(
             &self,

@@ -142,7 +142,7 @@ impl EventGenerator {
         add_bytes("forge ", bytes.as_slice(), line)
     }
 
-    // Appends a request from another client, the stranger.
+    // Appends a `stranger` event, which is a request from another client.
     fn add_stranger_request(&mut self, line: &mut String) -> Result<(), AllocError> {
         let mut bytes = Vec::new(self.alloc);
         self.forger.add_request(&mut bytes)?;
@@ -210,8 +210,8 @@ impl EventGenerator {
         };
     }
 
-    // Ends the session if the fault with this number ends a session. Any other fault leaves the
-    // session unchanged.
+    // Ends the session if the last event was its next step, or if the fault's number is that of a
+    // fault that ends sessions.
     fn end_session_on_fault(&mut self, code: u32) {
         if self.was_next_step || matches!(code, 20..=54 | 84..=86) {
             self.step = SessionStep::Begin;

@@ -1,9 +1,10 @@
-//! Simulations with random events: `random whole: SEED COUNT / CLIENT`. CLIENT is the text of the
-//! client's repository. The graph of the fact is the server's repository. COUNT events run with
-//! `PlainPack`, and run again with allocations refused. With each faulty packer and each faulty
-//! indexer, a quarter of COUNT events run. The client's refs must be connected after each event.
-//! With `PlainPack`, each kind of outcome must occur. Rounds of acknowledgments are required only
-//! if `rounds` follows COUNT.
+//! Simulations with random events, for facts of the form `random whole: SEED COUNT / CLIENT`.
+//! CLIENT is the text of the client's repository. The graph of the fact is the server's repository.
+//! COUNT events run with `PlainPack`, and COUNT further events run with `PlainPack` and refused
+//! allocations. COUNT / 4 events run with each faulty packer and each faulty indexer. The client's
+//! refs must be connected after each event. With `PlainPack`, each kind of outcome must occur
+//! unless allocations are refused. Rounds of acknowledgments are required only if `rounds` follows
+//! COUNT.
 
 use crate::event_generator::EventGenerator;
 use crate::simulations::run_with_refusal;
@@ -245,8 +246,8 @@ impl<A: Allocator + Copy> RandomEvents<'_, A> {
         }
     }
 
-    // Runs all events a second time. Returns a description of the failure if the result differs, or
-    // if a required kind of outcome never occurred.
+    // Runs all events a second time, unless allocations are refused. Returns a description of the
+    // failure if the result differs, or if a required kind of outcome never occurred.
     fn check_after_events(
         &self,
         log: &str,

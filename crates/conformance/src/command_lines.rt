@@ -2,9 +2,10 @@
 //!
 //! The text of an `asked` fact holds the arguments, separated by spaces; `""` is the empty
 //! argument. The result is `none` for arguments that do not match the usage. Otherwise the result
-//! lists the command, the source or the address, the limit of a pack, and the number of
-//! connections. The next word is `plain` or `response-end`, which states how replies end. At the
-//! end are the files, refspecs or prefixes, in order.
+//! begins with the command. The place, the limit of a pack and the number of connections follow, if
+//! the command has them. The place is `stdio`, `stdio-server`, or an address and a path. The next
+//! word is `plain` or `response-end`, if the command states how replies end. The files, refspecs or
+//! prefixes are at the end, in order.
 
 use case_launches::push_arguments;
 use case_text::Trouble;
@@ -16,7 +17,7 @@ use std::alloc::Global;
 // The notation for an empty argument in a test file.
 const EMPTY_ARGUMENT: &str = "\"\"";
 
-/// Returns the request to which the arguments parse, as text.
+/// Parses the arguments, and returns the command as text.
 pub fn parsed_command(alloc: Global, text: &[u8]) -> Result<String, Trouble> {
     let Ok(text) = std::str::from_utf8(text) else {
         return Ok(String::from_str(alloc, "no text")?);
@@ -116,7 +117,7 @@ fn format_reply_ends(ends: Ends) -> &'static str {
     }
 }
 
-// Returns a line that consists of this start, the files and the arguments.
+// Returns a line that consists of `start`, the files and the arguments.
 fn command_text(
     alloc: Global,
     start: &str,

@@ -1,8 +1,8 @@
 //! Tests of deadlines: connections with a late peer and a simulated clock.
 //!
-//! These tests repeat the deadlines of `gtcp`. A server waits 10 seconds for the first line of a
-//! client, and 60 seconds for each request. A client waits 60 seconds for the next bytes of a
-//! server. A server waits 60 seconds for a client to accept bytes.
+//! The constants of this module repeat the deadlines of `gtcp`. A server waits 10 seconds for the
+//! first line of a client, and 60 seconds for each request. A client waits 60 seconds for the next
+//! bytes of a server. A server waits 60 seconds for a client to accept bytes.
 
 use crate::connection::{ConnectionRun, Endpoint, run_row_on_connections};
 use crate::late_peer::{ClockBehavior, LateConnection, LateListener, PeerBehavior, SimulatedClock};
@@ -25,8 +25,8 @@ const SILENCE_SECONDS: u64 = 60;
 /// The seconds within which a server answers an honest client after two silent clients.
 const ANSWER_SECONDS: u64 = 25;
 
-/// The delays in milliseconds of a slow peer before each byte. With some of these delays a first
-/// line or a request meets its deadline, and with others it is late. The last delay equals the
+/// The delays in milliseconds of a slow peer before each byte. With some of these delays, a first
+/// line or a request meets its deadline. With the others, it does not. The last delay equals the
 /// limit on silence, and the delay before it is just below that limit.
 const DELAYS: [u64; 8] = [100, 240, 250, 400, 900, 6_000, 59_999, 60_000];
 
@@ -295,8 +295,8 @@ struct ConnectionResults {
     time: Duration,
 }
 
-// Runs the row on one connection for each behavior. The peer of the connection behaves so. A client
-// uses only the first connection.
+// Runs the row on one connection for each behavior, with a peer of that behavior. A client uses
+// only the first connection.
 fn run_on_connections(
     alloc: Global,
     row: &Row<'_>,

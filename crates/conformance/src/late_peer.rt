@@ -78,13 +78,14 @@ impl Clock for SimulatedClock {
 /// The delays and limits of a peer.
 #[derive(Clone, Copy)]
 pub struct PeerBehavior {
-    /// The index of the first byte that the peer sends in a separate piece.
+    /// The index of the first byte that the peer sends slowly. From this byte on, each byte is a
+    /// separate piece.
     pub slow_from: usize,
-    /// The delay before each byte that the peer sends in a separate piece.
+    /// The delay before each byte that the peer sends slowly.
     pub delay: Duration,
     /// The index of the first byte that the peer never sends.
     pub silent_from: usize,
-    /// The number of bytes that the peer accepts.
+    /// The maximum number of bytes that the peer accepts.
     pub max_accepted: usize,
 }
 
@@ -164,8 +165,8 @@ impl<'r> LateConnection<'r> {
         }
     }
 
-    // Advances the simulated clock by this delay, but by at most the limit. A delay of `None` never
-    // ends.
+    // Advances the simulated clock by the delay `time`, but at most by `limit`. If `time` is
+    // `None`, the delay never ends.
     fn wait(
         &self,
         clock: &SimulatedClock,

@@ -14,15 +14,15 @@
 //! - The calls to the indexer are checked.
 //! - The program `gitv2` itself runs over files, standard streams and sockets.
 //! - A connection with a first line runs over a socket in this process, and both ends take turns.
-//! - A peer is late by a simulated clock.
+//! - A peer is late, as measured by a simulated clock.
 //! - Each call to each source and sink fails in turn.
-//! - Each call to the client's file fails in turn, or the run stops there.
+//! - Each call to the client's file fails in turn, or the run stops at that call.
 //! - The input is truncated after each byte, or one of its bytes is changed.
 //! - The request is changed as the case's table lists.
 //! - Each allocation is refused in turn.
 //!
 //! Facts about texts are also checked with the text read in pieces, and with each allocation
-//! refused in turn. Simulations also run in separate worlds. Further worlds run random events.
+//! refused in turn. Simulations also run in separate worlds. Random events run in further worlds.
 //! Pairs of a server and a client, and cases that describe a launch, run only by launching the
 //! program. The tests print a line for each failure. The last lines that they print count the runs.
 //!

@@ -94,7 +94,8 @@ fn test_run<R: System>(rt: &R, run: CaseRun<'_>, tally: &mut Tally) -> io::Resul
     }
 }
 
-// Returns the row of a run, or `None` if the run is to add response-end packets but can't.
+// Returns the row of a run, or `None` if the run adds response-end packets although they may not be
+// added.
 fn make_row<'b>(
     alloc: Global,
     script: &'b Script<'b>,
@@ -106,7 +107,8 @@ fn make_row<'b>(
     }
 }
 
-// Returns the command of a run, or `None` if the run is to add response-end packets but can't.
+// Returns the command of a run, or `None` if the run adds response-end packets although they may
+// not be added.
 fn make_command<'b>(
     script: &'b Script<'b>,
     run: CaseRun<'b>,

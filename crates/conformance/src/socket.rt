@@ -1,5 +1,5 @@
-//! Tests over a socket in one process, with `gtcp` at one end and a peer with the messages of a
-//! case at the other.
+//! Tests over a socket in one process. `gtcp` is at one end, and a peer that sends the messages of
+//! a case is at the other end.
 
 use crate::connection::{Endpoint, run_row_on_connections};
 use crate::peer::{Pace, Peer, TurnListener};
@@ -13,7 +13,8 @@ use std::time::Clock;
 /// The maximum number of bytes that a test writes to a socket before the other end reads them.
 const MAX_SOCKET_BYTES: usize = 16_384;
 
-/// An upper bound on the number of allocations in a run of any row.
+/// An upper bound on the number of runs with a refused allocation. Each run makes fewer allocations
+/// than this bound.
 const MAX_RUNS: u64 = 1_000_000;
 
 // The parameters of a run over a socket: the pace of the two ends, and the allocation to refuse.
@@ -56,7 +57,7 @@ where
 }
 
 // Returns whether the row is tested at this pace. The row must be a short connection with a first
-// line, and may not use a faulty packer or indexer. `AtOnce` skips clients that fail, because their
+// line, and may not name a packer or indexer. `AtOnce` skips clients that fail, because their
 // unread input would reset the connection.
 fn applies_to_row(row: &Row<'_>, pace: Pace) -> bool {
     let command = row.command;
@@ -69,7 +70,7 @@ fn applies_to_row(row: &Row<'_>, pace: Pace) -> bool {
         && (ends_well || pace != Pace::AtOnce)
 }
 
-// Tests a row in turns, with each allocation refused.
+// Tests a row at the pace `Turns`, once for each allocation, which is refused in that run.
 fn first_failure_with_refusals<R>(
     rt: &R,
     alloc: Global,

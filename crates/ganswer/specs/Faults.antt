@@ -17,7 +17,7 @@ use Rattle.ganswer.specs.declared.fault.ServeFault.{ServeFault}
 use Rattle.ganswer.specs.declared.fault.BuildFault.TheVariants as build
 use Rattle.ganswer.specs.declared.fault.ServeFault.TheVariants as serve
 
--- the number and name of the fault that a ref or a detached HEAD points at a missing object
+-- the number and the name of the fault for a ref or a detached HEAD that points at a missing object
 abbrev pub ref_missing : FaultRow
 ref_missing = (71, codes "RefMissing")
 
@@ -31,7 +31,7 @@ build_fault_row build.HeadMissing = ref_missing
 build_fault_row (build.MissingParent id) = missing_parent
 build_fault_row build.Memory = out_of_memory
 
--- the number, name and client text of a fault of answering a request
+-- the number and the name of a fault of answering a request, and its text for the client
 abbrev pub serve_fault_row : ServeFault → WhyRow
 serve_fault_row (serve.Reader fault) = row_of (packet_fault_row fault) (line_phrase fault)
 serve_fault_row (serve.Request fault) = why_row fault.why

@@ -38,14 +38,14 @@ abbrev pub IsSent : {A : Type 0} → Server A → FetchAsked → List (Entry A) 
 IsSent server asked list =
     IsListToSend server.graph.entries asked.wants (commons_of server asked) (tag_tips server asked) list
 
--- the packer may return this pack for the objects to send
+-- the packer is allowed to return this pack for the objects to send
 pub record SendsPack {A : Type 0} (server : Server A) (packs : Packs A) (asked : FetchAsked)
     (pack : Bytes) : Type 0 where
   pub list : List (Entry A)
   pub sent : IsSent server asked list
   pub packed : packs list pack
 
--- the packer may fail with this fault for the objects to send
+-- the packer is allowed to fail with this fault for the objects to send
 pub record FailsToPack {A : Type 0} (server : Server A) (fails : PackFails A) (asked : FetchAsked)
     (fault : PackFault) : Type 0 where
   pub list : List (Entry A)
@@ -61,7 +61,7 @@ RepliesWith server packs asked (Ready commons pack) =
 RepliesWith server packs asked (Acks commons) =
     (is_direct asked ≡ false) × (commons ≡ commons_of server asked) × ¬ (IsReadyFor server asked)
 
--- the server holds all wants, and may answer the fetch request with this reply
+-- the server holds all wants, and this reply is an allowed answer to the fetch request
 pub record FetchAnswer {A : Type 0} (server : Server A) (packs : Packs A) (asked : FetchAsked)
     (reply : FetchReply) : Type 0 where
   pub can : CanServe server asked

@@ -41,7 +41,7 @@ pub record Welcomes (format : Format) (capabilities : List Capability) : Type 0 
   pub goes_on : check_fault format capabilities ≡ None
   pub unborn : has_feature (codes "ls-refs") (codes "unborn") capabilities ≡ true
 
--- each client of the server's object format accepts its advertisement
+-- each client of the server's object format accepts the server's advertisement
 abbrev pub AdvertsWelcome : Type 0
 AdvertsWelcome = (format : Format) → Welcomes format (advertisement format)
 
@@ -71,8 +71,7 @@ LsAnswersAreHeld A =
 
 -- ---- objects
 
--- the client that sent a fetch request can read the answer, if the pack and the number of haves are within the
--- client's limits
+-- a client can read the answer to its fetch request, if the pack and the number of haves are within the client's limits
 abbrev pub FetchAnswersFit : (A : Type 0) → Packs A → Type 0
 FetchAnswersFit A packs =
     (server : Server A) (asked : FetchAsked) (reply : FetchReply) (reading : Reading)

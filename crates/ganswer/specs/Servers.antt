@@ -60,7 +60,7 @@ pub record IsFirstDangling {A : Type 0} (g : List (Entry A)) (refs : RefList) (n
   pub absent : node_at g id ≡ None
 
 -- The possible faults of creating a server: a missing parent, otherwise a ref with a missing id, otherwise a detached
--- HEAD with a missing id. If no object is missing, there may be no memory for the name HEAD.
+-- HEAD with a missing id. If no object is missing, the only possible fault is out of memory for the name HEAD.
 abbrev pub IsUnserved : {A : Type 0} → Server A → BuildFault A → Type 0
 IsUnserved server (build.NotClosed id) = IsFirstAbsent server.graph.entries (parents_in server.graph.entries) id
 IsUnserved server (build.RefMissing name) =

@@ -21,7 +21,7 @@ use std::fmt;
 pub enum BuildFault<A: Allocator + Copy = Global> {
     /// The graph rejects the object (faults 60 to 64 and 75).
     Graph(GraphFault),
-    /// The refs reject the name (69), or memory runs out (64).
+    /// The refs reject the name (fault 69), or memory runs out (fault 64).
     Refs(RefsFault),
     /// The graph does not hold this parent of an object (fault 70).
     NotClosed { id: Oid },
@@ -118,7 +118,7 @@ pub enum ServeFault {
     Memory,
 }
 
-// The number, the name and the client text of a fault.
+// The number and the name of a fault, and its text for the client.
 #[derive(Clone, Copy)]
 struct ServeRow {
     code: u32,
@@ -132,7 +132,7 @@ fn serve_row(code: u32, name: &'static str, phrase: &'static str) -> ServeRow
     ServeRow { code, name, phrase }
 }
 
-// Returns the number, the name and the client text of a fault of reading a packet.
+// Returns the number and the name of a fault of reading a packet, and its text for the client.
 fn line_row(fault: PacketFault) -> ServeRow
     ensures { row_view result ≡ row_of (packet_fault_row fault) (line_phrase fault) }
 {
@@ -163,7 +163,7 @@ impl ServeFault {
         self.fault_row().phrase
     }
 
-    /// Returns whether the fault is out of memory, in the server or in the packer.
+    /// Returns whether memory ran out, in the server or in the packer.
     pub fn is_memory(&self) -> bool
         ensures { result ≡ lacks_memory self.now }
     {
@@ -176,7 +176,7 @@ impl ServeFault {
         }
     }
 
-    // Returns the number, the name and the text of the fault.
+    // Returns the number and the name of the fault, and its text for the client.
     fn fault_row(&self) -> ServeRow
         ensures { row_view result ≡ serve_fault_row self.now }
     {

@@ -41,8 +41,8 @@ pub fn ls_answers_are_held<A: Allocator + Copy>()
     ensures { LsAnswersAreHeld A }
 {}
 
-/// Proves that the client that sent a fetch request can read the answer with the server's object
-/// format, if the pack and the number of haves are within the client's limits.
+/// Proves that a client can read the answer to its fetch request. The client must use the server's
+/// object format, and the pack and the number of haves must be within the client's limits.
 pub fn fetch_answers_fit<A: Allocator + Copy, K: Packer<A>>()
     ensures { (packer : K) → FetchAnswersFit A (MayPack (K.packs packer)) }
 {

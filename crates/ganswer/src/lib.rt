@@ -6,21 +6,21 @@
 //! - A [`Server`] has exactly the graph, the refs and the HEAD that were passed to [`Server::new`].
 //!   Its graph always holds all parents, the id of each ref, and the id of a detached HEAD. If an
 //!   object is missing, [`Server::new`] reports the first missing object, in a fixed order.
-//! - [`Server::add`], [`Server::set_ref`] and [`Server::set_head`] change only one object, one ref
-//!   and HEAD respectively. If a change fails, the call reports the first reason and changes
-//!   nothing.
+//! - [`Server::add`] adds at most one object, [`Server::set_ref`] sets one ref, and
+//!   [`Server::set_head`] sets HEAD. These calls change nothing else. A call that fails reports the
+//!   first reason and changes nothing.
 //! - [`Server::answer`] returns an answer that `specs/Answers.antt` allows for the request, with
 //!   any packer. For ls-refs the answer lists the requested refs with the requested attributes:
 //!   HEAD first, then the names in byte order. For fetch the answer is the common ids, the pack of
 //!   the objects to send, or both. A fetch request is refused only if it has no wants, the server
 //!   does not hold a want, the packer fails, or memory runs out. The fault contains the first want
-//!   that the server does not hold. The ids of an answer have the format of the graph, and
-//!   its acknowledgments have the limits of the request. With any limits, a request never fails
-//!   because its answer is too long.
+//!   that the server does not hold. The ids of an answer have the format of the graph, and its
+//!   acknowledgments have the limits of the request. Whatever the limits, no request fails because
+//!   its answer has too many lines or too many ids.
 //! - [`Server::answer`] uses exactly one result of the packer if the answer contains a pack or the
-//!   packer fails. In all other cases, `answer` uses no result of the packer. Out of memory never
-//!   hides a fault of the packer (`specs/OnePack.antt`). After a failure, the packer is not asked
-//!   for another pack ([`OnePack`]).
+//!   packer fails. In all other cases, `answer` uses no result of the packer. It never reports out
+//!   of memory instead of a fault of the packer (`specs/OnePack.antt`). After a failure, the packer
+//!   is not asked for another pack ([`OnePack`]).
 //! - [`Server::answer_fetch`] has the same contract, but accepts only fetch requests.
 //! - [`Server::begin_fetch`] returns the answer to a fetch request before the objects are packed
 //!   (`specs/BegunFetches.antt`). The caller can then pack the objects in parts.
@@ -31,12 +31,13 @@
 //! - By [`laws`], a client of the same object format can read and accept the advertisement. A
 //!   server has exactly one answer to each ls-refs request, and holds the id of each line of the
 //!   answer. With a faithful packer, a server has at most one answer to each request of any kind.
-//!   Acknowledged ids are haves of the request that the server holds. If a client holds the full
-//!   history of the haves, inserting the pack gives it the full history of the wants. If the server
-//!   holds all wants, a request fails only if the packer fails or memory runs out. Answers are
-//!   well-formed messages, so a client of the same object format can read them, if its limits allow
-//!   the haves of its request. Changes to a server never remove objects or change its object
-//!   format.
+//!   Acknowledged ids are haves of the request that the server holds. Consider a client that holds
+//!   the full history of the haves, and agrees with the server about every object that both hold.
+//!   Inserting the pack gives this client the full history of the wants. If the server holds all
+//!   wants, a request fails only if the packer fails or memory runs out. Answers are well-formed
+//!   messages. A client of the same object format can read them, if the number of haves in its
+//!   request and the pack are within its limits. Changes to a server never remove objects or change
+//!   its object format.
 //! - Each fault has a number, a name and a text. A fault of a request also has a text for the
 //!   client. [`ServeFault::is_memory`] returns whether memory ran out.
 //! - Every call returns, without a panic, an overflow or a read out of bounds.
@@ -48,12 +49,14 @@
 //!
 //! # What the contracts do not rule out
 //!
-//! Any call that allocates may report out of memory. `answer` may report it for an ls-refs request.
-//! For a fetch request, `answer` may report it only if the server holds all wants, and not after it
-//! called the packer. `advert` may report out of memory at any time, `new` if no object is missing,
-//! `add` for a new object, and `set_ref` for a new name. A call may take any amount of time, and
-//! more memory than it needs. `OnePack` may call its packer several times and use one of the
-//! results. Formatting a fault may return `fmt::Error` although the text was written correctly.
+//! No contract rules out that a call that allocates reports out of memory. For an ls-refs request,
+//! `answer` can do so at any time. For a fetch request, `answer` can do so only if the server holds
+//! all wants and the packer was not asked for a pack. `advert` can report out of memory at any
+//! time, `new` if no object is missing, `add` for a new object, and `set_ref` for a new name.
+//!
+//! No contract bounds the time that a call takes or the memory that it uses. No contract rules out
+//! that `OnePack` calls its packer several times and uses one of the results. No contract rules out
+//! that formatting a fault returns `fmt::Error` although the text was written correctly.
 //!
 //! # Dependencies
 //!

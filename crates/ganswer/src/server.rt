@@ -21,7 +21,7 @@ use std::alloc::{Allocator, Global};
 use std::marker::Model;
 
 /// A served repository: a graph, refs and HEAD (gitglossary(7), "ref", "HEAD"). The graph holds all
-/// parents, the id of each ref, and the id of a detached HEAD. HEAD may be unborn.
+/// parents of its objects, the id of each ref, and the id of a detached HEAD. HEAD may be unborn.
 #[derive(Drop)]
 pub struct Server<A: Allocator + Copy = Global> {
     graph: Graph<A>,
@@ -51,11 +51,11 @@ impl<A: Allocator + Copy> Server<A> {
     /// Creates a server from a graph, refs and HEAD.
     ///
     /// Fails with `NotClosed` for the first parent that the graph does not hold. Otherwise fails
-    /// with `RefMissing` for the first ref by name whose id the graph does not hold. Otherwise
-    /// fails with `HeadMissing` if HEAD is detached at an id that the graph does not hold. The
-    /// faults `NotClosed`, `RefMissing` and `HeadMissing` are reported even if memory has run out.
-    /// If no object is missing, fails with `Memory` if there is no memory for the name HEAD. A
-    /// failed call drops the graph, the refs and HEAD.
+    /// with `RefMissing` for the first ref, in the order of names, whose id the graph does not
+    /// hold. Otherwise fails with `HeadMissing` if HEAD is detached at an id that the graph does
+    /// not hold. The faults `NotClosed`, `RefMissing` and `HeadMissing` are reported even if memory
+    /// has run out. If no object is missing, fails with `Memory` if there is no memory for the name
+    /// HEAD. A failed call drops the graph, the refs and HEAD.
     pub fn new(graph: Graph<A>, refs: Refs<A>, head: Head<A>) -> Result<Server<A>, BuildFault<A>>
         ensures { Makes (server_of graph refs head) result }
     {
@@ -199,8 +199,8 @@ impl<A: Allocator + Copy> Server<A> {
         &self.name_of_head
     }
 
-    /// Returns the id that the ref at index `place` peels to, or `Some(None)` if the ref points at
-    /// no tag, or at a tag that peels to no commit. Returns `None` if the peeled id was not looked
+    /// Returns the id that the ref at index `place` peels to, or `Some(None)` if the ref does not
+    /// point at a tag or its tag peels to no commit. Returns `None` if the peeled id was not looked
     /// up before.
     pub fn peeled_at(&self, place: usize) -> Option<Option<Oid>>
         ensures { (ref : Name × Id) → slice_get self.now.refs place ≡ Some ref
@@ -238,7 +238,7 @@ fn first_missing_parent<A: Allocator + Copy>(graph: &Graph<A>) -> Option<Oid>
     None
 }
 
-// Returns the peeled ids of the refs, or fewer if memory runs out. Fails with the index of the
+// Returns the peeled ids of the refs, or fewer ids if memory runs out. Fails with the index of the
 // first ref whose id the graph does not hold.
 fn check_refs<A: Allocator + Copy>(
     graph: &Graph<A>,

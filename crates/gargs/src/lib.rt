@@ -1,16 +1,16 @@
 //! The arguments of the command line, parsed into a command.
 //!
-//! [`read_command`] takes the arguments from the system, and returns a [`Gitv2Command`] with parsed
+//! [`read_command`] takes the program's arguments, and returns a [`Gitv2Command`] with parsed
 //! parameters. [`read_command`] parses an address and a path as a `Location`, a limit as a
-//! `PackLimit`, and a flag as the form of replies. The function leaves file names, refspecs and
-//! prefixes unparsed, and opens no file.
+//! `PackLimit`, and the flag `--response-end` as an `Ends`. The function leaves file names,
+//! refspecs and prefixes unparsed, and opens no file.
 //!
 //! # Proved
 //!
-//! - For any arguments a call returns and is memory safe.
-//! - Private functions parse a limit and a count of connections from a text of at least one decimal
-//!   digit. The functions accept exactly the limits up to 67,108,864, and the counts from 1 to
-//!   1,000,000 (`specs/Numbers.antt`).
+//! - For any arguments, a call returns and is memory-safe.
+//! - Private functions parse a limit and a number of connections from a text of at least one
+//!   decimal digit. The functions accept exactly the limits up to 67,108,864, and the numbers of
+//!   connections from 1 to 1,000,000 (`specs/Numbers.antt`).
 //!
 //! # Only tested
 //!
@@ -20,12 +20,13 @@
 //!
 //! # What the contracts do not rule out
 //!
-//! An implementation may reject any arguments, and may return any command for any arguments.
+//! No contract rules out that [`read_command`] rejects any arguments, or returns any command for
+//! any arguments.
 //!
 //! # Dependencies
 //!
-//! The crate uses `clap` for arguments, `gtcp` for locations, and `gcmd` for the limit of a pack
-//! and the form of replies.
+//! The crate uses `clap` for arguments, `gtcp` for locations, and `gcmd` for `PackLimit` and
+//! `Ends`.
 #![tactic(auto)]
 
 mod command;

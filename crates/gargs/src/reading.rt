@@ -91,7 +91,8 @@ fn transport_of(matches: &ArgMatches<'_>, flag: &str) -> Option<Transport> {
     }
 }
 
-// Returns the location with the address in this option and the path in the option `path`.
+// Returns the location whose address is the value of this option, and whose path is the value of
+// the option `path`.
 fn place_in(alloc: Global, matches: &ArgMatches<'_>, option: &str) -> Option<Location> {
     Location::new(alloc, matches.get_str(option)?, matches.get_str("path")?)
 }

@@ -3,7 +3,8 @@
 use clap::{Arg, ArgAction, Command};
 use std::alloc::{AllocError, Global};
 
-// One or more arguments of a command, with the name under which `clap` looks them up.
+// A flag, an option with a value, or positional arguments of a command, with the name under which
+// `clap` looks them up.
 #[derive(Clone, Copy)]
 enum Word {
     // `--NAME`

@@ -130,7 +130,7 @@ module _ {A : Type 0} (start : Start A) where
 
 module _ {A : Type 0} (indexes : Indexes A) (index_fails : IndexFails) (start : Start A) where
   -- The client reads the advertisement and the replies of the turns, and `last` is the client's state afterwards.
-  -- `Rest` holds of the remaining input.
+  -- `Rest` holds for the remaining input.
   pub record Converses (input : Input) (talk : List Turn) (last : ClientState A) (Rest : Input → Type 0) : Type 0 where
     pub few : length start.refspecs ≤ max_specs
     pub packets : List Packet

@@ -9,7 +9,8 @@ use Rattle.gclient.specs.Conversations.{FailsToSend}
 abbrev pub hello_bytes : Hello → Bytes
 hello_bytes hello = canonical_all (canonical_hello hello)
 
--- the part of the output before a moment at which the sink had not failed
+-- the part of the output up to a moment at which the sink has not failed; `written` and `passed` are the written and
+-- the flushed bytes at that moment
 abbrev pub head_of : Output → Option Bytes → Option Bytes → Output
 head_of output written passed = record {
   written = record { old = output.written.old; new = written };
@@ -18,7 +19,8 @@ head_of output written passed = record {
   is_down = false;
 }
 
--- the part of the output after a moment at which the sink had not failed
+-- the part of the output from a moment at which the sink has not failed; `written` and `passed` are the written and the
+-- flushed bytes at that moment
 abbrev pub tail_of : Output → Option Bytes → Option Bytes → Output
 tail_of output written passed = record {
   written = record { old = written; new = output.written.new };
@@ -27,7 +29,7 @@ tail_of output written passed = record {
   is_down = output.is_down;
 }
 
--- the client writes and flushes the first line, and `Rest` holds of the rest of the output
+-- the client writes and flushes the first line, and `Rest` holds for the rest of the output
 pub record HasGreeted (hello : Hello) (output : Output) (Rest : Output → Type 0) : Type 0 where
   pub written : Option Bytes
   pub passed : Option Bytes

@@ -38,7 +38,7 @@ ending_bytes format = request_bytes format Empty
 
 -- ---- the bytes read
 
--- The client reads the advertisement of a server that a client of this object format supports. `Rest` holds of the
+-- The client reads the advertisement of a server that a client of this object format supports. `Rest` holds for the
 -- remaining input. `format` is the object format that the advertisement names.
 pub record HasHeard (input : Input) (format : Format) (capabilities : List Capability) (Rest : Input → Type 0)
     : Type 0 where

@@ -39,8 +39,8 @@ AsksNext client asked waiting = Requests client.session client.repo.graph.entrie
 
 -- ---- an accepted reply
 
--- the packets are an ls-refs reply, which the client accepts and which determines the requested ref updates and the
--- wants
+-- the packets are an ls-refs reply, and the client accepts the reply; the reply determines the requested ref updates
+-- and the wants
 pub record TakesRefs {A : Type 0} (waiting : SessionState A) (old : ClientState A) (packets : List Packet)
     (new : ClientState A) : Type 0 where
   pub reply : LsReply
@@ -51,7 +51,7 @@ pub record TakesRefs {A : Type 0} (waiting : SessionState A) (old : ClientState 
   pub stays : new.repo ≡ old.repo
 
 module _ {A : Type 0} (indexes : Indexes A) (index_fails : IndexFails) where
-  -- the packets are a fetch reply, which the client accepts and which has acknowledgments, a pack, or both
+  -- the packets are a fetch reply, and the client accepts the reply; the reply has acknowledgments, a pack, or both
   pub record TakesObjects (waiting : SessionState A) (asked : FetchAsked) (old : ClientState A) (packets : List Packet)
       (new : ClientState A) : Type 0 where
     pub reply : FetchReply

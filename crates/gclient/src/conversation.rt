@@ -111,7 +111,8 @@ pub fn fetch_over_with<S: Source, W: Sink, A: Allocator + Copy, K: Indexer<A>>(
     fetched
 }
 
-// Fetches over a reader and a writer whose sink has not failed.
+// Fetches from the source, and sends the requests through the writer. Requires that the writer has
+// not failed.
 fn fetch_to<S: Source, W: Sink, A: Allocator + Copy, K: Indexer<A>>(
     repo: &mut Repo<A>,
     source: &mut S,
@@ -216,8 +217,9 @@ fn talk<S: Source, W: Sink, A: Allocator + Copy, K: Indexer<A>>(
     Ok(taken.unborn)
 }
 
-// Requests objects in rounds until the server sends a pack. The conversation began before this
-// call, from earlier states of the source and the sink.
+// Requests objects in rounds until the server sends a pack. The caller has already begun the
+// conversation. In the contract, `source` and `sink` are the states in which the conversation
+// began.
 fn fetch_all<S: Source, W: Sink, A: Allocator + Copy, K: Indexer<A>>(
     repo: &mut Repo<A>,
     session: &mut Session<A>,

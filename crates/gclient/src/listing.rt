@@ -22,8 +22,8 @@ use std::alloc::Allocator;
 /// after the reply.
 ///
 /// The ids have the object format that the advertisement names. The request has `unborn` exactly
-/// when the server offers to report an unborn `HEAD`, even if `asked` differs. The limits of
-/// `asked` do not matter.
+/// when the server offers to report an unborn `HEAD`, whether or not `asked` has `unborn`. The
+/// limits of `asked` have no effect.
 ///
 /// Fails with `NoBuffer` (28), and reads nothing, if there is not enough memory for the reader's
 /// buffer. Fails with `Message` if the advertisement or the reply is malformed. The faults of an

@@ -43,7 +43,7 @@ pub(crate) fn hear<S: Source, A: Allocator + Copy>(
 }
 
 /// Makes the session's next request, and sends it. `offers` holds the state of the walk that
-/// selects haves, before and after the request.
+/// selects haves. A request for objects updates this state.
 pub(crate) fn ask<W: Sink, A: Allocator + Copy>(
     repo: &Repo<A>,
     session: &mut Session<A>,

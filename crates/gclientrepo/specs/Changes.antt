@@ -40,7 +40,7 @@ AddsLocal old entry new (Err (Graph fault)) =
     × IsCause old.graph.format old.graph.entries entry fault
 AddsLocal old entry new (Err _) = ⊥
 
--- the ids are connected, and the new repository has the same graph, with every object that the ids reach marked
+-- the ids are connected, the graph is unchanged, and every object that the ids reach is now marked
 pub record Marks {A : Type 0} (old : RepoState A) (ids : List Id) (new : RepoState A) : Type 0 where
   pub graph : new.graph ≡ old.graph
   pub connected : All (IsConnected old.graph.entries) ids

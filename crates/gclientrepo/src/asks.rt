@@ -11,7 +11,7 @@ use std::alloc::{AllocError, Allocator, Global};
 use std::hash::{BuildHasherDefault, DefaultHasher};
 use std::marker::Model;
 
-/// The hasher of ref names. A malicious peer may choose names with equal hashes. Equal hashes are
+/// The hasher of ref names. A malicious peer can choose names with equal hashes. Equal hashes are
 /// easy to find for std's fast hasher, but not for `DefaultHasher`.
 type NameHasher = BuildHasherDefault<DefaultHasher>;
 

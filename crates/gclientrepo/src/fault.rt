@@ -15,9 +15,10 @@ use std::fmt;
 /// The reason why a call on a repository failed.
 #[derive(Debug, Drop)]
 pub enum RepoFault<A: Allocator + Copy = Global> {
-    /// The repository does not hold this parent of the object to add.
+    /// The object to add has the parent `id`, which the repository does not hold.
     MissingParent { id: Oid },
-    /// The ref with this name is the first ref, in the order of the names, that is not connected.
+    /// The ref `name` is not connected. All refs before it, in the order of the names, are
+    /// connected.
     UnconnectedRef { name: RefName<A> },
     /// The new id of a ref is not connected: it reaches the id `missing`, which the repository does
     /// not hold.

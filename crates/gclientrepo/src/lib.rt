@@ -25,7 +25,8 @@
 //!   memory does not hide any other fault. In any other graph, a lack of memory for a walk
 //!   (`RepoFault::Graph`) may hide an unconnected ref or id, but never an absent id.
 //! - A failed call leaves the repository and its marks unchanged.
-//! - [`Repo::missing`] returns an id that is missing in the ancestries of the given ids.
+//! - [`Repo::missing`] returns an id that one of the given ids reaches and that the repository does
+//!   not hold, if there is such an id.
 //! - Each fault has the number, the name and the text of its row in `specs/Faults.antt`.
 //! - No call panics, overflows or reads out of bounds, and each call returns.
 //!
@@ -36,24 +37,25 @@
 //!
 //! # Only tested
 //!
-//! If memory is available, calls use it instead of reporting out of memory. The program
-//! `conformance` repeats many fetches, and each time makes a different allocation fail.
+//! No call reports out of memory while enough memory is available. The program `conformance`
+//! repeats many fetches, and each time makes a different allocation fail.
 //!
 //! # What the contracts do not rule out
 //!
-//! If several ids are missing, a call may return any of them. A call may report out of memory
-//! although memory is available, but not when it adds an object that the repository already holds.
-//! A graph may store an object before one of its parents. Then a lack of memory for a walk may hide
-//! an unconnected ref or id, or refs that can't be set. A walk may continue past marked objects. A
-//! call may take any time, and more memory than it needs. No clause says which allocator provides
-//! the memory. [`Asks::allocator`] may return any allocator of its type, and [`Asks::ids`] may use
-//! that allocator for its result. Formatting a fault may return `fmt::Error` for no reason. With
-//! format options, such as a width, formatting may write a different text.
+//! If several ids are missing, no contract says which of them a call returns. No contract rules out
+//! that a call reports out of memory although memory is available, unless the call adds an object
+//! that the repository already holds. A call may need a walk if the graph stores an object before
+//! one of its parents. A lack of memory for the walk can hide an unconnected ref or id, or refs
+//! that can't be set. No contract rules out that a walk continues past marked objects. No contract
+//! says which allocator provides memory, which allocator [`Asks::allocator`] returns, or which
+//! allocator [`Asks::ids`] uses for its result. No contract rules out that formatting a fault
+//! returns `fmt::Error` even if every write succeeds. No contract says what formatting writes with
+//! options, such as a width.
 //!
-//! No clause bounds the time of a call. In this implementation, adding a requested update takes one
-//! hash look-up of the ref's name. Settling `n` updates of `r` refs takes time proportional to `(n
-//! + r) log r`. Settling also walks over the graph for each update that moves an existing ref,
-//! unless the update is forced.
+//! No contract bounds the time or the memory of a call. In this implementation, adding a requested
+//! update takes one hash look-up of the ref's name. Settling `n` updates of `r` refs takes time
+//! proportional to `(n + r) log r`. Settling also walks over the graph for each update of an
+//! existing ref to a different id, unless the update is forced.
 //!
 //! # Dependencies
 //!

@@ -194,8 +194,8 @@ impl<A: Allocator + Copy> Repo<A> {
     /// object that the id reaches.
     ///
     /// Fails with `UnconnectedId` if the repository does not hold an id that the new id reaches.
-    /// Otherwise fails with `Refs` if the ref is HEAD or if there would be too many refs, and only
-    /// then if out of memory. If [`Repo::missing`] needs a walk, out of memory for the walk
+    /// Otherwise fails with `Refs` if the ref is HEAD or if there would be too many refs. Otherwise
+    /// fails only if out of memory. If [`Repo::missing`] needs a walk, out of memory for the walk
     /// (`Graph`) may be reported instead of these faults. A failed call leaves the repository
     /// unchanged.
     pub fn set_local_ref(&mut self, name: RefName<A>, id: Oid) -> Result<(), RepoFault<A>>
@@ -231,13 +231,13 @@ impl<A: Allocator + Copy> Repo<A> {
     /// Makes each requested update if the ref is new, or if the update is forced or a fast-forward.
     /// All updates happen at once, and all other refs are unchanged. Returns the outcome of each
     /// requested update, in the order of the list. All outcomes depend on the refs before the call.
-    /// Marks every object that the new ids reach before moving any ref.
+    /// Before it moves any ref, the call marks every object that the new ids reach.
     ///
     /// Fails with `NotConnected` if the repository does not hold an id that the new ids reach.
-    /// Otherwise fails with `Refs` if an update is for HEAD or if there would be too many refs, and
-    /// only then if out of memory. If [`Repo::missing`] needs a walk, out of memory for the walk
-    /// (`Graph`) may be reported instead of these faults. A failed call leaves the repository
-    /// unchanged.
+    /// Otherwise fails with `Refs` if an update is for HEAD or if there would be too many refs.
+    /// Otherwise fails only if out of memory. If [`Repo::missing`] needs a walk, out of memory for
+    /// the walk (`Graph`) may be reported instead of these faults. A failed call leaves the
+    /// repository unchanged.
     pub fn settle(&mut self, asks: &Asks<A>) -> Result<Vec<RefUpdate, A>, RepoFault<A>>
         ensures settles { MatchResult result
             (λ updates. SettlesAsks self.old asks.now self.new (Ok updates.items))

@@ -38,7 +38,7 @@ use Rattle.gcmd.specs.declared.fault.ProgramFault.TheVariants as program
 abbrev pub IsSpecText : Bytes → Type 0
 IsSpecText text = (spec : Refspec) × IsSpec text spec
 
--- the fault of the first argument that is not a refspec, or out of memory for an argument
+-- the fault of the first argument that is not a refspec, or for which memory runs out
 pub record RefusesWord (words : List Bytes) (fault : SpecFault) : Type 0 where
   pub front : List Bytes
   pub word : Bytes
@@ -55,7 +55,7 @@ ReadsSpecs words (Err _) = ⊥
 
 -- ---- files
 
--- the value for the absent HEAD of a client's repository
+-- the value of HEAD in a client's repository, which has no HEAD
 abbrev pub no_head : {A : Type 0} → Head A
 no_head = head.None
 

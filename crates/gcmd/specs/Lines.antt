@@ -57,7 +57,7 @@ pub record ReadsEach (input : Input) (lines : List Packet) (ended : Result (Unit
   pub stops : StopsAfter (length lines) (record { old = between; new = input.read.new }) ended
   pub source : LeavesSource input.is_down ended
 
--- these packets are read, and reading may or may not stop after them
+-- these packets are read, whether or not reading stops after them
 abbrev pub ReadsSome : Input → List Packet → Type 0
 ReadsSome input lines =
     ReadsPackets input.read lines ⊎ ((ended : Result (Unit {0}) PacketFault) × ReadsEach input lines ended)

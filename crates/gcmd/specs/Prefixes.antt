@@ -6,7 +6,7 @@ use Rattle.gpkt.specs.Packets.{Bytes}
 use Rattle.gcmd.specs.declared.fault.ProgramFault.{ProgramFault}
 use Rattle.gcmd.specs.declared.fault.ProgramFault.TheVariants as program
 
--- the fault of the first argument that is not a prefix, or out of memory for an argument
+-- the fault of the first argument that is not a prefix, or for which memory runs out
 pub record RefusesPrefix (words : List Bytes) (fault : NameFault) : Type 0 where
   pub front : List Bytes
   pub word : Bytes

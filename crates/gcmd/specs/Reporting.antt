@@ -23,7 +23,7 @@ abbrev pub update_lines : {A : Type 0} → List (Ask A) → List RefUpdate → B
 update_lines (ask ∷ asks) (update ∷ updates) = update_line ask update ++ update_lines asks updates
 update_lines _ _ = []
 
--- the line for an unborn HEAD of the server, with the branch at which it points
+-- the line for an unborn HEAD of the server, with the branch that it points at; nothing if HEAD is not unborn
 abbrev pub unborn_line : Option Name → Bytes
 unborn_line None = []
 unborn_line (Some name) = codes "unborn " ++ (name ++ codes "\n")

@@ -22,8 +22,8 @@ use Rattle.gcmd.specs.declared.fault.ProgramFault.{ProgramFault}
 use Rattle.gcmd.specs.declared.fault.ProgramFault.TheVariants as program
 use Rattle.gcmd.specs.declared.stored.OpenedFile.{OpenedFile}
 
--- a stored file before and after a run: the texts of the file, if the storage records them, and the lockfile that the
--- run holds at the end
+-- a stored file before and after a run of the program: the texts of the file, if the storage records them, and the
+-- program's lockfile at the end
 pub record Stored : Type 0 where
   pub old : Option Texts
   pub new : Option Texts
@@ -32,7 +32,7 @@ pub record Stored : Type 0 where
 abbrev pub stored_of : {T : Type 0} → (T → Option Texts) → (T → Lockfile) → T → T → Stored
 stored_of texts lockfile old new = record { old = texts old; new = texts new; lockfile = lockfile new }
 
--- after it was read, the file only ever had its old text
+-- after the file was read, it never had another text
 abbrev pub IsKept : Stored → Type 0
 IsKept stored = KeepsStates stored.old stored.new
 

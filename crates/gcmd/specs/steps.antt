@@ -1,4 +1,4 @@
--- The steps: definitions that only private functions and proofs use.
+-- The definitions that only private functions and proofs use.
 pub mod Lines
 pub mod Outputs
 pub mod Printing

@@ -16,11 +16,12 @@ use ggraph::{GraphFault, Order, Repository, has_connected_refs, load};
 use gpkt::{Down, Sink};
 use std::alloc::Allocator;
 
-/// The maximum length in bytes of a report: its words, and two numbers of 20 digits.
+/// A bound in bytes on the length of a report, which has fixed words and two numbers of at most 20
+/// digits.
 const MAX_REPORT: usize = 76;
 
 /// `gitv2 check FILE`: reports on the repository whose text is `file`. The text may list the nodes
-/// in any order. The report has the number of nodes and refs, whether the graph is closed
+/// in any order. The report states the numbers of nodes and refs, whether the graph is closed
 /// (`closed`), and whether the repository is connected (`safe`). A fault is printed as one line on
 /// `errors`.
 ///

@@ -11,7 +11,7 @@ use ggraph::IndexFault;
 use gname::Oid;
 use std::alloc::Allocator;
 
-/// Returns the position of the packet for which a message was refused.
+/// Returns the position of the packet at which a message was refused.
 pub(crate) fn frame_in_client<A: Allocator + Copy>(fault: &ClientFault<A>) -> Option<u64>
     ensures { result ≡ frame_in_client fault.now }
 {
@@ -31,8 +31,8 @@ pub(crate) fn line_in_client<A: Allocator + Copy>(fault: &ClientFault<A>) -> Opt
     }
 }
 
-/// Returns the id that the fault names. The id is missing, belongs to two objects, or has another
-/// object format; or the server acknowledged it although the request has no such have.
+/// Returns the id that the fault names: the id of a missing object, the id that two objects share,
+/// an id of another object format, or an acknowledged id that is not a have of the request.
 pub(crate) fn id_in_client<A: Allocator + Copy>(fault: &ClientFault<A>) -> Option<Oid>
     ensures { result ≡ id_in_client fault.now }
 {

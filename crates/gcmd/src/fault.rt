@@ -23,8 +23,7 @@ pub enum ProgramFault<A: Allocator + Copy = Global> {
     /// Fault 64: there is not enough memory for a file, for a buffer of standard input or output,
     /// or to check a repository.
     Memory,
-    /// Fault 95: the file of the repository could not be read, or could not be written after a
-    /// fetch.
+    /// Fault 95: a file could not be read, locked, or replaced after a fetch.
     File,
     /// Faults 64, 67 and 68: a file is not the text of a repository.
     Text(LoadFault),

@@ -9,18 +9,20 @@
 //! - Every program exits with status 0 or 1. With status 0 the program writes nothing to the error
 //!   sink. With status 1 the program prints and flushes exactly the line that reports its fault
 //!   (`specs/Programs.antt`). If the sink fails, a prefix of the line is printed.
+//!   [`cmd_fetch_stored`] is an exception, because it also writes its report to the error sink.
 //! - [`cmd_failed`] prints the line that reports a given fault.
 //! - If a write to a sink fails, nothing more is flushed. If a flush fails, the bytes of earlier
 //!   flushes remain flushed (`specs/Outputs.antt`).
 //! - From the repository of a file, [`cmd_upload`] serves one connection, and [`cmd_ls`] replies to
-//!   one request. Both use plain packs (`specs/Serving.antt`). `gserve` describes both exchanges. A
-//!   connection succeeds if the client ends it, the input ends before a request, or the limit of
-//!   requests is reached. A request succeeds if it gets a reply or is a lone flush packet, and also
-//!   if the input is empty. In every other case the fault is the refusal of a request or a failure
-//!   of the output. The served file must be the text of a repository. Each parent must precede its
-//!   children, and the objects of all refs and of a detached HEAD must be present. With any other
-//!   file nothing is read or written, and the fault names the line, the ref or HEAD.
-//! - [`cmd_fetch`] opens the client's repository of a file, and fetches into it with plain packs
+//!   one request. Both use plain packs (`specs/Serving.antt`). `gserve` describes both exchanges.
+//!   [`cmd_upload`] succeeds if the client ends the connection, the input ends before a request, or
+//!   the limit of requests is reached. [`cmd_ls`] succeeds if the request gets a reply or is a lone
+//!   flush packet, or if the input is empty. In every other case the fault is the refusal of a
+//!   request or a failure of the output. The served file must be the text of a repository. Each
+//!   parent must precede its children, and the objects of all refs and of a detached HEAD must be
+//!   present. With any other file nothing is read or written, and the fault names the line, the ref
+//!   or HEAD.
+//! - [`cmd_fetch`] opens the repository of a client's file, and fetches into it with plain packs
 //!   (`specs/Fetching.antt`). `gclient` describes the conversation. The file must be the text of a
 //!   repository without HEAD whose refs are all connected. With any other file nothing is read or
 //!   written. If the conversation succeeds, the new file is the text of the repository after the
@@ -37,7 +39,7 @@
 //!   The new text is written only after the conversation succeeds, and the report only after the
 //!   new text. At the end the program holds no lockfile.
 //! - [`open_stored`] and [`conclude_stored`] are the first and the last step of
-//!   [`cmd_fetch_stored`], for callers that hold a different conversation.
+//!   [`cmd_fetch_stored`]. Callers can use them with a different conversation in between.
 //! - [`cmd_check`] writes and flushes one line, or writes a prefix of the line if the sink fails.
 //!   The line shows the number of nodes and refs, whether the graph is closed, and whether the
 //!   repository is connected. If the file is not the text of a repository, nothing is written.
@@ -49,18 +51,19 @@
 //!
 //! # Only tested
 //!
-//! The cases of `conformance` test the exact bytes of whole runs. The cases also test that
-//! available memory is used, and that a source or a sink is not called again after a failure. The
-//! cases let each call read or write only one byte, and make each call fail in turn.
+//! The cases of `conformance` test the exact bytes of whole runs. The cases also test that no call
+//! reports out of memory while enough memory is available, and that a source or a sink is not
+//! called again after a failure. The cases let each call read or write only one byte, and make each
+//! call fail in turn.
 //!
 //! # What the contracts do not rule out
 //!
-//! A call that allocates may report out of memory whenever a crate that it uses may report out of
-//! memory. If a sink does not record its bytes, the contracts do not state which bytes the sink
-//! receives. The contracts do not limit how often a source or a sink is called, or how long a call
-//! takes. Formatting a fault may return `fmt::Error` for no reason. The function
-//! [`cmd_fetch_stored`] may report that a file can't be locked, read or replaced, even if each of
-//! these steps would succeed.
+//! No contract rules out that a call that allocates reports out of memory whenever a crate that it
+//! uses can do so. If a sink does not record its bytes, the contracts do not state which bytes the
+//! sink receives. The contracts do not limit how often a source or a sink is called, or how long a
+//! call takes. No contract rules out that formatting a fault returns `fmt::Error` for no reason. No
+//! contract rules out that [`cmd_fetch_stored`] reports that a file can't be locked, read or
+//! replaced, even if each of these steps would succeed.
 //!
 //! # Dependencies
 //!

@@ -1,6 +1,6 @@
 //! The printed lines of faults. A line begins with `gitv2: fault NUMBER NAME`. The following parts
-//! come after the name, if the fault has them: ` frame K`, ` line K`, ` at K`, and a space with the
-//! id, the name or the text. Each byte outside 32 to 126 is printed as `?`.
+//! come after the name, if the fault has them: ` frame K`, ` line K`, ` at K`, and a space with an
+//! id, a ref name or an error text. A `?` replaces each byte outside the range 32 to 126.
 
 ghost use Rattle.std.specs.Prelude.{◌≡◌, ◌+◌, ◌≤◌, ◌++◌, length, map, None, []};
 ghost use Rattle.std.specs.Option.{option_copied};
@@ -287,7 +287,8 @@ fn line_in_text(fault: &LoadFault) -> Option<usize>
     }
 }
 
-/// Returns the id that two objects share, or the id of another object format.
+/// Returns the id in the fault, if there is one: the id of two different objects, or an id that
+/// does not have the graph's object format.
 pub(crate) fn id_in_graph(fault: &GraphFault) -> Option<Oid>
     ensures { result ≡ id_in_graph fault.now }
 {

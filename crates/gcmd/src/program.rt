@@ -22,8 +22,8 @@ pub fn cmd_failed<A: Allocator + Copy, E: Sink>(fault: ProgramFault<A>, errors: 
     1
 }
 
-/// Prints the fault as one line on `errors`, and flushes it. Fails if the sink fails. A prefix of
-/// the line may have been printed.
+/// Prints the fault as one line on `errors`, and flushes it. Fails if the sink fails, after a
+/// prefix of the line was printed.
 pub fn print_fault<A: Allocator + Copy, E: Sink>(
     fault: &ProgramFault<A>,
     errors: &mut E,

@@ -48,7 +48,7 @@ pub struct OpenedFile<A: Allocator + Copy = Global> {
 ///
 /// The fault is `File` or `Memory` if the file can't be locked, read or replaced. Nothing is read
 /// from the input or written to the output before the file is locked and read. After every fault
-/// the file has the old text or the whole new text. At the end this run holds no lockfile.
+/// the file has the old text or the whole new text. At the end the program holds no lockfile.
 pub fn cmd_fetch_stored<A: Allocator + Copy, T: Storage, S: Source, W: Sink, E: Sink>(
     alloc: A,
     file: &mut T,
@@ -82,7 +82,7 @@ fn exit_after<A: Allocator + Copy, E: Sink>(
 {
     match outcome {
         Ok(()) => 0,
-        // The report went to the same sink, so the sink has failed and can't print the fault.
+        // The sink failed while the report was written, so the fault can't be printed.
         Err(ProgramFault::WriteFailed) => 1,
         Err(fault) => cmd_failed(fault, errors),
     }
@@ -154,7 +154,7 @@ fn fetch_opened<A: Allocator + Copy, T: Storage, S: Source, W: Sink, R: Sink>(
 /// Locks a client's file, reads it, and opens its repository.
 ///
 /// Fails with `File` if the file can't be locked or read, with `Memory` if out of memory, and with
-/// the faults of `open_client`. After a fault this run holds no lockfile.
+/// the faults of `open_client`. After a fault the program holds no lockfile.
 pub fn open_stored<A: Allocator + Copy, T: Storage>(
     alloc: A,
     file: &mut T,
@@ -204,12 +204,12 @@ fn give_up<A: Allocator + Copy, T: Storage, X>(
 }
 
 /// Ends a successful fetch into a locked file whose text is `old`. Replaces the content of the file
-/// with the text of the repository, and only then writes the report. At the end this run holds no
-/// lockfile.
+/// with the text of the repository, and only then writes the report. At the end the program holds
+/// no lockfile.
 ///
-/// Fails with `Memory` or `File` if the file can't be replaced. After these faults nothing is
-/// reported, and the file has the old text or the whole new text. After the file has the new text,
-/// the call fails only with the faults of `send_report`.
+/// Fails with `Memory` or `File` if the file can't be replaced. After these faults no report is
+/// written, and the file has the old text or the whole new text. If the file was replaced, the call
+/// fails only with the faults of `send_report`.
 pub fn conclude_stored<A: Allocator + Copy, T: Storage, R: Sink>(
     file: &mut T,
     old: &[u8],

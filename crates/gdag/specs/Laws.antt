@@ -94,7 +94,7 @@ HoldingIsANode A = (g : List (Entry A)) (a : Id) → Holds g a → (node : Node 
 abbrev pub KeepingHolds : Type 0 → Type 0
 KeepingHolds A = (g h : List (Entry A)) (a : Id) → Keeps g h → Holds g a → Holds h a
 
--- a graph that keeps all its nodes keeps all its paths
+-- in a graph that keeps all its nodes, an id still reaches every id that it reached before
 abbrev pub KeepingReaches : Type 0 → Type 0
 KeepingReaches A = (g h : List (Entry A)) (a b : Id) → Keeps g h → Reaches g a b → Reaches h a b
 
@@ -193,7 +193,8 @@ KeepingHasAll A =
 
 -- ---- counts
 
--- the count of reachable ids is at least the number of distinct ids in the graph that the tips reach
+-- the count of reachable ids is at least the length of any list of distinct ids that the graph contains and the tips
+-- reach
 abbrev pub ReachedAreCounted : Type 0 → Type 0
 ReachedAreCounted A =
     (g : List (Entry A)) (tips ids : List Id) (held parents : ℕ)

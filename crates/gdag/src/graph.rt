@@ -214,8 +214,8 @@ impl<A: Allocator + Copy> Graph<A> {
         Ok(Entry { id: *id, node })
     }
 
-    // Returns whether each node is inserted after all its parents, also after the next node is
-    // appended. `parents_held` states whether the graph contains the parents of the next node.
+    // Returns whether each node will come after all its parents once one more node is appended.
+    // `parents_held` states whether the graph contains the parents of that node.
     fn stays_ordered(&self, parents_held: bool) -> bool
         ensures { IsTrue result ↔ (IsOrdered self.now.entries × IsTrue parents_held) }
     {

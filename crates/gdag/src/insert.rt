@@ -39,20 +39,20 @@ impl<A: Allocator + Copy> Graph<A> {
         Ok(is_new)
     }
 
-    /// Appends all entries or none of them, and returns the number of new ids. An id that already
-    /// has the same node is skipped. New entries keep the order of the list, and no entry is
-    /// copied.
+    /// Appends all entries or none of them, and returns the number of new ids. An entry whose id
+    /// already has the same node is skipped. New entries keep the order of the list, and no entry
+    /// is copied.
     ///
     /// The call checks the entries in order, and fails at the first entry that can't be added. A
     /// failed call leaves the graph unchanged. The fault is the first of the following that applies
     /// to the entry:
     ///
     /// - `OtherFormat`: the entry's id or one of its parents does not have the graph's format.
-    /// - `TooManyParents`.
+    /// - `TooManyParents`: the entry has more than `MAX_PARENTS` parents.
     /// - `TagShape`: the entry is a tag without exactly one parent.
     /// - `Conflict`: the entry's id has a different node in the graph or earlier in the list.
     /// - `TooMany`: the graph already has the maximum number of nodes.
-    /// - `Memory`.
+    /// - `Memory`: memory runs out.
     pub fn insert_all(&mut self, entries: Vec<Entry<A>, A>) -> Result<usize, GraphFault>
         ensures adds { Adds self.old entries.items self.new result }
         ensures only { AddsOnly self.old.entries entries.items self.new.entries }

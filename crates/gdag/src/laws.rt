@@ -46,7 +46,8 @@ pub fn reaching_goes_on<A: Allocator + Copy>()
     ensures { ReachingGoesOn A }
 {}
 
-/// Proves that if a graph keeps its nodes, a connected id stays connected and reaches nothing new.
+/// Proves that a connected id stays connected, and reaches no further ids, if the graph keeps all
+/// its nodes.
 pub fn connected_stays_connected<A: Allocator + Copy>()
     ensures { ConnectedStaysConnected A }
 {}
@@ -83,13 +84,14 @@ pub fn holding_is_a_node<A: Allocator + Copy>()
     ensures { HoldingIsANode A }
 {}
 
-/// Proves that if a graph keeps its nodes, it contains each id that it contained before.
+/// Proves that a graph that keeps all its nodes still contains each id that it contained before.
 #[tactic(auto, using(crate::proofs::Growing::keeps_held))]
 pub fn keeping_holds<A: Allocator + Copy>()
     ensures { KeepingHolds A }
 {}
 
-/// Proves that if a graph keeps its nodes, an id still reaches every id that it reached before.
+/// Proves that in a graph that keeps all its nodes, an id still reaches every id that it reached
+/// before.
 #[tactic(auto, using(crate::proofs::Growing::keeps_reaching))]
 pub fn keeping_reaches<A: Allocator + Copy>()
     ensures { KeepingReaches A }
@@ -165,15 +167,16 @@ pub fn sending_is_enough<A: Allocator + Copy>()
     ensures { SendingIsEnough A }
 {}
 
-/// Proves that a client's graph that contains every id that the wants reach in a server's graph
-/// still does so when the server's graph grows. The server's graph must be closed and contain the
-/// wants. The wants must be connected in the client's graph.
+/// Proves that after a server's graph gains nodes, a client's graph still contains every id that
+/// the wants reach in the server's graph. The client's graph must have contained these ids before
+/// the change, and the wants must be connected in the client's graph. The server's graph must have
+/// been closed, and must have contained the wants.
 pub fn keeping_has_all<A: Allocator + Copy>()
     ensures { KeepingHasAll A }
 {}
 
-/// Proves that counting the reachable ids never yields less than the number of distinct ids in the
-/// graph that the tips reach.
+/// Proves that the count of reachable ids is at least the length of any list of distinct ids that
+/// the graph contains and the tips reach.
 pub fn reached_are_counted<A: Allocator + Copy>()
     ensures { ReachedAreCounted A }
 {}

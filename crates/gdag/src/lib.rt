@@ -25,11 +25,11 @@
 //!
 //! # What the contracts do not rule out
 //!
-//! A call may take any amount of time, and more memory than it needs. A call may report out of
-//! memory for any new object, any copy, and any list of distinct ids. `entry_in` may allocate the
-//! copy from the graph's own allocator, because no clause names the allocator. `make_room` may
-//! reserve nothing. Formatting a fault may return an error (`fmt::Error`) for no reason. Formatting
-//! with options, such as a width, may write a different text.
+//! No contract bounds the time or the memory of a call. No contract rules out that a call reports
+//! out of memory for a new object, a copy, or a list of distinct ids. No contract says which
+//! allocator `entry_in` uses for the copy. No contract rules out that `make_room` reserves nothing.
+//! No contract rules out that formatting a fault returns `fmt::Error` even if every write succeeds.
+//! No contract says what formatting writes with options, such as a width.
 //!
 //! This crate has no tests of its own. The program `conformance` loads, fetches and searches
 //! histories, and makes each allocation fail in turn.

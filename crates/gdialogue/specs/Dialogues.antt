@@ -91,13 +91,13 @@ module _ {S : Type 0} (judge : S → Judge) (brings : S → List Packet → Pack
       pub count : frame ≡ length front
       pub unstopped : talk.stopped ≡ None
 
-    -- this end is sending an answer; any packets that may complete the reply complete the answer
+    -- this end is sending an answer; every list of packets that may complete the reply completes the answer
     pub record HoldsSaying (side : S) (reply : R) (talk : Talk) : Type 0 where
       pub first : S
       pub due : (rest : List Packet) (goes : Bool) → may reply rest goes
           → IsSoFar first goes talk.heard talk.stopped (talk.said ++ rest) side
 
-    -- this end is sending its last reply; any packets that may complete the reply end the dialogue
+    -- this end is sending its last reply; every list of packets that may complete the reply ends the dialogue
     pub record HoldsEnding (side : S) (reply : R) (talk : Talk) : Type 0 where
       pub first : S
       pub due : (rest : List Packet) (goes : Bool) → may reply rest goes

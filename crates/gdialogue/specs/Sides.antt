@@ -28,7 +28,7 @@ module _ {R : Type 0} (may : R → List Packet → Bool → Type 0) where
     pub spelt : bytes ≡ canonical_all said
     pub leads : LeadsTo old new said result
 
-  -- the relation between the packets that an answer may send and whether the dialogue then continues; a last answer
+  -- whether an answer may send these packets; `goes` states whether the dialogue then continues, and a last answer
   -- always ends the dialogue
   abbrev pub MayAnswer : Answer R → List Packet → Bool → Type 0
   MayAnswer (answer.GoesOn reply) packets goes = may reply packets goes

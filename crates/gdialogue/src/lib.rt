@@ -16,15 +16,16 @@
 //!   runs out for a packet, or if no more packets arrive before its end.
 //! - A reply sends only packets that its contract permits, and sends them completely. The reply can
 //!   determine the packets while it is sent (`SaysSome` in `specs/Sides.antt`).
-//! - Each dialogue ends. With every call, the remaining packets of the message, the remaining calls
-//!   for the reply, or the remaining messages decrease (`left_of`).
+//! - Each dialogue ends. Each call decreases the number of remaining packets of the message, of
+//!   remaining calls for the reply, or of remaining messages (`left_of`).
 //!
 //! # What the contracts do not rule out
 //!
-//! - A reply may queue only one packet per call, or no packet in many calls.
-//! - A side may give any answer that its own contract allows.
-//! - A side may need much time for an answer. Meanwhile the dialogue neither receives nor sends
-//!   packets.
+//! - No contract rules out that a reply queues only one packet per call, or no packet in many
+//!   calls.
+//! - No contract restricts the answers of a side, except the side's own contract.
+//! - No contract limits the time that a side needs for an answer. Meanwhile, the dialogue neither
+//!   receives nor sends packets.
 //!
 //! # Dependencies
 //!

@@ -26,7 +26,7 @@ pub enum Said {
 /// some of it was sent. The last packet of the reply then reports the failure, and the dialogue
 /// ends. A reply whose packets are known in advance can define `may` as `SaysExactly`.
 pub trait Reply {
-    // The relation between the packets that may complete the reply from this state and whether the
+    // Whether these packets may complete the reply from this state. The boolean states whether the
     // dialogue then continues.
     ghost may: { Self → List Packet → Bool → Type 0 };
 
@@ -61,16 +61,16 @@ pub trait Side<M: Message, R: Reply> {
     // Whether a packet of the next message has contents that need memory.
     ghost brings: { Self → List Packet → Packet → Bool };
 
-    // The relation between the packets that the end may send before the first message and whether
+    // Whether the end may send these packets before the first message. The boolean states whether
     // the dialogue then continues. An end that only answers uses `SaysNothing`.
     ghost opens: { Self → List Packet → Bool → Type 0 };
 
-    // The relation between a message, the packets that may answer it, whether the dialogue then
-    // continues, and the side's new state.
+    // Whether the second list of packets may answer the message in the first list. The boolean
+    // states whether the dialogue then continues, and the last argument is the side's new state.
     ghost answers: { Self → List Packet → List Packet → Bool → Self → Type 0 };
 
-    // The relation between a refused message, the packets that may answer it, and the side's new
-    // state.
+    // Whether these packets may answer a message that is refused with this fault. The last argument
+    // is the side's new state.
     ghost refuses: { Self → MessageFault → List Packet → Self → Type 0 };
 
     // The maximum number of further messages that the side answers without ending the dialogue.

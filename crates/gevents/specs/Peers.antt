@@ -1,4 +1,4 @@
--- The connection of a peer: the count of sent bytes, the outcomes of a read and of a write, and the kinds of end.
+-- The connection of a peer: the count of sent bytes, the outcomes of a read and of a write, and the reasons for an end.
 use Rattle.std.specs.Prelude.{◌≡◌, ◌<◌, ◌⊎◌, [], ◌-◌, ◌^◌, ℕ, length, min, Result, Ok, Err, OnOk}
 use Rattle.std.specs.Io.KnownBytes.{Appends, Consumes}
 use Rattle.gpkt.specs.Change.{Change}
@@ -45,7 +45,7 @@ module _ {C A : Type 0} (holds : C → Talk → Type 0) where
     pub some : OnOk result (((0 < length more) × IsByBytes (has_stopped new)) ⊎ IsByEnd (has_stopped new))
 
 module _ {C A : Type 0} (turn : C → Turn) (connection : Connection C A) where
-  -- The state of a connection at each kind of end. After `Over` and `Silent` the conversation is done. After
+  -- The state of a connection for each reason why it ended. After `Over` and `Silent` the conversation is done. After
   -- `Over`, `Silent` and `Memory` no queued bytes are pending. A connection never ends with `Stalled` while it only
   -- waits for the peer to send.
   abbrev pub HasEnded : End → Type 0

@@ -23,18 +23,18 @@ LosesAtMost (move.Ended how) = how ≡ end.Lost
 LosesAtMost other = Unit {0}
 
 module _ {C A : Type 0} (turn : C → Turn) where
-  -- if a move ends the connection, the connection is in the state that this end requires
+  -- if a move ends the connection, the connection is in the state that the reason for the end requires
   abbrev pub EndsByMove : Connection C A → Move → Type 0
   EndsByMove connection (move.Ended how) = HasEnded turn connection how
   EndsByMove connection other = Unit {0}
 
-  -- if a turn ends the connection, the connection is in the state that this end requires
+  -- if a turn ends the connection, the connection is in the state that the reason for the end requires
   abbrev pub EndsBy : Connection C A → After → Type 0
   EndsBy connection (after.Ends how) = HasEnded turn connection how
   EndsBy connection other = Unit {0}
 
 module _ {C A : Type 0} {ghosts : Ghosts C} (turn : C → Turn) where
-  -- if a turn ends the connection of a peer, the connection is in the state that this end requires
+  -- if a turn ends the connection of a peer, the connection is in the state that the reason for the end requires
   abbrev pub EndsSlot : Slot C A ghosts → After → Type 0
   EndsSlot (slot.Talks peer) turned = EndsBy turn peer.connection turned
   EndsSlot (slot.Leaves leaver) turned = Unit {0}
@@ -44,7 +44,8 @@ module _ {C A : Type 0} {ghosts : Ghosts C} (turn : C → Turn) where
   EndsAt None turned = Unit {0}
 
 module _ {C A : Type 0} {ghosts : Ghosts C} where
-  -- the loop returns the connection of the peer, with the peer's address, the count of sent bytes, and the kind of end
+  -- the loop returns the connection of the peer, with the peer's address, the count of sent bytes, and the reason for
+  -- the end
   pub record IsEndOf (peer : Peer C A ghosts) (how : End) (ended : Ended C A ghosts) : Type 0 where
     pub connection : ended.connection ≡ peer.connection
     pub address : ended.address ≡ peer.address

@@ -5,10 +5,10 @@ ghost use Rattle.std.specs.Prelude.{◌<◌, IfSome, vec_len};
 use std::alloc::{AllocError, Allocator};
 use std::net::IpAddr;
 
-/// The number of peers of each IP address. A search visits each address, not each peer.
+/// The number of peers of each IP address. A look-up scans the addresses, not the peers.
 #[derive(Drop)]
 pub(crate) struct Addresses<A: Allocator + Copy> {
-    // The addresses, each at most once, with the numbers of peers.
+    // Each address with its number of peers. No address occurs twice.
     counts: Vec<(IpAddr, usize), A>,
 }
 
@@ -28,8 +28,8 @@ impl<A: Allocator + Copy> Addresses<A> {
         }
     }
 
-    /// Counts one more peer with this IP address. Fails only if there is not enough memory, and
-    /// then does not count the peer.
+    /// Increments the number of peers with this IP address. Fails only if there is not enough
+    /// memory, and then leaves the number unchanged.
     pub(crate) fn add(&mut self, ip: IpAddr) -> Result<(), AllocError> {
         match self.position(ip) {
             Some(at) => {
@@ -44,7 +44,7 @@ impl<A: Allocator + Copy> Addresses<A> {
         }
     }
 
-    /// Counts one peer fewer with this IP address.
+    /// Decrements the number of peers with this IP address.
     pub(crate) fn remove(&mut self, ip: IpAddr) {
         let Some(at) = self.position(ip) else {
             return;

@@ -16,7 +16,7 @@ pub enum Refusal {
     FullOfAddress,
 }
 
-/// The kind of end of a connection.
+/// The reason why a connection ended.
 #[derive(Clone, Copy, Debug, PartialEq, Eq)]
 pub enum End {
     /// The conversation is done, and all its packets were sent.
@@ -35,14 +35,14 @@ pub enum End {
 }
 
 /// A connection that has ended. The state of the connection matches the bytes that were received
-/// and sent, the count of sent bytes, and the kind of end ([`laws`](Ended::laws)).
+/// and sent, the count of sent bytes, and the reason for the end ([`laws`](Ended::laws)).
 #[derive(Drop)]
 pub struct Ended<C: Conversation, A: Allocator + Copy> {
     /// The connection in its final state.
     pub connection: Connection<C, A>,
     /// The peer's address.
     pub address: SocketAddr,
-    /// The kind of end of the connection.
+    /// The reason why the connection ended.
     pub end: End,
     /// The number of sent bytes, saturated at the maximum.
     pub sent: u64,

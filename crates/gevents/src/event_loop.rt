@@ -38,7 +38,7 @@ pub(crate) enum PendingCalls {
     Later,
 }
 
-/// An accepted peer, until the next call of `EventLoop::next`.
+/// A newly accepted peer, kept until the next call of `EventLoop::next`.
 #[derive(Drop)]
 pub(crate) enum NewPeer {
     /// A peer within the limits. A conversation with this peer may start.

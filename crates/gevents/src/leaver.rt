@@ -6,7 +6,8 @@ use mio::net::TcpStream;
 use std::io::{ErrorKind, Read};
 use std::time::{Duration, Instant};
 
-// The number of seconds after which the loop closes the socket itself.
+// The number of seconds after which the loop closes the socket, even if the peer has not closed its
+// side.
 const SECONDS: u64 = 2;
 
 // The maximum number of bytes of one read.

@@ -11,8 +11,9 @@
 //! - Each peer has time limits for its first message, the first byte of a request, the rest of a
 //!   request, receiving bytes, and the whole connection. If a peer sends too late, the loop
 //!   notifies the conversation that the source failed, and the conversation may send its last
-//!   packets. Any other late peer is disconnected. Every late peer first has one more turn, since
-//!   the system may not have reported its ready socket yet.
+//!   packets. Any other late peer is disconnected. A late peer first has one more turn, because its
+//!   socket may be ready without having been reported yet. A peer whose whole connection lasted too
+//!   long has no further turn.
 //! - A connection allocates memory for received bytes only when the first byte arrives. Before the
 //!   first byte, a connection needs a few hundred bytes and the memory of its conversation. The
 //!   send queue of a connection has room for two packets of the maximum size. The loop frees the
@@ -23,22 +24,22 @@
 //!
 //! # Proved
 //!
-//! - The state of an ended connection matches the bytes that were received and sent (`gtalk`),
-//!   and the count of the sent bytes is right ([`Ended`]).
-//! - The kind of end matches the state of the connection (`HasEnded` in `specs/Peers.antt`). After
-//!   `Over` and `Silent` the conversation is done and no bytes are pending. After `Memory` no bytes
-//!   are pending either. The loop never reports `Stalled` for a connection that only waits for the
-//!   peer to send.
+//! - The state of an ended connection matches the bytes that were received and sent, as defined in
+//!   `gtalk`. The count of sent bytes is correct ([`Ended`]).
+//! - The reported reason for an end matches the state of the connection (`HasEnded` in
+//!   `specs/Peers.antt`). After `Over` and `Silent` the conversation is done and no bytes are
+//!   pending. After `Memory` no bytes are pending either. The loop never reports `Stalled` for a
+//!   connection that only waits for the peer to send.
 //! - A turn that ends a connection returns this connection, with the peer's address, the count of
-//!   sent bytes and the kind of end (`HandsOut` in `specs/Turns.antt`).
+//!   sent bytes and the reason for the end (`HandsOut` in `specs/Turns.antt`).
 //! - For any reader, the connection receives all bytes of each read, and no read extends past the
 //!   end of the current packet. The connection receives the end of the input only when the input
 //!   has ended. A successful read receives at least one byte, or the end of the input
 //!   (`HearsOnce`). After a successful read the conversation is not notified of a failed source.
-//! - For any writer, exactly the bytes that a write accepted count as sent, and leave the queue of
+//! - For any writer, exactly the accepted bytes are counted as sent, and removed from the queue of
 //!   pending bytes.
-//! - Only one function notifies a conversation of a failed source. The contract of the function
-//!   states the notification, but no contract states when the function is called.
+//! - Only one function notifies a conversation of a failed source. The contract of this function
+//!   states that it does so, but no contract states when it is called.
 //! - No call panics, overflows or reads out of bounds, and each call returns.
 //!
 //! # Only tested
@@ -51,15 +52,18 @@
 //!
 //! - No contract says which bytes a socket delivers or accepts. The contracts relate the bytes of a
 //!   connection to the calls of a reader and a writer, but not to a socket.
-//! - A peer might never have its turn, or be disconnected at once. A connection might never be
-//!   returned.
-//! - The loop might refuse every peer, fail, or end at once. The loop might send nothing to a
-//!   refused peer.
-//! - The loop might spin, or sleep while bytes are pending for a peer. The loop might write an
-//!   empty slice to a socket, and treat the result 0 as the end of the connection.
-//! - The loop might time out a peer at any moment, or never. The loop might report any ended
-//!   connection as `Lost` or `Overdue`, and might report `Silent` instead of `Over`.
-//! - The loop might drop a conversation that was started, or a connection between two turns.
+//! - No contract rules out that a peer never has its turn, or is disconnected at once. No contract
+//!   rules out that a connection is never returned.
+//! - No contract rules out that the loop refuses every peer, fails, or ends at once. No contract
+//!   rules out that it sends nothing to a refused peer.
+//! - No contract rules out that the loop spins, or sleeps while bytes are pending for a peer. No
+//!   contract rules out that it writes an empty slice to a socket, and treats the result 0 as the
+//!   end of the connection.
+//! - No contract rules out that the loop times out a peer at any moment, or never. No contract
+//!   rules out that it reports any ended connection as `Lost` or `Overdue`, or reports `Silent`
+//!   instead of `Over`.
+//! - No contract rules out that the loop drops a conversation that was started, or a connection
+//!   between two turns.
 //! - No contract covers the duration of a connection. No contract says that the address of a peer
 //!   is the address in [`Event::Connected`].
 //!

@@ -12,8 +12,8 @@ pub struct Limits {
     pub at_once: usize,
     /// The maximum number of connections at once from one IP address.
     pub at_once_of_address: usize,
-    /// The time limit for all packets before the first answer, counted from the moment when the
-    /// loop accepts the connection.
+    /// The time limit for a peer to send all packets that precede the first answer, counted from
+    /// the moment when the loop accepts the connection.
     pub first_line: Duration,
     /// The time limit for the first byte of a request, counted from the end of the last answer.
     pub silence: Duration,

@@ -24,7 +24,8 @@ const PIECE: usize = 4_096;
 // The maximum number of moves of one peer before another peer has its turn.
 const MOVES: u32 = 256;
 
-// The maximum number of calls that queue packets before another peer has its turn.
+// The maximum number of calls that queue packets in a turn, not counting the call that ends the
+// turn.
 const SAYINGS: u32 = 16;
 
 /// The state of a peer after its turn.
@@ -53,9 +54,9 @@ enum Move {
 }
 
 impl<C: Conversation, A: Allocator + Copy> Peer<C, A> {
-    /// Moves bytes until the socket would block, or the connection has ended. The turn also ends
-    /// when bytes arrive after the conversation queued packets, since the next answer may need much
-    /// time.
+    /// Moves bytes until the socket would block, the connection has ended, or the turn reaches its
+    /// limits. The turn also ends when bytes arrive after the conversation queued packets, because
+    /// computing the next answer may take long.
     pub(crate) fn advance(&mut self, now: Instant, limits: &Limits) -> After
         ensures { EndsBy C.turn self.new.connection result }
     {
@@ -73,8 +74,9 @@ impl<C: Conversation, A: Allocator + Copy> Peer<C, A> {
         After::GoesOn
     }
 
-    /// Times out the peer, if it is late. First gives the peer one more turn, since the system may
-    /// not have reported its ready socket yet.
+    /// Times out the peer, if it is late. First gives the peer one more turn, because its socket
+    /// may be ready without having been reported yet. Gives no further turn if the whole connection
+    /// lasted too long.
     pub(crate) fn give_up(&mut self, now: Instant, limits: &Limits) -> After
         ensures { EndsBy C.turn self.new.connection result }
     {
@@ -207,7 +209,7 @@ impl<C: Conversation, A: Allocator + Copy> Peer<C, A> {
         read_some(&mut self.connection, &mut self.stream)
     }
 
-    // Frees the send queue if no more bytes have arrived.
+    // Frees the send queue if all of its bytes were sent.
     fn rest(&mut self) {
         self.connection.give_back();
     }
@@ -247,8 +249,8 @@ fn written_count(written: &io::Result<usize>) -> usize
     }
 }
 
-// Writes once, and removes the bytes that the writer accepts from the pending bytes. After a failed
-// write, all pending bytes remain.
+// Writes the pending bytes once, and removes those that the writer accepted. After a failed write,
+// all pending bytes remain.
 fn write_some<C: Conversation, A: Allocator + Copy, W: Write>(
     connection: &mut Connection<C, A>,
     writer: &mut W,

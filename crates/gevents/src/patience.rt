@@ -6,7 +6,7 @@ use std::time::{Duration, Instant};
 // The action that the loop expects next from a peer.
 #[derive(Clone, Copy, PartialEq, Eq)]
 enum Due {
-    // Send all packets before the first answer.
+    // Send all packets that precede the first answer.
     FirstLine,
     // Send the first byte of a request.
     Request,

@@ -17,7 +17,7 @@ use std::alloc::Allocator;
 use std::net::Shutdown;
 use std::time::Instant;
 
-// The maximum number of peers that the loop waits for after their connections have ended.
+// The maximum number of ended connections whose sockets the loop keeps open.
 const LEAVERS: u32 = 256;
 
 /// A slot: a peer with a socket.
@@ -71,8 +71,9 @@ impl<C: Conversation + Drop, A: Allocator + Copy> EventLoop<'_, C, A> {
         self.settle(key, after)
     }
 
-    // Completes a turn: watches the socket again, or removes the peer. Returns an event if the
-    // connection has ended.
+    // Completes a turn: watches the socket again if more bytes can be moved immediately, and
+    // removes the peer if its connection has ended. Returns an event if this turn ended a
+    // connection.
     fn settle(&mut self, key: usize, after: After) -> Option<Event<C, A>>
         requires { EndsAt C.turn (get self.old.slots key) after }
         ensures { HandsOutAfter (get self.old.slots key) after (ended_in result) }
@@ -83,7 +84,7 @@ impl<C: Conversation + Drop, A: Allocator + Copy> EventLoop<'_, C, A> {
         }
     }
 
-    // Returns the connection of the peer at this key, if this turn ended it.
+    // Returns the connection of the peer at this key, if this turn ended the connection.
     fn end_of_turn(&mut self, key: usize, after: After) -> Option<Ended<C, A>>
         requires { EndsAt C.turn (get self.old.slots key) after }
         ensures { HandsOutAfter (get self.old.slots key) after result }

@@ -43,7 +43,7 @@ pub record IsPackSection (limit : ℕ) (packets : List Packet) (pack : Bytes) : 
   pub short : length pack ≤ limit
   pub is_data : pack ≡ data_of payloads
 
--- a reply of NAK, which acknowledges no ids, with no `ready` and no pack
+-- a reply with NAK, which has no acknowledged ids, no `ready` and no pack
 pub record IsNakReply (limits : Limits) (format : Format) (packets : List Packet) : Type 0 where
   pub section : List Packet
   pub nak : Bytes
@@ -51,14 +51,14 @@ pub record IsNakReply (limits : Limits) (format : Format) (packets : List Packet
   pub is_nak : text nak ≡ codes "NAK"
   pub parts : packets ≡ section ++ Data nak ∷ Flush ∷ []
 
--- a reply of acknowledged ids, possibly none, with no NAK, no `ready` and no pack
+-- a reply with acknowledged ids, possibly none, but no NAK, no `ready` and no pack
 pub record IsAckReply (limits : Limits) (format : Format) (packets : List Packet)
     (ids : List Id) : Type 0 where
   pub section : List Packet
   pub acks : IsAckSection limits format section ids
   pub parts : packets ≡ section ++ Flush ∷ []
 
--- a reply of acknowledged ids, possibly none, `ready` and the pack
+-- a reply with acknowledged ids, possibly none, followed by `ready` and the pack
 pub record IsReadyReply (limits : Limits) (format : Format) (limit : ℕ) (packets : List Packet) (ids : List Id)
     (pack : Bytes) : Type 0 where
   pub section : List Packet

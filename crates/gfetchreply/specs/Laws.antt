@@ -32,20 +32,19 @@ OneInWhateverReading =
     → other.ends ≡ reading.ends → Says reading packets one → Says other (packets ++ back) also
     → (back ≡ []) × (also ≡ one)
 
--- a reply is accepted with every size limit that its pack does not exceed
+-- a reply is accepted under any size limit that is at least the length of its pack
 abbrev pub IsInAnyLimit : Type 0
 IsInAnyLimit =
     (reading : Reading) (limit : ℕ) (packets : List Packet) (reply : FetchReply) → Says reading packets reply
     → length (pack_of reply) ≤ limit → Says (record reading { limit = limit }) packets reply
 
--- a reply is accepted with all limits that the number of its acknowledged ids does not exceed
+-- a reply is accepted under any limit that is at least the number of its acknowledged ids
 abbrev pub IsInAnyLimits : Type 0
 IsInAnyLimits =
     (reading : Reading) (limits : Limits) (packets : List Packet) (reply : FetchReply) → Says reading packets reply
     → length (acknowledged_by reply) ≤ max_acks limits → Says (record reading { limits = limits }) packets reply
 
--- if a reply is refused for its content when it is read with another size limit or with other limits, the fault is
--- `Limit`
+-- if another size limit or other limits cause a reply to be refused because of its content, the fault is `Limit`
 abbrev pub IsRefusedOverLimit : Type 0
 IsRefusedOverLimit =
     (reading : Reading) (limit : ℕ) (limits : Limits) (packets front : List Packet) (reply : FetchReply)

@@ -16,7 +16,7 @@ use Rattle.gfetchreply.specs.FetchReplies.{max_acks}
 abbrev pub default_limit : ℕ
 default_limit = 16777216
 
--- acknowledged ids, the limits on their number, and the format of the ids
+-- acknowledged ids, their format, and the limits on their number
 pub record Acks : Type 0 where
   pub limits : Limits
   pub format : Format

@@ -9,7 +9,8 @@ pub record AreAcks (limits : Limits) (format : Format) (acked : List Id) : Type 
   pub ids : All (IsIdOf format) acked
   pub few : length acked ≤ max_acks limits
 
--- a well-formed reply: it has no acknowledgments exactly if it is direct, and its pack is within the limit
+-- A well-formed reply for a reader. The reply has no acknowledgments exactly if the reader expects a direct reply. The
+-- acknowledged ids and the pack are within the reader's limits, and the ids have the reader's format.
 abbrev pub IsReplyIn : Reading → FetchReply → Type 0
 IsReplyIn reading (Acks ids) = (reading.direct ≡ false) × AreAcks reading.limits reading.format ids
 IsReplyIn reading (Ready ids pack) =

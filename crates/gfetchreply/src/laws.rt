@@ -48,8 +48,8 @@ pub fn limits_are_the_constants()
     ensures acks { MAX_ACKS ≡ max_acks profile }
 {}
 
-/// Proves that a list of packets is read as a reply exactly if Git's manual allows the list, and
-/// with the meaning that the manual states (gitprotocol-v2(5), "fetch").
+/// Proves that a list of packets is read as a reply exactly if Git's manual and the limits allow
+/// the list. The list has the meaning that the manual states (gitprotocol-v2(5), "fetch").
 pub fn manual()
     ensures { (reading : Reading) → AsInManual (Says reading) (IsFetchReply reading) }
 {}
@@ -92,7 +92,8 @@ pub fn every_input()
 }
 
 /// Proves that the packets written for a reply encode it, and that each payload fits a packet. The
-/// limit for reading the reply must be the value of some [`PackLimit`](crate::PackLimit).
+/// reply must be well-formed and within the reader's limits (`IsReplyIn`). The reader's size limit
+/// must be the value of some [`PackLimit`](crate::PackLimit).
 pub fn canonical_says()
     ensures { (reading : Reading) → reading.limit ≤ max_pack
         → CanonicalSays (Says reading) (IsReplyIn reading) (IsCanonical reading.ends) }
@@ -111,8 +112,9 @@ pub fn reads_exactly()
     kinds_are_read::<Replies>();
 }
 
-/// Proves that a written reply reads back, whatever bytes follow, with any
-/// [`PackLimit`](crate::PackLimit) that its pack does not exceed.
+/// Proves that a written reply reads back, whatever bytes follow. The reply must be well-formed for
+/// the reader (`IsReplyIn`). In particular, the pack must be within the reader's
+/// [`PackLimit`](crate::PackLimit), and the number of acknowledged ids within the reader's limits.
 pub fn reads_back()
     ensures { (reading : Reading) → reading.limit ≤ max_pack
         → ReadsBack (judge reading) (brings reading) (Says reading) (IsReplyIn reading)
@@ -133,7 +135,8 @@ pub fn reads_into_exactly<T: PackSink>()
     kinds_are_read::<Replies>();
 }
 
-/// Proves that a written reply reads back, with its pack passed to a sink, whatever bytes follow.
+/// Proves that a written reply reads back with its pack passed to a sink, whatever bytes follow.
+/// The conditions are those of [`reads_back`].
 pub fn reads_back_into<T: PackSink>()
     ensures { (reading : Reading) → reading.limit ≤ max_pack
         → ReadsBackInto T.taken T.refuses reading }
@@ -143,11 +146,11 @@ pub fn reads_back_into<T: PackSink>()
     kinds_are_read::<Replies>();
 }
 
-/// Proves that reading the same packets for another request or with other limits returns no other
-/// reply. The format of the ids and the end of the reply must be the same. A reply is accepted with
-/// every size limit that its pack does not exceed, and with all limits that the number of its ids
-/// does not exceed. If a reply is refused because of its content with other limits, the fault is
-/// `Limit`.
+/// Proves that reading the same packets for another request or with other limits never returns a
+/// different reply. The format of the ids and the end of the reply must be the same. A reply is
+/// accepted under any size limit that is at least the length of its pack. A reply is accepted under
+/// any limit that is at least the number of its acknowledged ids. If other limits cause a reply to
+/// be refused because of its content, the fault is `Limit`.
 pub fn other_readings()
     ensures whatever_reading { OneInWhateverReading }
     ensures any_limit { IsInAnyLimit }

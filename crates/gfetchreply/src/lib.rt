@@ -9,13 +9,13 @@
 //!   format and limits. The sink has accepted the reply's pack after its previous bytes. The length
 //!   of the pack is within the limit. Any other input is rejected at the first packet that does not
 //!   fit, for the reason that the grammar states (`judge` in `specs/FetchReplies.antt`). The sink
-//!   has then accepted exactly the data of the packets before the rejected packet, which does not
-//!   exceed the limit. Whatever the result, `PackSink::same` relates the sink before the call to the
-//!   sink after the call. The reader never passes an empty piece to the sink.
+//!   has then accepted exactly the data of the packets before the rejected packet, and the length
+//!   of the data is within the limit. Whatever the result, `PackSink::same` relates the sink before
+//!   the call to the sink after the call. The reader never passes an empty piece to the sink.
 //! - Out of memory never replaces another fault, and is reported only at a packet that the grammar
-//!   accepts. The packet contains an acknowledged id, or a piece of the pack if the sink's type may
-//!   refuse pieces. Each implementation of [`PackSink`] states whether it may refuse pieces; a
-//!   vector may. [`read_fetch_reply_into`] has the same contract for SHA-1 ids and the default
+//!   accepts. The packet contains an acknowledged id, or a piece of the pack if the sink's type can
+//!   refuse pieces. Each implementation of [`PackSink`] states whether it can refuse pieces; a
+//!   vector can. [`read_fetch_reply_into`] has the same contract for SHA-1 ids and the default
 //!   limits. The functions [`read_fetch_reply_in`] and [`read_fetch_reply`] store the pack in
 //!   memory.
 //! - [`Acks`] has ids of one format. Their number is within the limit on haves of its
@@ -26,30 +26,32 @@
 //!   and an existing pack into it, unchanged.
 //! - [`write_fetch_reply`] writes exactly the bytes of a reply's packets (`canonical_reply`), or a
 //!   prefix of the bytes if the sink fails. A payload is never too long. The written reply reads
-//!   back with the limits of its acknowledgments, if the pack is within the reader's size limit.
-//!   The field `direct` of [`FetchReading`] must be true exactly for a direct reply.
-//! - By [`laws`], a list of packets is a reply exactly if Git's manual allows the list, and with
-//!   the meaning that the manual states (`specs/FetchManual.antt`). A list of packets encodes at
-//!   most one reply, and no reply is a prefix of another, as packets or as bytes. Each unfinished
-//!   reply can be completed with at most four packets, and a rejected packet is the first that does
-//!   not fit. The packets written for a reply encode it, and it reads back, whatever bytes follow.
-//!   A reply is read exactly if the bytes begin with packets that encode it. Every byte sequence
-//!   begins with a reply or is rejected because of its content. If the same bytes are read for
-//!   another request, the result is the same reply or no reply. If they are read with other
-//!   limits, the result is the same reply or a rejection because of a limit. The constant
-//!   `MAX_ACKS` equals the default limit in the specifications.
+//!   back under three conditions. The reader has the id format and the limits of the
+//!   acknowledgments. The pack is within the reader's size limit. The field `direct` of
+//!   [`FetchReading`] is true exactly for a direct reply.
+//! - By [`laws`], a list of packets is a reply exactly if Git's manual and the limits allow the
+//!   list. The list has the meaning that the manual states (`specs/FetchManual.antt`). A list of
+//!   packets encodes at most one reply, and no reply is a prefix of another, as packets or as
+//!   bytes. Each unfinished reply can be completed with at most four packets, and a rejected packet
+//!   is the first that does not fit. The packets written for a reply encode it. A written reply
+//!   that is well-formed for the reader reads back, whatever bytes follow. A reply is read exactly
+//!   if the bytes begin with packets that encode it. Every byte sequence begins with a reply or is
+//!   rejected because of its content. If the same bytes are read for another request, the result is
+//!   the same reply or no reply. With other limits, the result is the same reply or a rejection
+//!   because of a limit. The constant `MAX_ACKS` equals the default limit in the specifications.
 //!
 //! # Only tested
 //!
-//! Calls succeed if there is enough memory, although the contracts do not state it. Writing does
+//! Calls succeed if there is enough memory, although the contracts do not state this. Writing does
 //! not allocate, and neither does building a reply from existing ids and an existing pack.
 //!
 //! # What the contracts do not rule out
 //!
-//! Reading may report out of memory at any id. If the pack is stored in memory, reading may report
-//! out of memory at any packet with data. If the caller provides the sink, reading may report out
-//! of memory at a packet with data after the sink has refused a piece. The reader may pass this
-//! piece to the sink again. Any call may allocate, and take any amount of time.
+//! No contract rules out that reading reports out of memory at any id, or at any packet with data
+//! if the pack is stored in memory. If the caller provides the sink, no contract rules out that
+//! reading reports out of memory at a packet with data after the sink has refused a piece. No
+//! contract rules out that the reader passes this piece to the sink again. No contract rules out
+//! that a call allocates, or takes any amount of time.
 //!
 //! # Dependencies
 //!

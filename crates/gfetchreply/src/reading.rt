@@ -32,7 +32,8 @@ use std::marker::{Brand, PhantomData};
 /// The parameters of reading a fetch reply.
 #[derive(Clone, Copy, Debug, PartialEq, Eq)]
 pub struct FetchReading {
-    /// The limits on the number of acknowledged ids.
+    /// The limits on the reply. Only `haves` matters: it limits the number of acknowledged ids. A
+    /// limit above 4,294,967,295 counts as 4,294,967,295.
     pub limits: Limits,
     /// The format of the ids.
     pub format: Format,
@@ -44,10 +45,10 @@ pub struct FetchReading {
     pub ends: Ends,
 }
 
-// Members for the specification of one call that reads a reply: the borrowed sink, its previous
-// state and bytes, and the parameters. A call that uses the type `Brand` chooses the members in its
-// `Invariants.antt`. The members belong to a type, since `Message` describes only a reader and its
-// packets.
+// Ghost members that describe one call that reads a reply: the parameters, the address of the
+// borrowed sink, and the sink's bytes and state before the call. The proof of a call that uses the
+// type `Brand` chooses these members in `Invariants.antt`. The members belong to a type because the
+// trait `Message` describes only a reader and its packets.
 trait Lent<T> {
     ghost use Rattle.gfetchreply.specs.FetchReplies.{Reading};
 
@@ -263,9 +264,9 @@ pub fn read_fetch_reply_into<S: Source, T: PackSink, A: Allocator + Copy, B: All
 /// id or, if the sink may refuse a piece, at data of the pack.
 ///
 /// If the reply is rejected, the sink has accepted the data of the packets before the rejected
-/// packet, within the limit. After a rejection, the packet reader has failed exactly if the fault
-/// is [`Why::Line`]. Whatever the result, `PackSink::same` relates the sink before the call to the
-/// sink after the call.
+/// packet. The length of this data is within the limit. After a rejection, the packet reader has
+/// failed exactly if the fault is [`Why::Line`]. Whatever the result, `PackSink::same` relates the
+/// sink before the call to the sink after the call.
 pub fn read_fetch_reply_into_in<S: Source, T: PackSink, A: Allocator + Copy, B: Allocator + Copy>(
     reader: &mut PacketReader<S, A>,
     reading: FetchReading,

@@ -10,11 +10,11 @@ pub trait PackSink {
     // Whether the sink has accepted exactly these bytes, in this order.
     ghost taken: { Self → List ℕ → Type 0 };
 
-    // Whether two states are states of the same sink: the parts that accepting a piece never
-    // changes are equal.
+    // Whether two states are states of the same sink, which means that they differ only in parts
+    // that accepting a piece can change.
     ghost same: { Self → Self → Type 0 };
 
-    // Whether a sink of this type may ever refuse a piece.
+    // Whether sinks of this type can refuse a piece.
     ghost refuses: { Bool };
 
     /// Accepts the next piece of the pack, which is never empty. Returns `false` if memory runs out
@@ -32,7 +32,7 @@ pub trait PackSink {
             → same second third → same first third };
 }
 
-/// A vector appends the pack to its previous bytes. A vector may refuse a piece if memory runs out.
+/// A vector appends the pack to its previous bytes. A vector refuses a piece if memory runs out.
 impl<A: Allocator + Copy> PackSink for Vec<u8, A> {
     ghost taken = { λ bytes taken. bytes.items ≡ taken };
 

@@ -114,7 +114,7 @@ impl<A: Allocator + Copy> Acks<A> {
         self.format
     }
 
-    /// Returns the ids, of which there are at most as many as the limits allow.
+    /// Returns the ids. Their number is within the limits.
     pub fn ids(&self) -> &[Oid]
         ensures ids { result.now ≡ self.now.ids }
         ensures well_formed { AreAcks self.now.limits self.now.format result.now }

@@ -20,14 +20,14 @@ use std::alloc::Allocator;
 use std::slice::Chunks;
 
 /// Writes a reply as its canonical list of packets (gitprotocol-v2(5), "fetch"). The pack is
-/// written in pieces of the maximum size, without progress. The call neither allocates nor copies
-/// the ids or the pack.
+/// written in pieces of the maximum size, without progress packets. The call neither allocates nor
+/// copies the ids or the pack.
 ///
 /// Fails with `Io` if the sink fails, after writing a prefix of the reply. Fails with `Failed` if
-/// the writer failed before the call. Every reply meets the conditions of
-/// [`reads_back`](crate::laws::reads_back). So a written reply reads back with the limits of its
-/// acknowledgments, if the pack is within the reader's size limit. The field `direct` of
-/// [`FetchReading`](crate::FetchReading) must be true exactly for a direct reply.
+/// the writer failed before the call. A written reply reads back
+/// ([`reads_back`](crate::laws::reads_back)) under three conditions. The reader has the id format
+/// and the limits of the acknowledgments. The pack is within the reader's size limit. The field
+/// `direct` of [`FetchReading`](crate::FetchReading) is true exactly for a direct reply.
 #[tactic(auto, unfolding(crate::specs::FetchReplies::canonical_reply))]
 pub fn write_fetch_reply<A: Allocator + Copy, W: Sink>(
     reply: &FetchReply<A>,

@@ -22,7 +22,7 @@ pub record IsOpen (judge : Judge) (lines : List Packet) : Type 0 where
   pub each : (front : List Packet) (packet : Packet) (back : List Packet) → lines ≡ front ++ packet ∷ back
       → judge front packet ≡ Open
 
--- the packets are a complete message: the last packet, and no earlier packet, ends the message
+-- the packets are a complete message, which ends with the last packet and not before
 pub record IsWhole (judge : Judge) (lines : List Packet) : Type 0 where
   pub front : List Packet
   pub last : Packet

@@ -1,4 +1,4 @@
--- The laws of a kind of message: about its judge, the meaning of complete lists of packets, and writing.
+-- The laws of a kind of message, which concern its judge, the meaning of complete lists of packets, and writing.
 use Rattle.std.specs.Prelude.{◌≡◌, ◌↔◌, All, Bool, List, ◌++◌, Option, Some, None, Result, Ok, Err, IfErr}
 use Rattle.gpkt.specs.Packets.{Bytes, Packet, canonical_all}
 use Rattle.gpkt.specs.Change.{Change}
@@ -9,7 +9,7 @@ use Rattle.ggrammar.specs.MessageReading.{ReadsWhole, ReadsRefused}
 use Rattle.ggrammar.specs.MessageBytes.{known_bytes, IsFront, IsOfBytes}
 use Rattle.ggrammar.specs.declared.fault.MessageFault.{MessageFault}
 
--- a relation between packets and a message, such as that the packets encode the message
+-- a relation between packets and a message, for example that the packets encode the message
 abbrev pub Meaning : Type 0 → Type 1
 Meaning M = List Packet → M → Type 0
 

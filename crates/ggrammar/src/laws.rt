@@ -34,10 +34,10 @@ pub fn grammars_are_exact()
 {}
 
 /// Proves that a complete message at the front of some bytes is read, and that the bytes after it
-/// remain. If bytes are refused because of their content, they begin with no message, and they
-/// determine the fault and the remaining bytes. If the packet reader reports the end of the input,
-/// the bytes begin with no message. If each open list of packets can be completed, every byte
-/// sequence begins with a message or is refused. No encoding of a message is a prefix of another.
+/// remain. Bytes that are refused because of their content do not begin with a message, and the
+/// fault and the remaining bytes are unique. If the packet reader reports the end of the input, the
+/// bytes begin with no message. If each open list of packets can be completed, every byte sequence
+/// begins with a message or is refused. No encoding of a message is a prefix of another.
 pub fn messages_are_read()
     ensures { (judge : Judge) → LawsOfBytes judge }
 {
@@ -57,8 +57,8 @@ pub fn texts_are_classified()
     ensures capabilities { CapabilityIsItsText }
 {}
 
-/// Proves that the texts of packets are in the order of the packets, and that the packet of a text
-/// is read as that text.
+/// Proves that concatenating lists of packets concatenates their texts, and that the packet of a
+/// text is read as that text.
 #[tactic(auto, using(crate::proofs::PlaceLemmas::texts_of_more, crate::proofs::PlaceLemmas::text_is_read))]
 pub fn texts_are_read()
     ensures more { TextsOfMore }
@@ -68,8 +68,8 @@ pub fn texts_are_read()
 }
 
 /// Proves that consecutive writes of packets have the effect of one write of all the packets. If
-/// one of the writes fails, the write of all the packets fails. All packets of a message remain
-/// before the first write, and no packet remains after the last write.
+/// one of the writes fails, the write of all the packets fails. Before the first write, all packets
+/// of a message remain to be written. After the last write, none remains.
 pub fn writes_packets<W: Sink>()
     ensures line { WritesPacket W.contents W.passed_on W.is_down W.loans }
     ensures fitting { WritesFitting W.contents W.passed_on W.is_down W.loans }
@@ -84,10 +84,10 @@ pub fn writes_packets<W: Sink>()
     writes_join::<W>();
 }
 
-/// Proves two laws for each kind of message whose complete lists of packets encode exactly one
-/// message. A message is read exactly if the bytes begin with it, and a written message reads back,
-/// whatever bytes follow. Both laws also apply to a reader that accepts the end of the input in
-/// place of a message.
+/// Proves two laws for each kind of message in which each complete list of packets encodes exactly
+/// one message. A message is read exactly if the bytes begin with it, and a written message reads
+/// back, whatever bytes follow. Both laws also apply to a reader that accepts the end of the input
+/// in place of a message.
 pub fn kinds_are_read<K: MessageKind>()
     ensures exactly { (given : K.Given) → SaysWhole (K.judge given) (K.says given)
         → OneMeaning (K.says given)

@@ -11,38 +11,39 @@
 //!   contents to store.
 //! - In every grammar, no message is a prefix of another ([`laws`]). If the packets accepted so far
 //!   can always be completed to a message, a rejected packet is the first that does not fit. A
-//!   complete message at the front of some bytes is read, and nothing after it. If bytes are
-//!   refused because of their content, they begin with no message, and they determine the fault and
-//!   the remaining bytes. If the grammar also rejects packets only because of their content, every
-//!   byte sequence begins with a message or is refused. If each complete list of packets encodes
-//!   exactly one message, a message is read exactly if the bytes begin with it, and a written
-//!   message reads back. Consecutive writes of packets have the effect of one write of all the
-//!   packets, even if one of the writes fails.
+//!   complete message at the front of some bytes is read, and nothing after it. Bytes that are
+//!   refused because of their content do not begin with a message, and the fault and the remaining
+//!   bytes are unique. Suppose that accepted packets can always be completed, and that packets are
+//!   rejected only because of their content. Then every byte sequence begins with a message or is
+//!   refused. If each complete list of packets encodes exactly one message, a message is read
+//!   exactly if the bytes begin with it, and a written message reads back. Consecutive writes of
+//!   packets have the effect of one write of all the packets, even if one of the writes fails.
 //! - [`capability_of`] splits a text into a key and a value exactly if the text is a capability.
 //!   The function [`id_of_text`] reads an id exactly if the text consists of the hex digits of the
 //!   id.
-//! - The table `why_row` has the number, the name and the text for the peer of each fault. At most
-//!   the first 256 bytes of a peer's error text are stored. The public constants equal the limits
-//!   in the specifications.
-//! - The module [`compose`] appends a piece, or the hex digits of an id, to a text of bounded
+//! - For each fault, the table `why_row` has the number, the name and the text for the peer. At
+//!   most the first 256 bytes of a peer's error text are stored. The public constants equal the
+//!   limits in the specifications.
+//! - The functions of [`compose`] append a piece, or the hex digits of an id, to a text of bounded
 //!   length.
 //!
 //! # What the contracts do not rule out
 //!
-//! - A call may take any amount of time. The `Debug` output of a fault may show any part of a
-//!   peer's text.
-//! - Formatting a fault may return `fmt::Error` although the text was written correctly.
-//! - At a packet with contents to store, reading may report out of memory even if there is enough
-//!   memory.
+//! - No contract bounds the time of a call. No contract rules out that the `Debug` output of a
+//!   fault shows any part of a peer's text.
+//! - No contract rules out that formatting a fault returns `fmt::Error` although the text was
+//!   written correctly.
+//! - No contract rules out that reading reports out of memory at a packet with contents to store,
+//!   even if there is enough memory.
 //! - If the bytes of a source are unknown, the contracts do not state which packets are read. The
 //!   contracts still state whether the source has failed.
 //! - The contracts of this crate do not state what a reader of messages holds after it rejects a
-//!   packet. Each kind of message states that itself.
+//!   packet. The contracts of each kind of message state this.
 //!
 //! # Dependencies
 //!
-//! `gpkt` defines packets, and `gname` defines ids and names. `hex` writes the hex digits of ids,
-//! and `arrayvec` stores texts of bounded length.
+//! `gpkt` defines packets. `gname` defines ids and names, and writes the hex digits of ids. `hex`
+//! defines hex digits for the specifications. `arrayvec` stores texts of bounded length.
 #![tactic(auto)]
 
 mod capability;

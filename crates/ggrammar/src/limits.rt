@@ -5,15 +5,19 @@ ghost use Rattle.ggrammar.specs.Limits.{profile};
 
 /// The limits on the contents of messages. Git's manual states no limits.
 ///
-/// A program chooses its limits when it starts to read messages. The default limits are those of
+/// The limits bound the messages that a program reads, and also the requests and the lists of
+/// acknowledged ids that it builds. A limit on prefixes, wants or haves above 2^30 counts as 2^30.
+/// A limit on acknowledged ids above 2^32 - 1 counts as 2^32 - 1. The default limits are those of
 /// `gitv2`.
 #[derive(Clone, Copy, Debug, PartialEq, Eq)]
 pub struct Limits {
-    /// The maximum number of prefixes of an ls-refs request.
+    /// The maximum number of prefixes of an ls-refs request. A limit above 2^30 counts as 2^30.
     pub prefixes: usize,
-    /// The maximum number of wants of a fetch request.
+    /// The maximum number of wants of a fetch request. A limit above 2^30 counts as 2^30.
     pub wants: usize,
     /// The maximum number of haves of a fetch request, and of acknowledged ids of a fetch reply.
+    /// For haves, a limit above 2^30 counts as 2^30. For acknowledged ids, a limit above 2^32 - 1
+    /// counts as 2^32 - 1.
     pub haves: usize,
 }
 

@@ -30,8 +30,8 @@ pub trait Message {
     // Whether the message consists of exactly these packets so far.
     ghost holds: { Self → List Packet → Type 0 };
 
-    // Whether the message may be in this state after a packet that follows these packets was
-    // rejected.
+    // Whether the message may be in this state after it accepted these packets and rejected the
+    // next packet.
     ghost left: { Self → List Packet → Type 0 };
 
     /// Accepts the next packet. Fails if the grammar rejects the packet, or if memory runs out for

@@ -1,6 +1,6 @@
--- The text format of a repository. The first line names the object format. After it come a line for each node in
--- insertion order, a line for each ref in name order, a line for HEAD and a last line. Each line ends with LF, and ids
--- are in lower case.
+-- The text format of a repository. The first line names the object format. One line for each node follows, in insertion
+-- order, and then one line for each ref, in name order. The last two lines are the line of HEAD and a final line. Each
+-- line ends with LF, and ids are in lower case.
 use Rattle.std.specs.Prelude.{◌≡◌, ⊤, ℕ, List, [], ◌∷◌, ◌++◌, map, codes}
 use Rattle.gname.specs.Ids.{Id, IsIdOf, id_text}
 use Rattle.gname.specs.Names.{Name}
@@ -70,7 +70,7 @@ pub record RefMayFollow (format : Format) (refs : RefList) (ref : Name × Id) : 
   pub comes : NameMayComeNext refs ref.0
   pub id : IsIdOf format ref.1
 
--- P holds for each element of the list, together with the elements before it
+-- P holds for each element of the list, with the list of the elements before it as the first argument
 abbrev pub EachFollows : {X : Type 0} → (List X → X → Type 0) → List X → Type 0
 EachFollows {X} P xs = (front : List X) (x : X) (rest : List X) → xs ≡ front ++ x ∷ rest → P front x
 

@@ -14,9 +14,11 @@ use std::fmt;
 /// The reason why a repository text was not loaded.
 #[derive(Clone, Copy, Debug, PartialEq, Eq, Drop)]
 pub enum LoadFault {
-    /// The `line`, counted from 1, is the first that is malformed, exceeds a limit or is missing.
+    /// `line` is the number of the first line that is malformed, exceeds a limit or is missing.
+    /// Lines are counted from 1.
     Text { line: usize },
-    /// The `line`, counted from 1, is the first with a parent that is not on an earlier line.
+    /// `line` is the number of the first line with a parent that is not on an earlier line. Lines
+    /// are counted from 1.
     ParentLater { line: usize },
     /// Out of memory.
     Memory,

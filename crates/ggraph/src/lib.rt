@@ -23,10 +23,10 @@
 //!
 //! # What the contracts do not rule out
 //!
-//! `load` may report out of memory at any valid line with contents to store. `save` may report out
-//! of memory for any valid repository, and `has_connected_refs` may do so for any refs. A call may
-//! take any amount of time, and more memory than it needs. Formatting a fault may return an error
-//! (`fmt::Error`) for no reason.
+//! No contract rules out that `load` reports out of memory at a valid line with contents to store.
+//! The same is true of `save` for a valid repository, and of `has_connected_refs` for any refs. No
+//! contract bounds the time or the memory of a call. No contract rules out that formatting a fault
+//! returns `fmt::Error` even if every write succeeds.
 //!
 //! This crate has no tests of its own. The program `conformance` loads and saves texts up to the
 //! maximum size. The program also runs a server and a client that load repository texts, and makes

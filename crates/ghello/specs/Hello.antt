@@ -106,7 +106,7 @@ abbrev pub judge : List Packet → Packet → Verdict
 judge packets (Data payload) = judge_payload (hello_of payload)
 judge packets _ = Refused UnexpectedFrame
 
--- whether the packet has contents to store; every valid hello has
+-- whether the packet has contents to store, which is true for every valid hello
 abbrev pub brings : List Packet → Packet → Bool
 brings packets (Data payload) = is_some (hello_of payload)
 brings packets _ = false

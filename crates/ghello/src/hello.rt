@@ -126,11 +126,11 @@ pub fn is_host(host: &[u8]) -> bool
 
 /// Reads the first line of a connection exactly to its end.
 ///
-/// The fault reports packet position 0. A fault of the packet reader takes precedence over the end
-/// of the input. The fault is `UnexpectedFrame` for a flush, a delimiter or a response-end. The
-/// fault is `BadText` for a malformed payload, even if the payload is an `ERR` text, and `Memory`
-/// only if there is not enough memory for the hello. After a refusal, the packet reader is unusable
-/// exactly if the fault is [`Why::Line`].
+/// A fault reports packet position 0. A fault of the packet reader takes precedence over the end of
+/// the input. The fault is `UnexpectedFrame` for a flush, a delimiter or a response-end. The fault
+/// is `BadText` for a malformed payload, even if the payload is an `ERR` text, and `Memory` only if
+/// there is not enough memory for the hello. After a refusal, the packet reader is unusable exactly
+/// if the fault is [`Why::Line`].
 pub fn read_hello<S: Source, A: Allocator + Copy, B: Allocator + Copy>(
     reader: &mut PacketReader<S, B>,
     alloc: A,

@@ -16,26 +16,29 @@
 //!   exactly if the fault is a fault of the packet reader.
 //! - [`write_hello`] and [`write_advert`] write the canonical packets of the value, or a prefix of
 //!   them if the sink fails. A reader of the written packets returns the same value.
-//! - The checks of a client on a server's capabilities are specified in `specs/Offers.antt`.
+//! - `specs/Offers.antt` specifies how a client checks a server's capabilities.
 //!   [`Advert::value_of`] returns the first capability with a key, and [`Advert::has_feature`]
 //!   looks for a word in the value of that capability. [`Advert::format`] returns the format of the
 //!   server's ids. [`Advert::check_in`] checks that a client whose ids have a given format can use
 //!   the server.
-//! - [`laws`] proves laws about both kinds of messages. The grammars accept exactly the messages of
-//!   the manual, with the same values. A list of packets encodes at most one value. No message is a
-//!   prefix of another, as packets or as bytes. Every accepted prefix can be completed, and a
-//!   refused packet is the first that fits no message. Any input begins with a message or is
-//!   refused because of its bytes. The packets that are written for a value encode that value, and
-//!   each payload fits in a packet. A reader returns a message exactly when the input begins with
-//!   it, and a written message reads back. The public constants equal the limits in the specs.
+//! - [`laws`] proves laws about both kinds of messages. The grammar of advertisements accepts
+//!   exactly those that the manual and the limits allow, with the same values
+//!   (`specs/Adverts.antt`). The grammar of hellos is narrower than the manual's
+//!   (`specs/Hello.antt`). A list of packets encodes at most one value. No message is a prefix of
+//!   another, as packets or as bytes. Every accepted prefix can be completed, and a refused packet
+//!   is the first that fits no message. Any input begins with a message or is refused because of
+//!   its bytes. The packets that are written for a value encode that value, and each payload fits
+//!   in a packet. A reader returns a message exactly when the input begins with it, and a written
+//!   message reads back. The public constants equal the limits in the specs.
 //!
 //! # What the contracts do not rule out
 //!
-//! A call may take any amount of time, and a call that stores contents may report out of memory at
-//! any time. A value may use more memory than it needs, and a look-up or a writer may allocate and
-//! free memory. If a sink fails, any prefix of the packets may have been written. If the bytes of a
-//! source or of a sink are unknown, the contracts do not state which bytes are read or written. The
-//! contracts still state whether the source or the sink has failed.
+//! No contract rules out that a call that stores contents reports out of memory at any time. No
+//! contract rules out that a look-up or a writer allocates and frees memory. No contract bounds the
+//! time of a call or the memory of a value. If a sink fails, the contracts do not state how long
+//! the written prefix of the packets is. If the bytes of a source or of a sink are unknown, the
+//! contracts do not state which bytes are read or written. The contracts still state whether the
+//! source or the sink has failed.
 //!
 //! # Dependencies
 //!

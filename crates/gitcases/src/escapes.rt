@@ -1,9 +1,9 @@
 //! Escapes in the lines of a test file.
 //!
-//! `\n` is a line feed, `\0` is the byte 0, and `\x1f` is the byte 31. A backslash before any other
-//! character yields that character. `{NAME}` is the text with this name, or the forty digits of the
-//! id of the object with this name. `{@NAME}` is the twenty bytes of the object's id. `{BYTES*3}`
-//! is `BYTES` three times.
+//! `\n` is a line feed, `\r` is a carriage return, `\0` is the byte 0, and `\x1f` is the byte 31. A
+//! backslash before any other character yields that character. `{NAME}` is the text with this name,
+//! or the forty digits of the id of the object with this name. `{@NAME}` is the twenty bytes of the
+//! object's id. `{BYTES*3}` is `BYTES` three times.
 
 use crate::names::Names;
 use crate::trouble::Trouble;
@@ -26,8 +26,8 @@ pub(crate) fn expand_escapes(
     Ok(bytes)
 }
 
-// Appends the bytes for the text up to the end of the next pair of braces. Returns the remaining
-// text.
+// Appends the bytes for the text up to and including the first escape in braces. Returns the
+// remaining text.
 fn add_next<'a>(
     alloc: Global,
     names: &Names<'_>,
@@ -64,7 +64,7 @@ fn before_brace(text: &[u8]) -> (&[u8], Option<&[u8]>) {
     (text, None)
 }
 
-/// Appends the bytes that a text without braces stands for.
+/// Appends the bytes of a text without braces, after all its escapes are replaced.
 pub(crate) fn add_escaped(text: &[u8], bytes: &mut Vec<u8>) -> Result<(), Trouble> {
     let mut rest = text;
     for _ in 0..text.len() {
@@ -103,7 +103,7 @@ fn hex_value(letter: u8) -> u8 {
     }
 }
 
-// Appends the bytes that the text in braces stands for.
+// Appends the bytes for an escape in braces. `inside` is the text between the braces.
 fn add_braced(
     alloc: Global,
     names: &Names<'_>,

@@ -1,4 +1,4 @@
-//! Pack indexes that may be wrong (gitformat-pack(5), "Version 2 pack-*.idx files").
+//! Pack indexes, valid or not (gitformat-pack(5), "Version 2 pack-*.idx files").
 
 use crate::packs::{Pack, TRAILER};
 use crate::trouble::Trouble;

@@ -4,10 +4,10 @@
 //! The arguments of the program name test files. FORMAT.md describes the lines of these files. A
 //! row states the expected result for a pack, a store or a text. A row is tested with its input
 //! unchanged. A row that is not `large` is also tested with each allocation refused in turn. A row
-//! may name files that replace the files of its store during a run. A `sweep` row is tested with
-//! each bit of the input flipped, and with a pack truncated after each byte. Packs and stores are
-//! in memory. Refs are files in a folder. Each run creates this folder anew. The program prints a
-//! line for each wrong result. The last lines that it prints count the runs.
+//! may name files that replace the files of its store during a run. A `sweep` row is also tested
+//! with each bit of the input flipped, and with a pack truncated after each byte. Packs and stores
+//! are in memory. Refs are files in a folder that each run creates anew. The program prints a line
+//! for each wrong result. The last lines that it prints count the runs.
 //!
 //! # Proved
 //!

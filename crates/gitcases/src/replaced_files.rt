@@ -76,7 +76,7 @@ impl<'f, A: Allocator + Copy> ObjectFiles for ReplacedFiles<'f, A> {
         self.files().open_pack(path)
     }
 
-    // The time at which a folder changed differs before and after the replacement.
+    // Once the files are replaced, the change time of each folder is different from before.
     fn change_time(&self, path: &str) -> Result<Option<FolderTime>, Cause> {
         let is_replaced = self.calls_left.get() == 0;
         match self.files().change_time(path)? {

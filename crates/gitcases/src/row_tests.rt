@@ -13,10 +13,10 @@ use std::rt::Files;
 // The eight bits of a byte.
 const BITS: [u8; 8] = [1, 2, 4, 8, 16, 32, 64, 128];
 
-// An upper bound on the allocations to refuse in turn.
+// An upper bound on the number of allocations in a run.
 const MAX_REFUSED: u64 = 100_000;
 
-// The maximum number of calls after which the files are replaced.
+// An exclusive upper bound on the number of calls before the files are replaced.
 const MAX_CALLS: u64 = 60;
 
 /// Tests a row with each `Variation`.
@@ -168,7 +168,7 @@ fn test_replaced_files<R: Files + Print + AllocGlobal>(
     Ok(())
 }
 
-// Tests a pack truncated after each byte, and with each bit flipped.
+// Tests a pack that is truncated after each byte, and a pack with each bit flipped.
 fn test_changed_packs<R: Files + Print + AllocGlobal>(
     rt: &R,
     inputs: RunInputs<'_, '_>,

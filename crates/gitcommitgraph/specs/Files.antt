@@ -23,7 +23,7 @@ pub record Commit : Type 0 where
 
 -- ---- parents
 
--- the number that consists of four bytes, the highest byte first
+-- the number that four bytes encode, the most significant byte first
 unfoldable pub number : List ℕ → ℕ
 number bytes = from_be_bytes w32 bytes
 

@@ -51,7 +51,7 @@ MayHaveChunk chunks name bytes =
 abbrev pub begins_within : ℕ → Id → Bool
 begins_within byte id = nat_le (slice_index id 0) byte
 
--- the first rows of the fan-out table: for each byte below the limit, the number of ids that begin with the byte or a
+-- the first rows of the fan-out table: for each byte below this limit, the number of ids that begin with the byte or a
 -- lower byte
 unfoldable pub fan_out : ℕ → List Id → List ℕ
 fan_out zero ids = []

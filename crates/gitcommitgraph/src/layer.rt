@@ -63,9 +63,9 @@ impl<A: Allocator + Copy> Layer<A> {
     /// Parses and checks the bytes of a file.
     ///
     /// Fails with `Header`, `Contents` or `Chunk` if the header, the table of contents or a chunk
-    /// is wrong. Fails with `Order` if the ids are not in ascending order, with `FanOut` if the
-    /// fan-out table does not match the ids, and with `Edges` if an edge list has no end, or begins
-    /// outside the edge table.
+    /// is wrong. Fails with `Order` if the ids are not in ascending order, and with `FanOut` if the
+    /// fan-out table does not match the ids. Fails with `Edges` if an edge list has no end, or
+    /// begins outside the edge table.
     pub(crate) fn read(bytes: Vec<u8, A>) -> Result<Layer<A>, CommitGraphFault>
         ensures { MatchResult result (λ file. IsGraphText file bytes.items)
             (λ fault. (old : List GraphFile) → IsRefused old bytes.items fault) }
@@ -286,7 +286,7 @@ fn is_same(one: &[u8; ID_BYTES], other: &[u8; ID_BYTES]) -> bool
     one == other
 }
 
-// Returns the rows, each of `N` bytes, of the table at this span.
+// Returns the table at this span, as rows of `N` bytes.
 fn cut_rows<'a, const N: usize>(bytes: &'a [u8], span: &Span) -> &'a [[u8; N]]
     requires some { 0 < N }
     requires within { IsWithin bytes.now span.now }

@@ -10,18 +10,19 @@
 //!   position in the file is the position of a commit. `Bases`, `TooMany` and `Parents` are
 //!   returned only if the file has the returned fault. Any other fault except `Memory` is returned
 //!   only if the text is not a commit-graph file. After a failure the commit-graph is unchanged.
-//! - [`CommitGraph::find`] finds a commit if and only if some file has a commit with the id.
+//! - [`CommitGraph::find`] returns a position if and only if some file has a commit with the given
+//!   id.
 //! - [`CommitGraph::parents_of`] lists the parents of a commit, from its commit data and its edge
 //!   list. Each parent is a commit of the commit-graph. The result is `None` if and only if a
 //!   commit has more parents than the caller allows.
 //! - [`CommitGraph::id`] returns the id of the commit at a position. Positions continue from one
 //!   file of a chain to the next.
 //! - [`parse_chain`] accepts exactly the texts of the file `commit-graph-chain`.
-//! - A text encodes at most one file, and lists the files of at most one chain ([`laws`]).
+//! - No text encodes two different files, or lists the files of two different chains ([`laws`]).
 //! - No call panics, overflows or reads out of bounds, and every call returns.
 //!
-//! The tests use files made by `git commit-graph write`, with and without `--split`. The tests
-//! check that each commit has the parents that git-rev-list(1) prints.
+//! `examples/with-git.sh` serves repositories with files made by `git commit-graph write`, with and
+//! without `--split`. It checks that a clone has the objects that git-rev-list(1) prints.
 //!
 //! # Differences from Git
 //!
@@ -38,14 +39,14 @@
 //!
 //! # What the contracts do not rule out
 //!
-//! - A commit-graph may be wrong, because this crate does not compare it with the commits. A caller
-//!   should rely on the commit-graph only for commits in the repository.
-//! - If a text is not a commit-graph file, the contracts do not state which of the
-//!   faults `Header`, `Contents`, `Chunk`, `Order`, `FanOut` and `Edges` is returned.
-//! - If two files of a chain have the same commit, [`CommitGraph::find`] returns one of the two
-//!   positions.
-//! - [`CommitGraph::add`] and [`CommitGraph::parents_of`] may fail if out of memory. The contracts
-//!   do not state when memory runs out. The contracts do not limit time or memory.
+//! - No contract rules out that a commit-graph is wrong: this crate does not compare it with the
+//!   commits. A caller should rely on the commit-graph only for commits in the repository.
+//! - If a text is not a commit-graph file, the contracts do not state which of the faults `Header`,
+//!   `Contents`, `Chunk`, `Order`, `FanOut` and `Edges` is returned.
+//! - If two files of a chain have the same commit, no contract says which of the two positions
+//!   [`CommitGraph::find`] returns.
+//! - No contract states when [`CommitGraph::add`] and [`CommitGraph::parents_of`] run out of
+//!   memory. The contracts do not limit time or memory.
 //!
 //! This crate has no tests of its own.
 //!

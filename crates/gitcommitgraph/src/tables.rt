@@ -149,7 +149,7 @@ fn search(ids: &[[u8; ID_BYTES]], id: &[u8; ID_BYTES]) -> Option<usize>
     }
 }
 
-// Returns the number of ascending ids that begin with this byte or a lower byte.
+// Returns the number of ids that begin with this byte or a lower byte. The ids must ascend.
 fn ids_within(ids: &[[u8; ID_BYTES]], byte: usize) -> usize
     requires { IsAscending ids.now }
     ensures { result ≡ count_by (begins_within byte) ids.now }

@@ -83,8 +83,8 @@ pub(crate) fn split_section(text: &[u8]) -> (&[u8], &[u8])
     }
 }
 
-/// Returns the first line of a text without its LF, and the rest of the text, which begins with the
-/// LF.
+/// Returns the first line of a text without its LF, and the rest of the text, which is empty or
+/// begins with the LF.
 pub(crate) fn split_line(text: &[u8]) -> (&[u8], &[u8])
     ensures parts { text.now ≡ result.0.now ++ result.1.now }
     ensures each { All (λ b. b ≢ 10) result.0.now }

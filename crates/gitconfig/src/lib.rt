@@ -11,18 +11,18 @@
 //!
 //! # Differences from Git
 //!
-//! - A variable before the first header belongs to the empty section.
+//! - A variable before the first header belongs to a section with an empty name.
 //! - A CR always counts as a blank. In Git a CR is a blank only before LF and in values.
-//! - A byte order mark at the start of the text is refused. Git skips a byte order mark. A blank
-//!   before a section name, and a `\` before CR LF or at the end of the text, are also refused. Git
-//!   accepts a blank before a section name, and a `\` before CR LF or at the end of the text.
+//! - A byte order mark at the start of the text is refused. Git skips a byte order mark.
+//! - A blank before a section name is refused, and so is a `\` before CR LF or at the end of the
+//!   text. Git accepts all three.
 //! - `include` and `includeIf` are ordinary sections.
 //!
 //! # What the contracts do not rule out
 //!
-//! A valid configuration might be refused as malformed. [`bare_config`] might add any spaces and
-//! comments to the text. Any call that allocates may fail if out of memory; the contracts do not
-//! say when.
+//! No contract rules out that a valid configuration is refused as malformed. No contract rules out
+//! that [`bare_config`] adds spaces and comments to the text. Any call that allocates may fail if
+//! out of memory, and no contract says when.
 //!
 //! This crate has no tests.
 //!

@@ -11,13 +11,13 @@ use Rattle.gitobject.specs.declared.links.Link.{Link}
 use Rattle.gitobject.specs.declared.fault.ObjectFault.{ObjectFault}
 use Rattle.gitobject.specs.declared.fault.ObjectFault.TheVariants as faults
 
--- the text is not empty, and does not begin like a parent line
+-- the text is not empty, and does not begin with `parent` and a space
 pub record GoesOn (text : List ℕ) : Type 0 where
   pub more : text ≢ []
   pub other : (rest : List ℕ) → ¬ (text ≡ codes "parent " ++ rest)
 
--- the text begins with one line for each parent, followed by text that is not empty and does not begin like a parent
--- line
+-- the text begins with one line for each parent, followed by text that is not empty and does not begin with `parent`
+-- and a space
 abbrev pub HasParents : List ℕ → List Id → Type 0
 HasParents text [] = GoesOn text
 HasParents text (id ∷ ids) = (rest : List ℕ) × BeginsWithId (codes "parent ") text id rest × HasParents rest ids

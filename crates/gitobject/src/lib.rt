@@ -16,13 +16,14 @@
 //!   file or a symbolic link links to a blob. A gitlink names a commit of another repository, and
 //!   is not a link.
 //! - [`split_loose`] accepts exactly the texts that encode an object.
-//! - An object has at most one list of links, and a text encodes at most one object: [`laws`].
+//! - An object has at most one list of links, and a text encodes at most one object of fewer than
+//!   2^64 bytes (see [`laws`]).
 //! - No call panics, overflows or reads out of bounds, and every call returns.
 //!
 //! # Only tested
 //!
-//! The definitions in `specs/` match Git: the program `gitcases` tests correct and wrong objects,
-//! and `examples/with-git.sh` tests repositories made by Git.
+//! Only tests check that the definitions in `specs/` match Git. The program `gitcases` tests valid
+//! and malformed objects, and `examples/with-git.sh` tests repositories made by Git.
 //!
 //! # Differences from Git
 //!
@@ -30,13 +31,13 @@
 //!   committers, and the names and order of tree entries.
 //! - Git accepts a commit that ends within a parent line, and ignores that line. This crate refuses
 //!   the commit, as git-fsck(1) does.
-//! - Git reads the type of a tag only up to the first NUL, so it accepts `commit`, a NUL and other
-//!   bytes.
+//! - Git reads the type of a tag only up to the first NUL, so it accepts `commit` followed by a NUL
+//!   and other bytes.
 //!
 //! # What the contracts do not rule out
 //!
-//! Any call that allocates may fail if out of memory; the contracts do not say when. The contracts
-//! do not cover time or memory use.
+//! Any call that allocates may fail if out of memory, and no contract says when. No contract covers
+//! time or memory use.
 //!
 //! # Dependencies
 //!

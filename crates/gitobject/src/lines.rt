@@ -1,4 +1,4 @@
-//! Splitting the text of an object into words, lines, and parts up to a byte.
+//! Splitting the text of an object into words and lines, and at the first byte of a given value.
 
 ghost use Rattle.std.specs.Prelude.{◌≡◌, ◌≢◌, ◌++◌, ◌∷◌, ◌<◌, List, ℕ, All, IfSome, MatchOption, length};
 ghost use Rattle.gname.specs.Ids.{Id};
@@ -33,7 +33,7 @@ pub(crate) fn cut(byte: u8, text: &[u8]) -> Option<(&[u8], &[u8])>
 }
 
 /// Returns the id that follows `word` on the first line, and the text after the line. Returns
-/// `None` if the first line does not have this form.
+/// `None` if the first line is not `word` followed by an id.
 pub(crate) fn id_line<'a>(word: &[u8], text: &'a [u8]) -> Option<(Oid, &'a [u8])>
     ensures line { MatchOption result
         ((id : Id) (rest : List ℕ) → ¬ (BeginsWithId word.now text.now id rest))
@@ -66,7 +66,7 @@ fn split_front(count: usize, text: &[u8]) -> Option<(&[u8], &[u8])>
 }
 
 /// Returns the object type that follows the word `type` on the first line, and the text after the
-/// line. Returns `None` if the first line does not have this form.
+/// line. Returns `None` if the first line is not `type`, a space and an object type.
 pub(crate) fn type_line(text: &[u8]) -> Option<(ObjectType, &[u8])>
     ensures { MatchOption result
         ((kind : ObjectType) (rest : List ℕ) → ¬ (BeginsWithType text.now kind rest))

@@ -60,8 +60,8 @@ pub fn links_of<A: Allocator + Copy>(
 
 /// Returns the tree and the parents of a commit, in order.
 ///
-/// Fails with `Malformed` if the bytes do not begin like a commit, or with `Memory` if out of
-/// memory.
+/// Fails with `Malformed` if the tree line or a parent line is malformed, or if nothing follows
+/// these lines. Fails with `Memory` if out of memory.
 pub fn commit_links<A: Allocator + Copy>(
     alloc: A,
     body: &[u8],
@@ -105,7 +105,7 @@ fn push_parents<A: Allocator + Copy>(
     }
 }
 
-// Returns whether the text is not empty and does not begin like a parent line.
+// Returns whether the text is not empty and does not begin with `parent` and a space.
 fn goes_on(text: &[u8]) -> bool
     ensures { IsTrue result ↔ GoesOn text.now }
 {
@@ -119,7 +119,7 @@ fn goes_on(text: &[u8]) -> bool
 }
 
 /// Returns the link of a tag to the object that it names. Returns `None` if the bytes do not begin
-/// like a tag, or if there are fewer than 64 bytes.
+/// with an object line, a type line and a tag line, or if there are fewer than 64 bytes.
 pub fn tag_link(body: &[u8]) -> Option<Link>
     ensures { MatchOption result
         ((target : Id) (kind : ObjectType) → ¬ (IsTag body.now target kind))
@@ -144,7 +144,7 @@ pub fn tag_link(body: &[u8]) -> Option<Link>
     }
 }
 
-// Returns whether the text begins with the `tag` line.
+// Returns whether the text begins with a tag line.
 fn has_name(text: &[u8]) -> bool
     ensures { IsTrue result ↔ BeginsWithName text.now }
 {

@@ -2,11 +2,11 @@
 use Rattle.std.specs.Prelude.{◌≡◌, ◌<◌, ◌≤◌, ℕ, List, Option, None, IfSome, All, length, take, drop, slice_index_or}
 use Rattle.gitobjects.specs.declared.window.Block.{Block}
 
--- if the contents of the file are known, the part is its bytes starting at `start`
+-- if the contents of the file are known, `bytes` is the part of the file that begins at `start`
 abbrev pub IsPart : Option (List ℕ) → ℕ → List ℕ → Type 0
 IsPart known start bytes = IfSome known (λ all. bytes ≡ take (length bytes) (drop start all))
 
--- if the contents of the pack with this number are known, the part is its bytes starting at `start`
+-- if the contents of the pack with this number are known, `bytes` is the part of the pack that begins at `start`
 abbrev pub IsPartOf : List (Option (List ℕ)) → ℕ → ℕ → List ℕ → Type 0
 IsPartOf packs pack start bytes = IsPart (slice_index_or packs pack None) start bytes
 

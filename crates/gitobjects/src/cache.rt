@@ -21,7 +21,7 @@ struct Kept<A: Allocator + Copy> {
     object: Object<A>,
 }
 
-/// The cached objects. Each location has one slot, which other locations may share, and a new
+/// The cached objects. Each location has one slot, which it can share with other locations. A new
 /// object replaces the previous object in its slot.
 #[derive(Drop)]
 pub(crate) struct BaseCache<A: Allocator + Copy> {

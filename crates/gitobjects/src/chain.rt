@@ -85,8 +85,8 @@ impl<F: ObjectFiles, A: Allocator + Copy> ObjectReader<'_, F, A> {
         }
     }
 
-    // Returns an intact copy of the object with this id, not from the pack `but`. Returns `None` if
-    // no other copy is intact. Fails only with `Memory`.
+    // Returns an intact copy of the object with this id that is outside the pack `but`. Returns
+    // `None` if there is no such copy. Fails only with `Memory`.
     fn read_elsewhere(&mut self, id: &Oid, but: usize) -> Result<Option<Object<A>>, Cause> {
         for pack in 0..self.store.pack_count() {
             if pack == but {

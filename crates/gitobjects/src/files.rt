@@ -8,7 +8,7 @@ use std::alloc::Allocator;
 
 /// An open file whose bytes can be read in any order.
 pub trait OpenPack {
-    // All bytes of the file, or `None` if a contract cannot know the bytes. The bytes do not
+    // All bytes of the file, or `None` if the contracts do not describe the bytes. The bytes do not
     // change.
     ghost bytes: { Self → Option (List ℕ) };
 
@@ -56,8 +56,8 @@ pub trait ObjectFiles {
         most: usize,
     ) -> Result<Option<Vec<u8, A>>, Cause>;
 
-    /// Returns at most the first `most` bytes of a file, or `None` if there is no such file. Fails
-    /// with `Open` or `Read` if the system refuses a call.
+    /// Returns the first `most` bytes of a file, or all bytes if the file is shorter. Returns
+    /// `None` if there is no such file. Fails with `Open` or `Read` if the system refuses a call.
     fn read_front<A: Allocator + Copy>(
         &self,
         alloc: A,
@@ -69,8 +69,8 @@ pub trait ObjectFiles {
     /// call.
     fn exists(&self, path: &str) -> Result<bool, Cause>;
 
-    /// Returns the canonical path of a folder: absolute, without symbolic links and dots. Returns
-    /// `None` if there is no such folder. Fails with `Open` if the system refuses the call.
+    /// Returns the canonical path of a folder: absolute, without symbolic links, `.` or `..`.
+    /// Returns `None` if there is no such folder. Fails with `Open` if the system refuses the call.
     fn canonical<A: Allocator + Copy>(
         &self,
         alloc: A,

@@ -33,7 +33,7 @@ const FAR: usize = 128;
 
 // The maximum number of ids read at once. If ids are looked up in ascending order, consecutive
 // parts of the index are read, and each part may be longer than the previous part.
-const MAX_IDS_READ: usize = 2_048;
+const MAX_IDS_READ: usize = 4_096;
 
 // The maximum number of reads for one look-up. Each read except the first halves the number of
 // remaining ids, which is at most 2^32.
@@ -75,7 +75,7 @@ enum SearchResult {
     Before,
     // The id follows the part.
     After,
-    // The id is missing, although its position would be inside the part.
+    // The index lacks the id, which would be between two ids of the part.
     Absent,
 }
 
@@ -190,11 +190,7 @@ impl<P: OpenPack + Drop, A: Allocator + Copy> IndexFile<P, A> {
     // `middle` is already in memory, no other ids are read.
     fn part_for(&self, places: Places, middle: usize) -> Places {
         let held = self.held;
-        if held.low <= middle
-            && middle < held.high
-            && places.low <= held.low
-            && held.high <= places.high
-        {
+        if held.low <= middle && middle < held.high {
             return held;
         }
         let part = part_around(places, middle);
@@ -204,10 +200,11 @@ impl<P: OpenPack + Drop, A: Allocator + Copy> IndexFile<P, A> {
         if !is_next {
             return part;
         }
+        // This part may extend past the ids with the same first byte.
         let high = part
             .high
             .saturating_add(width.saturating_mul(2))
-            .min(places.high);
+            .min(self.len);
         Places {
             low: part.low,
             high: high.min(part.low.saturating_add(MAX_IDS_READ)),

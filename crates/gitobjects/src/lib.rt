@@ -13,23 +13,23 @@
 //!
 //! - [`ObjectReader::read_checked`] and [`QuickReader::read_checked`] return an object only if it
 //!   has the requested id. The SHA-1 of the object is computed.
-//! - A private function reads the form and the size of a pack entry from its header. The stream of
-//!   the entry fills the remaining bytes, and inflates to the size in the header. Another function
-//!   splits the text of a loose object into the type and the body.
-//! - The window on the packs returns the correct bytes of a pack, no matter which blocks are in
-//!   memory. The window holds at most 64 blocks for all packs together, each of at most 1 MiB.
-//! - A folder must be listed again unless it was listed twice since its names changed. A private
-//!   function makes this decision.
+//! - A private function inflates a pack entry, and returns the form and the size in its header. If
+//!   it succeeds, all bytes after the header are a zlib stream, which inflates to that size.
+//!   Another private function splits the text of a loose object into the type and the body.
+//! - A private window caches blocks of the open packs: at most 64 blocks in total, each of at most
+//!   1 MiB. The window returns the correct bytes of a pack, no matter which blocks are in memory.
+//! - A private function decides whether a folder must be listed again: always, unless it was listed
+//!   at least twice since its names changed.
 //! - The path of a loose object consists of a folder and the digits of the id. The paths in
 //!   `info/alternates` are read in the order of its lines.
-//! - A private function finds in a listing exactly the packs whose index is listed. The name of an
-//!   index ends in `.idx`, is UTF-8 and has no slash.
+//! - A private function reads the names in a pack folder, and returns exactly the packs whose index
+//!   is among them. The name of an index ends in `.idx`, is UTF-8 and has no slash.
 //! - No call panics, overflows or reads out of bounds, and every call returns, whatever the files
 //!   contain, even if a delta chain is cyclic.
 //!
 //! # Only tested
 //!
-//! The program `gitcases` reads correct, wrong and hostile directories, while files change and
+//! The program `gitcases` reads valid, corrupt and hostile directories, while files change and
 //! memory runs out. `examples/with-git.sh` reads directories made by Git, in each layout.
 //!
 //! # Differences from Git
@@ -55,35 +55,38 @@
 //!
 //! # What the contracts do not rule out
 //!
-//! - [`ObjectReader::read`] trusts the files: it does not compute ids. A clause cannot describe the
-//!   contents of a system file.
+//! - No contract rules out that [`ObjectReader::read`] returns an object with another id. The
+//!   method trusts the files and does not compute ids. A contract cannot describe the contents of a
+//!   system file.
 //! - No contract says which object a whole delta chain produces, or which type
 //!   [`ObjectReader::kind_of`] returns. Each step relies on a contract of `gitpack`.
 //! - No contract says that other copies of a broken object are tried. No contract says that a
 //!   listed pack is opened.
-//! - The entry that [`ObjectReader::raw_entry`] returns may be any bytes. The CRC-32 of the entry
-//!   is compared with the index, but no contract covers this comparison.
-//! - A pack may be added in the same tick of the file system's clock as a listing. A pack that was
-//!   added in this tick is not seen until the folder changes again, or until
-//!   [`ObjectReader::refresh`].
-//! - Only the safety of the base cache is proved.
-//! - [`ObjectStore::find`], [`ObjectStore::find_in`] and [`ObjectReader::find`] may return a wrong
-//!   location of an object, or `None`. The methods [`ObjectStore::index`] and
-//!   [`ObjectStore::starts`] may return the data of another pack, or nothing.
-//! - No contract says from which pack and position an entry is read. Only the bytes that the window
-//!   returns are proved.
-//! - A pack that does not match its index may be opened. The header, object count and checksum of
-//!   the pack are compared with the index, but no contract covers this comparison.
-//! - A loose object may be accepted even if bytes follow its stream.
+//! - No contract rules out that [`ObjectReader::raw_entry`] returns arbitrary bytes. The CRC-32 of
+//!   the entry is compared with the index, but no contract covers this comparison.
+//! - No contract rules out that a new pack is overlooked. A pack can be overlooked if it is added
+//!   after a listing, but in the same tick of the file system's clock. The pack is then found only
+//!   after the folder changes again, or after [`ObjectReader::refresh`].
+//! - No contract says which object the base cache returns. Only the safety of the cache is proved.
+//! - No contract rules out that [`ObjectStore::find`], [`ObjectStore::find_in`] and
+//!   [`ObjectReader::find`] return a wrong location, or `None` for an object that exists. No
+//!   contract rules out that [`ObjectStore::index`] and [`ObjectStore::starts`] return the data of
+//!   another pack, or nothing.
+//! - No contract says from which pack and position an entry is read. It is only proved that the
+//!   private window returns the correct bytes of a pack.
+//! - No contract rules out that a pack is opened although it does not match its index. The header,
+//!   object count and checksum of the pack are compared with the index, but no contract covers this
+//!   comparison.
+//! - No contract rules out that a loose object is accepted although bytes follow its stream.
 //! - No contract says which alternates are read, where a relative path begins, or how the open
 //!   packs are ordered.
-//! - [`ObjectReader::refresh`] may find nothing new. A folder may be listed more or less often than
-//!   the proved function decides.
-//! - [`MemoryFiles`] may return bytes that differ from the added bytes.
-//! - A [`QuickReader`] may find no object, report one that does not exist, or return a wrong type.
-//!   A quick reader does not check a whole index.
+//! - No contract rules out that [`ObjectReader::refresh`] finds nothing new. No contract rules out
+//!   that a folder is listed more or less often than the proved function decides.
+//! - No contract rules out that [`MemoryFiles`] returns bytes that differ from the added bytes.
+//! - No contract rules out that a [`QuickReader`] finds no object, reports an object that does not
+//!   exist, or returns a wrong type. A quick reader does not check a whole index.
 //! - The contracts do not cover which fault is returned, which file it names, or its text.
-//! - Any call may fail if out of memory, and any file may be refused.
+//! - No contract says when a call runs out of memory, or which files are refused.
 //!
 //! # Dependencies
 //!

@@ -1,5 +1,5 @@
-//! How often a pack folder was listed since its last change. This decides whether the folder must
-//! be listed again.
+//! How often a pack folder was listed since its last change. This number decides whether the folder
+//! must be listed again.
 
 ghost use Rattle.std.specs.Prelude.{◌≡◌, ◌≢◌, ◌↔◌, IsTrue, Option};
 ghost use Rattle.gitobjects.specs.Listed.{ListsAgain, Twice};

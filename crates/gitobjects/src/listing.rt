@@ -7,8 +7,8 @@ use crate::fault::Cause;
 use crate::parts::cut;
 use std::alloc::Allocator;
 
-/// Returns the sorted names, without extension, of the packs whose index is listed. The listed
-/// names are NUL-terminated.
+/// Returns the names of the packs whose index is in the listing `names`. The returned names are
+/// sorted and have no extension. The listed names are NUL-terminated.
 pub(crate) fn index_stems<A: Allocator + Copy>(
     alloc: A,
     names: &[u8],

@@ -14,7 +14,7 @@ pub struct LooseFolders {
 }
 
 impl LooseFolders {
-    /// Returns a `LooseFolders` in which no folder was looked up.
+    /// Returns an empty record: no folder was looked up yet.
     pub fn new() -> LooseFolders {
         LooseFolders {
             exists_by_first_byte: [None; 256],

@@ -222,8 +222,8 @@ impl<A: Allocator + Copy> PackFile<A> {
         }
     }
 
-    // Converts the form of the entry at this offset. The converted form of a delta names its base
-    // by offset.
+    // Converts the form of the entry at this offset to a `LocalForm`, which names the base of a
+    // delta by offset.
     fn local_form(&self, start: usize, form: EntryForm) -> Result<LocalForm, Cause> {
         let base = match form {
             EntryForm::Whole(kind) => return Ok(LocalForm::Whole(kind)),

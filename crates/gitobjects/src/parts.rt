@@ -4,7 +4,7 @@ ghost use Rattle.std.specs.Prelude.{◌≡◌, ◌≢◌, ◌++◌, ◌∷◌, �
 
 use memchr::memchr;
 
-/// Returns the two parts of a text, before and after the first byte of this value, or `None` if
+/// Returns the parts of a text before and after the first byte that equals `byte`, or `None` if
 /// there is no such byte.
 pub(crate) fn cut(byte: u8, text: &[u8]) -> Option<(&[u8], &[u8])>
     ensures parts { MatchOption result (All (λ b. b ≢ byte) text.now)

@@ -21,8 +21,8 @@ const MAX_TEXT: usize = 131_072;
 // git-fast-import(1) may put into a chain.
 const MAX_CHAIN: usize = 8_192;
 
-// The number of bytes read first for an entry, and the number read if the stream is longer than the
-// first bytes.
+// The number of bytes read first for an entry, and the number of bytes read if the first bytes do
+// not contain the whole stream.
 const FRONTS: [usize; 2] = [4_096, MAX_TEXT];
 
 /// An open pack and its index. Only the needed parts of both are read.

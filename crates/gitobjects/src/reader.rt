@@ -69,10 +69,10 @@ impl<'f, F: ObjectFiles, A: Allocator + Copy> ObjectReader<'f, F, A> {
     /// unlike in [`ObjectReader::read_checked`]. If one copy of the object is broken, other copies
     /// are tried, as in Git.
     ///
-    /// Fails with `Missing` if the object is missing and no pack was left out. If every copy is
-    /// broken, the fault names the first copy and the cause. If the object is missing, the fault
-    /// names the first pack that was left out and the cause. Fails with `Memory` if out of memory.
-    /// The reader can be used again after any fault.
+    /// Fails with `Missing` if the object is missing and no pack was left out. If the object is
+    /// missing and packs were left out, the fault names the first such pack and the cause. If every
+    /// copy is broken, the fault names the first copy and the cause. Fails with `Memory` if out of
+    /// memory. The reader can be used again after any fault.
     pub fn read(&mut self, id: &Oid) -> Result<Object<A>, StoreFault<A>> {
         let first = match self.read_listed(id) {
             Ok(Some(object)) => return Ok(object),
@@ -109,8 +109,8 @@ impl<'f, F: ObjectFiles, A: Allocator + Copy> ObjectReader<'f, F, A> {
     /// delta chain, or from the start of a loose object. If these bytes do not determine the type,
     /// the whole object is read.
     ///
-    /// Fails for the same reasons as [`ObjectReader::read`]. The type of an object with a broken
-    /// body may be returned.
+    /// Fails for the same reasons as [`ObjectReader::read`]. The call can succeed even if the body
+    /// of the object is broken.
     pub fn kind_of(&mut self, id: &Oid) -> Result<ObjectType, StoreFault<A>> {
         match self.kind_listed(id) {
             Ok(Some(kind)) => Ok(kind),
@@ -135,7 +135,8 @@ impl<'f, F: ObjectFiles, A: Allocator + Copy> ObjectReader<'f, F, A> {
     /// Returns the object at this location, or `None` if the object no longer exists. If the copy
     /// at this location is broken, other copies are tried.
     ///
-    /// Fails with `Memory`. If every copy is broken, the fault names the first copy and the cause.
+    /// Fails with `Memory` if out of memory. If every copy is broken, the fault names the first
+    /// copy and the cause.
     pub fn read_found(
         &mut self,
         id: &Oid,

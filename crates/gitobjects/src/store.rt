@@ -257,7 +257,7 @@ impl<'f, F: ObjectFiles, A: Allocator + Copy> ObjectStore<'f, F, A> {
     }
 
     /// Returns the id of the object whose entry is at this location, or `None` if no entry begins
-    /// at that offset.
+    /// at this location.
     pub(crate) fn id_at(&self, spot: Spot) -> Option<Oid> {
         self.packs.get(spot.pack)?.id_at(spot.start)
     }
@@ -306,7 +306,8 @@ impl<'f, F: ObjectFiles, A: Allocator + Copy> ObjectStore<'f, F, A> {
 
     /// Returns the loose object with this id, or `None` if no folder has the object.
     ///
-    /// Fails with `Memory`. If no folder has an intact copy, the fault names the first broken file.
+    /// Fails with `Memory` if out of memory. If there are copies but none is intact, the fault
+    /// names the first broken file.
     pub(crate) fn read_loose(
         &self,
         id: &Oid,

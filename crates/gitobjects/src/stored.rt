@@ -17,7 +17,7 @@ pub struct StoredFiles<'r, R: Files> {
 }
 
 impl<'r, R: Files> StoredFiles<'r, R> {
-    /// Returns access to the files of this runtime.
+    /// Returns a `StoredFiles` that accesses files through this runtime.
     pub fn new(files: &'r R) -> StoredFiles<'r, R> {
         StoredFiles { files }
     }
@@ -110,7 +110,7 @@ const PART: usize = 16_384;
 
 const MAX_PARTS: usize = MAX_NAMES / 256;
 
-// Returns all names of an open folder.
+// Returns the names of all files in an open folder.
 fn read_names<D: Read, A: Allocator + Copy>(alloc: A, folder: &mut D) -> Result<Vec<u8, A>, Cause> {
     let mut names = Vec::new(alloc);
     let mut part = [0; PART];

@@ -1,5 +1,5 @@
-//! A window on the open packs: the most recently read blocks. A pack need not be in memory as a
-//! whole.
+//! A window on the open packs, which keeps the most recently read blocks in memory. So a pack need
+//! not be in memory as a whole.
 
 ghost use Rattle.std.specs.Prelude.{◌≡◌, ◌+◌, ◌≤◌, ◌<◌, ◌++◌, ◌∷◌, [], ℕ, List, Option, IfOk, IfSome, OnErr, OnOk, OnSome, take, drop, length, map, vec_len};
 ghost use Rattle.gitobjects.specs.Windows.{AreBlocks, IsBlock, IsPartOf};

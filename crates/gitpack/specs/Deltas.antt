@@ -2,7 +2,7 @@
 use Rattle.std.specs.Prelude.{◌≡◌, ⊤, ℕ, ◌+◌, ◌*◌, ◌/◌, ◌%◌, ◌<◌, ◌≤◌, ◌==◌, ◌⊎◌, if◌then◌else◌, List, [], ◌∷◌, ◌++◌, length, take, drop}
 use Rattle.gitpack.specs.Numbers.{IsSize}
 
--- an instruction of a delta: copy `size` bytes of the base from `offset` on, or insert new bytes
+-- an instruction of a delta: copy `size` bytes of the base, starting at `offset`, or insert new bytes
 pub data Instruction : Type 0 where
   Copy : (offset size : ℕ) → Instruction
   Insert : (bytes : List ℕ) → Instruction

@@ -47,8 +47,8 @@ begins_within byte e = nat_le (slice_index e.id 0) byte
 abbrev pub ids_within : ℕ → List IndexEntry → ℕ
 ids_within byte entries = count_by (begins_within byte) entries
 
--- the first numbers of the fan-out table: for each byte below the limit, the number of ids whose first byte is at most
--- this byte
+-- the first numbers of the fan-out table: for each byte value below the limit, the number of ids whose first byte is at
+-- most this value
 unfoldable pub fan_out : ℕ → List IndexEntry → List ℕ
 fan_out zero entries = []
 fan_out (suc byte) entries = fan_out byte entries ++ to_be_bytes w32 (ids_within byte entries)

@@ -4,7 +4,8 @@ use Rattle.gitpack.specs.Entries.{IsHead}
 use Rattle.gitpack.specs.Indexes.{HasText, Index, IsIndex, ReadsIndex, index_text}
 use Rattle.gitpack.specs.declared.entry.EntryForm.{EntryForm}
 
--- bytes begin with at most one entry header, so a written header can be read back, no matter which bytes follow
+-- a byte sequence begins with at most one entry header, so a written header can be read back, no matter which bytes
+-- follow
 abbrev pub HeadsAreOne : Type 0
 HeadsAreOne =
     (form other_form : EntryForm) (size other_size : ℕ) (head other rest more : List ℕ)

@@ -23,8 +23,8 @@ struct Block {
     next: u32,
 }
 
-/// A hash table of the blocks of a delta base. A block number is one higher than the position of
-/// the block, and 0 means no block.
+/// A hash table of the blocks of a delta base. The number of a block is its position among the
+/// blocks plus 1, and 0 means no block.
 #[derive(Drop)]
 pub(crate) struct Blocks<A: Allocator + Copy> {
     // The number of the first block in each slot.
@@ -89,9 +89,9 @@ impl<A: Allocator + Copy> Blocks<A> {
         }
     }
 
-    /// Returns the first match of at least one block that begins in the target at or after `from`
-    /// and before `to`, or `None` if the search finds no such match. The match ends where the bytes
-    /// of the target and the base differ.
+    /// Returns the first match of at least one block whose offset in the target is in `from..to`.
+    /// Returns `None` if the search finds no such match. The match ends where the target and the
+    /// base differ.
     pub(crate) fn next_match(
         &self,
         base: &[u8],
@@ -113,8 +113,9 @@ impl<A: Allocator + Copy> Blocks<A> {
         None
     }
 
-    // Returns the longest match that begins at `at` in the target. `start` is a pair: the hash of
-    // the target's block at `at`, and the number of the first base block with this hash's slot.
+    // Returns the longest match that the search finds at offset `at` of the target. `start` is a
+    // pair: the hash of the target's block at `at`, and the number of the first base block in the
+    // slot for this hash.
     fn longest(&self, base: &[u8], target: &[u8], at: usize, start: (u32, u32)) -> Match {
         let mut best = Match {
             at,

@@ -69,8 +69,7 @@ impl<A: Allocator + Copy> Children<A> {
         }
     }
 
-    /// Returns the position of the next delta in the list of entries, or `None` if no delta
-    /// remains.
+    /// Returns the position of the next delta among the entries, or `None` if no delta remains.
     pub(crate) fn peek(&self, cursor: &Cursor) -> Option<usize> {
         match self.next_by_offset(cursor) {
             Some(place) => Some(place),

@@ -23,8 +23,8 @@ const SIZE_BYTES: u32 = 3;
 // The size of a copy whose encoded size is 0.
 const FULL_COPY: usize = 0x10000;
 
-/// Returns the size of the resulting object, which a delta records. Returns `None` if the bytes do
-/// not begin with two sizes, as a delta does.
+/// Returns the size of the resulting object, as recorded in a delta. Returns `None` if the bytes do
+/// not begin with two sizes, as every delta does.
 pub fn made_size(delta: &[u8]) -> Option<usize>
     ensures { MatchOption result
         ((base body : List ℕ) → ¬ (IsDelta base delta.now body))

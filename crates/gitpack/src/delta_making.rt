@@ -83,7 +83,7 @@ impl<A: Allocator + Copy> DeltaBase<A> {
         Ok(Some(delta))
     }
 
-    // Searches for a delta of at most about `limit` bytes.
+    // Searches for a delta of at most `limit` bytes, but may return a longer one.
     fn search(&self, target: &[u8], limit: usize) -> Result<Option<Vec<u8, A>>, AllocError> {
         let base = self.bytes.as_slice();
         let mut delta = Vec::new(self.alloc);
@@ -124,7 +124,7 @@ fn put_insertions<A: Allocator + Copy>(
     Ok(())
 }
 
-// Appends instructions that copy `length` bytes of the base from `offset` on.
+// Appends instructions that copy `length` bytes of the base, starting at `offset`.
 fn put_copies<A: Allocator + Copy>(
     delta: &mut Vec<u8, A>,
     offset: usize,
@@ -138,7 +138,7 @@ fn put_copies<A: Allocator + Copy>(
     Ok(())
 }
 
-// Appends a copy instruction. Bytes of the offset and the size that are zero are left out.
+// Appends a copy instruction. Zero bytes of the offset and of the size are omitted.
 fn put_copy<A: Allocator + Copy>(
     delta: &mut Vec<u8, A>,
     offset: usize,

@@ -50,7 +50,7 @@ impl<A: Allocator + Copy> Model for PackBytes<A> {
 }
 
 impl<A: Allocator + Copy> PackBytes<A> {
-    /// Returns a `PackBytes` without received bytes.
+    /// Returns a `PackBytes` that has received no bytes.
     pub(crate) fn new(alloc: A) -> PackBytes<A>
         ensures { result ≡ [] }
     {
@@ -128,7 +128,7 @@ fn frame_of(pack: &[u8], sum: &[u8; ID_BYTES]) -> Option<(u32, Oid)>
     }
 }
 
-// Splits a pack into the bytes before the trailer and the trailer. Returns `None` if the trailer
+// Returns the bytes before the trailer of a pack, and the trailer. Returns `None` if the trailer
 // differs from `sum`.
 fn split_trailer<'p>(pack: &'p [u8], sum: &[u8; ID_BYTES]) -> Option<(&'p [u8], Oid)>
     requires { sum.now ≡ sha1 (take (length pack.now - 20) pack.now) }

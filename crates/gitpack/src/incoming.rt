@@ -32,7 +32,7 @@ impl<A: Allocator + Copy> Model for IncomingPack<A> {
 }
 
 impl<A: Allocator + Copy> IncomingPack<A> {
-    /// Returns a pack without received bytes.
+    /// Returns a pack that has received no bytes.
     pub fn new(alloc: A, limits: IndexLimits) -> IncomingPack<A>
         ensures { result ≡ [] }
     {
@@ -58,8 +58,8 @@ impl<A: Allocator + Copy> IncomingPack<A> {
         Ok(())
     }
 
-    /// Returns the received pack and its objects, once all bytes have arrived. The visitor receives
-    /// the remaining objects, and must be the visitor of all `feed` calls.
+    /// Returns the received pack and its objects, once all bytes have arrived. The visitor must be
+    /// the same as in all `feed` calls, and receives the remaining objects.
     ///
     /// Fails for the same reasons as [`crate::index_pack`].
     pub fn finish<V: ObjectVisitor>(

@@ -31,7 +31,7 @@ pub struct IndexEntry {
 #[derive(Drop)]
 pub struct PackIndex<A: Allocator + Copy> {
     entries: Vec<IndexEntry, A>,
-    // For each byte, the number of ids whose first byte is at most this byte.
+    // For each byte value, the number of ids whose first byte is at most this value.
     ends: [u32; 256],
     // The first eight bytes of each id, as a big-endian number.
     fronts: Vec<u64, A>,
@@ -160,8 +160,8 @@ impl<A: Allocator + Copy> PackIndex<A> {
 }
 
 // Searches for an id by its first eight bytes, and returns the position of its entry. The search is
-// quick, since it reads only a small part of `fronts`. The search may miss an entry if two ids
-// begin with the same eight bytes.
+// quick, since it reads only a small part of `fronts`. If two ids begin with the same eight bytes,
+// the search can miss an entry.
 fn find_front(entries: &[IndexEntry], fronts: &[u64], ends: &[u32; 256], id: &Oid) -> Option<usize>
     ensures { IfSome result (HoldsAt (λ e. e.id ≡ id.now) entries.now) }
 {
@@ -198,7 +198,7 @@ fn front_of(id: &Oid) -> u64 {
     }
 }
 
-// Returns, for each byte, the number of ids whose first byte is at most this byte.
+// Returns, for each byte value, the number of ids whose first byte is at most this value.
 fn ends_of(entries: &[IndexEntry]) -> [u32; 256]
     requires { length entries.now < 2 ^ 31 }
 {

@@ -55,7 +55,7 @@ fn put_fan_out<A: Allocator + Copy>(
     Ok(())
 }
 
-/// Returns, for each byte, the number of ids that begin with this byte.
+/// Returns, for each byte value, the number of ids whose first byte has this value.
 pub(crate) fn count_by_first(entries: &[IndexEntry]) -> [u32; 256]
     requires { length entries.now < 2 ^ 31 }
     ensures { (byte : ℕ) → byte < 256

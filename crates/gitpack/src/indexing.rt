@@ -25,7 +25,7 @@ pub trait ObjectVisitor {
 }
 
 /// The limits for indexing a pack. Limits are needed because a small pack can contain huge objects.
-/// An entry needs only nine bytes of the pack or more, but about two hundred bytes of memory.
+/// An entry can be as short as nine bytes in the pack, but needs about two hundred bytes of memory.
 #[derive(Clone, Copy, Debug, Drop)]
 pub struct IndexLimits {
     /// The maximum number of objects.

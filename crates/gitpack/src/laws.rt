@@ -3,8 +3,8 @@
 
 ghost use Rattle.gitpack.specs.Laws.{HeadsAreOne, IndexesAreOne, IndexesReadBack};
 
-/// Proves that bytes begin with at most one entry header, so a written entry header is read back
-/// unchanged.
+/// Proves that a byte sequence begins with at most one entry header, so a written entry header is
+/// read back unchanged.
 pub fn heads_are_one()
     ensures { HeadsAreOne }
 {}

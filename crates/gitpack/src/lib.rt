@@ -4,12 +4,12 @@
 //! # Proved
 //!
 //! - [`read_head`] accepts exactly the entry headers of `specs/Entries.antt`: a type, a size, and
-//!   the offset or id of a delta base. Bytes begin with at most one entry header ([`laws`]), so
-//!   [`read_head`] reads back each header that [`PackWriter`] writes.
+//!   the offset or id of a delta base. A byte sequence begins with at most one entry header
+//!   ([`laws`]), so [`read_head`] reads back each header that [`PackWriter`] writes.
 //! - [`apply_delta`] returns an object if and only if the bytes are a delta of the base, and the
-//!   size of the object is within the limit. In a delta, both sizes are correct, and each copied
-//!   range is within the base. The object consists of the copied and inserted bytes, in order.
-//!   [`made_size`] returns the size of this object.
+//!   size of the object is within the limit. In a delta of the base, both recorded sizes are
+//!   correct, and each copied range is within the base. The object consists of the copied and
+//!   inserted bytes, in order. [`made_size`] returns the size of this object.
 //! - [`DeltaBase::make_delta`] returns only a delta that makes the target from the base, and whose
 //!   size is within the limit.
 //! - [`PackIndex::read`] returns an index if and only if the bytes are an index of version 2
@@ -28,12 +28,12 @@
 //!   bytes. `IncomingPack` returns the concatenation of all received bytes. The visitor receives
 //!   each object with the id that its type and bytes determine. The returned objects are sorted by
 //!   id.
-//! - [`index_pack`] makes the same promises for a pack in one slice.
+//! - [`index_pack`] gives the same guarantees for a pack in one slice.
 //! - No call panics, overflows or reads out of bounds, and every call returns.
 //!
 //! # Only tested
 //!
-//! The program `gitcases` indexes correct, wrong, hostile, truncated and altered packs, and looks
+//! The program `gitcases` indexes valid, malformed, hostile, truncated and altered packs, and looks
 //! up their objects in the index. `examples/with-git.sh` indexes packs that Git wrote, and lets Git
 //! read packs that this crate wrote.
 //!
@@ -52,21 +52,26 @@
 //!
 //! # What the contracts do not rule out
 //!
-//! - Any call that allocates may fail with out-of-memory. The contracts do not say when.
-//! - [`DeltaBase::make_delta`] might never find a delta, or might find a longer delta than
-//!   necessary. Only the memory safety of the search is proved. Each found delta is applied as a
-//!   check, and returned only if it makes the target.
-//! - [`IncomingPack`] and [`index_pack`] might refuse a good pack. Indexing might omit any object,
-//!   or return an object that the visitor did not receive, or received with another type. Indexing
-//!   might return a wrong offset or CRC-32 of an object, or apply a delta to a wrong base. Indexing
-//!   might accept a thin pack, a pack with bytes after its last entry, or a pack with the same
-//!   delta base twice. Indexing might accept a pack after the visitor refused an object, or pass
-//!   the visitor an object that is not in the pack. The contracts of indexing do not cover limits,
-//!   faults, or the time at which the visitor receives an object.
+//! - Any call that allocates may fail if out of memory, and no contract says when.
+//! - No contract rules out that [`DeltaBase::make_delta`] never finds a delta, or finds a longer
+//!   delta than necessary. Only the memory safety of the search is proved. Each found delta is
+//!   applied as a check, and returned only if it makes the target.
+//! - No contract rules out that [`IncomingPack`] and [`index_pack`] refuse a valid pack.
+//! - No contract rules out that indexing omits an object. No contract rules out that indexing
+//!   returns an object that the visitor did not receive, or received with another type.
+//! - No contract rules out that indexing returns a wrong offset or CRC-32 of an object, or applies
+//!   a delta to a wrong base.
+//! - No contract rules out that indexing accepts a thin pack. No contract rules out that it accepts
+//!   a pack with bytes after its last entry, or with the same delta base twice.
+//! - No contract rules out that indexing accepts a pack after the visitor refused an object. No
+//!   contract rules out that the visitor receives an object that is not in the pack.
+//! - The contracts of indexing do not cover limits, faults, or the time at which the visitor
+//!   receives an object.
 //! - [`IndexedPack::find`] returns an object with the id, but no contract says that
 //!   [`IndexedPack::entries`] contains this object.
-//! - [`PackWriter`] and [`put_entry`] might fail for any entry, with any fault. After a fault,
-//!   [`put_entry`] and [`put_header`] might leave any bytes in `out`.
+//! - No contract rules out that [`PackWriter`] and [`put_entry`] fail for any entry, with any
+//!   fault. No contract says which bytes [`put_entry`] and [`put_header`] leave in `out` after a
+//!   fault.
 //! - No contract compares the number of written entries with the count in the pack header. No
 //!   contract bounds the length of a written pack or of an entry header ([`MAX_HEAD`]).
 //! - The contracts do not cover time or memory use.

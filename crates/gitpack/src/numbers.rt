@@ -10,8 +10,8 @@ const DIGITS: u8 = 128;
 // The maximum number of bytes of an encoded size or offset.
 const MAX_BYTES: usize = 8;
 
-/// Splits the bytes after the encoded number at their start. Returns `None` if this number has more
-/// than `most` bytes or has no end.
+/// Splits the bytes into the encoded number at their start and the remaining bytes. Returns `None`
+/// if this number has more than `most` bytes or does not end.
 pub(crate) fn split_number(most: usize, bytes: &[u8]) -> Option<(&[u8], &[u8])>
     ensures { MatchOption result
         ((text rest : List ℕ) → IsNumber text → length text ≤ most → ¬ (bytes.now ≡ text ++ rest))

@@ -90,7 +90,7 @@ pub(crate) struct Scanner<A: Allocator + Copy> {
 }
 
 impl<A: Allocator + Copy> Scanner<A> {
-    /// Returns a scanner of a pack without received bytes.
+    /// Returns a scanner that has received no bytes of its pack.
     pub(crate) fn new(alloc: A, limits: IndexLimits) -> Scanner<A> {
         Scanner {
             alloc,
@@ -106,7 +106,7 @@ impl<A: Allocator + Copy> Scanner<A> {
         }
     }
 
-    /// Scans the received bytes of a pack, without the last twenty. A fault is reported only by
+    /// Scans the received bytes of a pack, except the last twenty. A fault is reported only by
     /// `finish`, since a wrong header or trailer takes precedence.
     pub(crate) fn scan_more<V: ObjectVisitor>(&mut self, body: &[u8], visitor: &mut V) {
         if self.fault.is_some() || body.len() < self.enough {

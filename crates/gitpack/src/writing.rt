@@ -17,7 +17,8 @@ use sha1::Sha1;
 use std::alloc::{AllocError, Allocator};
 use std::marker::Model;
 
-/// A writer of a pack, entry by entry. In contracts, a writer is the list of bytes written so far.
+/// A writer that builds a pack entry by entry. In contracts, a writer is the list of bytes written
+/// so far.
 ///
 /// After a fault, a part of an entry may have been written, and the pack is unusable.
 #[derive(Drop)]

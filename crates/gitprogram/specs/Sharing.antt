@@ -15,15 +15,15 @@ abbrev pub server_in : Extent → Server Global
 server_in (extent.Whole server) = server
 server_in (extent.Tips server) = server
 
--- a packer may send any complete pack for a list of objects
+-- the contract allows a packer to send any complete pack for a list of objects
 abbrev pub packs_any : List (Entry Global) → List ℕ → Type 0
 packs_any list pack = IsWholePack pack
 
--- a packer may fail with any fault
+-- the contract allows a packer to fail with any fault
 abbrev pub fails_any : List (Entry Global) → PackFault → Type 0
 fails_any list fault = ⊤
 
--- the bytes that a packer may still send: if no fault occurs, they complete the pack whose earlier bytes were already
+-- the bytes that a packer can still send: if no fault occurs, they complete the pack whose earlier bytes were already
 -- sent
 abbrev pub gives_rest : StoreParts Global → List ℕ → Option PackFault → Type 0
 gives_rest parts bytes end = end ≡ None → (length bytes ≤ parts.outgoing.left)

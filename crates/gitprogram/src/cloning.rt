@@ -57,8 +57,8 @@ struct Source {
     tips: Tips<Global>,
 }
 
-/// Clones a server's repository into a new or empty directory, as a bare repository. If the clone
-/// fails, it removes all its files.
+/// Clones a server's repository into a new or empty directory, as a bare repository. A failed clone
+/// removes all files that it created.
 pub(crate) fn clone_remote<R, E>(rt: &R, asked: &CloneArgs<'_>, errors: &mut E) -> Result<(), Fault>
 where
     R: Files + AllocGlobal + Net,
@@ -73,8 +73,8 @@ where
     outcome
 }
 
-// Returns the server's HEAD and the ids of its refs. The names of the refs may use much memory, so
-// this function drops them. They are listed again later.
+// Returns the server's HEAD and the ids of its refs. The names of the refs can use much memory, so
+// this function drops them. The fetch lists the refs again.
 fn source_of<R: AllocGlobal + Net>(rt: &R, remote: &Remote) -> Result<Source, Fault> {
     let alloc = rt.alloc();
     let listed = list(rt, remote)?;
@@ -148,7 +148,7 @@ fn head_of(alloc: Global, reply: &LsReply<Global>) -> Result<ServerHead, Fault>
     }
 }
 
-// Returns the HEAD of a server whose HEAD points at an unborn branch of this name.
+// Returns the HEAD for the clone of a server whose HEAD points at an unborn branch of this name.
 fn unborn_head(alloc: Global, name: &RefName<Global>) -> Result<ServerHead, Fault>
     ensures { IfOk result (IsUnbornHead name.now) }
 {
@@ -192,7 +192,7 @@ fn is_branch(name: &RefName<Global>) -> bool
     name.as_bytes().starts_with(BRANCHES)
 }
 
-// Returns a HEAD that points at a branch.
+// Returns a HEAD that points at this branch.
 fn branch_of(alloc: Global, name: &RefName<Global>) -> Result<ServerHead, Fault>
     requires { is_branch name.now ≡ true }
     ensures { IfOk result (λ head. head ≡ Branch name.now) }
@@ -249,8 +249,8 @@ where
     }
 }
 
-// Returns the fault for a repository that cannot be created. The cause may be that another process
-// has just created one in the same directory.
+// Returns the fault for a repository that cannot be created. A possible cause is that another
+// process has just created a repository in the same directory.
 fn make_fault(alloc: Global, dir: &str, fault: &RepositoryFault<Global>) -> Fault {
     match fault {
         RepositoryFault::Refs(
@@ -311,8 +311,8 @@ fn keep<R: Files>(
     }
 }
 
-// Returns the branches and tags of the clone, and its HEAD if HEAD is detached. A HEAD at a tag is
-// peeled to its commit.
+// Returns the branches and tags of the clone, and its HEAD if HEAD is detached. A HEAD that points
+// at a tag is peeled to the tag's commit.
 fn kept_refs(alloc: Global, repo: &Repo<Global>) -> Result<(Refs<Global>, Head<Global>), Fault> {
     let mut kept = Refs::new(alloc);
     let mut head = Head::None;

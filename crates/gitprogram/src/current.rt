@@ -61,7 +61,7 @@ fn asks_of(
     Ok(Some(asks))
 }
 
-// Adds a ref update for each line whose ref the refspec matches. Returns `false` if a destination
+// Adds a ref update for each listed ref that the refspec matches. Returns `false` if a destination
 // is not a ref name.
 fn add_asks(
     alloc: Global,

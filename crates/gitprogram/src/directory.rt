@@ -215,7 +215,7 @@ fn common_of<R: Files + AllocGlobal>(rt: &R, own: &str) -> Result<Option<String>
 // of a directory.
 #[derive(Drop)]
 enum Link {
-    // Neither a directory nor a short file.
+    // Neither a directory nor a file of at most `MAX_LINK` bytes.
     Absent,
     Directory,
     // A file with this text.

@@ -27,7 +27,7 @@ pub(crate) trait Disk {
     /// Returns the current refs and HEAD of a repository.
     fn list(&self, found: &Directories) -> Result<Listed, NotOpened>;
 
-    /// Reads only the objects of a repository that ls-refs needs for these refs.
+    /// Reads only those objects of a repository that ls-refs needs for these refs.
     fn show(&self, found: &Directories, listed: Listed) -> Result<Extent, NotOpened>;
 
     /// Returns the modification time of the pack directory, or `None` if the time is unknown.
@@ -46,7 +46,7 @@ pub(crate) trait Disk {
     /// Closes each object store for which no ticket exists.
     fn close_unused(&self);
 
-    /// Begins a pack of these entries from the object store of a ticket.
+    /// Begins a pack of these entries, read from the object store of a ticket.
     fn begin(
         &self,
         ticket: &Ticket,

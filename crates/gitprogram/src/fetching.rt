@@ -33,6 +33,10 @@ use std::rt::Files;
 // The size of a connection buffer.
 const BUFFER: usize = 65_536;
 
+// The maximum number of new ids in a request. Git's batches double up to 16,384 ids. A server of
+// `gitv2` accepts 4,096 haves, so this maximum leaves room for common ids.
+const MAX_BATCH: usize = 2_048;
+
 // The prefix of branch names.
 const BRANCHES: &[u8] = b"refs/heads/";
 
@@ -113,8 +117,8 @@ where
     conclude(rt, &found, report, outcome)
 }
 
-// Returns the server's refs that the refspecs may match. Fails if a refspec names a ref that the
-// server does not have.
+// Returns those refs of the server that could match the refspecs. Fails if a refspec names a ref
+// that the server does not have.
 fn list_sources<R>(
     rt: &R,
     remote: &Remote,
@@ -185,7 +189,7 @@ where
     }
 }
 
-/// Returns the progress of a fetch.
+/// Returns a `Progress` for a fetch.
 pub(crate) fn progress_of<E: Write + IsTerminal>(
     alloc: Global,
     verbosity: Verbosity,
@@ -216,7 +220,7 @@ fn check_sources(
     Ok(())
 }
 
-// Returns whether a refspec is a pattern, which may match any number of refs.
+// Returns whether a refspec is a pattern, which can match any number of refs.
 fn is_pattern(spec: &Spec<Global>) -> bool {
     spec.prefix().as_bytes().ends_with(b"/")
 }
@@ -397,7 +401,7 @@ where
     }
 }
 
-// Fetches into a repository with an indexer.
+// Fetches into a repository. The indexer indexes the received pack.
 fn receive_with<R, E>(
     rt: &R,
     found: &Directories,
@@ -595,6 +599,7 @@ fn fetch_of(wanted: Wanted<'_>, progress: bool) -> GitFetch<'_, Global> {
             ofs_delta: true,
             progress,
             limits: LIMITS,
+            max_batch: MAX_BATCH,
         },
     }
 }

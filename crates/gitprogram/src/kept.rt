@@ -84,7 +84,8 @@ impl KeptRepositories {
         }
     }
 
-    // Drops the oldest repositories until `nodes` more commits and tags would not exceed the limit.
+    // Drops the oldest repositories until there is room for a repository with `nodes` commits and
+    // tags.
     fn make_room(&mut self, nodes: usize) {
         for _ in 0..MAX_REPOSITORIES {
             if self.has_room(nodes) {

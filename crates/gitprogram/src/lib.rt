@@ -1,10 +1,10 @@
 //! The program `gitrepo` as one function. [`run_gitrepo`] reads the arguments, and serves, clones,
 //! fetches, lists or checks Git repositories on disk.
 //!
-//! - `serve` serves every repository below a directory, with many connections at once on one thread
-//!   (git-daemon(1)). `serve` reads the refs again for each connection, so clients see the changes
-//!   that Git makes. The server caches the graphs of at most 64 repositories, with at most
-//!   1,048,576 commits and tags in total. A cached graph is used while the refs and HEAD are
+//! - `serve` serves the exported repositories below a directory, with many connections at once on
+//!   one thread (git-daemon(1)). `serve` reads the refs again for each connection, so clients see
+//!   the changes that Git makes. The server caches the graphs of at most 64 repositories, with at
+//!   most 1,048,576 commits and tags in total. A cached graph is used while the refs and HEAD are
 //!   unchanged. Connections also share open packs while the pack directory is unchanged. `serve`
 //!   sends a pack entry by entry, and holds one entry and at most 10 possible delta bases in
 //!   memory. `serve` logs one line per connection.
@@ -40,10 +40,10 @@
 //! - `clone` fetches only HEAD, branches and tags. If the server's HEAD is detached at a tag, the
 //!   clone's HEAD is detached at the tag's commit. Git refuses to clone from a server whose HEAD is
 //!   detached at a tag.
-//! - `fetch` fast-forwards a tag without force, like any ref. If a destination is a symbolic ref,
-//!   `fetch` fails. `fetch` may update a branch that another worktree has checked out. A repository
-//!   has a work tree if `core.bare` is false in the file `config`. If `core.bare` is not set, a
-//!   repository has a work tree if its directory is named `.git`.
+//! - `fetch` fast-forwards a tag without force, like any other ref. If a destination is a symbolic
+//!   ref, `fetch` fails. `fetch` updates a branch even if another worktree has checked it out. A
+//!   repository has a work tree if `core.bare` is false in the file `config`. If `core.bare` is not
+//!   set, a repository has a work tree if its directory is named `.git`.
 //! - By default, `serve` accepts at most 1,024 connections at once, and at most 64 from one
 //!   address. A client must send its first line within 10 seconds, the first byte of a request
 //!   within 60 seconds, and the rest of the request within another 60 seconds. A client may stall
@@ -67,17 +67,20 @@
 //!
 //! # What the contracts do not rule out
 //!
-//! No contract covers the rest of the behaviour. Most of it depends on files, streams and sockets,
-//! which contracts cannot describe. No contract says how many repositories are cached, or that an
-//! object store is ever closed. A cached repository lists its refs even if their objects have since
-//! been removed. `Repositories` may find any repository and report any text. A packer may fail with
-//! any fault, and a pack may have objects of another repository. A failed command may exit with any
-//! status. Output may be lost before it is written, and any call may fail.
+//! No contract covers any behaviour that "Proved" does not list. Most behaviour depends on files,
+//! streams and sockets, which contracts cannot describe. No contract says how many repositories are
+//! cached, or that an object store is ever closed. A cached repository lists its refs even if their
+//! objects have since been removed. No contract rules out that `Repositories` finds a wrong
+//! repository or reports a wrong text. No contract rules out that a packer fails with any fault, or
+//! that a pack has objects of another repository. No contract rules out that a failed command exits
+//! with any status. No contract rules out that output is lost before it is written, or that a call
+//! fails.
 //!
-//! Text for a terminal may be written without the removal of control bytes. `upload-pack` may pass
-//! other bytes to the dialogue than it reads. A client whose first packet is malformed may get no
-//! error packet. A server may end its replies with a response-end packet. A pack may lack entries,
-//! since the contract of a pack of `gitrepository` allows any pack.
+//! No contract rules out that text is written to a terminal with control bytes. No contract rules
+//! out that `upload-pack` passes other bytes to the dialogue than it reads. No contract rules out
+//! that a client whose first packet is malformed gets no error packet. No contract rules out that a
+//! server ends its replies with a response-end packet. No contract rules out that a pack lacks
+//! entries, since the contract of `gitrepository` allows any pack.
 //!
 //! # Dependencies
 //!

@@ -4,7 +4,7 @@ use ggrammar::Limits;
 
 /// The limits on requests and replies.
 ///
-/// With every request at its limits, a connection needs less than 5 MiB for its request.
+/// A connection needs less than 5 MiB for its request, even if the request reaches every limit.
 pub(crate) const LIMITS: Limits = Limits {
     prefixes: 1_024,
     wants: 65_537,

@@ -13,7 +13,8 @@ pub(crate) struct Notes {
     // failed call.
     path: RefCell<Vec<u8>>,
     fault: RefCell<Option<Fault>>,
-    // Whether the message to refuse is the first line of a connection, and not a request.
+    // Whether the message that is being refused is the first line of a connection, and not a
+    // request.
     is_first: Cell<bool>,
 }
 
@@ -41,12 +42,12 @@ impl Notes {
         let _ = self.fault.try_replace(Some(fault));
     }
 
-    /// Records whether the message to refuse is the first line of a connection.
+    /// Records whether the message that is being refused is the first line of a connection.
     pub(crate) fn note_first(&self, is_first: bool) {
         self.is_first.set(is_first);
     }
 
-    /// Returns whether the message to refuse is the first line of a connection.
+    /// Returns whether the message that is being refused is the first line of a connection.
     pub(crate) fn is_first(&self) -> bool {
         self.is_first.get()
     }

@@ -28,8 +28,7 @@ pub(crate) type ObjectPacker<'f, F> = StorePacker<'f, F, Global>;
 pub(crate) struct NotOpened {
     /// The fault that the server reports.
     pub(crate) fault: Fault,
-    /// The reason why the format of the repository is unsupported, or `None` if the cause is
-    /// another.
+    /// The reason why the format of the repository is unsupported, or `None` for any other cause.
     pub(crate) form: Option<FormFault>,
     /// Whether too many other repositories are open.
     pub(crate) is_busy: bool,
@@ -120,8 +119,8 @@ fn find_listed<R: Files, F: ObjectFiles>(
     Ok(found.refs(alloc, rt).read_peeled_refs()?)
 }
 
-/// Reads the objects that refs point to, which is all that ls-refs needs. If an object is not found
-/// quickly, the whole history is read.
+/// Reads the objects that refs point to, because ls-refs needs no other objects. If a `QuickReader`
+/// does not find an object, this function reads the whole history.
 pub(crate) fn open_shown<F: ObjectFiles>(
     alloc: Global,
     files: &F,
@@ -173,8 +172,8 @@ fn is_same_head(one: &Head<Global>, other: &Head<Global>) -> bool {
     }
 }
 
-// Returns the objects that refs and HEAD point to, or `None` if one of these objects is not found
-// quickly. No pack stays open after this call.
+// Returns the objects that refs and HEAD point to, or `None` if a `QuickReader` does not find one
+// of these objects. No pack stays open after this call.
 fn find_tips<F: ObjectFiles>(
     alloc: Global,
     files: &F,
@@ -224,7 +223,7 @@ fn find_whole<'f, F: ObjectFiles>(
     Ok((whole, reader))
 }
 
-// Returns the history that refs and HEAD reach.
+// Returns the history that is reachable from refs and HEAD.
 fn read_history<F: ObjectFiles>(
     alloc: Global,
     files: &F,
@@ -266,8 +265,9 @@ fn make_server(
     }
 }
 
-/// Opens a repository to fetch from a server whose refs have the ids in `tips`. Extra refs are put
-/// at the front, so that the client sends its newest objects as the first haves.
+/// Opens a repository to fetch from a server whose refs have the ids in `tips`. Puts extra refs to
+/// the newest objects before all other refs, so that the client sends these objects as its first
+/// haves.
 pub(crate) fn open_client<'f, R: Files, F: ObjectFiles>(
     alloc: Global,
     rt: &R,

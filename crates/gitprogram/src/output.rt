@@ -49,8 +49,8 @@ pub(crate) fn print<R: Print + AllocGlobal>(rt: &R, text: &[u8]) -> Result<(), F
     print_peer(rt, false, text)
 }
 
-/// Writes a text with bytes from a peer to standard output. On a terminal, unsafe bytes are
-/// replaced.
+/// Writes a text that contains bytes from a peer to standard output. On a terminal, unsafe bytes
+/// are replaced.
 pub(crate) fn print_peer<R: Print + AllocGlobal>(
     rt: &R,
     is_terminal: bool,

@@ -21,9 +21,9 @@ const FAILED: u8 = 1;
 
 const WRONG_USAGE: u8 = 2;
 
-/// Runs `gitrepo` with the arguments of the runtime, over its files, standard streams and sockets.
-/// Error messages, progress and the connection log are written to `stderr`. If `is_terminal` is
-/// set, non-printable bytes from a peer are replaced on standard output.
+/// Runs `gitrepo` with the arguments, files, standard streams and sockets of the runtime. Error
+/// messages, progress and the connection log are written to `stderr`. If `is_terminal` is set,
+/// non-printable bytes from a peer are replaced on standard output.
 ///
 /// Returns the exit status: 0 on success, 1 if a fault was printed, and 2 if the arguments are
 /// wrong.

@@ -30,7 +30,7 @@ pub(crate) const BUSY: &[u8] =
     b"upload-pack: the server has too many repositories open: try again later";
 
 /// The error line for a request that exceeds a limit.
-pub(crate) const LIMITS: &[u8] =
+pub(crate) const TOO_LARGE_REQUEST: &[u8] =
     b"upload-pack: a request has at most 65,537 wants, 65,536 haves and 1,024 prefixes of ref names";
 
 /// The packet for a client that connects while there are too many connections.
@@ -43,4 +43,4 @@ pub(crate) const FULL_OF_ADDRESS: &[u8] =
 
 /// The error line for a pack that cannot be made.
 pub(crate) const PACK_FAILED: &[u8] =
-    b"upload-pack: pack failed: it would have more than 4 GiB, or an object is missing or refused here";
+    b"upload-pack: pack failed: it would have 4 GiB or more, or an object is missing or refused here";

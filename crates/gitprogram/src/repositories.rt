@@ -6,7 +6,9 @@ use crate::fault::Fault;
 use crate::kept::KeptRepositories;
 use crate::notes::Notes;
 use crate::opening::{Extent, NotOpened, has_refs};
-use crate::refusals::{BAD_FIRST_LINE, BUSY, LIMITS, NOT_OPENED, NOT_SERVED, PACK_FAILED};
+use crate::refusals::{
+    BAD_FIRST_LINE, BUSY, NOT_OPENED, NOT_SERVED, PACK_FAILED, TOO_LARGE_REQUEST,
+};
 use crate::sentences::{Sentence, form_text};
 use crate::shared::{Shared, Shown, share};
 use ganswer::ServeFault;
@@ -196,7 +198,7 @@ impl<'d, D: Disk> Host<Global, Shared<'d, D>> for Repositories<'d, D> {
                     why: Why::Limit,
                     ..
                 },
-            ) => words.add(LIMITS),
+            ) => words.add(TOO_LARGE_REQUEST),
             ServeFault::Pack(_) => words.add(PACK_FAILED),
             ServeFault::Request(
                 MessageFault {

@@ -71,7 +71,7 @@ pub(crate) enum Sentence<'a> {
         path: &'a str,
         fault: &'a BuildFault<Global>,
     },
-    /// A repository cannot be fetched into.
+    /// The program cannot fetch into a repository.
     Client {
         path: &'a str,
         fault: &'a RepoFault<Global>,
@@ -105,7 +105,7 @@ pub(crate) enum Sentence<'a> {
         address: &'a str,
         error: &'a io::Error,
     },
-    /// The program can accept no more connections.
+    /// The program cannot accept connections, because a system call failed.
     Accept {
         error: &'a io::Error,
     },
@@ -329,7 +329,7 @@ fn write_refs<W: fmt::Write>(
     }
 }
 
-// The path of a ref file. Peers choose ref names, so their non-printable bytes are replaced.
+// The path of a ref file. Peers choose ref names, so non-printable bytes of ref names are replaced.
 #[derive(Clone, Copy)]
 struct RefFile<'a> {
     repository: &'a str,
@@ -460,7 +460,7 @@ fn write_request<W: fmt::Write>(fault: &ServeFault, f: &mut fmt::Formatter<W>) -
             write_id(id, f)
         }
         ServeFault::Pack(PackFault::TooLarge) => {
-            f.write_str("the pack would have more than 4 GiB: fetch fewer refs at a time")
+            f.write_str("the pack would have 4 GiB or more: fetch fewer refs at a time")
         }
         _ => fmt::Display::fmt(fault, f),
     }

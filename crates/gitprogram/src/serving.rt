@@ -208,7 +208,7 @@ fn check_base<R: Files + AllocGlobal>(rt: &R, base: &str) -> Result<(), Fault> {
     }
 }
 
-// Listens at the first usable address to which `address`, a text HOST:PORT, resolves.
+// Resolves `address`, a text HOST:PORT, and listens on the first usable result.
 fn listen<R: Net>(rt: &R, address: &str) -> io::Result<TcpListener> {
     let mut last = io::Error::from(ErrorKind::AddrNotAvailable);
     for address in address.to_socket_addrs(rt)? {

@@ -22,7 +22,7 @@ use std::time::SystemTime;
 pub(crate) enum ServedFrom<'f> {
     /// The repositories below a directory.
     Below(Exports<'f>),
-    /// Only this repository, whatever the path that a client sends.
+    /// Only this repository, for any path that a client sends.
     Only(&'f Directories),
 }
 
@@ -63,6 +63,9 @@ impl<'f, 'r, R: Files + AllocGlobal, F: ObjectFiles> Stored<'f, 'r, R, F> {
             return Err(AllocError);
         };
         let tickets = Rc::downgrade(&ticket)?;
+        let Ok(packer) = Box::new(self.rt.alloc(), packer) else {
+            return Err(AllocError);
+        };
         if self.slots.at(number).fill(tickets, packer) {
             Ok(ticket)
         } else {

@@ -112,7 +112,7 @@ fn upload_stored<D: Disk, S: Source, W: Sink>(
     )
 }
 
-// Serves one client to the end of its connection.
+// Serves one client until its connection ends.
 fn converse<'h, H, K, S: Source, W: Sink>(
     alloc: Global,
     host: &'h H,

@@ -19,7 +19,7 @@ abbrev pub text_fault_text : TextFault → List ℕ
 text_fault_text Malformed = codes "the text is malformed"
 text_fault_text Memory = out_of_memory_text
 
--- the displayed text of a cause, or none if the cause is a system error
+-- the displayed text of a cause, or `None` if the cause is a system error
 abbrev pub cause_text : Cause → Option (List ℕ)
 cause_text cause.Malformed = Some (codes "the file is malformed")
 cause_text cause.Locked = Some (codes "the file is locked")

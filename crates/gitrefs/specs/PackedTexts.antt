@@ -45,7 +45,7 @@ HasSha1Ids refs = All (λ ref. IsIdOf Sha1 ref.1) refs
 abbrev pub LeadsToSha1 : RefList → Type 0
 LeadsToSha1 refs = (name : Name) (id : Id) → ref_at refs name ≡ Some id → IsIdOf Sha1 id
 
--- parsing a written text of packed-refs returns the same refs, with and without peeled ids
+-- parsing a written text of packed-refs returns the refs that were written, with and without peeled ids
 abbrev pub WrittenRefsReadBack : Type 0
 WrittenRefsReadBack = (refs peeled : RefList) → IsRefs refs → HasSha1Ids refs → LeadsToSha1 peeled →
     PackedLinesOf (plain_header ++ flat_map plain_ref_text refs) (map plain_line refs)

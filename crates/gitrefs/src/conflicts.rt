@@ -3,8 +3,8 @@
 use gname::RefName;
 use std::alloc::{AllocError, Allocator};
 
-/// Returns the first name such that another name in the list is one of its parent directories. The
-/// caller must sort the names.
+/// Returns the first name that begins with another name in the list and a slash. For example,
+/// `refs/a/b` conflicts with `refs/a`. The caller must sort the names.
 ///
 /// A prefix sorts before the whole name, and all names between them have the same prefix. So each
 /// name is compared only with its prefixes among the earlier names. Fails only if out of memory.

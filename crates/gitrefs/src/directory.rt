@@ -45,7 +45,7 @@ const FILES: [&str; 3] = ["HEAD", "config", "packed-refs"];
 // can create a repository here, so `objects` is removed last.
 const FOLDERS: [&str; 2] = ["refs", OBJECTS];
 
-/// The earlier state of the directory of a new repository.
+/// The state of a directory before a repository was created in it.
 #[derive(Clone, Copy, Debug, PartialEq, Eq, Drop)]
 pub enum Origin {
     /// The directory did not exist, and was created.
@@ -91,8 +91,8 @@ impl<'r, R: Files, A: Allocator + Copy> GitDirectory<'r, R, A> {
     }
 
     /// Creates a repository without objects or refs (git-init(1)). HEAD points at `branch`, and the
-    /// file `config` contains `config`. The directory must be empty, or is created with its
-    /// parents. All files and directories are synced.
+    /// file `config` contains `config`. An existing directory must be empty. A missing directory is
+    /// created with its parents. All files and directories are synced.
     ///
     /// Fails with `Exists` and changes nothing if the directory is not empty, or if the path is not
     /// a directory. Fails with `Exists` if another process creates a repository there at the same
@@ -248,8 +248,8 @@ impl<'r, R: Files, A: Allocator + Copy> GitDirectory<'r, R, A> {
     /// makes the same check before it writes. This function lets a caller check the names before it
     /// receives objects.
     ///
-    /// Fails with `Conflict` if the name of a ref is also a directory of another ref, or with
-    /// `Memory` if out of memory.
+    /// Fails with `Conflict` if the name of one ref is a directory in the name of another ref, or
+    /// with `Memory` if out of memory.
     pub fn check_refs(&self, refs: &Refs<A>) -> Result<(), RefFault<A>> {
         let mut names = Vec::new(self.alloc);
         for pair in refs.as_slice() {
@@ -262,11 +262,11 @@ impl<'r, R: Files, A: Allocator + Copy> GitDirectory<'r, R, A> {
     /// `peeled` maps the names of tags to their peeled ids. If `peeled` is `None`, the header does
     /// not contain the word `peeled`.
     ///
-    /// Fails with `Conflict` if the name of a ref is also a directory of another ref, and with
-    /// `Exists` if `packed-refs` exists and is not empty. Fails with `Malformed` if `packed-refs`
-    /// is empty, and with `Symbolic` if `packed-refs` is a symbolic link. Other possible faults are
-    /// `Missing`, `Locked`, `System` and `Memory`. After a fault, `packed-refs` is unchanged or
-    /// complete, and its lock is removed.
+    /// Fails with `Conflict` if the name of one ref is a directory in the name of another ref.
+    /// Fails with `Exists` if `packed-refs` exists and is not empty, and with `Malformed` if
+    /// `packed-refs` is empty. Fails with `Symbolic` if `packed-refs` is a symbolic link. Other
+    /// possible faults are `Missing`, `Locked`, `System` and `Memory`. After a fault, `packed-refs`
+    /// is unchanged or complete, and its lock is removed.
     pub fn write_packed_refs(
         &self,
         refs: &Refs<A>,

@@ -11,14 +11,14 @@
 //!   file, but might refuse a valid file.
 //! - [`packed_refs_text`] and [`peeled_refs_text`] write a header and a line for each ref, sorted
 //!   by name. If all ids are SHA-1, parsing the text returns the same refs ([`laws`]).
-//! - The crate writes a HEAD that points at a branch so that parsing the text returns the branch.
+//! - If the crate writes a HEAD that points at a branch, parsing the text returns the branch.
 //! - [`prepare_ref`] writes an id to the lockfile of a ref file, with any `Storage` of `glockfile`,
 //!   and leaves the ref file unchanged. The function [`commit_file`] replaces the file atomically,
 //!   and always releases the lock. After `Ok`, the file has the new text.
 //! - The path of a ref file is the Git directory, a slash and the ref name. No component of a ref
 //!   name is empty, `.` or `..` ([`laws`]).
-//! - A file that will be replaced is read only while it is locked. A lockfile is renamed only after
-//!   it is written and synced.
+//! - Before a file is replaced, the crate locks the file and then reads it. A lockfile is renamed
+//!   only after it is written and synced.
 //! - A fault is displayed as the path of the file and the cause, as `specs/Faults.antt` defines. No
 //!   contract covers the text of a system error.
 //! - No call panics, overflows or reads out of bounds, and every call returns, whatever the files
@@ -56,22 +56,23 @@
 //!
 //! # What the contracts do not rule out
 //!
-//! No contract can describe the contents of a system file, so [`GitDirectory`] is only tested,
-//! against Git. No contract covers which files [`GitDirectory`] opens, the precedence of loose
-//! refs, or symbolic refs. No contract covers which updates [`GitDirectory`] refuses, or the
-//! removal of locks. A lockfile is removed when its guard is dropped, but no contract covers this
-//! removal. A replaced file may keep its old contents, since [`GitDirectory`] replaces files
-//! without a contract. A name that is not UTF-8 may be refused for any reason.
+//! No contract can describe the contents of a system file, so the results of [`GitDirectory`] are
+//! only tested, by comparison with Git. No contract covers which files [`GitDirectory`] opens, the
+//! precedence of loose refs, or symbolic refs. No contract covers which updates [`GitDirectory`]
+//! refuses, or the removal of locks. A lockfile is removed when its guard is dropped, but no
+//! contract covers this removal. No contract rules out that [`GitDirectory`] leaves the old
+//! contents in a file that it should replace. No contract says for which reason a name that is not
+//! UTF-8 is refused.
 //!
-//! The contracts let [`PackedPeels`] contain any data. In fact [`PackedPeels`] contains the peeled
-//! ids of `packed-refs`, which may be wrong.
+//! No contract says what a [`PackedPeels`] contains. In fact it contains the peeled ids that
+//! `packed-refs` lists, and the file can list wrong ids.
 //!
 //! Name conflicts are checked before files are locked, so a conflict with a ref that Git packs at
 //! the same time is missed. If two lines of `packed-refs` have the same name, the first line wins.
 //!
-//! Any call that allocates may fail with out-of-memory. The contracts do not say when. A killed
-//! process can leave its lockfile on disk. The crate does not notice that two paths name the same
-//! Git directory, for example through symbolic links.
+//! No contract says when a call that allocates fails with out-of-memory. A killed process can leave
+//! its lockfile on disk. The crate does not notice that two paths name the same Git directory, for
+//! example through symbolic links.
 //!
 //! This crate contains no tests.
 //!

@@ -30,8 +30,8 @@ impl<A: Allocator + Copy> PackedPeels<A> {
         }
     }
 
-    /// Returns the objects of these refs. The refs must come from a `packed-refs` file that lists
-    /// all peeled ids. Fails only if out of memory.
+    /// Returns the objects that these refs point to, with their peeled objects. The refs must come
+    /// from a `packed-refs` file that lists all peeled ids. Fails only if out of memory.
     pub(crate) fn of_refs(alloc: A, refs: &[PackedRef<A>]) -> Result<PackedPeels<A>, AllocError> {
         let mut peels = Vec::with_capacity(alloc, refs.len())?;
         for packed in refs {
@@ -48,8 +48,9 @@ impl<A: Allocator + Copy> PackedPeels<A> {
         Ok(PackedPeels { peels })
     }
 
-    /// Returns the objects that refs point to and the peeled objects, sorted by id. An object may
-    /// occur twice.
+    /// Returns pairs of an object and its peeled object, sorted by the id of the object. The
+    /// objects are those that refs point to, and the peeled objects of tags. An object may occur
+    /// twice.
     pub fn as_slice(&self) -> &[(Oid, Peel)] {
         self.peels.as_slice()
     }

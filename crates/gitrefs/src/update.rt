@@ -29,8 +29,8 @@ impl<R: Files, A: Allocator + Copy> GitDirectory<'_, R, A> {
     ///
     /// Fails with `Format` if a new id is not a SHA-1 id, and with `Conflict` if the name of one
     /// ref is a directory in the name of another ref. Other possible faults are `Missing`, `Refs`,
-    /// `Locked`, `Moved`, `Symbolic`, `Malformed` and `Utf8`. None of the faults mentioned so far
-    /// changes a ref. Fails with `System` if a system call fails, or with `Memory` if out of
+    /// `Locked`, `Moved`, `Symbolic`, `Malformed` and `Utf8`. After each of these faults, all refs
+    /// are unchanged. Fails with `System` if a system call fails, or with `Memory` if out of
     /// memory. After `System` or `Memory`, some refs may have changed if renaming a lockfile
     /// failed. After any fault, each ref has its old or its new id. All locks of this call are
     /// removed, but directories created for them may remain.
@@ -103,7 +103,7 @@ impl<R: Files, A: Allocator + Copy> GitDirectory<'_, R, A> {
         Ok(())
     }
 
-    // Checks that, after the updates, no ref name would be a directory of another ref name.
+    // Checks that, after the updates, no ref name would be a directory in another ref name.
     fn check_conflicts(&self, refs: &Refs<A>, updates: &[RefUpdate<A>]) -> Result<(), RefFault<A>> {
         let mut names = Vec::new(self.alloc);
         for pair in refs.as_slice() {
@@ -116,9 +116,9 @@ impl<R: Files, A: Allocator + Copy> GitDirectory<'_, R, A> {
         self.check_apart(names.as_slice())
     }
 
-    /// Checks that none of these names is a directory of another name. The caller must sort the
-    /// names. Fails with `Conflict` if a name is a directory of another, or with `Memory` if out of
-    /// memory.
+    /// Checks that none of these names is a directory in another name. The caller must sort the
+    /// names. Fails with `Conflict` if a name is a directory in another name, or with `Memory` if
+    /// out of memory.
     pub(crate) fn check_apart(&self, names: &[&RefName<A>]) -> Result<(), RefFault<A>> {
         match first_conflict(self.alloc, names)? {
             Some(name) => Err(self.fault_of(name, Cause::Conflict)),

@@ -1,4 +1,4 @@
-//! The values in ref files, and resolving symbolic refs.
+//! The values in ref files, and the resolution of symbolic refs.
 
 use crate::loose::LooseRef;
 use gname::{Oid, RefName};

@@ -2,13 +2,13 @@
 //!
 //! # Proved
 //!
-//! The program terminates without panics, overflows or reads out of bounds, whatever the arguments,
-//! files and peers contain.
+//! The program terminates without panics, overflows or reads out of bounds, whatever the arguments
+//! and files contain, and whatever the peers send.
 //!
 //! # Only tested
 //!
-//! One test runs `--version` (`args`, `stdout`), and so tests that `gitprogram` gets the runtime.
-//! All commands are tested with Git as the peer (`examples/with-git.sh`).
+//! One test runs `--version` (`args`, `stdout`), to check that `gitprogram` receives the runtime.
+//! The script `examples/with-git.sh` tests all commands with Git as the peer.
 //!
 //! # What the contracts do not rule out
 //!

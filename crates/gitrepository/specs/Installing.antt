@@ -15,18 +15,18 @@ pub record Folder : Type 0 where
   pub pack : Bytes
   pub index : Bytes
 
--- if the first folder is known, the second is known and the relation holds of the two; if the first is unknown, so is
--- the second
+-- If the first folder is known, the second is also known, and the relation holds between them. If the first folder is
+-- unknown, the second is also unknown.
 abbrev pub WhereKnown : Option Folder → Option Folder → (Folder → Folder → Type 0) → Type 0
 WhereKnown (Some before) (Some after) P = P before after
 WhereKnown None None P = ⊤
 WhereKnown _ _ P = ⊥
 
--- the second state differs from the first by the arrival of exactly these files, in order
+-- between the two states exactly these files arrive in the folder, in this order
 abbrev pub Comes : Folder → Folder → List Arrival → Type 0
 Comes before after files = after.arrivals ≡ before.arrivals ++ files
 
--- the second state equals the first, or differs by the arrival of this file
+-- between the two states no file arrives in the folder, or only this file
 abbrev pub MayCome : Folder → Folder → Arrival → Type 0
 MayCome before after file = (after.arrivals ≡ before.arrivals) ⊎ Comes before after (file ∷ [])
 

@@ -1,4 +1,5 @@
-//! The entries of an outgoing pack. Entries of stored packs are copied unchanged if possible.
+//! The entries of an outgoing pack. The streams of stored pack entries are copied unchanged if
+//! possible.
 
 use crate::fates::{Fate, Fates};
 use crate::fault::RepositoryFault;
@@ -187,8 +188,8 @@ impl<A: Allocator + Copy> Copying<A> {
         }
     }
 
-    // Returns a stored entry to be written at this offset. If the entry cannot be copied unchanged,
-    // returns `None`, and its object is deflated again later.
+    // Returns a stored entry to be written at this offset. If the entry cannot be copied, returns
+    // `None`, and its object is deflated again later.
     fn copy_entry<F: ObjectFiles>(
         &mut self,
         reader: &mut ObjectReader<'_, F, A>,
@@ -304,8 +305,8 @@ impl<A: Allocator + Copy> Copying<A> {
         Ok(())
     }
 
-    // Sorts the objects to deflate again. Objects whose paths have the same ending become adjacent,
-    // because deltas between two similar paths are probably small.
+    // Sorts the objects to deflate again, so that objects whose paths have the same ending are
+    // adjacent. A delta between two such objects is probably small.
     fn sort_anew(&mut self) {
         self.anew
             .sort_unstable_by_key(|object| (object.path, object.number));

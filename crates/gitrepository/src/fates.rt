@@ -29,7 +29,8 @@ impl Fate {
         }
     }
 
-    /// Returns the fate of the object that an entry with this name names, in a tree with this fate.
+    /// Returns the fate of the object that a tree names in an entry with this name. `self` is the
+    /// fate of the tree.
     pub(crate) fn of_entry(self, name: &[u8]) -> Fate {
         match self {
             Fate::Sent(path) => Fate::Sent(path.join(name)),
@@ -76,8 +77,8 @@ impl<A: Allocator + Copy> Fates<A> {
         }
     }
 
-    /// Returns whether an object that was found loose is sent. The result is the same if Git packs
-    /// the object later.
+    /// Returns the fate of an object that was found loose. The result is the same if Git packs the
+    /// object later.
     pub(crate) fn of_loose(&self, id: &Oid) -> Fate {
         // This early return avoids hashing the id if there are no loose objects.
         if self.loose.is_empty() {
@@ -100,7 +101,7 @@ impl<A: Allocator + Copy> Fates<A> {
         self.loose.len()
     }
 
-    /// Sets the fate of the object at this location, if the fate is undecided.
+    /// Sets the fate of the object at this location. The fate must be undecided.
     pub(crate) fn settle<F: ObjectFiles>(
         &mut self,
         store: &ObjectStore<'_, F, A>,
@@ -131,7 +132,7 @@ impl<A: Allocator + Copy> Fates<A> {
         }
     }
 
-    // Adds undecided fates for the objects of each pack with at most this number.
+    // Adds undecided fates for the objects of all packs up to the pack with this number.
     fn make_room<F: ObjectFiles>(
         &mut self,
         store: &ObjectStore<'_, F, A>,

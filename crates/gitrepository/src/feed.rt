@@ -107,8 +107,7 @@ fn finish_pack<F: ObjectFiles, A: Allocator + Copy>(
     }
 }
 
-// Returns the fault of the refused object, or the fault `Malformed` of the pack if no object was
-// refused.
+// Returns the fault of the refused object, or the pack fault `Refused` if no object was refused.
 fn refusal<A: Allocator + Copy>(fault: Option<RepositoryFault<A>>) -> RepositoryFault<A> {
     match fault {
         Some(fault) => fault,

@@ -32,7 +32,7 @@ pub trait PackFolder {
     /// The fault of a failed call.
     type Fault: Drop;
 
-    // The files that the folder received, or `None` if a contract cannot know the files.
+    // The files that the folder received, or `None` if the contracts do not describe the files.
     ghost known: { Self → Option Folder };
 
     // The progress of writing the current pack.

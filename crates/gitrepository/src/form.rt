@@ -21,9 +21,9 @@ const KNOWN: [&[u8]; 5] = [
 const NO: [&[u8]; 5] = [b"", b"false", b"no", b"off", b"0"];
 
 /// Opens the objects of the Git directory with this path, including its alternates. Refuses a
-/// repository that is shallow or a partial clone, or whose ids are SHA-256 or whose refs are in a
-/// reftable. Also refuses a repository whose configuration names an unknown version, or an unknown
-/// extension of version 1 (git-config(1), "core.repositoryFormatVersion", "extensions").
+/// shallow repository, a partial clone, and a repository with SHA-256 ids or a reftable. Also
+/// refuses a repository whose configuration names an unknown version, or an unknown extension of
+/// version 1 (git-config(1), "core.repositoryFormatVersion", "extensions").
 ///
 /// Fails with `Form` if the format is unsupported. Other faults are those of [`ObjectStore::open`].
 pub fn open_store<'f, F: ObjectFiles, A: Allocator + Copy>(

@@ -99,7 +99,7 @@ impl<'r, 'f, F: ObjectFiles, A: Allocator + Copy> Gathering<'r, 'f, F, A> {
         Ok(())
     }
 
-    // Marks all undecided trees and blobs as sent that the commits and tags reach.
+    // Marks as sent all undecided trees and blobs that the commits and tags reach.
     fn send_trees(&mut self, entries: &[Entry<A>]) -> Result<(), RepositoryFault<A>> {
         for entry in entries {
             self.walk_from(&entry.id, Fate::Sent(PathHash::NONE))?;

@@ -172,7 +172,7 @@ impl<'g, A: Allocator + Copy> History<'g, A> {
     }
 
     // Adds a parent to the path, unless the graph holds it. Fails with `Objects` if the path is too
-    // long. This limit also ends a cycle of parents.
+    // long, as in a cycle of parents.
     #[tactic(auto, using(crate::proofs::HistoryLemmas::known_pushed))]
     fn reach<F: ObjectFiles>(
         &mut self,

@@ -21,9 +21,10 @@ use std::cell::RefCell;
 ///
 /// A pack is too large if it has more than 1,048,576 objects. The maximum size of an object is 256
 /// MiB, less 224 bytes for each object of the pack. The same maximum applies to the total size of a
-/// delta, its bases in memory and its result. A commit, tree or tag may have at most 64 MiB, and
-/// all objects and deltas together at most 4 GiB. A delta chain may have 8,191 deltas. The commits
-/// and all named ids may use 112 MiB: about two million ids, or 485,000 commits with a tree each.
+/// delta, its bases in memory and its result. The maximum size of a commit, tree or tag is 64 MiB,
+/// and the maximum total size of all objects and deltas is 4 GiB. A delta chain may have at most
+/// 8,191 deltas. The commits, tags and named ids may use at most 112 MiB of memory. This is enough
+/// for about two million ids, or for 485,000 commits with a tree each.
 #[derive(Drop)]
 pub struct StoreIndexer<'t, 'f, F: ObjectFiles, A: Allocator + Copy> {
     reader: RefCell<ObjectReader<'f, F, A>>,
@@ -52,8 +53,8 @@ impl<'t, 'f, F: ObjectFiles, A: Allocator + Copy> StoreIndexer<'t, 'f, F, A> {
         }
     }
 
-    /// Removes and returns the fault of the last call that returned `Other`, or `None` if no fault
-    /// is stored.
+    /// Removes and returns the fault of the last call that failed with `IndexFault::Other`. Returns
+    /// `None` if no fault is stored.
     pub fn take_fault(&self) -> Option<RepositoryFault<A>> {
         match self.fault.try_replace(None) {
             Ok(fault) => fault,

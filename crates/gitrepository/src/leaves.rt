@@ -13,9 +13,9 @@ use gitobjects::{ObjectFiles, ObjectReader, StoreFault};
 use gname::Oid;
 use std::alloc::Allocator;
 
-/// Adds to a graph each tree or blob that a ref of the peer points to, if the store has everything
-/// that the object reaches. In the graph, trees and blobs count as commits without parents, so a
-/// client does not request them.
+/// Adds leaves to a graph: the trees and blobs that refs of the peer point to. An object is added
+/// only if the store has everything that the object reaches. In the graph, trees and blobs count
+/// as commits without parents, so a client does not request them.
 ///
 /// Fails with `Store` if an object cannot be read, with `Objects` if the graph is full, or with
 /// `Memory` if out of memory. After a fault, some objects may have been added.

@@ -6,9 +6,9 @@
 //!   that the commit-graph lists need not be read.
 //! - [`open_tips`] returns the objects that refs point to, without their history. The command
 //!   `ls-refs` needs no other objects. [`lead_with_newest`] puts refs to the newest objects first.
-//! - A [`StorePacker`] packs commits and tags with their trees and blobs. The packer copies stored
-//!   pack entries unchanged, and sends other objects as deltas if the deltas are smaller. A pack is
-//!   returned in parts, with one entry in memory at a time.
+//! - A [`StorePacker`] packs commits and tags with their trees and blobs. The packer copies the
+//!   streams of stored pack entries unchanged. It sends other objects as deltas if the deltas are
+//!   smaller. A pack is returned in parts, with one entry in memory at a time.
 //! - A [`StoreIndexer`] indexes a pack while receiving it, and keeps the pack. The function
 //!   [`install_pack`] writes the received pack to the directory.
 //! - [`open_store`] refuses a repository in an unsupported format, and [`is_bare`] returns whether
@@ -24,16 +24,16 @@
 //! - [`open_tips`] and [`lead_with_newest`] return only refs that point to entries of the graph.
 //! - The nodes that [`check_refs`] counts are the entries of a graph. Each entry describes an
 //!   object.
-//! - A pack that is sent has a header, as many entries as the header says, and the SHA-1 of all
+//! - A sent pack consists of a header, as many entries as the header says, and the SHA-1 of all
 //!   preceding bytes. Each entry of a sent pack has a well-formed header. The pack has at most
-//!   `gparts::MAX_PARTS` bytes. The concatenation of the returned parts is the pack. If a later
-//!   part fails, no contract describes the parts returned before.
+//!   `gparts::MAX_PARTS` bytes. The concatenation of the returned parts is the pack. If a part
+//!   fails, no contract describes the parts returned before it.
 //! - A pack is accepted only if its trailer is the SHA-1 of all preceding bytes. Each entry that
 //!   the indexer returns describes an object, or is a tree or blob that a tag names. In the second
 //!   case the entry of the tag is also returned.
-//! - [`install_files`] installs a pack in a [`PackFolder`] before its index. After `Ok` both files
-//!   exist, with the given bytes. A file gets its final name only once both files are written and
-//!   synced. After a fault the folder has neither file, only the pack, or both.
+//! - [`install_files`] installs a pack in a [`PackFolder`], and then its index. After `Ok` both
+//!   files exist, with the given bytes. A file gets its final name only once both files are written
+//!   and synced. After a fault the folder has neither file, only the pack, or both.
 //! - [`MemoryFolder`] is a [`PackFolder`] that records all files it receives.
 //! - No call panics, overflows or reads out of bounds, and every call returns, whatever the files
 //!   contain.
@@ -45,62 +45,66 @@
 //!   prints a warning. If HEAD points to a missing object, the repository is refused.
 //! - The packer assumes that the client has every unlisted parent of a listed commit, and
 //!   everything that the trees of these parents reach.
-//! - New deltas are made only for loose objects, and for stored deltas whose base is not sent. The
-//!   bases of new deltas are also loose objects, or stored deltas whose base is not sent. Git also
-//!   makes new deltas for objects that are stored whole in a pack.
-//! - Before deltas are made, objects are sorted by the ends of their paths, but not by size. An
-//!   object of more than 8 MiB is sent whole; Git's limit is 512 MiB.
+//! - New deltas are made only for objects that are not copied: loose objects, stored deltas whose
+//!   base is not sent, and objects with broken entries. Only such objects are bases of new deltas.
+//!   Git also makes new deltas for objects that are stored whole in a pack.
+//! - Before deltas are made, objects are sorted by the ends of their paths, but not by size. No new
+//!   delta is made for an object of more than 8 MiB; Git's limit is 512 MiB.
 //! - A graph holds at most 1,048,576 commits and tags, with at most 64 parents each.
-//! - A copied delta names its base by an offset, even if the client does not request `ofs-delta`. A
-//!   new delta names its base by id.
+//! - A copied delta names its base by offset if the base was already copied, even if the client
+//!   does not request `ofs-delta`. A new delta names its base by id.
 //! - Git looks for signs of a SHA-1 attack when it computes an id. This crate does not.
 //! - A received pack has a file `.keep` until refs reach its objects, as in Git.
 //! - The commit-graph of an alternate is not read. `core.commitGraph` is read only from the file
 //!   `config` of the repository.
 //! - A multi-pack index, bitmaps, grafts and replace refs are not read. A shallow repository, a
 //!   partial clone, SHA-256 ids, a reftable and an unknown extension are refused.
-//! - When a pack is received, the objects that a stored object names are not looked up.
+//! - When a pack is received, each object that the pack's objects name must exist. If a named
+//!   object is only in the store, the objects that it names are not looked up.
 //!
 //! # What the contracts do not rule out
 //!
-//! - The packer might send objects other than the wanted ones, leave out listed commits and tags,
-//!   or send the entry of one object in place of another. The header of an entry may state the
-//!   wrong type or size, a wrong offset of its base, or a base of another type. No contract says
-//!   which trees and blobs are sent. The stream of an entry may be any bytes, and a delta may name
-//!   a base that is not sent. The reader compares the CRC-32 of each copied entry with the index,
-//!   but no contract covers this comparison.
-//! - If a commit-graph is wrong, the graph may be wrong too. The commit-graph is used only for
-//!   commits in the store. No contract covers which commits are looked up in the commit-graph, or
-//!   from which file it is read.
-//! - The graph might contain objects that no ref reaches. A ref might be left out, or point to
-//!   another object of the graph. No contract covers HEAD.
-//! - [`open_tips`] might find objects other than those of the refs, or peel a tag to the wrong
-//!   object. [`open_tips`] trusts the peeled ids in `packed-refs`, as Git does. The function
-//!   [`lead_with_newest`] might leave refs out or put other refs first.
-//! - [`check_refs`] might accept a repository whose objects are missing or malformed.
-//!   [`check_refs`] might count the nodes of another graph, and no contract covers the number of
-//!   objects. The function [`check_repository`] has no contract.
-//! - [`Tips`] might forget an id, [`add_leaves`] might add or remove other nodes, and a repository
-//!   in any format might be opened or refused. The function [`is_bare`] might return any result.
-//!   The names of peeled refs in a new repository might be wrong.
-//! - The indexer might leave out an entry, return one for an object that the pack does not have, or
-//!   accept a pack with a malformed object.
-//!   The indexer looks up the named trees and blobs, and compares objects that the store already
-//!   has. No contract covers these look-ups and comparisons, or states when the indexer reads an
-//!   object. The indexer may miss a loose object that is added meanwhile.
-//! - A parent of a commit in the graph may be a tag, tree or blob. The types of parents are
-//!   checked, but no contract covers this check.
+//! - No contract rules out that the packer sends unwanted objects, leaves out listed commits and
+//!   tags, or sends one object's entry in place of another's. No contract says which trees and
+//!   blobs are sent.
+//! - No contract rules out that the header of a sent entry states the wrong type or size. No
+//!   contract rules out that the header has a wrong offset of its base, or a base of another type.
+//! - No contract rules out that the stream of a sent entry is arbitrary bytes, or that a delta
+//!   names a base that is not sent. The reader compares the CRC-32 of each copied entry with the
+//!   index, but no contract covers this comparison.
+//! - No contract rules out that a wrong commit-graph leads to a wrong graph. The commit-graph is
+//!   used only for commits in the store. No contract covers which commits are looked up in the
+//!   commit-graph, or from which file it is read.
+//! - No contract rules out that the graph contains objects that no ref reaches. No contract rules
+//!   out that a ref is left out, or points to another object of the graph. No contract covers HEAD.
+//! - No contract rules out that [`open_tips`] finds objects other than those of the refs, or peels
+//!   a tag to the wrong object. The function trusts the peeled ids in `packed-refs`, as Git does.
+//! - No contract rules out that [`lead_with_newest`] leaves refs out or puts other refs first.
+//! - No contract rules out that [`check_refs`] accepts a repository whose objects are missing or
+//!   malformed, or counts the nodes of another graph. No contract covers the number of objects that
+//!   it returns. The function [`check_repository`] has no contract.
+//! - No contract rules out that [`Tips`] loses an id, or that [`add_leaves`] adds or removes other
+//!   nodes. No contract says which repository formats are opened or refused. No contract covers the
+//!   result of [`is_bare`], or the names of peeled refs in a new repository.
+//! - No contract rules out that the indexer leaves out an entry, or returns an entry for an object
+//!   that the pack does not have. No contract rules out that it accepts a pack with a malformed
+//!   object. The indexer looks up the named trees and blobs, and compares objects that the store
+//!   already has. No contract covers these look-ups and comparisons, or states when the indexer
+//!   reads an object. The indexer can miss a loose object that is added while a pack arrives.
+//! - No contract rules out that a parent of a commit in the graph is a tag, tree or blob. The types
+//!   of parents are checked, but no contract covers this check.
 //! - [`PackCounts`] and [`StorePacker::counts`] have no contract, because they serve only
 //!   measurements.
-//! - [`StoreIndexer::kind_of`] may return the wrong type. The method
-//!   [`StoreIndexer::take_received`] may return a pack that was not received, or `None`.
-//! - A [`NewRepository`] might lack its pack, its refs or HEAD, or be removed once it is finished.
+//! - No contract rules out that [`StoreIndexer::kind_of`] returns the wrong type. No contract rules
+//!   out that [`StoreIndexer::take_received`] returns `None`, or a pack that was not received.
+//! - No contract rules out that a [`NewRepository`] lacks its pack, its refs or HEAD, or is removed
+//!   once it is finished.
 //! - No contract can describe the contents of a system file: only the order of the calls in
-//!   [`install_pack`] is proved. [`install_pack`] might not create the file `.keep`, might
-//!   remove one that it did not create, or might install nothing. Its folder might not write, sync
-//!   or rename a file.
-//! - Any call may fail although nothing is wrong. The contracts do not cover which fault is
-//!   returned, the text of a fault, running time, or memory use.
+//!   [`install_pack`] is proved. No contract rules out that [`install_pack`] installs nothing, does
+//!   not create the file `.keep`, or removes one that it did not create. No contract rules out that
+//!   its folder does not write, sync or rename a file.
+//! - No contract rules out that a call fails although nothing is wrong. The contracts do not cover
+//!   which fault is returned, the text of a fault, running time, or memory use.
 //!
 //! This crate has no tests.
 //!

@@ -18,7 +18,7 @@ pub struct NewRepository<'r, R: Files, A: Allocator + Copy> {
     alloc: A,
     files: &'r R,
     path: &'r str,
-    // The directory of the repository until it is finished, and `None` afterwards.
+    // The state of the directory before `make`, or `None` once the repository is finished.
     origin: Option<Origin>,
 }
 
@@ -64,8 +64,8 @@ impl<'r, R: Files, A: Allocator + Copy> NewRepository<'r, R, A> {
     /// then HEAD. The peeled object of each tag is looked up in the graph.
     ///
     /// Fails with `File` or `Refs` if the system refuses a call. Fails with `Refs` if the name of
-    /// one ref is a directory of another ref's name, or with `Memory` if out of memory. After a
-    /// fault the repository is removed. The ref names are checked before the pack is written.
+    /// one ref is a directory in the name of another ref, or with `Memory` if out of memory. After
+    /// a fault the repository is removed. The ref names are checked before the pack is written.
     pub fn finish(
         self,
         received: Option<&Received<A>>,
@@ -87,7 +87,8 @@ impl<'r, R: Files, A: Allocator + Copy> NewRepository<'r, R, A> {
         Ok(())
     }
 
-    // Installs the pack, with a `.keep` file until refs reach its objects.
+    // Installs the pack, if there is one. While the returned value exists, a `.keep` file protects
+    // the pack from `git gc`.
     fn install(
         &self,
         received: Option<&Received<A>>,

@@ -24,9 +24,9 @@ struct Tip {
 }
 
 /// Returns the refs whose objects the graph holds, preceded by at most 256 added refs to the newest
-/// of these objects. An object counts as
-/// newer than another if its longest chain of parents is longer. If a client sends haves in the
-/// order of ref names, it thus offers the newest objects first. Git orders haves by commit date.
+/// of these objects. An object counts as newer than another if its longest chain of parents is
+/// longer. A client that sends haves in the order of ref names thus offers the newest objects
+/// first. Git orders haves by commit date.
 ///
 /// The names of the added refs begin with `refs/` and 256 bytes of `!`. No file can have a name of
 /// this length, so a Git directory has no ref with this prefix. No ref is added if the name of a

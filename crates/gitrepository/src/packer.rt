@@ -18,9 +18,9 @@ use std::cell::{Cell, RefCell};
 /// A packer of the objects of a Git directory.
 ///
 /// A pack contains the listed commits and tags. A pack also contains the trees and blobs that these
-/// commits reach, unless a parent outside the list reaches them. A stored pack entry is copied
-/// unchanged if it is whole, or if it is a delta whose base is also sent. Other objects are
-/// deflated again, as new deltas against each other if the deltas are small.
+/// commits reach, unless a parent outside the list reaches them. The stream of a stored pack entry
+/// is copied unchanged if the entry is whole, or is a delta whose base is also sent. Other objects
+/// are deflated again, as new deltas against each other if the deltas are small.
 #[derive(Drop)]
 pub struct StorePacker<'f, F: ObjectFiles, A: Allocator + Copy> {
     reader: RefCell<ObjectReader<'f, F, A>>,
@@ -43,8 +43,8 @@ impl<'f, F: ObjectFiles, A: Allocator + Copy> StorePacker<'f, F, A> {
         self.counts.get()
     }
 
-    /// Removes and returns the fault of the last call that returned `Other`, or `None` if no fault
-    /// is stored.
+    /// Removes and returns the fault of the last call that failed with `PackFault::Other`. Returns
+    /// `None` if no fault is stored.
     pub fn take_fault(&self) -> Option<RepositoryFault<A>> {
         match self.fault.try_replace(None) {
             Ok(fault) => fault,

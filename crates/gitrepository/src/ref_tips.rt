@@ -59,18 +59,19 @@ pub fn open_tips<F: ObjectFiles, A: Allocator + Copy>(
     Ok(Some(Repository { graph, refs, head }))
 }
 
-// The peeled ids that `packed-refs` lists for objects in the store, sorted by the front of the
-// object's id.
+// The peeled ids that `packed-refs` lists for objects in the store, sorted by the first eight bytes
+// of the object's id.
 #[derive(Drop)]
 struct HeldPeels<A: Allocator + Copy> {
     peels: Vec<(Oid, Peel), A>,
-    // The front of each object's id.
+    // The first eight bytes of each object's id, as a number.
     fronts: Vec<u64, A>,
 }
 
 impl<A: Allocator + Copy> HeldPeels<A> {
     // Returns the peeled id of the object with this id, or `None` if the list lacks the object. The
-    // search may also miss an object if two ids have the same front. The object is then read.
+    // search can also miss an object if two ids begin with the same eight bytes. The caller then
+    // reads the object.
     fn get(&self, id: &Oid) -> Option<Peel> {
         let place = self.fronts.binary_search(&front_of(id)).ok()?;
         match self.peels.get(place) {
@@ -103,8 +104,8 @@ fn held_peels<F: ObjectFiles, A: Allocator + Copy>(
     Ok(HeldPeels { peels, fronts })
 }
 
-// Returns the front of an id, which is its first eight bytes as a big-endian number. Numbers are
-// compared faster than ids.
+// Returns the first eight bytes of an id as a big-endian number. Numbers are compared faster than
+// ids.
 fn front_of(id: &Oid) -> u64 {
     match id.as_bytes().first_chunk::<8>() {
         Some(front) => u64::from_be_bytes(*front),
@@ -137,8 +138,7 @@ fn add_tip<F: ObjectFiles, A: Allocator + Copy>(
     }
 }
 
-// Returns the peeled object of a tag, or `None` if the peeled ref points to an object that is not a
-// tag.
+// Returns the peeled object of a tag, or `None` if the object is not a tag.
 fn peel_target(peel: &Peel) -> Option<Oid> {
     match peel {
         Peel::Itself => None,
@@ -146,7 +146,8 @@ fn peel_target(peel: &Peel) -> Option<Oid> {
     }
 }
 
-// Reads an object whose peeled object `packed-refs` does not determine, and adds both objects.
+// Adds an object and its peeled object. Reads the object, because `packed-refs` does not determine
+// the peeled object.
 fn add_read<F: ObjectFiles, A: Allocator + Copy>(
     graph: &mut Graph<A>,
     reader: &mut QuickReader<'_, F, A>,
@@ -201,7 +202,8 @@ fn add_tags<A: Allocator + Copy>(
     Ok(true)
 }
 
-// Adds a tag. Returns whether the graph afterwards holds the tag as this same object.
+// Adds a tag. Returns false if the graph already has another node for its id, or cannot hold the
+// tag.
 fn add_tag<A: Allocator + Copy>(
     graph: &mut Graph<A>,
     tag: Tag,
@@ -211,7 +213,8 @@ fn add_tag<A: Allocator + Copy>(
     add(graph, &tag.id, Node { kind, parents })
 }
 
-// Adds an object that is not a tag. Returns whether the graph afterwards holds this same object.
+// Adds an object that is not a tag. Returns false if the graph already has another node for its id,
+// or cannot hold the object.
 fn add_leaf<A: Allocator + Copy>(
     graph: &mut Graph<A>,
     id: &Oid,

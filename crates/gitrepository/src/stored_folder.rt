@@ -35,7 +35,7 @@ pub(crate) struct StoredFolder<'r, R: Files, A: Allocator + Copy> {
     stage: PackFileStage,
 }
 
-// A temporary file that this run created.
+// A temporary file that this process created.
 #[derive(Drop)]
 struct Temporary<R: Files, A: Allocator + Copy> {
     path: String<A>,
@@ -51,7 +51,7 @@ impl<'r, R: Files, A: Allocator + Copy> Model for StoredFolder<'r, R, A> {
 }
 
 impl<'r, R: Files, A: Allocator + Copy> StoredFolder<'r, R, A> {
-    /// Returns the folder of packs of a Git directory, with the file names of the pack with this
+    /// Returns the folder of packs of a Git directory, with file names for the pack that has this
     /// trailer. Creates the folder if it does not exist.
     pub(crate) fn new(
         alloc: A,

@@ -54,7 +54,7 @@ impl Verbosity {
 pub struct CloneArgs<'a> {
     /// The options that control the output.
     pub verbosity: Verbosity,
-    /// The repository of the server.
+    /// The URL of the repository on the server.
     pub url: GitUrl<'a>,
     /// The directory to create.
     pub dir: &'a str,
@@ -67,7 +67,7 @@ pub struct FetchArgs<'a> {
     pub verbosity: Verbosity,
     /// The directory of the repository.
     pub dir: &'a str,
-    /// The repository of the server.
+    /// The URL of the repository on the server.
     pub url: GitUrl<'a>,
     /// The refspecs, of which there is at least one.
     pub specs: Vec<Spec>,
@@ -76,7 +76,7 @@ pub struct FetchArgs<'a> {
 /// The arguments of `ls`.
 #[derive(Debug, Drop)]
 pub struct LsArgs<'a> {
-    /// The repository of the server.
+    /// The URL of the repository on the server.
     pub url: GitUrl<'a>,
     /// The prefixes of the refs to list. If there are no prefixes, all refs are listed.
     pub prefixes: Vec<Prefix>,
@@ -85,7 +85,7 @@ pub struct LsArgs<'a> {
 /// The arguments of `serve`.
 #[derive(Clone, Copy, Debug, Drop)]
 pub struct ServeArgs<'a> {
-    /// The address to listen at, HOST:PORT. If the port is 0, the system picks a free port.
+    /// The address to listen on, HOST:PORT. If the port is 0, the system picks a free port.
     pub listen: &'a str,
     /// The total number of connections to serve, from 1 to 1,000,000. `None` means no limit.
     pub connections: Option<u32>,

@@ -23,8 +23,7 @@ pub enum Cause {
     Transport(Transport),
     /// The URL has no slash after the host.
     NoPath,
-    /// The text before the path is not a host: a name, an IPv4 address, or an IPv6 address in
-    /// brackets.
+    /// The host is malformed. A host is a name, an IPv4 address, or an IPv6 address in brackets.
     BadHost,
     /// The text after the host and its colon is not a number from 1 to 65,535.
     BadPort,
@@ -41,7 +40,7 @@ pub enum Transport {
     Http,
     /// The local transport: `file://`, or a path.
     File,
-    /// A transport that Git does not know either.
+    /// Any other transport.
     Unknown,
 }
 

@@ -1,5 +1,5 @@
-//! The command line of the program `gitrepo`, and its other short texts: URLs, paths from clients,
-//! and bytes from a peer for a terminal. The crate opens no files and no sockets.
+//! The command line of the program `gitrepo`, and other short texts: URLs, paths from clients, and
+//! bytes from a peer that a terminal shows. The crate opens no files and no sockets.
 //!
 //! # Proved
 //!
@@ -11,9 +11,9 @@
 //! - [`ServedPath::parse`] accepts exactly the paths of `specs/Served.antt`. No component of an
 //!   accepted path is empty or begins with a dot, and the path may end with one slash. A path names
 //!   at most one directory ([`paths_have_one_reading`](laws::paths_have_one_reading)).
-//! - [`ServedPath::candidate`] returns the path without its first and last slash, followed by an
-//!   [`Ending`] such as `.git`. No component of the result is empty, `.` or `..`, so the result
-//!   can't leave the base directory.
+//! - [`ServedPath::candidate`] returns the path without its first slash and an optional slash at
+//!   its end, followed by an [`Ending`] such as `.git`. No component of the result is empty, `.` or
+//!   `..`, so the result can't leave the base directory.
 //! - [`Ending::in_order`] returns the endings in Git's order.
 //! - [`clean`] and [`push_clean`] keep printable ASCII, line feeds and tabs. Progress lines also
 //!   keep carriage returns. Any other byte becomes a question mark. Cleaning a text piece by piece
@@ -42,11 +42,12 @@
 //!
 //! # What the contracts do not rule out
 //!
-//! [`read_words`] may refuse any arguments, and may return any well-formed command for any
-//! arguments. The contracts do not state the text of an answer to wrong arguments, or the
-//! [`Transport`] of a URL that does not begin with `git://`. If both the host and the port of a URL
-//! are malformed, either may be reported. Any call that allocates may fail if out of memory. The
-//! crate does not check symbolic links below the base directory.
+//! No contract rules out that [`read_words`] refuses all arguments, or returns a well-formed
+//! command that does not match the arguments. The contracts do not state the text of an answer to
+//! wrong arguments, or the [`Transport`] of a URL that does not begin with `git://`. If both the
+//! host and the port of a URL are malformed, no contract says which of them is reported. Any call
+//! that allocates may fail if out of memory. The crate does not check symbolic links below the base
+//! directory.
 //!
 //! This crate has no tests of its own.
 //!

@@ -19,7 +19,7 @@ pub(crate) fn connections_of(text: &str) -> Option<u32>
 }
 
 /// Returns the number that a text of decimal digits denotes, if the number is less than 2^32. A
-/// leading `+` is refused, although `parse` accepts it.
+/// leading `+` is refused, although `str::parse` accepts it.
 pub(crate) fn number_of(digits: &str) -> Option<u32>
     ensures { MatchOption result
         ((number : ℕ) → number < 2 ^ 32 → ¬ (IsNumber 10 digits.now number))

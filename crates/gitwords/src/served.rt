@@ -96,7 +96,7 @@ impl<'a> ServedPath<'a> {
     }
 }
 
-// Returns the text without a slash at its end.
+// Returns the text without the slash at its end, if there is one.
 fn without_last_slash(text: &str) -> &str
     ensures { (text.now ≡ result.now ++ 47 ∷ [])
         ⊎ ((text.now ≡ result.now) × ((front : List ℕ) → text.now ≢ front ++ 47 ∷ [])) }

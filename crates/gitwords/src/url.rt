@@ -40,7 +40,8 @@ pub struct GitUrl<'a> {
 impl<'a> GitUrl<'a> {
     /// Parses a URL. The path stays unchanged, including a `~user` at its start.
     ///
-    /// Fails if the text is not a URL of this form. The fault contains the text and the cause.
+    /// Fails if the text does not have the form `git://HOST[:PORT]/PATH`. The fault contains the
+    /// text and the cause.
     pub fn parse(text: &'a str) -> Result<GitUrl<'a>, UrlFault<'a>>
         ensures url { MatchResult result
             (λ url. IsGitUrl text.now url.host.now url.port url.path.now)
@@ -108,7 +109,8 @@ fn read_url(text: &str) -> Result<GitUrl<'_>, Cause>
     }
 }
 
-// Returns the text before the first slash, and the rest. Returns `None` if the text has no slash.
+// Returns the text before the first slash, and the rest, which begins with this slash. Returns
+// `None` if the text has no slash.
 fn split_path(text: &str) -> Option<(&str, &str)>
     ensures { MatchOption result (All (λ b. b ≢ 47) text.now)
         (λ parts. (text.now ≡ parts.0.now ++ parts.1.now) × All (λ b. b ≢ 47) parts.0.now

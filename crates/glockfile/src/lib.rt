@@ -1,9 +1,9 @@
 //! A file that is replaced as a whole or not at all, with Git's lockfile protocol (`lockfile.h` in
 //! Git's sources).
 //!
-//! A run first creates `FILE.lock`, and fails if this lockfile already exists. Then the run reads
-//! FILE. The run writes the new text to the lockfile, syncs the lockfile, and renames the lockfile
-//! to FILE.
+//! A run of a program first creates `FILE.lock`, and fails if this lockfile already exists. Then
+//! the run reads FILE. Finally it writes the new text to the lockfile, syncs the lockfile, and
+//! renames it to FILE.
 //!
 //! # Proved
 //!
@@ -11,8 +11,8 @@
 //!   lockfile exactly if [`open_file`] returns `Ok`.
 //! - [`replace_file`] replaces the text of the file by the new text, or leaves the file unchanged
 //!   if both texts are equal (`specs/Storing.antt`). During and after the call the file has the old
-//!   text or the whole new text. After `Ok` the file has the new text. At the end the run never
-//!   holds a lockfile.
+//!   text or the whole new text. After `Ok` the file has the new text. When the call returns, the
+//!   run holds no lockfile.
 //! - The calls of a [`Storage`] have a fixed order, because each call requires a certain state of
 //!   the lockfile. The lockfile is renamed only after its text is synced, and the file is read only
 //!   while it is locked.
@@ -25,10 +25,10 @@
 //!
 //! # What the contracts do not rule out
 //!
-//! No contract can describe the contents of a file of the system, so the contracts of
+//! No contract can describe the contents of a file of the operating system. So the contracts of
 //! [`StoredFile`] state only the order of its calls. If the file system renames atomically and
 //! syncs on request, a crash leaves the old text or the new text. If the system refuses to remove a
-//! lockfile, the lockfile stays. Each call may fail.
+//! lockfile, the lockfile stays. No contract rules out that a call fails.
 #![tactic(auto)]
 
 mod memory;

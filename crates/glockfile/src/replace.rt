@@ -35,7 +35,7 @@ pub fn open_file<A: Allocator + Copy, T: Storage>(
 /// texts are equal.
 ///
 /// Fails with `Failed` or `Memory`. After a failure the file has the old text or the whole new
-/// text. At the end this run holds no lockfile.
+/// text. When the call returns, this run holds no lockfile.
 pub fn replace_file<T: Storage>(file: &mut T, old: &[u8], new: &[u8]) -> Result<(), StorageFault>
     requires { T.lockfile file.old ≡ Empty }
     ensures replaced { WhereKnown (T.texts file.old) (T.texts file.new)

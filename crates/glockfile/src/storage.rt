@@ -76,8 +76,8 @@ pub enum Lockfile {
 
 /// A file that can be replaced, with its lockfile (Git's `lockfile.h`).
 ///
-/// The lockfile is renamed over the file only after its text is synced. After a crash the file
-/// therefore has one of its recorded texts.
+/// The lockfile is renamed over the file only after its text is synced. A crash therefore leaves
+/// the file with its old text or the whole new text.
 pub trait Storage {
     // Each text that the file has had, and the text written to the lockfile, if these texts are
     // known.

@@ -92,7 +92,7 @@ judge_at format ends over count packet = if over then after_flush packet else ju
 abbrev pub judge : Format → Ends → List Packet → Packet → Verdict
 judge format ends packets packet = judge_at format ends (is_over packets) (length (texts_of packets)) packet
 
--- whether the packet has contents to store; every text line has
+-- whether the packet has contents to store, which is true for every text line
 abbrev pub brings : List Packet → Packet → Bool
 brings packets (Data payload) = true
 brings packets _ = false

@@ -65,8 +65,8 @@ pub fn every_input()
     messages_are_read();
 }
 
-/// Proves that the reader accepts exactly the replies of gitprotocol-v2(5), and reads each reply
-/// with the value that the manual states.
+/// Proves that the reader accepts exactly the replies of gitprotocol-v2(5) that have at most
+/// [`MAX_LINES`] lines. The reader returns the value that the manual states.
 pub fn manual()
     ensures { (format : Format) (ends : Ends)
         → AsInManual (Says format ends) (IsLsReply format ends) }

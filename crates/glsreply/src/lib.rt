@@ -23,11 +23,11 @@
 //! - [`laws`] proves laws about the grammar. A list of packets encodes at most one reply. No reply
 //!   is a prefix of another, as packets or as bytes. Every accepted prefix can be completed, and a
 //!   refused packet is the first that fits no reply. The grammar accepts exactly the replies of
-//!   gitprotocol-v2(5) (`specs/LsManual.antt`), with the same values. The packets that are written
-//!   for a reply encode it, and each payload fits in a packet. The reader returns a reply exactly
-//!   when the input begins with that reply. Any other input is refused because of its bytes. A
-//!   written reply reads back, whatever bytes follow it. [`MAX_LINES`] equals the limit of the
-//!   specs.
+//!   gitprotocol-v2(5) that have at most 65,537 lines, with the same values
+//!   (`specs/LsManual.antt`). The packets that are written for a reply encode it, and each payload
+//!   fits in a packet. The reader returns a reply exactly when the input begins with that reply.
+//!   Any other input is refused because of its bytes. A written reply reads back, whatever bytes
+//!   follow it. [`MAX_LINES`] equals the limit of the specs.
 //!
 //! # Only tested
 //!
@@ -35,10 +35,12 @@
 //!
 //! # What the contracts do not rule out
 //!
-//! A reader may report out of memory at any accepted line, and so may any call to `push`. A value
-//! may use more memory than it needs, and any other call may allocate and free memory. A call may
-//! take any amount of time. The line-by-line writers accept lines in any order and ids of different
-//! formats. The caller must write the lines in the right order, with ids of the same format.
+//! No contract rules out that a reader reports out of memory at an accepted line, or that a call to
+//! `push` reports out of memory. No contract rules out that any other call allocates and frees
+//! memory. No contract bounds the memory of a value or the time of a call.
+//!
+//! The line-by-line writers accept lines in any order and ids of different formats. The caller must
+//! write the lines in the right order, with ids of the same format.
 //!
 //! # Dependencies
 //!

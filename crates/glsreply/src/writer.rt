@@ -90,9 +90,9 @@ fn write_refs<A: Allocator + Copy, W: Sink>(
 /// Writes the line of a ref. The function uses `text` as a buffer and overwrites it. Allocates
 /// nothing, and fails for the same reasons as [`write_ls_reply`].
 ///
-/// The line is valid in a reply whose format is that of both ids of the line. The caller must
-/// ensure that all ids of a reply have the same format, because a reader refuses an id of another
-/// format.
+/// The line is valid in a reply whose ids have the same format as both ids of the line. The caller
+/// must ensure that all ids of a reply have the same format, because a reader refuses an id of
+/// another format.
 pub fn write_ref<A: Allocator + Copy, W: Sink>(
     line: &LentLine<'_, A>,
     text: &mut RefText,

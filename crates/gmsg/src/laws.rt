@@ -67,9 +67,10 @@ pub fn replies_differ()
     gpkt::laws::one_begins();
 }
 
-/// Proves that the grammar of each kind accepts exactly the messages of Git's manual, with the same
-/// meaning (gitprotocol-v2(5), "Capability Advertisement", "Command Request", "ls-refs" and
-/// "fetch"). A hello is exactly one packet (gitprotocol-pack(5), "Git Transport").
+/// Proves that the grammars of advertisements, requests and replies accept exactly the messages
+/// that Git's manual and the limits allow. Each message has the meaning that the manual states
+/// (gitprotocol-v2(5), "Capability Advertisement", "Command Request", "ls-refs" and "fetch"). A
+/// hello is exactly one packet (gitprotocol-pack(5), "Git Transport").
 pub fn manual()
     ensures hello { SaysWhole hello.judge hello.Says }
     ensures advert { AsInManual advert.Says advert.IsAdvert }
@@ -87,8 +88,8 @@ pub fn manual()
 }
 
 /// Proves that the packets written for a message encode that message, and that each payload fits
-/// into a packet. The law of the fetch reply holds for each limit that a
-/// [`PackLimit`](crate::PackLimit) can hold.
+/// into a packet. For fetch replies, the law holds for each size limit that a
+/// [`PackLimit`](crate::PackLimit) can have.
 pub fn canonical_says()
     ensures hello { CanonicalSays hello.Says hello.IsHello hello.IsCanonical }
     ensures advert { CanonicalSays advert.Says advert.AreCapabilities advert.IsCanonical }

@@ -4,12 +4,13 @@
 //!
 //! # Proved
 //!
-//! - [`laws`] hold for every kind of message, with any [`Limits`]. A list of packets encodes at
+//! - The [`laws`] hold for every kind of message, with any [`Limits`]. A list of packets encodes at
 //!   most one message. No message is a prefix of another message of its kind, as packets or as
-//!   bytes. Within the limits, the readers accept exactly the messages that Git's manual defines.
-//!   The packets written for a message encode that message, and each payload fits into a packet. No
-//!   byte string begins with both an ls-refs reply and a fetch reply. The `laws` of each crate
-//!   prove that reading a written message returns the same message.
+//!   bytes. Within the limits, the readers of advertisements, requests and replies accept exactly
+//!   the messages that Git's manual defines. The packets written for a message encode that message,
+//!   and each payload fits into a packet. No byte string begins with both an ls-refs reply and a
+//!   fetch reply. In each of the crates below, `laws` proves that reading a written message returns
+//!   the same message.
 //!
 //! The following crates define the messages, and prove further properties:
 //!

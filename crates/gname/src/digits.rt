@@ -5,8 +5,8 @@ ghost use Rattle.hex.specs.Hex.{decode_sized, encode_lower, hex_digit_value, low
 
 use hex::{FromHex, FromHexError};
 
-// The two digits of each byte value, from `00` to `ff`. A ref advertisement consists mostly of ids,
-// so this table makes it fast to write.
+// The two digits of each byte value, from `00` to `ff`. The table speeds up writing a ref
+// advertisement, which consists mostly of ids.
 const DIGIT_PAIRS: &[u8; 512] = b"\
     000102030405060708090a0b0c0d0e0f101112131415161718191a1b1c1d1e1f\
     202122232425262728292a2b2c2d2e2f303132333435363738393a3b3c3d3e3f\
@@ -83,8 +83,8 @@ fn read_digits(text: &[u8], out: &mut [u8]) -> bool
     true
 }
 
-/// Decodes a text of two hexadecimal digits for each byte, in either case, with the results of the
-/// `hex` crate.
+/// Decodes a text of two hexadecimal digits for each byte, in either case. Returns the same result
+/// as the decoder of the `hex` crate.
 pub(crate) fn from_digits<const N: usize>(text: &[u8]) -> Result<[u8; N], FromHexError>
     ensures { result ≡ decode_sized text.now N }
 {

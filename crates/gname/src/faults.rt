@@ -1,4 +1,5 @@
-//! The faults of ref names and prefixes, and the rows of faults that several crates share.
+//! The faults of ref names and prefixes, and the numbers and names of faults that several crates
+//! share.
 
 ghost use Rattle.std.specs.Prelude.{◌≡◌, Some};
 ghost use Rattle.gname.specs.Faults.{name_fault_row, name_fault_text};
@@ -14,7 +15,7 @@ pub const OUT_OF_MEMORY: (u32, &str) = (64, "Memory");
 /// The text of every out-of-memory fault, regardless of the fault's number.
 pub const OUT_OF_MEMORY_TEXT: &str = "out of memory";
 
-/// The number and the name of the fault that a new object has a missing parent. Several crates
+/// The number and the name of the fault for a new object whose parent is missing. Several crates
 /// share this fault.
 pub const MISSING_PARENT: (u32, &str) = (72, "MissingParent");
 

@@ -17,7 +17,7 @@ pub fn ids_have_texts()
 {}
 
 /// Proves that the text of an id has only hexadecimal digits, so it has no control characters and
-/// no spaces. A value that has such a text is a valid id.
+/// no spaces. The id that the text encodes is valid.
 #[tactic(auto, using(crate::proofs::IdLemmas::id_texts_are_digits))]
 pub fn id_texts_are_digits()
     ensures { IdTextsAreDigits }
@@ -72,7 +72,7 @@ pub fn rules_never_report_memory()
 {}
 
 /// Proves that `first_place` of the specs finds the first position that passes a test. The faults
-/// `Component`, `DoubleDot` and `AtBrace` report such a position.
+/// `Component`, `DoubleDot` and `AtBrace` report the position that `first_place` finds.
 #[tactic(auto, using(crate::proofs::PlaceLemmas::first_places_are_first))]
 pub fn first_places_are_first()
     ensures { FirstPlacesAreFirst }

@@ -97,8 +97,7 @@ impl<A: Allocator + Copy> RefName<A> {
         self.as_bytes().starts_with(prefix.as_bytes())
     }
 
-    /// Returns the bytes of the name, which are at most 1,000 and have no control characters or
-    /// spaces.
+    /// Returns the bytes of the name: at most 1,000, without control characters or spaces.
     #[tactic(auto, using(crate::proofs::NameLemmas::name_within, crate::proofs::NameLemmas::name_clean))]
     pub fn as_bytes(&self) -> &[u8]
         ensures bytes { result.now ≡ self.now }

@@ -40,8 +40,7 @@ impl<A: Allocator + Copy> Prefix<A> {
         Ok(Prefix { text })
     }
 
-    /// Returns the bytes of the prefix, which are at most 1,000 and have no control characters or
-    /// spaces.
+    /// Returns the bytes of the prefix: at most 1,000, without control characters or spaces.
     #[tactic(auto, using(crate::proofs::NameLemmas::prefixes_are_clean))]
     pub fn as_bytes(&self) -> &[u8]
         ensures bytes { result.now ≡ self.now }

@@ -10,7 +10,7 @@ use memchr::{memchr, memmem};
 /// The maximum length of a ref name or a prefix in bytes.
 pub const MAX_NAME: usize = 1_000;
 
-/// Checks that a text is a ref name, or fails with its first fault.
+/// Checks that a text is a ref name. Otherwise fails with the first fault of the text.
 #[tactic(auto, unfolding(crate::specs::Names::name_fault))]
 pub(crate) fn check_name(text: &[u8]) -> Result<(), NameFault>
     ensures { Finds name_fault text.now result }
@@ -25,7 +25,7 @@ pub(crate) fn check_name(text: &[u8]) -> Result<(), NameFault>
     check_end(text)
 }
 
-/// Checks that a text is a prefix, or fails with its first fault.
+/// Checks that a text is a prefix of ref names. Otherwise fails with the first fault of the text.
 #[tactic(auto, unfolding(crate::specs::Names::prefix_fault))]
 pub(crate) fn check_prefix(text: &[u8]) -> Result<(), NameFault>
     ensures { Finds prefix_fault text.now result }
@@ -144,8 +144,8 @@ fn check_braces(text: &[u8]) -> Result<(), NameFault>
     }
 }
 
-// Returns the position at which two bytes first occur. Most names lack the first byte, and the
-// search for one byte is quick.
+// Returns the first position of a pair of bytes. Most names do not contain the first byte of the
+// pair, and the search for one byte is quick.
 #[tactic(auto, using(crate::proofs::PlaceLemmas::no_pair))]
 fn find_pair(text: &[u8], pair: &[u8; 2]) -> Option<usize>
     ensures { FindsNeedle text.now pair.now 0 result }

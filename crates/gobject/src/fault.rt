@@ -15,7 +15,8 @@ use std::fmt;
 pub enum PackFault {
     /// Out of memory.
     Memory,
-    /// The pack would have more than `gname::MAX_PACK` bytes.
+    /// The pack would have more bytes than the packer's limit: `gname::MAX_PACK`, or
+    /// `gparts::MAX_PARTS` for a pack in parts.
     TooLarge,
     /// A cause that is specific to the packer.
     Other,
@@ -63,7 +64,8 @@ impl Error for PackFault {}
 pub enum IndexFault {
     /// Out of memory.
     Memory,
-    /// The `line`, counted from 1, is the first that is malformed or missing.
+    /// `line` is the number of the first line that is malformed or missing. Lines are counted from
+    /// 1.
     Bad { line: usize },
     /// A cause that is specific to the indexer.
     Other,

@@ -42,16 +42,16 @@ pub trait Indexer<A: Allocator + Copy> {
 
     ghost fed: { Self → Self.Feed → List ℕ → Type 0 };
 
-    /// Returns the state before the first piece. The contract allows a fault of this call only if
-    /// every pack may be refused with that fault.
+    /// Returns the state before the first piece. The call can return a fault only if `index_fails`
+    /// allows this fault for every pack.
     fn start(&self, alloc: A) -> Result<Self::Feed, IndexFault>
         ensures { MatchResult result
             (λ feed. fed self.now feed [])
             (λ fault. ((bytes : List ℕ) → index_fails self.now bytes fault)) };
 
-    /// Feeds the next piece of a pack. The contract allows a fault of this call only if every pack
-    /// that begins with the pieces fed so far may be refused with that fault. After a fault the
-    /// feed can't be used further.
+    /// Feeds the next piece of a pack. The call can return a fault only if `index_fails` allows
+    /// this fault for every pack that begins with all pieces up to this one. After a fault the feed
+    /// can't be used further.
     fn feed(&self, feed: &mut Self::Feed, piece: &[u8]) -> Result<(), IndexFault>
         ensures { MatchResult result
             (λ _. ((given : List ℕ) → fed self.now feed.old given
@@ -59,8 +59,8 @@ pub trait Indexer<A: Allocator + Copy> {
             (λ fault. ((given more : List ℕ) → fed self.now feed.old given
             → index_fails self.now ((given ++ piece.now) ++ more) fault)) };
 
-    /// Returns the entries of the pack whose pieces were fed, in order. The contract allows a fault
-    /// of this call only if the pack of exactly these pieces may be refused with that fault.
+    /// Returns the entries of the pack whose pieces were fed, in order. The call can return a fault
+    /// only if `index_fails` allows this fault for the pack of exactly these pieces.
     fn finish(&self, feed: Self::Feed) -> Result<Vec<Entry<A>, A>, IndexFault>
         ensures { MatchResult result
             (λ entries. ((given : List ℕ) → fed self.now feed given

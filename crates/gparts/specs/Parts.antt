@@ -4,11 +4,11 @@ use Rattle.gobject.specs.Packs.{PackFails, Packs}
 use Rattle.gobject.specs.declared.fault.PackFault.{PackFault}
 use Rattle.gobject.specs.declared.node.Entry.{Entry}
 
--- the relation between the bytes that may still be returned and the fault, if any, that follows them
+-- whether these bytes may still be returned, followed by this fault, if any
 abbrev pub Gives : Type 1
 Gives = List ℕ → Option PackFault → Type 0
 
--- the most bytes of a pack that is returned in parts
+-- the maximum number of bytes of a pack that is returned in parts
 abbrev pub max_parts : ℕ
 max_parts = 4294967295
 
@@ -21,8 +21,8 @@ pub record MayGive {A : Type 0} (packs : Packs A) (list : List (Entry A)) (pack 
 abbrev pub given_by : {A K : Type 0} → (K → Packs A) → K → Packs A
 given_by packs packer = MayGive (packs packer)
 
--- the bytes of a complete pack are a pack that may be returned for the list; a fault is one that `fails` permits for
--- the list; at most `max_parts` bytes are returned
+-- If no fault occurs, the returned bytes are a pack that may be returned for the list. Each fault is one that `fails`
+-- permits for the list. At most `max_parts` bytes are returned.
 pub record Begins {A : Type 0} (packs : Packs A) (fails : PackFails A) (list : List (Entry A)) (gives : Gives)
     (most : ℕ) : Type 0 where
   pub whole : (bytes : List ℕ) → gives bytes None → MayGive packs list bytes

@@ -3,17 +3,17 @@
 //! # Proved
 //!
 //! - The parts that a [`PartPacker`] returns, in order, form a pack of the entries. The pack has at
-//!   most [`MAX_PARTS`] bytes, which is the limit of the specs ([`laws`]). A packer fails only
-//!   with a fault that its `pack_fails` permits.
+//!   most [`MAX_PARTS`] bytes, which is the limit in `specs/Parts.antt` (see [`laws`]). A packer
+//!   fails only with a fault that its `pack_fails` permits.
 //! - A [`WholePack`] turns any packer of `gobject` into a [`PartPacker`], with the same packs and
 //!   faults. Its packs have at most `gname::MAX_PACK` bytes.
 //! - No call panics, overflows or reads out of bounds, and each call returns.
 //!
 //! # What the contracts do not rule out
 //!
-//! A packer may be slow, use more memory than it needs, and need many calls, as long as each call
-//! returns at least one byte. A packer may fail after any part. The parts before a fault need not
-//! be the start of a pack.
+//! No contract rules out that a packer is slow, uses more memory than it needs, or returns only one
+//! byte per call. No contract rules out that a packer fails after any part. No contract requires
+//! that the parts before a fault are the start of a pack.
 //!
 //! This crate has no tests.
 //!

@@ -23,8 +23,7 @@ pub trait PartPacker<A: Allocator + Copy> {
 
     ghost pack_fails: { Self → List (Entry A) → PackFault → Type 0 };
 
-    // The relation between the bytes that may still be returned and the fault, if any, that follows
-    // them.
+    // Whether these bytes may still be returned, followed by this fault, if any.
     ghost gives: { Self → Self.Parts → List ℕ → Option PackFault → Type 0 };
 
     // The maximum number of bytes that may still be returned.
@@ -39,7 +38,7 @@ pub trait PartPacker<A: Allocator + Copy> {
             (pack_fails self.now entries.now) };
 
     /// Writes the next bytes of the pack into the front of `out`, and returns their number, or 0
-    /// when the pack is complete. After the result 0 or a fault, the caller should drop the parts.
+    /// when the pack is complete. After the result 0 or a fault, the caller should drop `parts`.
     fn part(&self, parts: &mut Self::Parts, out: &mut [u8]) -> Result<usize, PackFault>
         requires { 0 < length out.old }
         ensures { MatchResult result

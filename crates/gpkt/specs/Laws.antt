@@ -26,11 +26,11 @@ RefusedIsNoPacket =
     (fault : PacketFault) (line : Packet) (bytes front rest : Bytes) → NoPacket fault bytes
     → front ++ rest ≡ bytes → ¬ Spells line front
 
--- a reader can reject the same bytes with only one fault
+-- a reader can reject given bytes with at most one fault
 abbrev pub OneFault : Type 0
 OneFault = (fault other : PacketFault) (bytes : Bytes) → NoPacket fault bytes → NoPacket other bytes → fault ≡ other
 
--- only the bytes determine the result, since the source did not fail and the reader had not failed before the call
+-- the result depends only on the bytes: the source did not fail, and the reader had not failed before the call
 abbrev pub IsOfBytes : Result (Option Packet) PacketFault → Type 0
 IsOfBytes result = (result ≢ Err packet_fault.Io) × (result ≢ Err packet_fault.Failed)
 
@@ -99,18 +99,18 @@ TextOfLine = (words : Bytes) → text (words ++ line_feed ∷ []) ≡ words
 abbrev pub TextOrLine : Type 0
 TextOrLine = (payload : Bytes) → (payload ≡ text payload) ⊎ (payload ≡ text payload ++ line_feed ∷ [])
 
--- making no call reads the empty list of packets
+-- reading no bytes is a read of the empty list of packets
 abbrev pub ReadsNone : Type 0
 ReadsNone = (bytes : Option Bytes) → ReadsPackets (record { old = bytes; new = bytes }) []
 
--- reading a list of packets and then another packet reads the extended list
+-- a read of a list of packets followed by a read of one more packet is a read of the extended list
 abbrev pub ReadsNext : Type 0
 ReadsNext =
     (old mid new : Option Bytes) (lines : List Packet) (line : Packet)
     → ReadsPackets (record { old = old; new = mid }) lines → Reads (record { old = mid; new = new }) (Ok (Some line))
     → ReadsPackets (record { old = old; new = new }) (lines ++ line ∷ [])
 
--- reading two lists of packets in sequence reads their concatenation
+-- a read of one list of packets followed by a read of another list is a read of their concatenation
 abbrev pub ReadsJoin : Type 0
 ReadsJoin =
     (old mid new : Option Bytes) (lines more : List Packet) → ReadsPackets (record { old = old; new = mid }) lines
@@ -130,8 +130,8 @@ module _
         (old mid new : Writer W) (bytes more : Bytes) (result : Result Unit WriteFault) → Writes old mid (Ok tt) bytes
         → Writes mid new result more → result ≢ Err write_fault.Payload → Writes old new result (bytes ++ more)
 
-    -- unless a payload is too long, a failed write of some bytes has the outcome of a failed write of the same bytes
-    -- followed by more bytes
+    -- unless the fault is `Payload`, a failed write of `bytes` has the outcome of a failed write of `bytes` followed by
+    -- `more`
     abbrev pub FailsOfMore : Type 0
     FailsOfMore =
         (old new : Writer W) (bytes more : Bytes) (fault : WriteFault) → Writes old new (Err fault) bytes

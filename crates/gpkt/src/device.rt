@@ -160,7 +160,7 @@ impl FailureFlag {
     }
 
     /// Records the result of a write of `buf` to the wrapped writer. The sink fails exactly when
-    /// that write failed, or when it wrote no byte of a nonempty `buf`.
+    /// that write failed, or wrote no byte of a nonempty `buf`.
     pub(crate) fn note_write(
         &mut self,
         answer: io::Result<usize>,

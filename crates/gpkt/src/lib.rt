@@ -2,11 +2,11 @@
 //! written to sinks, and the side bands of a payload (gitprotocol-pack(5), "Packfile Data").
 //!
 //! A packet starts with four hexadecimal digits. The digits `0000` announce a flush, `0001` a
-//! delimiter, and `0002` a response-end. Any other digits are the length of a data packet, and the
-//! length includes the digits. [`PacketReader`] reads packets from a [`Source`]. [`PacketWriter`]
-//! writes packets to a [`Sink`], and [`write_all`] writes any bytes. [`FromRead`] and [`ToWrite`]
-//! borrow std's readers and writers as sources and sinks. [`memory`] defines sources and sinks in
-//! memory. [`band_of`] decodes the side band of a payload.
+//! delimiter, and `0002` a response-end. Any other valid digits are the length of a data packet,
+//! and the length includes the digits. [`PacketReader`] reads packets from a [`Source`].
+//! [`PacketWriter`] writes packets to a [`Sink`], and [`write_all`] writes any bytes. [`FromRead`]
+//! and [`ToWrite`] borrow std's readers and writers as sources and sinks. [`memory`] defines
+//! sources and sinks in memory. [`band_of`] decodes the side band of a payload.
 //!
 //! # Proved
 //!
@@ -16,8 +16,9 @@
 //!   which bytes are consumed (`HasRead` in `specs/PacketReading.antt`, which uses `Spells` and
 //!   `NoPacket`).
 //! - For any source, a reader that has failed returns `Failed` and reads nothing. After any fault,
-//!   the reader counts as failed. A call that reads reports `Io` exactly when the source has failed
-//!   afterwards. A payload has at most 65,516 bytes. Only the constructor reports `Memory`.
+//!   the reader has failed. If the reader had not failed before a call, the call reports `Io`
+//!   exactly when the source has failed after it. A payload has at most 65,516 bytes. Only the
+//!   constructor reports `Memory`.
 //! - A successful write appends exactly the canonical encoding, if the written bytes are known. A
 //!   write reports `Payload` exactly when the payload is too long for a packet, and then changes
 //!   nothing. After `Io`, a proper prefix of the encoding was written. A writer that has failed
@@ -46,14 +47,18 @@
 //!
 //! # What the contracts do not rule out
 //!
-//! - A source or sink may fail at any call, and may move only one byte per call. A sink over std's
-//!   writers may flush twice, or flush without a call to `flush`.
-//! - The allocation of a buffer may fail at any time, and a constructor may read from the source
-//!   before it fails.
-//! - A [`memory::Limited`] may ignore its limits, and a [`memory::VecSink`] need not count flushes.
+//! - No contract rules out that a source or sink fails at any call, or transfers only one byte per
+//!   call. No contract rules out that a sink over std's writers flushes twice, or flushes without a
+//!   call to `flush`.
+//! - No contract rules out that allocating a buffer fails at any time, or that a constructor reads
+//!   from the source before it fails.
+//! - No contract rules out that a [`memory::Limited`] ignores its limits, or that a
+//!   [`memory::VecSink`] does not count flushes.
 //! - A sink that flushes at every write has unknown flushed bytes, since a write must not change
-//!   known flushed bytes. A failed flush may have flushed any part of the buffered bytes.
-//! - Formatting a fault may return `fmt::Error` although the text was written correctly.
+//!   known flushed bytes. No contract rules out that a failed flush has flushed any part of the
+//!   buffered bytes.
+//! - No contract rules out that formatting a fault returns `fmt::Error` although the text was
+//!   written correctly.
 //!
 //! # Dependencies
 //!

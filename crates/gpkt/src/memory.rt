@@ -171,7 +171,8 @@ impl<A: Allocator + Copy> Sink for VecSink<A> {
     }
 }
 
-/// A source or sink that moves only a limited number of bytes per call, and fails at a chosen call.
+/// A source or sink that transfers only a limited number of bytes per call, and fails at a chosen
+/// call.
 ///
 /// Only tests check the limit and the failing call. The contracts describe the wrapped source or
 /// sink, and whether the wrapper has failed.

@@ -7,8 +7,8 @@
 //!
 //! # Proved
 //!
-//! [`run_gitv2`] returns for any arguments, files and streams, with no index out of range, no
-//! overflow and no use after free.
+//! [`run_gitv2`] returns for any arguments, files and streams. No index is out of range, no
+//! arithmetic overflows, and no memory is used after it was freed.
 //!
 //! # Only tested
 //!

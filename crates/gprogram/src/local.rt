@@ -9,7 +9,7 @@ use std::io;
 use std::io::{BufReader, BufWriter};
 use std::rt::Files;
 
-// The maximum number of bytes that one write of a reply contains.
+// The capacity in bytes of the buffer that collects the packets of a reply for one write.
 const REPLY_BUFFER: usize = 65_536;
 
 /// `gitv2 check FILE`

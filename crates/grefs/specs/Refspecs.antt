@@ -60,8 +60,8 @@ pub record IsSpec (text : List ℕ) (spec : Refspec) : Type 0 where
   pub written : text ≡ spec_text spec
   pub sides : IsRefspec spec
 
--- the result of parsing a refspec that satisfies P: the refspec or `Memory` if a refspec satisfies P, otherwise
--- `BadSpec`
+-- the result of parsing a refspec that satisfies P: a refspec that satisfies P, `Memory` if some refspec satisfies P,
+-- or `BadSpec` if none does
 abbrev pub Reads : (Refspec → Type 0) → Result Refspec SpecFault → Type 0
 Reads P (Ok spec) = P spec
 Reads P (Err BadSpec) = (spec : Refspec) → ¬ (P spec)
@@ -80,7 +80,8 @@ matches spec name =
     if spec.pattern then starts_with nat_eq name spec.source && nat_lt (length spec.source) (length name)
     else bytes_eq name spec.source
 
--- the destination of a name that the source matches: in a pattern, the rest of the name replaces the destination's `*`
+-- the destination of a name that the source matches: in a pattern, the part of the name that the source's `*` matched
+-- replaces the destination's `*`
 abbrev pub destination_of : Refspec → Name → List ℕ
 destination_of spec name = spec.destination ++ drop (length spec.source) name
 

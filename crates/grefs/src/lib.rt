@@ -3,8 +3,8 @@
 //! # Proved
 //!
 //! - [`Refs`] is a list of at most [`MAX_REFS`] refs in strictly ascending byte order of their
-//!   names. No ref has the name `HEAD`. A look-up returns the id of the ref with a name, or `None`
-//!   if no ref has that name.
+//!   names. No ref has the name `HEAD`. A look-up by name returns the id of the ref, or `None` if
+//!   no ref has that name.
 //! - [`Refs::set`] sets one name to an id and leaves all other refs unchanged, or fails and changes
 //!   nothing. The call fails with `Refs` exactly for `HEAD`, and for a new name if there are
 //!   already [`MAX_REFS`] refs. The call never fails for a name that already has a ref.
@@ -23,11 +23,11 @@
 //!
 //! # What the contracts do not rule out
 //!
-//! A call that adds a new name or makes a copy may report out of memory at any time.
-//! `Refs::copy_in` may allocate from the allocator of the original, because no clause names the
-//! allocator. Each call may take any amount of time, and more memory than it needs.
+//! The contracts allow a call that adds a new name or makes a copy to report out of memory at any
+//! time. No contract says which allocator `Refs::copy_in` uses. No contract bounds the time or the
+//! memory of a call.
 //!
-//! Formatting a fault may return an error (`fmt::Error`) for no reason.
+//! No contract rules out that formatting a fault returns `fmt::Error` even if every write succeeds.
 //!
 //! # Dependencies
 //!

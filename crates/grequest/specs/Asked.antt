@@ -73,7 +73,7 @@ is_direct asked = fetch_has asked Done || length asked.haves == 0
 abbrev pub max_arguments : ℕ
 max_arguments = 4294967295
 
--- the maximum length of each list of a request with any limits, so that all values fit into one request
+-- the maximum length of each list of a request, whatever its limits, so that all values fit into one request
 abbrev pub max_listed : ℕ
 max_listed = 1073741824
 

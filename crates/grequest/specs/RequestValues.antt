@@ -18,7 +18,7 @@ ids_format request.Empty = None
 ids_format (request.Ls ls) = None
 ids_format (request.Fetch fetch) = Some fetch.format
 
--- the limits of a request, if the request can have values
+-- the limits of a request, or `None` for the empty request
 abbrev pub limits_of : {A : Type 0} → Request A → Option Limits
 limits_of request.Empty = None
 limits_of (request.Ls ls) = Some ls.limits

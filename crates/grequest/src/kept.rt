@@ -5,7 +5,8 @@ ghost use Rattle.grequest.specs.steps.Building.{build_fault, why_not_kept};
 
 use ggrammar::{MessageFault, Why};
 
-/// The reason that a value can't be added to a request. The first applicable reason is reported.
+/// The reason that a value can't be added to a request. If several reasons apply, the first in this
+/// enum is reported.
 #[derive(Clone, Copy, Debug, PartialEq, Eq)]
 pub(crate) enum NotKept {
     WrongForm,

@@ -28,7 +28,7 @@ pub fn limits_are_the_constants()
 {}
 
 /// Proves that a list of packets is read as a request exactly if Git's manual and the limits allow
-/// the list, and with the meaning that the manual states (gitprotocol-v2(5), "Command Request",
+/// the list. The list has the meaning that the manual states (gitprotocol-v2(5), "Command Request",
 /// "ls-refs" and "fetch").
 pub fn manual()
     ensures { (limits : Limits) (format : Format)
@@ -102,8 +102,8 @@ pub fn reads_exactly()
     kinds_are_read::<Requests>();
 }
 
-/// Proves that a written request, read with its limits, reads back as the same request, whatever
-/// bytes follow.
+/// Proves that a written request that is read with its own limits reads back as the same request,
+/// whatever bytes follow.
 pub fn reads_back()
     ensures { (limits : Limits) (format : Format)
         → ReadsBackIfAny (judge limits format) brings (Says limits format) (IsAsked limits format)

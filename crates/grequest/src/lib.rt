@@ -7,44 +7,44 @@
 //!   pieces. It returns the request that the packets encode, or `None` if the input ends before the
 //!   first packet. The request has the limits of the call. Any other input is rejected at the first
 //!   packet that does not fit, for the reason that the grammar states (`judge` in
-//!   `specs/Requests.antt`). An error packet from the peer takes precedence, then a malformed text,
-//!   then an exceeded limit. Out of memory is reported only at an agent, a prefix, a want or a
-//!   have.
+//!   `specs/Requests.antt`). An error packet from the peer takes precedence over a malformed text,
+//!   which takes precedence over an exceeded limit. Out of memory is reported only at an agent, a
+//!   prefix, a want or a have.
 //! - A request to a SHA-256 repository must name the object format, and its ids have this format.
 //! - Every [`LsRefsRequest`] and every [`FetchRequest`] is well-formed and within its limits. `new`
 //!   gives the default limits of 64 prefixes, 1,024 wants and 4,096 haves. `within` takes other
-//!   limits. A limit above 2^30 counts as 2^30, so the arguments of a request can be counted. A
-//!   call with an ill-formed value fails with `BadText`. Otherwise a call that would exceed a limit
+//!   limits. A limit above 2^30 counts as 2^30, so that all values fit into one request. A call
+//!   with a malformed value fails with `BadText`. Otherwise a call that would exceed a limit
 //!   fails with `Limit`, and a call that runs out of memory fails with `Memory`. Each fault reports
 //!   packet position 0, and the request is unchanged.
-//! - [`FetchRequest::is_direct`] returns whether the reply starts with the pack: the request has
-//!   `done` or no haves.
+//! - [`FetchRequest::is_direct`] returns whether the request has `done` or no haves. The reply to
+//!   such a request starts with the pack.
 //! - A copy of a request has the same contents and limits, and its ids have the same format.
 //!   `asks_as` returns true exactly if both requests have the same contents.
 //! - [`write_request`] writes the canonical list of packets of a request
-//!   (`specs/RequestWriting.antt`), or a prefix of it if the sink fails. For a request with ids,
-//!   the caller passes the format of these ids, and the request then reads back.
-//! - By [`laws`], for all limits, a list of packets is read as a request exactly if Git's manual
-//!   and the limits allow the list (`specs/Manual.antt`). A list of packets encodes at most one
-//!   request. No request is a prefix of another, as packets or as bytes. The packets accepted so
-//!   far can always be completed to a request, and a rejected packet is the first that does not
+//!   (`specs/RequestWriting.antt`), or a prefix of it if the sink fails. The caller must pass the
+//!   format of a fetch request's ids. The written request then reads back.
+//! - The [`laws`] hold for all limits. A list of packets is read as a request exactly if Git's
+//!   manual and the limits allow the list (`specs/Manual.antt`). A list of packets encodes at most
+//!   one request. No request is a prefix of another, as packets or as bytes. The packets accepted
+//!   so far can always be completed to a request, and a rejected packet is the first that does not
 //!   fit. The packets written for a request encode this request, and each payload fits a packet. A
 //!   request is read exactly if the bytes begin with packets that encode it, and `None` is returned
 //!   exactly if there are no bytes. Every byte sequence begins with a request or is rejected
-//!   because of its content. A written request reads back with its limits, whatever bytes follow.
-//!   The public constants equal the default limits.
+//!   because of its content. A written request that is read with its own limits reads back,
+//!   whatever bytes follow. The public constants equal the default limits.
 //!
 //! # Only tested
 //!
-//! Calls succeed if there is enough memory, although the contracts do not state it.
+//! Calls succeed if there is enough memory, although the contracts do not state this.
 //!
 //! # What the contracts do not rule out
 //!
-//! A call that stores or copies a value may report out of memory at any time. A call that stores or
-//! copies a value may take any amount of time, and use more memory than it needs. Even `new` may
-//! allocate. If a sink fails, the contracts do not state how long the written prefix is. If the
-//! bytes of a source are unknown, the contracts do not state which packets are read. The contracts
-//! still state whether the source or the sink has failed.
+//! No contract rules out that a call that stores or copies a value reports out of memory at any
+//! time. No contract bounds the time or the memory of such a call. No contract rules out that a
+//! call allocates, not even `new`. If a sink fails, the contracts do not state how long the written
+//! prefix is. If the bytes of a source are unknown, the contracts do not state which packets are
+//! read. The contracts still state whether the source or the sink has failed.
 //!
 //! # Dependencies
 //!
@@ -69,7 +69,7 @@ mod write;
 
 pub use crate::fetch::FetchRequest;
 pub use crate::flag::{FetchFlag, LsRefsFlag};
-pub use crate::limits::{MAX_HAVES, MAX_PREFIXES, MAX_WANTS};
+pub use crate::limits::{MAX_HAVES, MAX_PREFIXES, MAX_WANTS, max_haves, max_prefixes, max_wants};
 pub use crate::ls_refs::LsRefsRequest;
 pub use crate::read::{read_request, read_request_in, read_request_within};
 pub use crate::reading::RequestReader;

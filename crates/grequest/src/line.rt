@@ -104,7 +104,7 @@ fn ref_prefix(text: &[u8]) -> LsArgument<'_>
     }
 }
 
-/// Returns the kind of a text among the arguments of fetch.
+/// Returns the fetch argument that a text encodes.
 #[tactic(auto, unfolding(crate::specs::Arguments::fetch_argument))]
 pub(crate) fn fetch_argument(text: &[u8]) -> FetchArgument<'_>
     ensures { fetch_argument_in result ≡ fetch_argument text.now }

@@ -207,7 +207,7 @@ impl<A: Allocator + Copy> LsRefsRequest<A> {
         Ok(())
     }
 
-    // Replaces the limits of the request by limits that the request is within.
+    // Replaces the limits of the request. The request must be within the new limits.
     pub(crate) fn set_limits(&mut self, limits: Limits)
         requires { IsWithin limits (Ls self.old.asked) }
         ensures { self.new ≡ record self.old { limits = limits } }

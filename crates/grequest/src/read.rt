@@ -17,7 +17,7 @@ use gname::Format;
 use gpkt::{PacketReader, Source};
 use std::alloc::Allocator;
 
-/// Reads a request with the default limits to a SHA-1 repository, as [`read_request_within`] does.
+/// Reads a request to a SHA-1 repository as [`read_request_within`] does, with the default limits.
 pub fn read_request<S: Source, A: Allocator + Copy, B: Allocator + Copy>(
     reader: &mut PacketReader<S, A>,
     alloc: B,
@@ -33,7 +33,7 @@ pub fn read_request<S: Source, A: Allocator + Copy, B: Allocator + Copy>(
     read_request_in(reader, Format::Sha1, alloc)
 }
 
-/// Reads a request with the default limits, as [`read_request_within`] does.
+/// Reads a request as [`read_request_within`] does, with the default limits.
 pub fn read_request_in<S: Source, A: Allocator + Copy, B: Allocator + Copy>(
     reader: &mut PacketReader<S, A>,
     format: Format,

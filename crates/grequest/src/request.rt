@@ -31,7 +31,8 @@ impl<A: Allocator + Copy> Request<A> {
     ghost use Rattle.grequest.specs.WellFormed.{IsAsked};
 
     /// Proves that every request is well-formed for its limits and the format of its ids. A request
-    /// without ids is well-formed for every format, and the empty request for all limits.
+    /// that can't have ids is well-formed for every format. The empty request is well-formed for
+    /// all limits.
     pub fn laws(&self)
         ensures { (limits : Limits) (format : Format) → HasLimits limits self.now
             → IsOfFormat format self.now → IsAsked limits format (asked_by_request self.now) }
@@ -87,7 +88,7 @@ impl<A: Allocator + Copy> Request<A> {
         }
     }
 
-    // Replaces the limits of the request by limits that the request is within.
+    // Replaces the limits of the request. The request must be within the new limits.
     pub(crate) fn set_limits(&mut self, limits: Limits)
         requires { IsWithin limits (asked_by_request self.old) }
         ensures asked { asked_by_request self.new ≡ asked_by_request self.old }

@@ -27,8 +27,8 @@ use gpkt::{PacketWriter, Sink, WriteFault};
 use std::alloc::Allocator;
 
 /// Writes a request as its canonical list of packets (gitprotocol-v2(5), "Command Request").
-/// `format` is the format of the repository's objects. For a request with ids, the caller passes
-/// the format of these ids.
+/// `format` is the format of the repository's objects. A fetch request must be for ids of this
+/// format.
 ///
 /// Allocates nothing. Fails with `Io` if the sink fails, after writing a prefix of the request.
 /// Fails with `Failed` if the writer failed before the call. Every request meets the conditions of

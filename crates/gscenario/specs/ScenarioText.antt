@@ -151,7 +151,8 @@ pub record IsWrongLine (A : Type 0) (text : List ℕ) (number : ℕ) : Type 0 wh
   pub wrong : BeginsWrong A rest
   pub at : number ≡ length events + 1
 
--- after some valid lines, the text has a line that begins with a command, so the event of that line may need memory
+-- after zero or more valid lines, the text has a line that begins with a command, so the event of that line can need
+-- memory
 pub record TakesMemory (A : Type 0) (text : List ℕ) : Type 0 where
   pub front : List ℕ
   pub line : List ℕ
@@ -162,7 +163,7 @@ pub record TakesMemory (A : Type 0) (text : List ℕ) : Type 0 where
   pub inside : IsInLine line
   pub begins : BeginsWithCommand line
 
--- a reason to reject a text: a malformed line, or out of memory for the event of a line
+-- a reason to reject a text: a malformed line, or lack of memory for the event of a line
 abbrev pub Refuses : Type 0 → List ℕ → ScenarioFault → Type 0
 Refuses A text (fault.Scenario number) = IsWrongLine A text number
 Refuses A text fault.Memory = TakesMemory A text

@@ -1,2 +1,2 @@
--- The steps: definitions that only private functions and proofs use.
+-- The definitions that only private functions and proofs use.
 pub mod Reading

@@ -1,5 +1,5 @@
-//! Events that may happen to a server and a client that fetches from it ([`Event`]), and the text
-//! that encodes a list of events ([`Scenario`]).
+//! Events that can happen to a server and to a client that fetches from it ([`Event`]), and the
+//! text that encodes a list of events ([`Scenario`]).
 //!
 //! # Proved
 //!
@@ -14,14 +14,15 @@
 //!
 //! # Only tested
 //!
-//! If memory is available, calls use it instead of reporting out of memory.
+//! No call reports out of memory while enough memory is available.
 //!
 //! # What the contracts do not rule out
 //!
-//! An implementation may report out of memory for any text whose first line begins with a command,
-//! even if memory is available. The report of out of memory may replace the report of a later
-//! malformed line. An implementation may take any time, and more memory than it needs. Formatting a
-//! fault may return `fmt::Error` for no reason.
+//! No contract rules out that a call reports out of memory although memory is available, if the
+//! first line of the text begins with a command and has a line feed. The call could then report out
+//! of memory in place of a later malformed line. No contract limits the time of a call, or the
+//! memory that it takes. No contract rules out that formatting a fault returns `fmt::Error` for no
+//! reason.
 //!
 //! # Dependencies
 //!

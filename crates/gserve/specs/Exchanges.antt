@@ -82,7 +82,7 @@ pub record RefusesToRead (format : Format) (input : Input) (cause : MessageFault
   pub source : IsReadFailure false input.is_down cause.why
   pub begun : cause.why ≡ EndedEarly → cause.frame ≢ 0
 
--- The possible faults of a request after it is read. Only a fetch request can fail; the reply to an ls-refs request
+-- The faults that can occur after a request is read. Only a fetch request can fail; the reply to an ls-refs request
 -- needs no memory.
 abbrev pub Declines : {A : Type 0} → Server A → PackFails A → Asked → ServeFault → Type 0
 Declines server fails (Fetches asked) fault = FetchRefuses server fails asked fault
@@ -98,7 +98,7 @@ module _ {A : Type 0} (server : Server A) (fails : PackFails A) where
     pub declines : Declines server fails asked fault
     pub up : IsUp input
 
-  -- the possible faults while a request is read or answered
+  -- the faults that can occur while a request is read or answered
   abbrev pub IsRefused : Input → ServeFault → Type 0
   IsRefused input (serve.Request cause) = RefusesToRead server.graph.format input cause
   IsRefused input fault = RefusesToAnswer input fault

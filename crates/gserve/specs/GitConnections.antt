@@ -67,7 +67,7 @@ pub data IsDueInstead (path : Bytes) (input : Input) : List Packet → Type 0 wh
 
 -- ---- the whole connection
 
--- the start of the input; the source has not failed at its end
+-- the part of the input up to the point where the unread bytes are `between`; the source has not failed at this point
 abbrev pub head_of : Input → Option Bytes → Input
 head_of input between = record {
   read = record { old = input.read.old; new = between };
@@ -75,7 +75,7 @@ head_of input between = record {
   is_down = false;
 }
 
--- the rest of the input
+-- the part of the input after the point where the unread bytes are `between`
 abbrev pub tail_of : Input → Option Bytes → Input
 tail_of input between = record {
   read = record { old = between; new = input.read.new };
@@ -96,7 +96,7 @@ module _ {A : Type 0} (server : Server A) (packs : Packs A) (fails : PackFails A
       (due : List Packet) × IsDueInstead path input due × SendsSome output (canonical_all due)
       × KeepsPassed output.passed_on
 
--- the last result of the packer, which is used only if the client requests the served path
+-- the last result of the packer; the packer is used only if the client requests the served path
 abbrev pub ReportsGitPacking : GitEnd → Packing → Type 0
 ReportsGitPacking (git.Served served) answered = ReportsLastPacking served.end answered
 ReportsGitPacking _ answered = answered ≡ Unasked

@@ -80,7 +80,7 @@ pub fn serve<S: Source, W: Sink, A: Allocator + Copy, K: Packer<A>>(
     served
 }
 
-// Serves one connection, with a buffered writer for the sink.
+// Serves one connection, with a packet writer for the sink.
 fn serve_to<S: Source, W: Sink, A: Allocator + Copy, K: Packer<A>>(
     server: &Server<A>,
     packer: &mut OnePack<'_, K>,

@@ -36,9 +36,8 @@ pub enum ExchangeEnd {
 /// Reads one request and writes its reply, without an advertisement (gitprotocol-v2(5), "Command
 /// Request"). Nothing after the request's last packet is read. If memory runs out for the reader's
 /// buffer, nothing is read, and the error packet reports out of memory. The reply to an ls-refs
-/// request needs no memory once the request is read. The result contains a fault of the packer
-/// unchanged. The result contains any other fault, such as out of memory, only if the packer was
-/// not asked for a pack.
+/// request needs no memory once the request is read. A fault of the packer is returned unchanged.
+/// Any other fault, such as out of memory, is returned only if the packer was not asked for a pack.
 ///
 /// If the call ends with `Answered`, `Closed` or `Ended`, the source has not failed.
 pub fn serve_one<S: Source, W: Sink, A: Allocator + Copy, K: Packer<A>>(
@@ -64,7 +63,7 @@ pub fn serve_one<S: Source, W: Sink, A: Allocator + Copy, K: Packer<A>>(
     ended
 }
 
-// Reads one request and replies to it, with a writer for the reply.
+// Reads one request and replies to it, with a packet writer for the sink.
 fn serve_one_to<S: Source, W: Sink, A: Allocator + Copy, K: Packer<A>>(
     server: &Server<A>,
     packer: &mut OnePack<'_, K>,

@@ -6,20 +6,20 @@
 //! # Proved
 //!
 //! - [`serve`] serves a whole connection (`specs/Conversations.antt`). The requests depend only on
-//!   the bytes, not on how the bytes are split into pieces. Nothing after the last packet of a
-//!   request is read. Requests have the default limits: 64 prefixes, 1,024 wants and 4,096 haves.
-//!   The reply to each request is the answer that `ganswer` returns, with any packer. An ls-refs
-//!   request always gets a reply, since this reply needs no memory. The server writes the
-//!   advertisement and the replies in their canonical encoding, and flushes each message. The field
-//!   [`Served::requests`](Served) is the number of replies.
+//!   the bytes that are read, not on how the source splits them into pieces. Nothing after the last
+//!   packet of a request is read. Requests have the default limits: 64 prefixes, 1,024 wants and
+//!   4,096 haves. The reply to each request is the answer that `ganswer` returns, with any packer.
+//!   An ls-refs request always gets a reply, since this reply needs no memory. The server writes
+//!   the advertisement and the replies in their canonical encoding, and flushes each message. The
+//!   field [`Served::requests`](Served) is the number of replies.
 //! - The advertisement and each reply are flushed before anything more is read. If the sink fails
 //!   while a reply is written or flushed, nothing after the request of that reply was read. If the
 //!   sink fails while the advertisement is written, nothing was read.
-//! - A connection ends with the client's lone flush packet, if the input ends before a request,
-//!   after [`MAX_REQUESTS`] requests, or if the sink fails. A connection also ends at the first
-//!   request that is refused. The last packet written is then the error packet for this request,
-//!   which is flushed. The fault comes from the grammar of requests, from the server's answer, or
-//!   from the source.
+//! - A connection ends if the client sends a lone flush packet, the input ends before a request, or
+//!   the sink fails. A connection also ends after [`MAX_REQUESTS`] requests. The first request that
+//!   is refused also ends the connection. The last packet written is then the error packet for this
+//!   request, which is flushed. The fault comes from the grammar of requests, from the server's
+//!   answer, or from the source.
 //! - If the packer fails, its fault is reported, and never an out-of-memory fault of the server
 //!   (`specs/Packings.antt`). The functions [`serve`], [`serve_one`] and [`serve_git`] take the
 //!   packer as a [`OnePack`], which records the last result of the packer. Any other fault is
@@ -60,15 +60,15 @@
 //! - If the bytes of a source or of a sink are not known, the contracts do not state the bytes read
 //!   or written. The contracts still state the number of replies, how the connection ends, and
 //!   whether the source or the sink has failed.
-//! - If the sink fails, the contracts do not state how long the written prefix is. More than the
-//!   counted replies may have been flushed.
-//! - A call may report out of memory in place of the advertisement even if there is enough memory.
-//!   A call may also report out of memory in place of a fetch reply, if the server holds all wants
-//!   and the packer was not asked for a pack. A call may also report out of memory at a packet
-//!   whose contents are stored. At the start, a call may report out of memory as fault 28 or as
-//!   fault 64.
-//! - A call may take any amount of time, flush more often, and write one packet with several calls
-//!   to the sink.
+//! - If the sink fails, the contracts do not state how long the written prefix is. No contract
+//!   rules out that more than the counted replies were flushed.
+//! - No contract rules out that a call reports out of memory even if there is enough memory. The
+//!   contracts permit this report in place of the advertisement, and at a packet whose contents are
+//!   stored. They also permit it in place of a fetch reply, if the server holds all wants and the
+//!   packer was not asked for a pack. At the start, they permit fault 28 and fault 64 for out of
+//!   memory.
+//! - No contract rules out that a call takes any amount of time, or flushes more often. No contract
+//!   rules out that one packet is written with several calls to the sink.
 //!
 //! # Dependencies
 //!

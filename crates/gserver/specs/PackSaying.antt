@@ -5,7 +5,7 @@ use Rattle.gparts.specs.Parts.{Gives}
 use Rattle.gpkt.specs.Packets.{Bytes, Packet}
 use Rattle.gfetchreply.specs.FetchReplies.{data_packet, pieces}
 
--- a relation between the packets that may complete a reply and whether the dialogue then continues
+-- whether these packets may complete a reply; the boolean states whether the dialogue then continues
 abbrev pub May : Type 1
 May = List Packet → Bool → Type 0
 

@@ -44,7 +44,8 @@ pub record Refuses (Why : Bytes → Type 0) (said : List Packet) (goes : Bool) :
   pub all : said ≡ text_packets text
   pub ended : goes ≡ false
 
--- the number of answered requests, including the new request unless it is empty; the count stays at `max_requests`
+-- the number of answered requests after a new request; an empty request is not counted, and the count stops at
+-- `max_requests`
 abbrev pub count_request : Asked → ℕ → ℕ
 count_request Empty requests = requests
 count_request (Ls asked) requests = min (requests + 1) max_requests

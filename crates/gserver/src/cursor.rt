@@ -15,7 +15,7 @@ const MOST_STEPS: usize = 1024;
 
 /// A reply that is sent in steps of at most one packet.
 pub(crate) trait Cursor {
-    // The relation between the packets that may complete the reply and whether the dialogue then
+    // Whether these packets may complete the reply. The boolean states whether the dialogue then
     // continues.
     ghost may: { Self → List Packet → Bool → Type 0 };
 

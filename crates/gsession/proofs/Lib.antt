@@ -1,5 +1,6 @@
 pub mod BoundLemmas
 pub mod CommonLemmas
+pub mod BatchLemmas
 pub mod AskLemmas
 pub mod BuildLemmas
 pub mod SessionLemmas

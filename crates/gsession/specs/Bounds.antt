@@ -28,7 +28,7 @@ pub record BeganOn {A : Type 0} (g : List (Entry A)) (s : SessionState A) : Type
   pub connected : All (IsConnected g) s.tips
   pub sent : All (λ a. Holds g a × SomeReaches g s.tips a) s.sent
 
--- `BeganOn` holds of a new session on a connected repository, and of the repository's graph
+-- `BeganOn` holds for a new session on a connected repository, with the graph of that repository
 abbrev pub BeganBegins : Type 0 → Type 0
 BeganBegins A =
     (r : RepoState A) (refspecs : List Refspec) (limit : ℕ) (ends : Ends) (session : SessionState A)
@@ -53,7 +53,7 @@ pub record AreOffered {A : Type 0} (s : SessionState A) : Type 0 where
   pub commons : All (Contains s.sent) s.commons
   pub haves : (asked : FetchAsked) → Awaits s asked → All (Contains s.sent) asked.haves
 
--- `AreOffered` holds of a new session
+-- `AreOffered` holds for a new session
 abbrev pub BeginsOffered : Type 0 → Type 0
 BeginsOffered A =
     (repo : RepoState A) (refspecs : List Refspec) (limit : ℕ) (ends : Ends) (session : SessionState A)
@@ -108,7 +108,7 @@ pub record IsCounted {A : Type 0} (s : SessionState A) : Type 0 where
   pub few : s.rounds ≤ length s.sent + 1
   pub due : HasAskedLast s ⊎ (s.rounds ≤ length s.sent)
 
--- the bound on the number of requests (`IsCounted`) holds of a new session
+-- the bound on the number of requests (`IsCounted`) holds for a new session
 abbrev pub BeginsCounted : Type 0 → Type 0
 BeginsCounted A =
     (repo : RepoState A) (refspecs : List Refspec) (limit : ℕ) (ends : Ends) (session : SessionState A)

@@ -67,8 +67,8 @@ AsksAreOfLines A =
 abbrev pub LeadsElsewhere : Name → Refspec → RefLine → Type 0
 LeadsElsewhere name spec line = matches spec line.name ≡ true → destination_of spec line.name ≢ name
 
--- no earlier refspec maps a line to the ref to which this refspec maps this line, and this refspec maps no earlier line
--- to that ref
+-- this refspec and this line are the first that lead to their destination ref: no earlier refspec maps any line to that
+-- ref, and this refspec maps no earlier line to it
 pub record IsFirstFor (specs : List Refspec) (lines : List RefLine) (spec : Refspec) (line : RefLine) : Type 0 where
   pub before : List Refspec
   pub after : List Refspec
@@ -80,8 +80,8 @@ pub record IsFirstFor (specs : List Refspec) (lines : List RefLine) (spec : Refs
   pub no_spec : All (λ other. All (LeadsElsewhere (destination_of spec line.name) other) lines) before
   pub no_line : All (LeadsElsewhere (destination_of spec line.name) spec) above
 
--- each destination ref has exactly one requested update, which the first refspec and line that lead to the ref
--- determine
+-- each destination ref has exactly one requested update; the first refspec that maps a line to the ref, and its first
+-- such line, determine the update
 pub record FirstIsAsked (A : Type 0) : Type 0 where
   pub each : (specs : List Refspec) (lines : List RefLine) (spec : Refspec) (line : RefLine) →
       Contains specs spec → Contains lines line → matches spec line.name ≡ true →
@@ -102,7 +102,7 @@ WantsAreExact A =
     (g : List (Entry A)) (asks : List (Ask A)) (wants : List Id) → AreWants g asks wants
     → AreExactWants g asks wants
 
--- the bytes of an ls-refs reply and the result of reading it determine the session afterwards
+-- the bytes of an ls-refs reply, and the result of reading the reply, determine the next state of the session
 abbrev pub ListingIsDecided : Type 0 → Type 0
 ListingIsDecided A =
     (old one other : SessionState A) (g : List (Entry A)) (bytes left also : Bytes)
@@ -115,7 +115,8 @@ OneNext A =
     (g : List (Entry A)) (old new other : SessionState A) (asked also : Asked) → MakesNext old g new asked
     → MakesNext old g other also → (asked ≡ also) × (new ≡ other)
 
--- the request has `ofs-delta` and `no-progress` exactly if the options of the session require it
+-- the request has `ofs-delta` exactly if the option `ofs_delta` is true, and `no-progress` exactly if the option
+-- `progress` is false
 pub record AsksAsOptioned (options : PackOptions) (asked : FetchAsked) : Type 0 where
   pub ofs_delta : fetch_has asked OfsDelta ≡ options.ofs_delta
   pub progress : fetch_has asked NoProgress ≡ not options.progress
@@ -163,7 +164,7 @@ CommonsAreHaves {A} indexes index_fails =
 
 -- ---- the repository
 
--- the graph only gained objects, and format, refs and marks are unchanged
+-- the graph only gained objects, and the format, the refs and the marks are unchanged
 pub record OnlyGrows {A : Type 0} (old new : RepoState A) : Type 0 where
   pub grows : Grows old.graph.entries new.graph.entries
   pub format : new.graph.format ≡ old.graph.format
@@ -178,7 +179,7 @@ TakingOnlyGrows {A} indexes index_fails =
 
 -- ---- a session that is over
 
--- A session that is over rejects an advertisement and does not change.
+-- a session that is over rejects an advertisement and does not change
 abbrev pub OverHearsNone : Type 0 → Type 0
 OverHearsNone A =
     (old new : SessionState A) (capabilities : List Capability) (result : Result (Unit {0}) (ClientFault A))

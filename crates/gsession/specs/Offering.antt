@@ -1,5 +1,5 @@
--- The state of the walk from the tips. A session keeps it between two requests, so that the next request can continue
--- the walk. Git's manuals do not define such a walk.
+-- The state of the walk from the tips. The caller of a session can keep this state between two requests, so that the
+-- next request continues the walk. Git's manuals do not define such a walk.
 use Rattle.std.specs.Prelude.{◌≡◌, ◌++◌, ℕ, List, Option, IfSome}
 use Rattle.gname.specs.Ids.{Id}
 use Rattle.gobject.specs.declared.node.Entry.{Entry}

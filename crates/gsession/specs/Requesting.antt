@@ -1,9 +1,10 @@
 -- The next request of a session. The manual defines the form of a request (gitprotocol-v2(5), "ls-refs" and "fetch").
 -- The manual does not say which haves a client sends, nor when the client sends `done`. This client offers batches of
--- at most 16, 32, 64, 128 and then 256 ids.
-use Rattle.std.specs.Prelude.{◌≡◌, ℕ, ◌+◌, Bool, true, false, List, [], ◌++◌, length, map, nat_le, ◌==◌}
+-- at most 16, 32, 64 and so on ids, up to the maximum of its options and at most up to 16,384.
+use Rattle.std.specs.Prelude.{◌≡◌, ℕ, ◌+◌, ◌*◌, ◌^◌, min, Bool, true, false, List, [], ◌++◌, length, map, nat_le, ◌==◌}
 use Rattle.std.specs.Prelude.{if◌then◌else◌, not, Option, Some, None, Result, Ok, Err}
 use Rattle.gname.specs.Ids.{Id}
+use Rattle.ggrammar.specs.Limits.{profile}
 use Rattle.ggrammar.specs.declared.limits.Limits.{Limits}
 use Rattle.gobject.specs.declared.node.Entry.{Entry}
 use Rattle.gdag.specs.Levels.{distinct_of}
@@ -14,6 +15,8 @@ use Rattle.gclientrepo.specs.declared.fault.RepoFault.TheVariants as repo
 use Rattle.grequest.specs.declared.flag.LsRefsFlag.TheVariants.{Unborn}
 use Rattle.grequest.specs.declared.flag.FetchFlag.TheVariants.{NoProgress, IncludeTag, OfsDelta, Done}
 use Rattle.grequest.specs.Building.{no_ls_refs, no_fetch}
+use Rattle.grequest.specs.declared.request.Request.{Request}
+use Rattle.grequest.specs.RequestValues.{asked_by_request, limits_of}
 use Rattle.grequest.specs.Asked.{Asked, Empty, Ls, Fetches, LsRefsAsked, FetchAsked, max_haves, ls_with, fetch_with}
 use Rattle.gsession.specs.Sessions.{SessionState, over}
 use Rattle.gsession.specs.declared.options.PackOptions.{PackOptions}
@@ -27,24 +30,31 @@ abbrev pub ls_request : List Refspec → Bool → LsRefsAsked
 ls_request specs unborn =
     record (ls_with no_ls_refs Unborn unborn) { prefixes = distinct_of (map (λ spec. spec.source) specs) }
 
--- the maximum number of new ids that a request offers after `rounds` rounds
-abbrev pub batch_size : ℕ → ℕ
-batch_size rounds =
-    if rounds == 0 then 16
-    else if rounds == 1 then 32
-    else if rounds == 2 then 64
-    else if rounds == 3 then 128
-    else 256
+-- the maximum number of new ids that a request offers after `rounds` rounds, if no request may offer more than `most`:
+-- 16 doubled in each round, but at most 10 times
+abbrev pub batch_size : ℕ → ℕ → ℕ
+batch_size most rounds = min most (16 * 2 ^ min rounds 10)
 
 -- the batch: the new ids to offer, or an empty list if the new ids and the common ids do not fit into one request with
 -- these limits
 abbrev pub batch_of : Limits → List Id → List Id → List Id
 batch_of limits commons offer = if nat_le (length commons + length offer) (max_haves limits) then offer else []
 
+-- the limits of a request with these contents that a session with these limits makes: a request for refs has the
+-- default limits
+abbrev pub limits_for : Limits → Asked → Option Limits
+limits_for limits Empty = None
+limits_for limits (Ls asked) = Some profile
+limits_for limits (Fetches asked) = Some limits
+
+-- the request has the limits of a request that a session with these limits makes
+abbrev pub HasLimitsFor : {A : Type 0} → Limits → Request A → Type 0
+HasLimitsFor limits request = limits_of request ≡ limits_for limits (asked_by_request request)
+
 -- the ids that the next request offers, level by level from the tips
 pub record IsBatch {A : Type 0} (s : SessionState A) (g : List (Entry A)) (batch : List Id) : Type 0 where
   pub offer : List Id
-  pub offered : IsOffer g s.tips s.commons s.sent (batch_size s.rounds) offer
+  pub offered : IsOffer g s.tips s.commons s.sent (batch_size s.options.max_batch s.rounds) offer
   pub is : batch ≡ batch_of s.options.limits s.commons offer
 
 -- a request for objects without ids: it has `include-tag`, and `no-progress` and `ofs-delta` as the options require

@@ -51,8 +51,8 @@ pub record SessionState (A : Type 0) : Type 0 where
 abbrev pub max_specs : ℕ
 max_specs = 16
 
--- An open request for objects has the session's wants, and its haves include each common id. If another request may
--- follow, the session has made at most as many requests for objects as it has offered ids.
+-- An open request for objects has the session's wants, and its haves include each common id. If the request has haves
+-- and no `done`, the session has made at most as many requests for objects as it has offered ids.
 pub record IsOpenFetch {A : Type 0} (s : SessionState A) (asked : FetchAsked) : Type 0 where
   pub wants : asked.wants ≡ s.wants
   pub commons : All (Contains asked.haves) s.commons
@@ -70,7 +70,7 @@ FitsStage s Settling None = Unit {0}
 FitsStage s Over None = Unit {0}
 FitsStage s _ _ = ⊥
 
--- the common ids are distinct ids of the format, and fit into one request with these limits
+-- the common ids are distinct ids of this object format, and fit into one request with these limits
 pub record AreCommons (limits : Limits) (format : Format) (commons : List Id) : Type 0 where
   pub ids : All (IsIdOf format) commons
   pub few : length commons ≤ max_haves limits
@@ -118,9 +118,9 @@ no_memory = Repo (repo.Graph graph.Memory)
 abbrev pub tips_of : {A : Type 0} → RepoState A → List Id
 tips_of repo = distinct_of (values_of repo.refs)
 
--- the default pack options: no deltas by offset, no progress, and the default limits
+-- the default pack options: no deltas by offset, no progress, the default limits, and at most 256 new ids in a request
 abbrev pub no_options : PackOptions
-no_options = record { ofs_delta = false; progress = false; limits = profile }
+no_options = record { ofs_delta = false; progress = false; limits = profile; max_batch = 256 }
 
 -- a session that has just begun
 abbrev pub new_session : {A : Type 0} → Format → List Refspec → ℕ → Ends → List Id → SessionState A

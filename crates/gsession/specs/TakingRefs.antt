@@ -55,7 +55,7 @@ pub record IsMisnamed {A : Type 0} (s : SessionState A) (reply : LsReply) (fault
   pub frame : fault.frame ≡ last_frame s.ends reply
   pub why : fault.why ≡ BadName
 
--- the reply leads to more wants than one request can hold
+-- the reply leads to more wants than the limits of the session allow
 pub record WantsTooMuch {A : Type 0} (s : SessionState A) (g : List (Entry A)) (reply : LsReply) : Type 0 where
   pub named : AreNamed {A = A} (asks_by_all s.refspecs reply.lines)
   pub wants : List Id

@@ -48,7 +48,7 @@ pub record IsFirstStrange (haves acks : List Id) (id : Id) : Type 0 where
 abbrev pub after_acks : {A : Type 0} → SessionState A → Stage → List Id → SessionState A
 after_acks s stage acks = record s { stage = stage; pending = None; commons = distinct_of (s.commons ++ acks) }
 
--- the graph gains the objects of a list, and refs and marks are unchanged
+-- the graph gains the objects of a list, and the refs and the marks are unchanged
 pub record InsertsAll {A : Type 0} (old : RepoState A) (entries : List (Entry A)) (new : RepoState A) (added : ℕ)
     : Type 0 where
   pub adds : Adds old.graph entries new.graph (Ok added)
@@ -150,7 +150,7 @@ module _ {A : Type 0} (indexes : Indexes A) (index_fails : IndexFails) where
   TakesReply old repo_old change new repo_new (Err fault) =
       IsTakeFault old repo_old change fault × (new ≡ after_fault old fault) × (repo_new ≡ repo_old)
 
-  -- the bytes of a fetch reply and the result of reading it determine the session afterwards
+  -- the bytes of a fetch reply, and the result of reading the reply, determine the next state of the session
   abbrev pub TakingIsDecided : Type 0
   TakingIsDecided =
       (old one other : SessionState A) (repo repo_one repo_other : RepoState A) (bytes left also : Bytes)

@@ -156,7 +156,7 @@ fn is_connected<A: Allocator + Copy>(repo: &Repo<A>, id: &Oid) -> Result<bool, G
     Ok(repo.missing(&[*id])?.is_none())
 }
 
-// Returns whether the id is marked. A marked id is connected.
+// Returns whether the repository has marked the id as connected.
 fn is_known<A: Allocator + Copy>(repo: &Repo<A>, id: &Oid) -> bool
     ensures { result ≡ true → IsConnected repo.now.graph.entries id.now }
 {

@@ -1,4 +1,4 @@
-//! Reasons for a call of a session to fail.
+//! The reasons why a call of a session fails.
 
 ghost use Rattle.std.specs.Prelude.{◌≡◌, Some};
 ghost use Rattle.gdag.specs.declared.fault.GraphFault.TheVariants.{Memory};
@@ -29,7 +29,7 @@ pub enum ClientFault<A: Allocator + Copy = Global> {
     NoOpenRequest,
     /// Fault 84: the server acknowledged this id, which is not a have of the request.
     StrangeAck { id: Oid },
-    /// Fault 86: one request can't hold all wants.
+    /// Fault 86: there are more wants than the limits of the session allow.
     TooManyWants,
     /// The repository rejected the change (faults 60 to 63, 69, 75 and 85), or memory ran out
     /// (fault 64).

@@ -23,8 +23,8 @@ pub fn limits_are_the_constants()
 
 // ---- the number of a session's requests for objects
 
-/// Proves that `BeganOn` holds of a new session on a connected repository, and of the repository's
-/// graph. The session's tips are then connected in the graph.
+/// Proves that `BeganOn` holds for a new session on a connected repository, with the graph of that
+/// repository. The session's tips are then connected in the graph.
 pub fn began_begins<A: Allocator + Copy>()
     ensures { BeganBegins A }
 {
@@ -49,8 +49,8 @@ pub fn began_stays_on<A: Allocator + Copy, K: Indexer<A>>()
     began_stays::<A>();
 }
 
-/// Proves that at any time the session has offered each common id, and each have of the open
-/// request, in one of its batches.
+/// Proves that the session offered each common id, and each have of the open request, in one of its
+/// batches.
 pub fn names_were_offered<A: Allocator + Copy, K: Indexer<A>>()
     ensures begins { BeginsOffered A }
     ensures stays { (k : K) → OfferedStays (K.indexes k) (K.index_fails k) }
@@ -81,8 +81,7 @@ pub fn none_follows_done<A: Allocator + Copy, K: Indexer<A>>()
     ensures none { NoneFollows A }
 {}
 
-/// Proves that at any time each request for objects except the last has offered at least one new
-/// id.
+/// Proves that each request for objects, except the last one, offered at least one new id.
 pub fn requests_are_counted<A: Allocator + Copy, K: Indexer<A>>()
     ensures begins { BeginsCounted A }
     ensures stays { (k : K) → CountedStays (K.indexes k) (K.index_fails k) }
@@ -157,8 +156,8 @@ pub fn one_next<A: Allocator + Copy>()
     offers_are_exact::<A>();
 }
 
-/// Proves that a request for objects has `ofs-delta` and `no-progress` exactly if the session's
-/// options require it.
+/// Proves that a request for objects has `ofs-delta` exactly if the session's option `ofs_delta` is
+/// true. The request has `no-progress` exactly if the option `progress` is false.
 #[tactic(auto, using(crate::proofs::NextLaws::options_are_asked))]
 pub fn options_are_asked<A: Allocator + Copy>()
     ensures { OptionsAreAsked A }
@@ -197,8 +196,8 @@ pub fn taking_only_grows<A: Allocator + Copy, K: Indexer<A>>()
     ensures { (k : K) → TakingOnlyGrows (K.indexes k) (K.index_fails k) }
 {}
 
-/// Proves that the bytes of a fetch reply, and the result of reading the reply, determine the
-/// session afterwards, whatever objects the indexer returns.
+/// Proves that the bytes of a fetch reply, and the result of reading the reply, determine the next
+/// state of the session. This state does not depend on the objects that the indexer returns.
 #[tactic(auto, using(crate::proofs::LawLemmas::taking_is_decided))]
 pub fn taking_is_decided<A: Allocator + Copy, K: Indexer<A>>()
     ensures { (k : K) → TakingIsDecided (K.indexes k) (K.index_fails k) }
@@ -207,7 +206,7 @@ pub fn taking_is_decided<A: Allocator + Copy, K: Indexer<A>>()
 }
 
 /// Proves that the bytes of an ls-refs reply, and the result of reading the reply, determine the
-/// session afterwards.
+/// next state of the session.
 #[tactic(auto, using(crate::proofs::LawLemmas::listing_is_decided))]
 pub fn listing_is_decided<A: Allocator + Copy>()
     ensures { ListingIsDecided A }

@@ -10,14 +10,19 @@
 //! - [`Session::request`] makes the next request. A request for refs has the source of each refspec
 //!   as a prefix, and has `unborn` exactly when the server offers to report an unborn `HEAD`. A
 //!   request for objects has the wants, and its haves are the common ids and a batch of new ids. A
-//!   request without a batch has `done`. The session's options determine whether a request has
+//!   request with an empty batch has `done`. The session's options determine whether a request has
 //!   `ofs-delta` and `no-progress` ([`Session::begin_with`]). The session and the graph determine
-//!   the request and the next session ([`laws`]). [`Session::request_on`] makes the same request,
-//!   but continues the walk of the previous request (`specs/Offering.antt`). This call requires
-//!   that the graph has not changed since the previous request.
+//!   the request, and the state of the session after the request ([`laws`]).
+//!   [`Session::request_on`] makes the same request, but continues the walk of the previous request
+//!   (`specs/Offering.antt`). This call requires that the graph has not changed since the previous
+//!   request.
 //! - The session's options contain its limits ([`ggrammar::Limits`]). They bound the numbers of
 //!   wants, haves and acknowledged ids. By default, the limits are 1,024 wants, 4,096 haves and
 //!   4,096 acknowledged ids.
+//! - The options also contain the maximum number of new ids in a request
+//!   ([`PackOptions::max_batch`]). A batch has at most 16 ids in the first request for objects. The
+//!   number doubles with each request up to this maximum, and at most to 16,384. By default, the
+//!   maximum is 256.
 //! - [`Session::take_ls`] reads one ls-refs reply to its end, and nothing after it. Exactly one
 //!   update is requested for each local ref to which a refspec maps a line of the reply. The first
 //!   refspec that maps a line to the ref, and its first matching line, determine the update
@@ -28,61 +33,67 @@
 //!   becomes common was a have of the request. The repository gains all objects that the indexer
 //!   returns for the pack, or no objects. If several faults occur, the first of the following is
 //!   reported: a malformed packet, an acknowledged id that is not a have, the indexer's fault, the
-//!   graph's fault. Memory for a packet can run out only if the packet acknowledges an id. A fault
-//!   of the indexer does not stop the reading of the reply. After the end of a reply, out of memory
-//!   is reported only if all acknowledged ids are haves and the indexer accepted the pack.
+//!   graph's fault. Memory for a packet can run out only if the packet acknowledges an id. After a
+//!   fault of the indexer, the session still reads the rest of the reply. Once it has read the
+//!   whole reply, it reports out of memory only if all acknowledged ids are haves and the indexer
+//!   accepted the pack.
 //! - [`Session::settle`] updates the local refs like `Repo::settle`, once a pack has arrived or if
 //!   there are no wants.
 //! - [`Session::is_due`] returns whether the session can make a request now.
 //! - [`Session::open_request`] borrows the request that waits for its reply, so that the caller can
 //!   write it. The ids of the request have the session's format. [`Session::asks`] borrows the
 //!   requested ref updates, and [`Session::wants`] the wanted ids.
+//! - A request for objects has the limits of the session's options, and a request for refs has the
+//!   default limits.
 //! - A call that does not fit the stage of the session fails, reads nothing and changes nothing.
 //!   Every other fault ends the session, and leaves objects and refs unchanged. After the end of a
 //!   session, every call fails.
 //! - After a complete reply, the reader can read the next message. After a malformed reply, the
 //!   reader stays at the position where the reading stopped.
-//! - The bytes of a fetch reply and the result of reading it determine the session afterwards. Each
-//!   request without `done` has a new have, and no request follows a request with `done`. Therefore
-//!   a session makes at most N + 1 requests for objects, if its tips reach N ids ([`laws`]).
+//! - The bytes of a fetch reply, and the result of reading the reply, determine the next state of
+//!   the session. Each request without `done` has a new have, and no request follows a request with
+//!   `done`. Therefore a session makes at most N + 1 requests for objects, if its tips reach N ids
+//!   ([`laws`]).
 //! - Each fault has the number, the name and the text of its row in `specs/Faults.antt`. No call
 //!   panics, overflows or reads out of bounds. A call returns if each call of its reader returns.
 //!
 //! # Only tested
 //!
-//! If memory is available, calls use it instead of reporting out of memory. The program
-//! `conformance` repeats many fetches, and each time makes a different allocation fail.
+//! No call reports out of memory while enough memory is available. The program `conformance`
+//! repeats many fetches, and each time makes a different allocation fail.
 //!
 //! # What the contracts do not rule out
 //!
-//! A request for refs has the default limits, and at most 16 refspecs always fit into it. But no
-//! contract says which limits the returned request has. If the options allow fewer than 16 haves, a
-//! longer first batch may be left out.
+//! If the options allow fewer haves than a batch has ids, the request has no haves. The first batch
+//! can have 16 ids.
 //!
-//! A call may report out of memory although memory is available, if no earlier fault occurs. A
-//! report of out of memory can hide the following faults, because the checks for them need memory:
+//! No contract rules out that a call reports out of memory although memory is available, unless an
+//! earlier fault occurs. Out of memory can hide the following faults, because the session needs
+//! memory before it can detect them:
 //!
 //! - A fault of a later packet of a reply. A session stores the refs or the acknowledged ids of a
 //!   reply until the end of the reply.
 //! - Too many wants. The session counts the wants only after it stored the requested updates and
-//!   their distinct ids. The check whether an id is connected may need a walk.
+//!   their distinct ids. The session may have to walk the graph to decide whether an id is
+//!   connected.
 //! - A fault of the graph for a pack. The graph detects this fault while it allocates memory for
 //!   the objects. The session allocates the list of common ids before the graph inserts an object,
 //!   because an insertion can't be undone.
-//! - An unconnected id or a ref that can't be set, if [`Session::settle`] needs a walk in
-//!   `gclientrepo`.
+//! - An unconnected id, or a ref that can't be set, if [`Session::settle`] has to walk the graph
+//!   (`Repo::settle`).
 //!
-//! A session may store a complete pack before it passes the pack to the indexer. The session may
-//! start the indexer more often than necessary, or pass bytes to the indexer after a fault. A call
-//! may take any time, and more memory than it needs. Formatting a fault may return `fmt::Error` for
-//! no reason.
+//! No contract rules out that a session stores a complete pack before it passes the pack to the
+//! indexer. No contract rules out that the session starts the indexer more often than necessary, or
+//! passes bytes to the indexer after a fault. No contract rules out that formatting a fault returns
+//! `fmt::Error` even if every write succeeds.
 //!
-//! No clause bounds the time of a call. The method [`Session::request`] starts each walk at the
-//! tips. [`Session::request_on`] continues the walk of the previous request, so all requests over
-//! the same graph cost as much as one walk. If the graph lacks a requested id, or the local refs
-//! reach it, a look-up decides whether the id is connected. A look-up is also enough if the graph
-//! stores each object after its parents. For any other requested id, the session walks the graph,
-//! and stops at objects that the local refs reach. A set speeds up the check of acknowledged ids.
+//! No contract bounds the time or the memory of a call. [`Session::request`] starts a new walk at
+//! the tips for each request. [`Session::request_on`] continues the walk of the previous request,
+//! so all requests over the same graph together take one walk. If the graph lacks a requested id,
+//! or the local refs reach it, a look-up decides whether the id is connected. A look-up is also
+//! enough if the graph stores each object after its parents. For any other requested id, the
+//! session walks the graph, and stops at objects that the local refs reach. A set speeds up the
+//! check of acknowledged ids.
 //!
 //! # Dependencies
 //!
@@ -97,7 +108,6 @@ pub mod compat;
 mod fault;
 mod feed;
 pub mod laws;
-mod limits;
 mod options;
 mod requests;
 mod session;

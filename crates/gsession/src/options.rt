@@ -12,19 +12,23 @@ use std::alloc::{Allocator, Global};
 /// the session.
 #[derive(Clone, Copy, Debug, PartialEq, Eq)]
 pub struct PackOptions {
-    /// Whether each request for objects has `ofs-delta`, which allows a delta to give its base as
-    /// an offset in the pack.
+    /// Whether each request for objects has `ofs-delta`, which allows the server to identify the
+    /// base of a delta by an offset in the pack.
     pub ofs_delta: bool,
     /// Whether the server may report progress. If false, each request for objects has
     /// `no-progress`.
     pub progress: bool,
-    /// The limits on the wants, the haves and the acknowledged ids. With any limits, a request has
+    /// The limits on the wants, the haves and the acknowledged ids. Under any limits, a request has
     /// at most 2^30 wants and 2^30 haves. A request for refs has the default limits.
     pub limits: Limits,
+    /// The maximum number of new ids in a request. The first request for objects offers at most 16
+    /// new ids. The number doubles with each request up to this maximum, and at most to 16,384. If
+    /// the maximum is 0, the first request for objects has no haves, and has `done`.
+    pub max_batch: usize,
 }
 
 /// The default options. Each request for objects has `no-progress`, and no request has `ofs-delta`.
-/// The limits are the default limits.
+/// The limits are the default limits. A request offers at most 256 new ids.
 impl Default for PackOptions {
     ghost is_default = { λ options. options ≡ no_options };
 
@@ -33,6 +37,7 @@ impl Default for PackOptions {
             ofs_delta: false,
             progress: false,
             limits: Limits::default(),
+            max_batch: 256,
         }
     }
 }

@@ -4,7 +4,8 @@ ghost use Rattle.std.specs.Prelude.{◌≡◌, ◌+◌, ◌<◌, ◌≤◌, ◌+
 ghost use Rattle.gname.specs.Ids.{IsIdOf};
 ghost use Rattle.ggrammar.specs.declared.fault.Why.TheVariants.{Memory};
 ghost use Rattle.grequest.specs.Asked.{Ls, Fetches, max_haves, max_prefixes, max_wants};
-ghost use Rattle.grequest.specs.RequestValues.{asked_by_request, ids_format};
+ghost use Rattle.ggrammar.specs.Limits.{profile};
+ghost use Rattle.grequest.specs.RequestValues.{asked_by_request, ids_format, limits_of};
 ghost use Rattle.gdag.specs.Levels.{is_in};
 ghost use Rattle.gsession.specs.Requesting.{batch_size, blank_request, ls_request, with_ids};
 ghost use Rattle.gsession.specs.Sessions.{max_specs};
@@ -17,24 +18,15 @@ use grefs::Spec;
 use grequest::{FetchFlag, FetchRequest, LsRefsFlag, LsRefsRequest, Request};
 use std::alloc::{AllocError, Allocator};
 
-/// Returns the maximum number of new ids that a request offers after `rounds` rounds.
-pub(crate) fn batch_size(rounds: usize) -> usize
-    ensures { result ≡ batch_size rounds }
+/// Returns the maximum number of new ids that a request offers after `rounds` rounds, if no request
+/// may offer more than `most`.
+pub(crate) fn batch_size(most: usize, rounds: usize) -> usize
+    ensures { result ≡ batch_size most rounds }
 {
-    if rounds == 0 {
-        16
-    } else if rounds == 1 {
-        32
-    } else if rounds == 2 {
-        64
-    } else if rounds == 3 {
-        128
-    } else {
-        256
-    }
+    most.min(16 << rounds.min(10))
 }
 
-/// Returns a request for the refs that the refspecs may match. Fails if out of memory.
+/// Returns a request for the refs that the refspecs can match. Fails if out of memory.
 pub(crate) fn refs_request<A: Allocator + Copy>(
     alloc: A,
     specs: &[Spec<A>],
@@ -44,6 +36,7 @@ pub(crate) fn refs_request<A: Allocator + Copy>(
     ensures asked { IfOk result (λ request. asked_by_request request
         ≡ Ls (ls_request specs.now unborn)) }
     ensures format { IfOk result (λ request. ids_format request ≡ None) }
+    ensures limits { IfOk result (λ request. limits_of request ≡ Some profile) }
 {
     let mut request = LsRefsRequest::new(alloc);
     request.set(LsRefsFlag::Unborn, unborn);
@@ -119,6 +112,7 @@ pub(crate) fn objects_request<A: Allocator + Copy>(
     ensures asked { IfOk result (λ request. asked_by_request request
         ≡ Fetches (with_ids blank.asked wants.now commons.now batch.now)) }
     ensures format { IfOk result (λ request. ids_format request ≡ Some blank.format) }
+    ensures limits { IfOk result (λ request. limits_of request ≡ Some blank.limits) }
 {
     let mut request = blank;
     request.set(FetchFlag::Done, batch.is_empty());
@@ -166,8 +160,8 @@ fn add_haves<A: Allocator + Copy>(
     Ok(())
 }
 
-// Converts the fault of adding an argument that fits into its request. The fault is always out of
-// memory.
+// Converts the fault of adding an argument to a request that has room for it. Only out of memory is
+// possible.
 fn no_memory(fault: MessageFault) -> AllocError
     requires { fault.why ≡ Memory }
 {

@@ -59,6 +59,7 @@ pub struct Session<A: Allocator + Copy = Global> {
 impl<A: Allocator + Copy> Model for Session<A> {
     ghost use Rattle.std.specs.Prelude.{IfSome};
     ghost use Rattle.grequest.specs.RequestValues.{IsOfFormat};
+    ghost use Rattle.gsession.specs.Requesting.{HasLimitsFor};
     ghost use Rattle.gsession.specs.Sessions.{SessionState, IsSession};
 
     ghost Value = { SessionState A };
@@ -67,11 +68,13 @@ impl<A: Allocator + Copy> Model for Session<A> {
 
     ghost view = { session_of };
 
-    ghost invariant = { λ it. IsSession (session_of it) × IfSome it.pending (IsOfFormat it.format) };
+    ghost invariant = { λ it. IsSession (session_of it) × IfSome it.pending (IsOfFormat it.format)
+        × IfSome it.pending (HasLimitsFor it.options.limits) };
 }
 
 impl<A: Allocator + Copy> Session<A> {
     ghost use Rattle.grequest.specs.RequestValues.{IsOfFormat, asked_by_request};
+    ghost use Rattle.gsession.specs.Requesting.{HasLimitsFor};
     ghost use Rattle.gsession.specs.Sessions.{Begins, BeginsWith, Hears, IsBegun, IsSession, after_fault, over};
     ghost use Rattle.gsession.specs.SettlingRefs.{SettlesSession};
 
@@ -135,7 +138,8 @@ impl<A: Allocator + Copy> Session<A> {
     }
 
     /// Reads from the advertisement whether the server can report an unborn `HEAD`
-    /// (gitprotocol-v2(5), "ls-refs"). If called several times, the last advertisement counts.
+    /// (gitprotocol-v2(5), "ls-refs"). If the method is called several times, only the last
+    /// advertisement counts.
     ///
     /// Fails with `NoOpenRequest` after the first request, and leaves the session unchanged.
     pub fn hear(&mut self, advert: &Advert<A>) -> Result<(), ClientFault<A>>
@@ -163,6 +167,7 @@ impl<A: Allocator + Copy> Session<A> {
     pub fn open_request(&self) -> Option<&Request<A>>
         ensures pending { option_map asked_by_request (option_copied result) ≡ self.now.pending }
         ensures format { IfSome (option_copied result) (IsOfFormat self.now.format) }
+        ensures limits { IfSome (option_copied result) (HasLimitsFor self.now.options.limits) }
         ensures session { IsSession self.now }
     {
         self.pending.as_ref()

@@ -36,7 +36,7 @@ abbrev pub scenario_line : ScenarioFault → Bytes
 scenario_line (scenario.Scenario line) = wrong_line line
 scenario_line scenario.Memory = memory_line
 
--- the line that reports different objects with this id at the server and at the client
+-- the line for an id under which server and client hold different objects
 abbrev pub disagreement : Id → Bytes
 disagreement id = codes "gitv2: fault 90 Disagree " ++ (id_text id ++ codes "\n")
 

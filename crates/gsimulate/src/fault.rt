@@ -19,7 +19,8 @@ pub enum SimulationFault<A: Allocator + Copy = Global> {
     /// Fault 92: a line of the scenario is malformed. Fault 91: there is not enough memory for the
     /// events of the scenario.
     Scenario(ScenarioFault),
-    /// Faults 90 and 97: the server and the client can't start a simulation together.
+    /// Faults 90 and 97: server and client hold different objects under one id, or have different
+    /// object formats.
     World(WorldFault),
     /// Fault 91: there is not enough memory for the next event.
     Memory,

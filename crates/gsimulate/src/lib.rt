@@ -10,24 +10,26 @@
 //!   each outcome, and then one line for each ref of the client after the run. The program writes
 //!   and flushes all lines, or writes a prefix of the lines if the output fails
 //!   (`specs/Lines.antt`, `Simulating.antt`).
-//! - No event happens and nothing is written if a file does not describe a server or a client, or
-//!   the scenario has a malformed line. Likewise, no event happens if the server and the client
-//!   can't form a world. The program reports the first fault in this order. If memory for an event
-//!   runs out, nothing is written.
+//! - Before the first event, the program checks the server's file, the client's file, the scenario,
+//!   and whether server and client can form a world. The program reports the first fault in this
+//!   order. After a fault of these checks no event happens, and nothing is written. If memory for
+//!   an event runs out, nothing is written.
 //! - The program exits with status 0 and prints no fault, or exits with status 1 and prints the
 //!   line that reports its fault. If the error sink fails, a prefix of the line is printed.
-//! - Each fault has the number, the name, the text and the printed line of `specs/Faults.antt`.
+//! - Each fault has the number, the name, the text and the printed line that `specs/Faults.antt`
+//!   states.
 //!
 //! # Only tested
 //!
-//! Only tests check that a simulation uses all available memory.
+//! No simulation reports out of memory while enough memory is available.
 //!
 //! # What the contracts do not rule out
 //!
-//! A simulation may report out of memory for a file, the scenario or an event whenever `gcmd`,
-//! `gscenario` and `gworld` may do so. A simulation may also report out of memory for the output,
-//! even if the output is empty. The contracts do not limit how often the sinks are called, or how
-//! long a call takes. Formatting a fault may return `fmt::Error` for no reason.
+//! No contract rules out that a simulation reports out of memory for a file, the scenario or an
+//! event whenever `gcmd`, `gscenario` or `gworld` can do so. No contract rules out that a
+//! simulation reports out of memory for the output, even if the output is empty. The contracts do
+//! not limit how often the sinks are called, or how long a call takes. No contract rules out that
+//! formatting a fault returns `fmt::Error` for no reason.
 //!
 //! # Dependencies
 //!

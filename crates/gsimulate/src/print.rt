@@ -17,8 +17,8 @@ use gworld::{ScenarioFault, WorldFault};
 use itoa::Buffer;
 use std::alloc::Allocator;
 
-/// The maximum length in bytes of the line that reports a fault: its words, and the digits of an id
-/// or of a number.
+/// A bound in bytes on the length of the line that reports a fault. The line has fixed words, and
+/// the digits of an id or of a number.
 const MAX_LINE: usize = 128;
 
 /// The line of a fault that reports out of memory for an event or for the scenario.
@@ -107,7 +107,7 @@ fn wrong_line(line: usize) -> ArrayVec<u8, MAX_LINE>
     text
 }
 
-// Prints the fault that reports different objects with the same id at the server and at the client.
+// Prints the fault for an id under which server and client hold different objects.
 fn print_disagreement<A: Allocator + Copy, E: Sink>(id: &Oid, errors: &mut E)
     ensures printed { Prints (output_of E.contents E.passed_on E.is_down errors.old errors.new)
         (disagreement id.now) }

@@ -15,7 +15,7 @@ IsWithinPacket bytes =
     (length bytes ≤ digit_count)
     ⊎ ((announced : ℕ) × AnnouncesAtFront bytes announced × (length bytes ≤ announced) × (announced ≤ max_packet))
 
--- `missing` more bytes do not go beyond the digits, or beyond the packet that the digits announce
+-- up to `missing` more bytes do not go beyond the digits, or beyond the packet that the digits announce
 pub record Lacks (bytes : Bytes) (missing : ℕ) : Type 0 where
   pub within : (more : Bytes) → length more ≤ missing → IsWithinPacket (bytes ++ more)
   pub room : length bytes + missing ≤ max_packet
@@ -27,8 +27,8 @@ IsFound bytes (Ok (Some packet)) = Spells packet bytes
 IsFound bytes (Ok None) = IsPartialPacket bytes
 IsFound bytes (Err fault) = NoPacket fault bytes
 
--- the bytes after the last packet match the reason why no more packets arrive; after a failed allocation they may be a
--- whole packet
+-- the bytes after the last packet match the reason why no more packets arrive; if an allocation failed, these bytes may
+-- be a whole packet
 abbrev pub IsStopped : Option Stop → Bytes → Type 0
 IsStopped None partial = IsPartialPacket partial
 IsStopped (Some stop.Ended) partial = partial ≡ []

@@ -19,7 +19,7 @@ no_talk = record { heard = []; stopped = None; said = [] }
 abbrev pub talk_after : Talk → Packet → Talk
 talk_after talk packet = record { heard = talk.heard ++ packet ∷ []; stopped = talk.stopped; said = talk.said }
 
--- the history after the notification that no more packets arrive, with this reason
+-- the history after the conversation was notified that no more packets arrive, for this reason
 abbrev pub stop_talk : Talk → Stop → Talk
 stop_talk talk why = record { heard = talk.heard; stopped = Some why; said = talk.said }
 
@@ -37,8 +37,8 @@ pub record Says (Holds : Talk → Type 0) (talk : Talk) (bytes : Bytes) : Type 0
 abbrev pub queue_room : ℕ
 queue_room = 2 * max_packet
 
--- The maximum number of remaining changes of turn, and of remaining steps before the step that changes the turn. Each
--- received packet is a step, and each call that queues packets is a step.
+-- The maximum number of remaining changes of turn, and the maximum number of steps in the current turn that do not
+-- change the turn. Each received packet is a step, and each call that queues packets is a step.
 pub record Left : Type 0 where
   pub turns : ℕ
   pub steps : ℕ

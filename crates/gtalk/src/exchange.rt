@@ -41,7 +41,8 @@ impl<C, A: Allocator + Copy> Connection<C, A> {
 }
 
 impl<C: Conversation, A: Allocator + Copy> Connection<C, A> {
-    /// Returns a new connection, without allocating. No byte was received or sent on it.
+    /// Returns a new connection, without allocating. No byte has been received or sent on the
+    /// connection.
     pub fn new(conversation: C, alloc: A) -> Connection<C, A>
         ensures holds { C.holds conversation no_talk → Holds C.holds result [] [] }
         ensures conversation { conversation_of result ≡ conversation }

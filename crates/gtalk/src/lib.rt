@@ -1,15 +1,15 @@
-//! A conversation of packets as a value that receives packets and queues packets to send, without
-//! I/O.
+//! A packet conversation as a value. It takes in received packets and queues the packets to send,
+//! and does no I/O itself.
 //!
 //! A [`Conversation`] is one end of a protocol. A [`Connection`] is a conversation over bytes. The
 //! bytes arrive in pieces of any size, and the caller sends as many pending bytes as it can.
 //! [`drive`] moves the bytes between a connection, a blocking source and a blocking sink. An event
-//! loop moves the bytes of many connections, whenever a socket is ready.
+//! loop can instead move the bytes of many connections, each when its socket is ready.
 //!
 //! # Proved
 //!
-//! - The received bytes consist of the encodings of the packets that the conversation received, and
-//!   a part of the next packet. The sent bytes followed by the pending bytes are the canonical
+//! - The received bytes are the encodings of the packets that the conversation received, followed
+//!   by a part of the next packet. The sent bytes followed by the pending bytes are the canonical
 //!   encoding of the packets that the conversation queued (`Holds` in `specs/Connections.antt`).
 //!   The contract of each call states which bytes the call receives and sends (`Moves`).
 //! - While more packets may arrive, [`Connection::receive_limit`] is at least one byte, and no call
@@ -23,17 +23,17 @@
 //!   the conversation is done, or if no more packets arrive. After success all queued packets are
 //!   sent and flushed.
 //! - [`drive`] fails with `Io` only if the sink has failed, and with `Memory` only if there is not
-//!   enough memory. After a failure all packets of earlier turns were flushed, and a prefix of the
-//!   last turn was written (`BreaksOff`).
+//!   enough memory. After a failure, all packets of earlier turns are flushed, and a prefix of the
+//!   packets of the last turn is written (`BreaksOff`).
 //! - [`Outgoing`] appends each packet in its canonical encoding.
 //!
 //! # What the contracts do not rule out
 //!
-//! - A connection may read and write one byte at a time.
-//! - Any allocation may fail, both for received bytes and for packets to send.
-//! - Memory may be allocated before it is needed, or freed late.
-//! - An event loop may drop a connection or its bytes, unless the contract of the event loop
-//!   excludes this.
+//! - No contract rules out that a connection reads and writes one byte at a time.
+//! - No contract rules out that an allocation fails, for received bytes or for packets to send.
+//! - No contract rules out that memory is allocated before it is needed, or freed late.
+//! - No contract of this crate rules out that an event loop drops a connection or its bytes. Only
+//!   the contract of the event loop can rule this out.
 //!
 //! # Dependencies
 //!

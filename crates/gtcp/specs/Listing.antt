@@ -10,7 +10,7 @@ use Rattle.glsreply.specs.RefTexts.{RefLine, ref_text}
 abbrev pub ref_line : RefLine → Bytes
 ref_line line = ref_text line ++ codes "\n"
 
--- the line for an unborn HEAD, with the branch that the HEAD points at
+-- the line for an unborn HEAD, with the branch that it points at; nothing if HEAD is not unborn
 abbrev pub unborn_line : Option Name → Bytes
 unborn_line None = []
 unborn_line (Some target) = codes "unborn HEAD symref-target:" ++ (target ++ codes "\n")

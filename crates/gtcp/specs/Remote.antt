@@ -97,7 +97,7 @@ abbrev pub ShowsReply : {A : Type 0} → LsReply → Output → ProgramOutcome A
 ShowsReply reply output outcome =
     SendsReport (reply_lines reply) output outcome ⊎ ((outcome ≡ Err program.Memory) × IsUnwritten output)
 
--- the effect of `ls --tcp`: the server's reply is shown or its output fails, or there is no reply and nothing is shown
+-- the effect of `ls --tcp`: the server's reply is shown or can't be shown, or there is no reply and nothing is shown
 abbrev pub ListsRemote : {A : Type 0} → List Bytes → Hello → Output → ProgramOutcome A → Type 0
 ListsRemote {A} prefixes hello output outcome =
     ((reply : LsReply) × AsksRemote {A = A} prefixes hello (Ok reply) × ShowsReply reply output outcome)
@@ -178,7 +178,7 @@ module _ {A : Type 0} (old : RepoState A) (specs : List Refspec) (new : RepoStat
   FetchesInPair (Err _) = ⊥
 
 module _ {A : Type 0} (client : Bytes) (specs : List Refspec) where
-  -- the fetch into the repository of the client's file succeeded, and the outcome is the outcome of its report
+  -- the fetch into the repository of the client's file succeeded, and its report was written or could not be written
   pub record IsMet (output : Output) (outcome : ProgramOutcome A) : Type 0 where
     pub repo : RepoState A
     pub names : NamesClient client repo
@@ -195,7 +195,7 @@ module _ {A : Type 0} (client : Bytes) (specs : List Refspec) where
       ⊎ ((repo : RepoState A) × (new : RepoState A) × NamesClient client repo
       × FetchesInPair repo specs new (Err fault))
 
-  -- the effect of `pair`: the fetch succeeds and its report is written or fails, or the fetch fails and nothing is
-  -- written
+  -- the effect of `pair`: the fetch succeeds and its report is written or can't be written, or the fetch fails and
+  -- nothing is written
   abbrev pub Meets : Output → ProgramOutcome A → Type 0
   Meets output outcome = IsMet output outcome ⊎ StopsBefore CannotMeet output outcome

@@ -58,7 +58,7 @@ asked_for prefixes =
     let named = ls_with no_ls_refs Symrefs true in
     record (ls_with named Peel true) { prefixes = prefixes }
 
--- the reasons to refuse the request: too many prefixes for the default limits, or out of memory
+-- the reasons to refuse the request: more prefixes than the default limits allow, or lack of memory
 abbrev pub RefusesPrefixes : List Bytes → MessageFault → Type 0
 RefusesPrefixes prefixes cause =
     (cause.frame ≡ 0) × ((has_room : Bool) × IsBuildReason true has_room cause.why

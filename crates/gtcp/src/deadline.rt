@@ -22,7 +22,7 @@ pub const MAX_SILENCE: u64 = 60;
 /// The maximum time in seconds until an address accepts a connection.
 pub const MAX_CONNECT: u64 = 60;
 
-/// The remaining time of a client of the server.
+/// The time that a client of the server has left for its message.
 #[derive(Drop)]
 pub(crate) struct TimeLeft {
     left: Duration,

@@ -247,7 +247,7 @@ fn list_between<A: Allocator + Copy, R: Read, W: Write>(
     list_git(hello, &mut source, &mut sink, asked, alloc)
 }
 
-/// Returns a request for refs, with the targets of symbolic refs and with peeled ids.
+/// Returns a request for refs that also asks for the targets of symbolic refs and for peeled ids.
 ///
 /// Fails with `Limit` if there are more than 64 prefixes, and with `Memory` if out of memory.
 pub(crate) fn request_for<A: Allocator + Copy>(

@@ -15,10 +15,10 @@
 //!   fails, a prefix of these lines is printed (`specs/Sockets.antt`, `Telling.antt`). A request
 //!   for another path is not a fault. The call fails only with `Socket`, after fewer than
 //!   `connections` connections.
-//! - [`fetch_on`] fetches with the given refspecs, pack limit and form of replies. The fetch starts
-//!   with the first line for the given host and path, and keeps every promise of
-//!   `gclient::fetch_over`. If the first line can't be composed, or memory for the buffers runs
-//!   out, the repository is unchanged.
+//! - [`fetch_on`] fetches with the given refspecs and pack limit. The caller states whether replies
+//!   end with a response-end packet. The fetch starts with the first line for the given host and
+//!   path, and keeps every promise of `gclient::fetch_over`. If the first line can't be composed,
+//!   or memory for the buffers runs out, the repository is unchanged.
 //! - [`fetch_git_on`] fetches like [`fetch_on`], with a given first line and with options for
 //!   packs.
 //! - [`ls_on`] lists the refs with the given prefixes over a `git://` connection. A listing fails
@@ -31,30 +31,31 @@
 //! - [`cmd_fetch_remote`] fetches into a stored file. At any time the file has the old text or the
 //!   whole new text. The new text is written only if the conversation succeeds. The new text
 //!   describes the repository after the fetch. The fetch only adds objects. The report, with the
-//!   outcome of each ref update, is written only after the new text. At the end the run holds no
-//!   lockfile (`specs/Remote.antt`, and `Stored.antt` of `gcmd`).
+//!   outcome of each ref update, is written only after the new text. At the end the program holds
+//!   no lockfile (`specs/Remote.antt`, and `Stored.antt` of `gcmd`).
 //! - [`cmd_pair`] fetches inside one process and writes the same report, but stores nothing.
 //! - [`cmd_serve`] shows the number of its port, and then serves the repository of its file like
 //!   [`serve_listener`]. [`cmd_serve`] serves no client if the file is refused, the socket can't be
 //!   opened or the port can't be shown.
-//! - Each program exits with status 0 or 1. With status 0 the program prints no fault line. With
-//!   status 1 the program prints the line that reports its fault, or a prefix of this line. The
-//!   fault is a refused file, a failed conversation, a missing socket, out of memory, or a failed
-//!   output. Before the line of its own fault, [`cmd_serve`] prints only the faults of connections.
-//!   The other programs print nothing before this line.
+//! - Each program exits with status 0 or 1. With status 0 the program reports no fault of its own.
+//!   With status 1 the program prints the line that reports its fault, or a prefix of this line.
+//!   The fault is a refused file, a failed conversation, a missing socket, lack of memory, or a
+//!   failed output. With either status, [`cmd_serve`] first prints the faults of connections. The
+//!   other programs print nothing before the line of their fault.
 //! - A [`Timer`] limits each read to a time of more than zero and at most 60 seconds
 //!   (`specs/Deadlines.antt`).
-//! - A [`Turns`] timer subtracts the elapsed time of the clock from a client's remaining time. If
-//!   the clock goes backwards, the client has no time left. The client gets the full time again
+//! - A [`Turns`] timer subtracts the time that elapses on its clock from a client's remaining time.
+//!   If the clock goes backwards, the client has no time left. The client gets the full time again
 //!   only when the server starts to wait for a request (`specs/steps/Deadlines.antt` and
 //!   `Turns.antt`, which specify private functions).
 //! - A [`Location`] has the given address and path. The host of a location is the text of the
-//!   address before the port, and the port is a decimal number up to 65,535 (`specs/Places.antt`).
-//! - A [`MessageSink`] has written or still holds each byte that its caller wrote.
-//!   `MessageSink::hold` stores bytes without writing them, and fails if the bytes would make a
-//!   message too long (`specs/Messages.antt`). The inner sink receives nothing before a flush. A
-//!   flush writes all held bytes, at most 32,768, to the inner sink. After the flush the written
-//!   bytes count as flushed. Only a pair whose fetch failed reports `PairLimit` (94).
+//!   address before the last `:`. The port after it is a decimal number up to 65,535
+//!   (`specs/Places.antt`).
+//! - A [`MessageSink`] loses no byte that its caller wrote: the sink has passed the byte on, or
+//!   still holds it. `MessageSink::hold` stores bytes without writing them, and fails if the bytes
+//!   would make a message too long (`specs/Messages.antt`). The inner sink receives nothing before
+//!   a flush. A flush writes all held bytes, at most 32,768, to the inner sink. After the flush the
+//!   written bytes count as flushed. Only a pair whose fetch failed reports `PairLimit` (94).
 //!
 //! # Only tested
 //!
@@ -69,25 +70,24 @@
 //!
 //! The contracts allow any conversation whose bytes fit the result, even if the peer did not send
 //! the bytes. The contracts do not state that a connection is opened, accepted, read or written,
-//! nor what the server of a pair does. An implementation may therefore return any result that some
-//! peer could cause: any reply, any added objects, or any served connection. An implementation may
-//! send any bytes. An implementation may fail with `Socket` although a connection can be accepted
-//! or opened. An implementation may also report out of memory. In a pair, an implementation may
-//! report any failed fetch as a message that is too long, or a message that is too long as any
-//! other failure. The program of [`cmd_fetch_remote`] may connect before it locks the file. The
-//! program may also report that the file can't be locked, read or replaced, even if each of these
-//! steps would succeed.
+//! nor what the server of a pair does. So no contract rules out any result that some peer could
+//! cause: any reply, any added objects, or any served connection. A call could also send any bytes,
+//! report out of memory, or fail with `Socket` although a connection can be accepted or opened. In
+//! a pair, any failed fetch could be reported as a message that is too long, and such a message as
+//! any other failure. No contract rules out that the program of [`cmd_fetch_remote`] connects
+//! before it locks the file. The program could also report that the file can't be locked, read or
+//! replaced, even if each of these steps would succeed.
 //!
-//! [`serve_listener`] may accept further connections between the served connections. The program of
-//! [`cmd_serve`] may listen at a different address, and may show a different port or show the port
-//! later. An implementation may ignore a deadline or the clock. [`Location::new`] may return
-//! `None`. [`connect_to`] may connect to another address, or fail. A [`Peer`] may read and write
-//! bytes that differ from the bytes of its stream.
+//! No contract rules out that [`serve_listener`] accepts further connections between the served
+//! connections. The program of [`cmd_serve`] could listen at a different address, and could show a
+//! different port or show the port later. A call could ignore a deadline or the clock. No contract
+//! rules out that [`Location::new`] returns `None`, or that [`connect_to`] fails or connects to
+//! another address. A [`Peer`] could read and write bytes that differ from the bytes of its stream.
 //!
-//! A [`MessageSink`] need not flush the inner sink, and a flush that fails may write some of the
-//! held bytes. If the inner sink does not record its bytes, the contracts do not state when the
-//! inner sink receives bytes. `is_too_long` and `bytes_written` may ignore the effect of a `write`
-//! or a flush.
+//! No contract rules out that a [`MessageSink`] never flushes the inner sink, or that a flush that
+//! fails writes some of the held bytes. If the inner sink does not record its bytes, the contracts
+//! do not state when the inner sink receives bytes. No contract rules out that `is_too_long` and
+//! `bytes_written` ignore the effect of a `write` or a flush.
 //!
 //! # Dependencies
 //!

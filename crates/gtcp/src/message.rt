@@ -11,11 +11,11 @@ use std::alloc::{Allocator, Global};
 use std::marker::Model;
 
 /// The maximum length in bytes of a message between the client and the server of a pair. The
-/// buffers of a connection have room for one message that is not yet read.
+/// buffers of a connection have room for one unread message of this length.
 pub const MAX_MESSAGE: usize = 32_768;
 
-/// A sink that holds a message back until a flush. If a message is too long, the sink fails, and
-/// nothing of the message is written to the inner sink.
+/// A sink that holds a message back until a flush. If a message is too long, the sink fails, and no
+/// byte of the message is written to the inner sink.
 #[derive(Drop)]
 pub struct MessageSink<W, A: Allocator + Copy = Global> {
     sink: W,
@@ -185,8 +185,8 @@ fn remove_front<A: Allocator>(held: &mut Vec<u8, A>, count: usize)
     held.truncate(len - count);
 }
 
-// Every byte in the inner sink counts as flushed, so the sink writes to the inner sink only during
-// a flush.
+// Every byte in the inner sink counts as flushed. A `MessageSink` therefore writes to the inner
+// sink only during a flush.
 impl<W: Sink, A: Allocator + Copy> Sink for MessageSink<W, A> {
     ghost contents = { λ h. append_known (W.contents h.inner) h.held };
 

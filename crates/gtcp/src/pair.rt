@@ -24,8 +24,8 @@ use std::alloc::Allocator;
 use std::io::{BufReader, Read, Write};
 use std::net::{Net, OpenListener, OpenStream, SocketAddr, TcpListener, TcpStream};
 
-// The input of the client. When the client has read all bytes that the server flushed, the server
-// runs.
+// The input of the client. If the client reads more after it has read all bytes that the server
+// flushed, the server runs first.
 #[derive(Drop)]
 struct ClientInput<'a, N, F, W, A: Allocator + Copy> {
     server: &'a Server<A>,
@@ -123,8 +123,8 @@ impl<N: Source, F: Source, W: Sink, A: Allocator + Copy> Source for ClientInput<
     }
 }
 
-// Reads the client's first line as the server, and writes the advertisement or the reason to refuse
-// the line.
+// Acts as the server: reads the client's first line, and writes the advertisement or the reason to
+// refuse the line.
 fn greet<A: Allocator + Copy, F: Source, W: Sink>(server: &Server<A>, far: &mut F, sink: &mut W) {
     match hear(far, server.graph().allocator()) {
         Ok(_hello) => advertise(server, sink),
@@ -156,12 +156,12 @@ struct Joined<S> {
     far: S,
 }
 
-// The maximum number of connections from other processes to accept before the client's own
-// connection arrives.
+// The maximum number of connections to accept. One of them must be the client's own connection, and
+// the others come from other processes.
 const MAX_STRANGERS: usize = 16;
 
-// The address at which client and server connect, with any free port. The first line of the client
-// has the host and the path of the next two constants.
+// The address at which client and server connect, with any free port. `HOST` and `PATH` are the
+// host and the path in the first line of the client.
 const MEETING: &str = "127.0.0.1:0";
 
 const HOST: &[u8] = b"127.0.0.1";
@@ -196,9 +196,9 @@ fn accept_from<L: OpenListener>(listener: &L, client: SocketAddr) -> Option<L::S
 /// process and with plain packs.
 ///
 /// Fails with `PairLimit` if a message would have more than [`MAX_MESSAGE`](crate::MAX_MESSAGE)
-/// bytes: nothing of the message is written, and client and server stop. Fails with `Socket` if the
-/// connection can't be opened, and with `Memory` if out of memory for its buffers or for a message.
-/// Otherwise fails with the faults of `gclient::fetch_over`.
+/// bytes. In that case no byte of the message is written, and client and server stop. Fails with
+/// `Socket` if the connection can't be opened, and with `Memory` if out of memory for its buffers
+/// or for a message. Otherwise fails with the faults of `gclient::fetch_over`.
 pub(crate) fn fetch_in_pair<A: Allocator + Copy, N>(
     net: &N,
     server: &Server<A>,
@@ -302,8 +302,8 @@ where
     exchange(repo, specs, &mut answers, &mut requests)
 }
 
-// Fetches with `requests` as the sink and `answers` as the source. At the end the client sends a
-// flush packet, and the server runs once more to read the flush packet.
+// Fetches with `requests` as the sink and `answers` as the source. At the end of a fetch that
+// succeeds, the client sends a flush packet, and the server runs once more to read it.
 fn exchange<A, N, V, F, W>(
     repo: &mut Repo<A>,
     specs: &[Spec<A>],

@@ -54,7 +54,7 @@ pub struct Service<'a, A: Allocator + Copy> {
 /// connections, one after the other, like [`serve_listener`]. Each fault of a connection, and the
 /// fault that ends the program, is printed as one line on `errors`.
 ///
-/// Returns exit status 0 if all connections were served, whatever their faults. Returns 1 if the
+/// Returns exit status 0 if all connections were served, even if some had faults. Returns 1 if the
 /// file is refused, the socket can't be opened, the port can't be shown, or a connection can't be
 /// accepted.
 pub fn cmd_serve<A: Allocator + Copy, N, W: Sink, E: Sink>(

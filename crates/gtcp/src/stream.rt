@@ -9,16 +9,17 @@ use std::io::{self, ErrorKind, Read, Write};
 use std::net::{Net, OpenStream, Shutdown, TcpStream, ToSocketAddrs};
 use std::time::Duration;
 
-/// The maximum number of bytes of a message in a single write.
+/// The capacity in bytes of a write buffer, which collects a message for a single write.
 pub(crate) const MESSAGE_BUFFER: usize = 65_536;
 
-// The maximum number of bytes in one read of input to discard. The next constant limits the number
-// of reads.
+// The maximum number of bytes in one read of input to discard. `MAX_DROPS` limits the number of
+// such reads.
 const DROPPED_BYTES: usize = 4_096;
 
 const MAX_DROPS: usize = 1_024;
 
-// The maximum number of times that a signal may interrupt a read.
+// The number of attempts to read before the read fails. Each interruption by a signal ends an
+// attempt.
 const MAX_INTERRUPTS: u32 = 1_024;
 
 // The number of seconds that a single write waits. A wait counts as silence only if the peer
@@ -68,8 +69,8 @@ impl<S: OpenStream, T> Peer<S, T> {
 impl<S: Read + OpenStream, T> Peer<S, T> {
     /// Shuts down writing, so that the last message and the end of the stream are sent. Then
     /// discards unread input, without waiting for more. If a socket is closed with unread input,
-    /// the connection is reset, and the peer might lose the last message. The peer may still lose
-    /// this message if more input arrives later.
+    /// the connection is reset, and the peer can lose the last message. The peer can still lose
+    /// this message if more input arrives after the unread input was discarded.
     pub fn hang_up(&self) {
         if let Ok(mut stream) = self.stream.try_borrow_mut() {
             let _ = stream.shutdown(Shutdown::Write);

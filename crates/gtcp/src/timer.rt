@@ -82,8 +82,8 @@ impl<'c, C: Clock> Turns<'c, C> {
         }
     }
 
-    // Returns the client's remaining time, or `None` if no time remains or the clock fails or went
-    // backwards. After `None`, each call returns `None` until bytes are written.
+    // Returns the client's remaining time. Returns `None` if no time remains, or if the clock fails
+    // or went backwards. After `None`, each call returns `None` until bytes are written.
     fn take_time(&self) -> Option<TimeLeft>
         ensures { IfSome result (λ time. 0 < time.0) }
     {

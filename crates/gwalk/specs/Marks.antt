@@ -9,7 +9,7 @@ use Rattle.gdag.specs.Reach.{Reaches, IsConnected, SomeReaches, Grows}
 use Rattle.gdag.specs.Selecting.{Selects}
 use Rattle.gdag.specs.Walks.{CountsReached}
 
--- each marked position is that of a connected id
+-- each marked position is the position of a connected id
 abbrev pub AreConnected : {A : Type 0} → List (Entry A) → List Bool → Type 0
 AreConnected {A} g marks =
     (position : ℕ) → slice_index_or marks position false ≡ true →
@@ -73,7 +73,7 @@ Covers {A} g ids marks =
     (position : ℕ) (entry : Entry A) → slice_get g position ≡ Some entry → SomeReaches g ids entry.id
     → slice_index_or marks position false ≡ true
 
--- marks that cover connected ids still cover them when the graph grows
+-- marks still cover the same connected ids when the graph grows
 abbrev pub CoveringStays : Type 0 → Type 0
 CoveringStays A =
     (g h : List (Entry A)) (ids : List Id) (marks : List Bool)

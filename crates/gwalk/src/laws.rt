@@ -13,8 +13,8 @@ pub fn marks_stay_connected<A: Allocator + Copy>()
     growing_keeps::<A>();
 }
 
-/// Proves that marks that cover connected ids still cover them when objects are added to the graph.
-/// Marks cover an id if all ids that this id reaches are marked.
+/// Proves that marks still cover the same connected ids when objects are added to the graph. Marks
+/// cover an id if all ids that this id reaches are marked.
 pub fn covering_stays<A: Allocator + Copy>()
     ensures { CoveringStays A }
 {

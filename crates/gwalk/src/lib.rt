@@ -4,8 +4,8 @@
 //! # Proved
 //!
 //! - [`missing`] returns `None` if each id is connected. Otherwise the call returns an id that one
-//!   of the given ids reaches and that the graph does not contain. In an ordered graph `missing`
-//!   never reports out of memory.
+//!   of the given ids reaches and that the graph does not contain. In an ordered graph
+//!   (`Graph::is_ordered`), `missing` never reports out of memory.
 //! - [`missing_counted`] returns the result of `missing`, the number of distinct ids in the graph
 //!   that the given ids reach, and the total number of their parents. Both numbers are exact.
 //! - [`mark_connected`] marks every id that the given ids reach, and leaves the other marks
@@ -18,22 +18,22 @@
 //!   reaches another, and whether the server is ready to send a pack.
 //! - [`send_list`] returns the list of objects to send, and [`send_list_tags`] adds the tags of the
 //!   refs. The ids of the list are distinct and have the graph's format.
-//! - If each object was inserted after its parents, `reaches`, `ready` and `send_list` make one
-//!   pass down or up the insertion order. The pass down ends when every remaining object that a
-//!   want was found to reach is also reachable from a common id.
+//! - In an ordered graph, `reaches` and `ready` visit objects in insertion order, each at most
+//!   once. `send_list` searches for new objects in reverse insertion order. The search stops when
+//!   every unvisited object that it has reached from a want was also reached from a common id.
 //! - [`haves`] returns the offer: the first `n` unsent ids of the graph, level by level from the
-//!   tips, that no common id reaches. [`Offers`] returns successive offers, for which it resumes
-//!   the same walk. No id is offered twice.
+//!   tips, that no common id reaches. [`Offers`] returns one offer after another, and continues the
+//!   same walk for each offer. No id is offered twice.
 //! - `Memory` is the only fault of these calls. No call panics, overflows or reads out of bounds,
 //!   and every call returns.
 //!
 //! # What the contracts do not rule out
 //!
-//! If several ids are missing, `missing` may return any of them. A call may report out of memory at
-//! any time, except where the contract rules that out. A call may take any amount of time, and more
-//! memory than it needs. No contract says that the time of a walk is linear in the number of
-//! objects and parents that the walk meets. No contract says that `ready` stops at a common id, or
-//! that `haves` stops when it has `n` ids.
+//! If several ids are missing, no contract says which of them `missing` returns. Unless its
+//! contract rules this out, a call can report out of memory at any time. No contract bounds the
+//! time or the memory of a call. No contract says that the time of a walk is linear in the number
+//! of objects and parents that the walk meets. No contract says that `ready` stops at a common id,
+//! or that `haves` stops when it has `n` ids.
 //!
 //! This crate has no tests of its own. The program `conformance` makes each call on sample
 //! histories. One sample history has so many paths that following each path separately would take

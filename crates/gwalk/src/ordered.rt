@@ -1,6 +1,7 @@
-//! Passes over a graph in which each object was inserted after all its parents. A pass goes once
-//! down or up the insertion order. The pass down ends as soon as no open position is left, so it
-//! does not visit the whole history.
+//! Passes over a graph in which each object was inserted after all its parents. A pass traverses
+//! the insertion order once, in either direction: up to later objects, or down to earlier objects.
+//! The pass down ends as soon as no unvisited position is open, so it need not visit the whole
+//! history.
 
 mod down;
 mod marks;

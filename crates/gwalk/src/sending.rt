@@ -20,9 +20,9 @@ use gobject::{Entry, Kind};
 use grefs::Refs;
 use std::alloc::{AllocError, Allocator};
 
-/// Returns the entries to send for the wants to a receiver that has the common ids connected
-/// (gitprotocol-v2(5), "fetch": `want`, `have`). The list has the entries that some want reaches
-/// and no common id reaches, in insertion order.
+/// Returns the entries to send for the wants (gitprotocol-v2(5), "fetch": `want`, `have`). The
+/// receiver is assumed to hold the common ids and all their ancestors. The list has the entries
+/// that some want reaches and no common id reaches, in insertion order.
 ///
 /// Fails only with `Memory`.
 pub fn send_list<A: Allocator + Copy>(
@@ -64,8 +64,8 @@ pub fn send_list_tags<A: Allocator + Copy>(
     Ok(list_to_send(graph, wants, commons, tips.as_slice())?)
 }
 
-// Returns the list to send, including the tags in the chains of tags that begin at the tips. If
-// each object of the graph comes after its parents, the function makes one pass over the graph.
+// Returns the list to send, with the tags in the chains of tags from tips to commits of the list.
+// If each object of the graph comes after its parents, the function makes one pass over the graph.
 // Otherwise it walks from the wants.
 fn list_to_send<A: Allocator + Copy>(
     graph: &Graph<A>,

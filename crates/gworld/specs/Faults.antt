@@ -19,7 +19,7 @@ disagreement = 90
 abbrev pub no_such : ℕ
 no_such = 93
 
--- the event does not fit the client's session: there is no session, or the session is in another stage
+-- the event needs the client's session in a certain stage, but there is no session, or it is in another stage
 abbrev pub out_of_turn : ℕ
 out_of_turn = 83
 

@@ -62,7 +62,7 @@ module _ {A : Type 0} (tools : PackTools A) where
         ((is_due session.stage session.pending ≡ true) × (rounds ≤ reached + 1))
         ⊎ (CanSettle w × (rounds ≤ reached + 2))
 
-  -- If its tips reach `reached` ids, a new session can settle after at most `reached + 2` rounds. The premises are that
+  -- A new session whose tips reach `reached` ids can settle after at most `reached + 2` rounds. The premises are that
   -- no bytes were forged, and that the packer and the indexer are faithful.
   abbrev pub FetchesComplete : Type 0
   FetchesComplete =

@@ -17,7 +17,8 @@ use Rattle.gscenario.specs.declared.event.Event.TheVariants as event
 use Rattle.gworld.specs.declared.outcome.Outcome.{Outcome}
 use Rattle.gworld.specs.declared.outcome.Outcome.TheVariants as outcomes
 
--- each step that starts in a sound world and leaves both ends connected leads to a sound world, and keeps its promises
+-- each step from a sound world leads to a sound world and keeps its promises, if both ends are connected before and
+-- after the step
 abbrev pub StepsKeep : {A : Type 0} → PackTools A → Type 0
 StepsKeep {A} tools =
     (w new : WorldState A) (event : Event A) (outcome : Outcome) → AreEndsConnected w → AreEndsConnected new

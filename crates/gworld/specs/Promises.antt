@@ -123,7 +123,7 @@ module _ {A : Type 0} where
     pub goes_on : w.session ≡ Some s
     pub waits : s.pending ≡ Some kept.asked
 
-  -- A reason for the client to reject a complete ls-refs reply: an invalid name of a local ref, too many wants, or out
+  -- A reason for the client to reject a complete ls-refs reply: an invalid name of a local ref, too many wants, or lack
   -- of memory.
   abbrev pub MayDeclineRefs : WorldState A → SessionState A → LsReply → ℕ → Type 0
   MayDeclineRefs w s reply number =
@@ -157,7 +157,7 @@ module _ {A : Type 0} where
   AreRequestsFew w = IfSome w.session (AsksSeldom w)
 
 module _ {A : Type 0} (tools : PackTools A) where
-  -- A reason for the client to reject a complete fetch reply: a pack over the size limit, a full graph, or out of
+  -- A reason for the client to reject a complete fetch reply: a pack over the size limit, a full graph, or lack of
   -- memory.
   abbrev pub MayDecline : RepoState A → FetchReply → ℕ → Type 0
   MayDecline repo reply number =
@@ -180,7 +180,7 @@ module _ {A : Type 0} (tools : PackTools A) where
 
   -- ---- 5. each sent request is served
 
-  -- A reason for the server to reject a sent request: a pack that would be too large, or out of memory for the pack or
+  -- A reason for the server to reject a sent request: a pack that would be too large, or lack of memory for the pack or
   -- for the reply.
   abbrev pub MayRefuse : Server A → Asked → ℕ → Type 0
   MayRefuse server (Fetches asked) number =
@@ -214,7 +214,7 @@ module _ {A : Type 0} where
     pub moved : All (MovesAsked old new) asks
 
   -- The client has a session. The session makes all allowed updates of refs, or fails because there would be too many
-  -- refs or for lack of memory. The other case of `CannotSettle`, a requested update of HEAD, is impossible.
+  -- refs or because memory is lacking. The other case of `CannotSettle` is impossible: no update of HEAD is requested.
   abbrev pub IsSettledOrRefused : RepoState A → Option (SessionState A) → Outcome → RepoState A → Type 0
   IsSettledOrRefused old None outcome new = ⊥
   IsSettledOrRefused old (Some s) (outcomes.Settled moved same not_forward) new = HasSettled old s.asks new
@@ -222,8 +222,8 @@ module _ {A : Type 0} where
       ((number ≡ too_many_refs) × CannotSettle old.refs s.asks) ⊎ (number ≡ memory_refused)
   IsSettledOrRefused old (Some s) _ new = ⊥
 
-  -- a session that accepted the pack of a complete reply to its request (marked by `Deliver` as answered) settles, or
-  -- fails for one of the allowed reasons
+  -- If the session accepted the pack of a complete reply to its request, it settles or fails for one of the allowed
+  -- reasons. `Deliver` has marked such a session as answered.
   abbrev pub SettlesAnswered : WorldState A → Event A → Outcome → WorldState A → Type 0
   SettlesAnswered w event.Settle outcome new =
       w.answered ≡ true → IsSettledOrRefused w.repo w.session outcome new.repo
@@ -234,7 +234,7 @@ module _ {A : Type 0} where
     pub stage : s.stage ≡ Settling
     pub none : s.wants ≡ []
 
-  -- a session that is ready to settle and has no wants settles, or fails for one of the allowed reasons
+  -- if the session is ready to settle and has no wants, it settles or fails for one of the allowed reasons
   abbrev pub SettlesUpToDate : WorldState A → Event A → Outcome → WorldState A → Type 0
   SettlesUpToDate w event.Settle outcome new =
       IfSome w.session (λ s. IsUpToDate s → IsSettledOrRefused w.repo w.session outcome new.repo)

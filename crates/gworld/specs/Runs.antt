@@ -11,7 +11,7 @@ use Rattle.gworld.specs.declared.fault.RunFault.{RunFault}
 use Rattle.gworld.specs.declared.fault.RunFault.TheVariants as run
 use Rattle.gworld.specs.declared.outcome.Outcome.{Outcome}
 
--- a run of the events, one after the other, with their outcomes, in which each step has the property `P`
+-- the events happen one after the other with these outcomes, and each step has the property `P`
 abbrev pub RunWith : {A : Type 0} → (WorldState A → Event A → Outcome → WorldState A → Type 0)
     → WorldState A → List (Event A) → List Outcome → WorldState A → Type 0
 RunWith P w [] [] new = new ≡ w
@@ -20,12 +20,12 @@ RunWith {A} P w (event ∷ events) (outcome ∷ outcomes) new =
 RunWith P w [] (outcome ∷ outcomes) new = ⊥
 RunWith P w (event ∷ events) [] new = ⊥
 
--- a run of the events, one after the other, with their outcomes
+-- the events happen one after the other with these outcomes
 abbrev pub Run : {A : Type 0} → PackTools A → WorldState A → List (Event A) → List Outcome → WorldState A → Type 0
 Run tools w events outcomes new = RunWith (Step tools) w events outcomes new
 
--- The event needs memory of the world before it begins. An event that fails at once with fault 83 (`NoOpenRequest`), 90
--- (`Disagree`) or 93 (no such index) needs no memory.
+-- The event needs memory for a list of the world or for a buffer. An event that fails at once with fault 83
+-- (`NoOpenRequest`), 90 (`Disagree`) or 93 (no such index) needs no memory.
 abbrev pub NeedsMemory : {A : Type 0} → WorldState A → Event A → Type 0
 NeedsMemory w (event.Begin specs) = ⊥
 NeedsMemory {A} w event.Ask = (s : SessionState A) × (w.session ≡ Some s) × (is_due s.stage s.pending ≡ true)
@@ -41,7 +41,7 @@ NeedsMemory w (event.ServerRef name id) = ⊤
 NeedsMemory w (event.ClientAdd entry) = AgreesWith w.server.graph.entries entry
 NeedsMemory w (event.ClientRef name id) = ⊤
 
--- A run that stopped for lack of memory after the events `front`, perhaps none. The next event did not begin, because
+-- A run stopped for lack of memory after the events `front`, which may be empty. The next event did not begin, because
 -- it needs memory, or because it is the first event and there is not enough memory for the list of outcomes.
 pub record RunsFront {A : Type 0} (P : WorldState A → Event A → Outcome → WorldState A → Type 0) (w : WorldState A)
     (events : List (Event A)) (outcomes : List Outcome) (new : WorldState A) : Type 0 where
@@ -52,6 +52,6 @@ pub record RunsFront {A : Type 0} (P : WorldState A → Event A → Outcome → 
   pub run : RunWith P w front outcomes new
   pub memory : (outcomes ≡ []) ⊎ NeedsMemory new next
 
--- the outcomes of the events before a run stopped
+-- the outcomes of the events that were completed before the run stopped
 abbrev pub outcomes_before : {A : Type 0} → RunFault A → List Outcome
 outcomes_before (run.Memory outcomes) = outcomes.items

@@ -23,7 +23,7 @@ use Rattle.gworld.specs.Worlds.{Kept, PackTools, WorldState}
 
 module _ {A : Type 0} where
   -- no object of the server is missing, and the client's refs are connected; the types of server, repository and
-  -- session guarantee this
+  -- session guarantee both facts
   pub record AreEndsConnected (w : WorldState A) : Type 0 where
     pub server : IsServer w.server
     pub repo : IsConnectedRepo w.repo
@@ -33,8 +33,8 @@ module _ {A : Type 0} where
 
   -- ---- the sent requests and the kept replies
 
-  -- a request for objects has wants, and the client holds the whole history of each have; the server holds the wants
-  -- unless bytes were forged
+  -- a request for objects has wants and not too many haves; the client holds the whole history of each have, and the
+  -- server holds the wants unless bytes were forged
   pub record IsSoundFetch (w : WorldState A) (asked : FetchAsked) : Type 0 where
     pub connected : All (IsConnected w.repo.graph.entries) asked.haves
     pub few : length asked.haves ≤ max_haves profile
@@ -90,8 +90,8 @@ module _ {A : Type 0} (tools : PackTools A) where
     pub connected : IsUnforgedAndFaithful w → All (IsConnected w.repo.graph.entries) (asked_ids s.asks)
 
   -- The invariants of a world. All sent requests, all kept replies and the session are valid. If no bytes were forged,
-  -- and packer and indexer are faithful, both graphs agree on the objects that they share. A session that is marked as
-  -- answered can settle.
+  -- and packer and indexer are faithful, both graphs hold the same object under each shared id. A session that is
+  -- marked as answered can settle.
   pub record IsSound (w : WorldState A) : Type 0 where
     pub format : w.repo.graph.format ≡ w.server.graph.format
     pub agree : IsUnforgedAndFaithful w → Agree w.server.graph.entries w.repo.graph.entries

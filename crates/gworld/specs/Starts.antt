@@ -27,7 +27,7 @@ pub record CanStart {A : Type 0} (server : Server A) (repo : RepoState A) : Type
   pub format : repo.graph.format ≡ server.graph.format
   pub agree : Agree server.graph.entries repo.graph.entries
 
--- a reason why a server and a repository can't form a world: different object formats, or different objects with the
+-- a reason why a server and a repository can't form a world: different object formats, or different objects under the
 -- same id
 abbrev pub CannotStart : {A : Type 0} → Server A → RepoState A → WorldFault → Type 0
 CannotStart server repo world.TwoFormats = repo.graph.format ≢ server.graph.format

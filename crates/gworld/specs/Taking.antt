@@ -22,12 +22,12 @@ use Rattle.gworld.specs.declared.outcome.Outcome.TheVariants as outcomes
 abbrev pub code_of : {A : Type 0} → ClientFault A → ℕ
 code_of fault = (client_fault_row fault).0
 
--- the fault can occur when the client reads from memory; it is no fault of the source, since memory never fails
+-- the fault can occur when the client reads from a buffer in memory, a source that never fails
 abbrev pub IsAtHand : {A : Type 0} → ClientFault A → Type 0
 IsAtHand (client.Message fault) = IsReadFailure false false fault.why
 IsAtHand _ = ⊤
 
--- the bytes arrive as the ls-refs reply, and the outcome has the numbers of requested updates and wants, or a fault
+-- the bytes arrive as the ls-refs reply, and the outcome gives the numbers of requested updates and wants, or a fault
 abbrev pub TakesRefs : {A : Type 0} → SessionState A → RepoState A → Bytes → Outcome → SessionState A → RepoState A
     → Type 0
 TakesRefs {A} s repo bytes (outcomes.LsTaken asks wants) after new =
@@ -39,7 +39,7 @@ TakesRefs {A} s repo bytes (outcomes.Fault number) after new =
 TakesRefs s repo bytes _ after new = ⊥
 
 module _ {A : Type 0} (indexes : Indexes A) (index_fails : IndexFails) where
-  -- the bytes arrive as the fetch reply, and the outcome has the number of common ids or of new objects, or a fault
+  -- the bytes arrive as the fetch reply, and the outcome gives the number of common ids or of new objects, or a fault
   abbrev pub TakesObjects : SessionState A → RepoState A → Bytes → Outcome → SessionState A → RepoState A → Type 0
   TakesObjects s repo bytes (outcomes.Round common) after new =
       (left : Bytes)

@@ -51,7 +51,7 @@ pub record PackTools (A : Type 0) : Type 1 where
   pub indexes : Indexes A
   pub index_fails : IndexFails
 
--- the packs of a packer, which have a maximum length, with its faults, and the results and faults of an indexer
+-- the possible packs of a packer, up to the maximum length, and its faults; the results and faults of an indexer
 abbrev pub tools_of : {A : Type 0} → Packs A → PackFails A → Indexes A → IndexFails → PackTools A
 tools_of packs pack_fails indexes index_fails = record {
   packs = MayPack packs;

@@ -17,8 +17,8 @@ pub(crate) const DISAGREE: u32 = 90;
 /// The fault of an event with an invalid index of a sent request or of a kept reply.
 pub(crate) const NO_SUCH: u32 = 93;
 
-/// The fault of an event that does not fit the client's session: there is no session, or the
-/// session is in another stage.
+/// The fault of an event that needs the client's session in a certain stage: there is no session,
+/// or it is in another stage.
 pub(crate) const NO_OPEN_REQUEST: u32 = 83;
 
 /// The reason why a server and a repository can't form a world.
@@ -26,8 +26,8 @@ pub(crate) const NO_OPEN_REQUEST: u32 = 83;
 pub enum WorldFault {
     /// Fault 97: server and client have different object formats.
     TwoFormats,
-    /// Fault 90: this id is the first, in the order of the server's objects, under which server and
-    /// client hold different objects.
+    /// Fault 90: server and client hold different objects under `id`. It is the first such id, in
+    /// the order of the server's objects.
     Disagree { id: Oid },
 }
 

@@ -97,8 +97,8 @@ pub fn refs_stay_connected<A: Allocator + Copy, K: Packer<A> + Indexer<A>>()
         (K.index_fails k)) }
 {}
 
-/// Proves that after any run the client's session has made at most N + 1 requests for objects, if
-/// its tips reach N ids and this bound held before the run. The tips are the ids of the client's
+/// Proves that a client's session whose tips reach N ids has made at most N + 1 requests for
+/// objects after any run, if this bound held before the run. The tips are the ids of the client's
 /// refs when the session began.
 pub fn requests_stay_few<A: Allocator + Copy, K: Packer<A> + Indexer<A>>()
     ensures { (k : K) → RequestsStayFew (tools_of (K.packs k) (K.pack_fails k) (K.indexes k)
@@ -169,10 +169,10 @@ pub fn honest_runs_keep_all<A: Allocator + Copy, K: Faithful<A>>(tools: &K)
     faithful_lose_nothing::<A, K>(tools);
 }
 
-/// Proves that each step leaves both ends connected, if both ends were connected before: no object
-/// of the server is missing, and each ref of the client is connected. The other premise is that
-/// after the step refs are sorted and the session is valid. This premise does not follow from the
-/// definition of a step.
+/// Proves that each step leaves both ends connected, if both ends were connected before. The ends
+/// are connected if no object of the server is missing, and each ref of the client is connected.
+/// The other premise is that after the step refs are sorted and the session is valid. This premise
+/// does not follow from the definition of a step.
 pub fn ends_stay_connected<A: Allocator + Copy, K: Packer<A> + Indexer<A>>()
     ensures { (k : K) → EndsStayConnected (tools_of (K.packs k) (K.pack_fails k) (K.indexes k)
         (K.index_fails k)) }
@@ -198,10 +198,11 @@ pub fn runs_keep_promises<A: Allocator + Copy, K: Packer<A> + Indexer<A>>()
     ends_stay_connected::<A, K>();
 }
 
-/// Proves that a new session can settle after at most N + 2 rounds, if its tips reach N ids. The
+/// Proves that a new session whose tips reach N ids can settle after at most N + 2 rounds. The
 /// premises are that no bytes were forged, and that the packer and the indexer are faithful. In a
-/// round the reply arrives complete, and no event fails. The `Settle` event then makes every
-/// allowed update of refs, unless there would be too many refs or the client is out of memory.
+/// round the reply arrives complete, and no event fails. After these rounds the event `Settle`
+/// makes every allowed update of refs, unless there would be too many refs or the client is out of
+/// memory.
 pub fn fetches_complete<A: Allocator + Copy, K: Packer<A> + Indexer<A>>()
     ensures { (k : K) → FetchesComplete (tools_of (K.packs k) (K.pack_fails k) (K.indexes k)
         (K.index_fails k)) }

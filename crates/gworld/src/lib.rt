@@ -1,17 +1,16 @@
-//! A simulation of a Git server and a client that fetches from it, under any list of events
-//! (gitprotocol-v2(5)). Messages may be lost, repeated, late, truncated or forged. Objects and refs
-//! may change at either end, and either end may restart. A [`World`] has a server and a client, and
+//! Simulates a Git server and a client that fetches from it (gitprotocol-v2(5)). The caller gives
+//! the list of events. Messages can be lost, repeated, late, truncated or forged. Objects and refs
+//! can change at either end, and either end can restart. A [`World`] has a server and a client, and
 //! stores each sent request and each reply. An [`Event`] happens to a world, and an [`Outcome`] is
 //! the result of an event.
 //!
 //! # Proved
 //!
-//! - [`World::new`] returns a world of exactly the given server, client's repository, packer and
+//! - [`World::new`] returns a world of exactly the given server, client repository, packer and
 //!   indexer. A new world has no session, no messages and no forged bytes. `World::new` fails with
 //!   `TwoFormats` exactly when the two repositories have different object formats. Otherwise
 //!   `World::new` fails with `Disagree` exactly when both repositories hold different objects under
-//!   the same id. The fault gives the first id with different objects, in the order of the server's
-//!   objects.
+//!   the same id. The fault gives the first such id, in the order of the server's objects.
 //! - [`World::run`] executes the events in order, and returns the outcome of each event. `Step`
 //!   (specs/Events.antt) defines the effect and the outcome of an event. If the world's own lists
 //!   or buffers can't grow, the run stops before an event, and returns the earlier outcomes. The
@@ -22,18 +21,18 @@
 //!   indexer.** The session always makes at most N + 1 requests for objects, where N is the number
 //!   of ids that its tips reach. If no bytes were forged, server and client hold each common id.
 //! - The following promises hold if no bytes were forged, and if the packer and the indexer are
-//!   faithful. The indexer then reads back exactly the objects that the packer packed. After the
+//!   faithful. A faithful indexer reads back exactly the objects that the packer packed. After the
 //!   client accepts a pack, the wants of the pack's request are connected, even if the pack answers
 //!   an older request. The client accepts a complete reply to the open fetch request, unless the
 //!   reply exceeds a limit or the client is out of memory. The server serves each sent request,
-//!   unless the pack is too large or the server is out of memory. A session that accepted the pack
-//!   of a complete reply to its request settles. Settling makes every allowed update of refs,
+//!   unless the pack is too large or the server is out of memory. A session settles if it accepted
+//!   the pack of a complete reply to its request. Settling makes every allowed update of refs,
 //!   unless there would be too many refs or the client is out of memory. `Promises`
 //!   (specs/Promises.antt) has a definition for each promise. A reply to an older request ends the
 //!   session, or adds only the objects of that request.
-//! - The client accepts a complete reply to the open ls-refs request, even after forged bytes. The
-//!   client rejects a complete reply only for an invalid name of a local ref, for too many wants,
-//!   or if out of memory. A session without wants settles.
+//! - Even after forged bytes, the client accepts a complete reply to the open ls-refs request.
+//!   There are three exceptions: an invalid name of a local ref, too many wants, and lack of
+//!   memory. A session without wants settles.
 //! - **At all times** ([`laws::fronts_are_runs`], [`laws::refs_are_always_connected`]): a prefix of
 //!   a run is a run, and the client's refs are connected in each world of a run.
 //! - **Nothing is lost** ([`laws::graphs_only_grow`], [`laws::others_leave_refs`],
@@ -42,12 +41,12 @@
 //!   changes neither end.
 //! - **Honest runs** ([`laws::honest_runs_keep_all`]): each step keeps all promises if no event
 //!   forges bytes and the packer and the indexer are faithful.
-//! - **A fetch completes** ([`laws::fetches_complete`]): a session makes at most N + 2 requests, if
-//!   its tips reach N ids, and can then settle. Settling makes every allowed update of refs,
-//!   unless there would be too many refs or the client is out of memory. The premises are those of
-//!   the promises above, and that each reply arrives complete and no event fails. An event of a
-//!   fetch fails only because of a limit, for lack of memory, or because the name of a local ref
-//!   would be invalid ([`laws::only_limits_refuse`]).
+//! - **A fetch completes** ([`laws::fetches_complete`]): a session whose tips reach N ids makes at
+//!   most N + 2 requests, and can then settle. Settling makes every allowed update of refs, unless
+//!   there would be too many refs or the client is out of memory. This law has the premises of the
+//!   promises above. It also assumes that each reply arrives complete, and that no event fails. An
+//!   event of a fetch fails only because of a limit, for lack of memory, or because the name of a
+//!   local ref would be invalid ([`laws::only_limits_refuse`]).
 //! - The promises follow from the definition of a step ([`laws::runs_keep_promises`]). The only
 //!   premise about the worlds of a run is an invariant of their types: refs are sorted by name, and
 //!   sessions are valid.
@@ -56,15 +55,16 @@
 //!
 //! # Only tested
 //!
-//! If memory is available, calls use it instead of reporting out of memory.
+//! No call reports out of memory while enough memory is available.
 //!
 //! # What the contracts do not rule out
 //!
-//! Even if memory is available, a run may stop with `Memory` before its first event, or before any
-//! event that needs memory. An event that allocates may also report out of memory although memory
-//! is available. The lists of requests and replies may use the allocator of either end. A call may
-//! take any time, and more memory than it needs. Formatting a fault may return `fmt::Error` for no
-//! reason.
+//! No contract rules out that a run stops with `Memory` although memory is available, before its
+//! first event or before any event that needs memory. Nor do the contracts rule out that an event
+//! that allocates reports out of memory although memory is available. The contracts do not state
+//! which end's allocator the lists of requests and replies use. They limit neither the time of a
+//! call nor the memory that it takes. No contract rules out that formatting a fault returns
+//! `fmt::Error` for no reason.
 //!
 //! # Dependencies
 //!

@@ -31,8 +31,8 @@ pub enum Outcome {
     PackTaken {
         added: usize,
     },
-    /// The session settled, with the numbers of refs that moved, of refs that already had their
-    /// ids, and of refs whose update was not a fast-forward.
+    /// The session settled. The fields count the refs that moved, the refs that already had their
+    /// ids, and the refs whose update was not a fast-forward.
     Settled {
         moved: usize,
         same: usize,

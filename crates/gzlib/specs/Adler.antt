@@ -2,7 +2,7 @@
 use Rattle.std.specs.Prelude.{◌≡◌, ℕ, ◌+◌, ◌*◌, ◌%◌, List, [], ◌∷◌, sum}
 use Rattle.gzlib.specs.declared.adler.Adler32.{Adler32}
 
--- the total of the values of the first sum after each byte, if the first sum starts at this value
+-- the total of the values that the first sum has after each byte, if the first sum starts at `first`
 abbrev pub sum_of_sums : ℕ → List ℕ → ℕ
 sum_of_sums first [] = 0
 sum_of_sums first (byte ∷ bytes) = (first + byte) + sum_of_sums (first + byte) bytes
@@ -11,7 +11,7 @@ sum_of_sums first (byte ∷ bytes) = (first + byte) + sum_of_sums (first + byte)
 abbrev pub low_sum : List ℕ → ℕ
 low_sum bytes = (1 + sum bytes) % 65521
 
--- the second sum: the total of the values of the first sum after each byte
+-- the second sum: the total of the values that the first sum has after each byte
 abbrev pub high_sum : List ℕ → ℕ
 high_sum bytes = sum_of_sums 1 bytes % 65521
 

@@ -15,23 +15,23 @@
 //!
 //! # Only tested
 //!
-//! - Inflating conforms to RFC 1951: the program `gitcases` tests correct and wrong streams, and
-//!   `examples/with-git.sh` tests packs made by Git.
-//! - Deflated bytes inflate to the same bytes: `gitcases` inflates them with this crate, and
-//!   `examples/with-git.sh` inflates them with Git.
+//! - Only tests check that inflating conforms to RFC 1951. The program `gitcases` tests valid and
+//!   malformed streams, and `examples/with-git.sh` tests packs made by Git.
+//! - Only tests check that inflating a deflated stream returns the original bytes. `gitcases`
+//!   inflates deflated streams with this crate, and `examples/with-git.sh` inflates them with Git.
 //! - In manual tests, this crate and zlib accepted the same altered streams. Both accept a header
 //!   with any window up to 32 KiB. Both accept an incomplete code only if it has a single symbol,
 //!   with a code of one bit. Both accept an empty distance code.
 //!
 //! # What the contracts do not rule out
 //!
-//! No contract says that inflating conforms to RFC 1951, or that deflated bytes inflate to the same
-//! bytes. No contract says which fault is returned, so an inflater could refuse a valid stream.
-//! Deflated blocks could be larger than necessary. [`Inflater::inflate_front`] could append too few
-//! bytes.
+//! No contract says that inflating conforms to RFC 1951, or that inflating a deflated stream
+//! returns the original bytes. No contract says which fault is returned, or rules out that an
+//! inflater refuses a valid stream. No contract rules out that deflated blocks are larger than
+//! necessary, or that [`Inflater::inflate_front`] appends too few bytes.
 //!
-//! Any call that allocates may fail for lack of memory, and no contract says when. No contract
-//! covers time or memory use.
+//! Any call that allocates may fail if out of memory, and no contract says when. No contract covers
+//! time or memory use.
 //!
 //! # Dependencies
 //!

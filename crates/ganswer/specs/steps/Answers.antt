@@ -25,7 +25,7 @@ use Rattle.glsreply.specs.declared.lent.LentLine.{LentLine}
 
 -- ---- creating a server
 
--- this index is that of the first ref whose id the graph does not hold
+-- the ref at this index is the first ref whose id the graph does not hold
 abbrev pub DanglesAt : {A : Type 0} → List (Entry A) → RefList → ℕ → Type 0
 DanglesAt g refs place =
     (place < length refs) × ((ref : Name × Id) → slice_get refs place ≡ Some ref → IsFirstDangling g refs ref.0)

@@ -25,7 +25,8 @@ use Rattle.gclient.specs.Turns.{AsksNext, ClientState, IsTurn, Refuses, Turn}
 use Rattle.gclient.specs.declared.fault.FetchFault.{FetchFault}
 use Rattle.gclient.specs.declared.fault.FetchFault.TheVariants as fetch
 
--- the result of reading the advertisement: the session stores the content, or the client rejects the advertisement
+-- the result of reading the advertisement: the session stores whether the server can report an unborn HEAD, or the
+-- client rejects the advertisement
 abbrev pub HearsServer : {A : Type 0} → Format → SessionState A → Input → SessionState A
     → Result (Unit {0}) (FetchFault A) → Type 0
 HearsServer format old input new (Ok done) =
@@ -107,7 +108,7 @@ module _ {A : Type 0} (indexes : Indexes A) (index_fails : IndexFails) (start : 
   Talks input output session repo (Ok unborn) = HasTalked input output (client_of session repo unborn)
   Talks input output session repo (Err failed) = Fails indexes index_fails start input output repo failed
 
-  -- the result of the turns up to some point
+  -- the result of the turns so far: the client completed them, or a fault ended the conversation
   abbrev pub TalksTo : {T : Type 0} → Input → Output → ClientState A → Result T (FetchFault A) → Type 0
   TalksTo input output now (Ok done) = HasTalked input output now
   TalksTo input output now (Err failed) = Fails indexes index_fails start input output now.repo failed

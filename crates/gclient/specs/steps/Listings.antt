@@ -12,7 +12,8 @@ use Rattle.gclient.specs.Conversations.{Advertises, RefusesToRead}
 use Rattle.gclient.specs.Listings.{FitsNone}
 use Rattle.gclient.specs.declared.listing.Heard.{Heard}
 
--- a client of this object format supports the server, or no client of any object format supports the server
+-- a client of this object format supports the server, or no client supports the server, whatever the client's object
+-- format
 abbrev pub FitsFormat : List Capability → Result Format MessageFault → Type 0
 FitsFormat capabilities (Ok format) = check_fault format capabilities ≡ None
 FitsFormat capabilities (Err cause) =

@@ -1,5 +1,5 @@
--- Definitions for making a client's repository and for settling: the first unconnected id, and the sources of the new
--- refs.
+-- Definitions for the proofs of making a client's repository and of settling: the first unconnected id, and the origin
+-- of each new ref.
 use Rattle.std.specs.Prelude.{◌⊎◌, List, ℕ, ◌+◌, ◌<◌, All, Contains, length, take}
 use Rattle.gname.specs.Ids.{Id}
 use Rattle.gobject.specs.declared.node.Entry.{Entry}

@@ -1,4 +1,4 @@
--- The steps of `lines`.
+-- Definitions for private functions and proofs of `lines`: packets that are shown, with or without a flush.
 use Rattle.std.specs.Prelude.{ℕ, List, Result, Ok, Err}
 use Rattle.gpkt.specs.Packets.{Packet}
 use Rattle.gpkt.specs.declared.device.Down.{Down}
@@ -10,7 +10,7 @@ use Rattle.gcmd.specs.Lines.{shown_lines, ReadsEach, ReadsSome, ShowsSome}
 
 -- ---- chunks
 
--- the maximum number of payload bytes that one call shows
+-- the maximum number of payload bytes whose digits are written at a time
 abbrev pub chunk : ℕ
 chunk = 512
 

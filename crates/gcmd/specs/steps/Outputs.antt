@@ -1,4 +1,4 @@
--- The steps of writing to a sink.
+-- Definitions for private functions and proofs: bytes that are written to a sink without a flush.
 use Rattle.std.specs.Prelude.{Result, Ok, Err}
 use Rattle.std.specs.Io.KnownBytes.{Appends, Keeps}
 use Rattle.gpkt.specs.Sending.{Output}

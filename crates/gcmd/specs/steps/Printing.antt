@@ -1,4 +1,4 @@
--- The steps of printing a fault: the parts of its line, and their maximum lengths.
+-- Definitions for private functions and proofs: the parts of a fault's line, and their maximum lengths.
 use Rattle.std.specs.Prelude.{ℕ, ◌+◌, ◌*◌, ◌≤◌, length, Option, None, Some, ⊤}
 use Rattle.std.specs.Option.{option_copied}
 use Rattle.gname.specs.Names.{max_name}

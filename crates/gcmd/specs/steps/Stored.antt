@@ -1,4 +1,4 @@
--- The steps of a fetch into a stored file.
+-- Definitions for private functions and proofs: the last two steps of a fetch into a stored file.
 use Rattle.std.specs.Prelude.{◌≡◌, ◌⊎◌, ℕ, Ok, Err}
 use Rattle.gpkt.specs.Packets.{Bytes}
 use Rattle.gpkt.specs.Sending.{Output, IsUnwritten}

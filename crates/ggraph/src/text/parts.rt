@@ -22,8 +22,8 @@ pub(crate) struct FrontId<'a> {
     pub rest: &'a [u8],
 }
 
-/// If the text begins with the digits of an id of this format, returns the id and the text after
-/// the digits.
+/// Returns the id of this format at the beginning of the text, and the text after the id. Returns
+/// `None` if the text does not begin with such an id.
 pub(crate) fn take_id(format: Format, text: &[u8]) -> Option<(Oid, &[u8])>
     ensures { MatchOption result (BeginsWithNoId format text.now) (λ pair.
         (text.now ≡ id_text pair.0 ++ pair.1.now) × IsIdOf format pair.0) }
@@ -34,8 +34,8 @@ pub(crate) fn take_id(format: Format, text: &[u8]) -> Option<(Oid, &[u8])>
     }
 }
 
-// Returns the id of this format at the beginning of the text, or `None` if the text does not begin
-// with such an id.
+// Returns the id of this format at the beginning of the text, with its digits and the text after
+// it. Returns `None` if the text does not begin with such an id.
 fn front_id(format: Format, text: &[u8]) -> Option<FrontId<'_>>
     ensures { MatchOption result (BeginsWithNoId format text.now) (λ found.
         (text.now ≡ id_text found.id ++ found.rest.now) × (found.digits.now ≡ id_text found.id)
@@ -67,7 +67,8 @@ fn is_lower(digits: &[u8]) -> bool
     digits.iter().all(|digit| !digit.is_ascii_uppercase())
 }
 
-/// If the text begins with a space and an id, returns that id, otherwise `None`.
+/// Parses a space and an id of this format at the beginning of the text, and returns the id.
+/// Returns `None` for any other text.
 pub(crate) fn take_spaced(format: Format, text: &[u8]) -> Option<FrontId<'_>>
     ensures { MatchOption result (BeginsWithNoSpacedId format text.now) (λ found.
         (text.now ≡ codes " " ++ (id_text found.id ++ found.rest.now))
@@ -77,8 +78,9 @@ pub(crate) fn take_spaced(format: Format, text: &[u8]) -> Option<FrontId<'_>>
     front_id(format, text.strip_prefix(b" ")?)
 }
 
-// If the text begins with a space and a parent's id, returns that id and the text after it. The
-// function tries the recent ids first, because most parents are on one of the previous two lines.
+// Parses a space and a parent's id at the beginning of the text. Returns the id and the text after
+// it, or `None` for any other text. The function tries the recent ids first, because most parents
+// are on one of the previous two lines.
 fn take_parent<'t>(format: Format, recent: &Recent<'_>, text: &'t [u8]) -> Option<(Oid, &'t [u8])>
     ensures { MatchOption result (BeginsWithNoSpacedId format text.now) (λ pair.
         (text.now ≡ codes " " ++ (id_text pair.0 ++ pair.1.now)) × IsIdOf format pair.0) }

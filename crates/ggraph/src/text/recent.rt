@@ -50,8 +50,8 @@ impl<'a> Recent<'a> {
         self.last_digits = digits;
     }
 
-    /// If the text begins with the digits of a recent id, returns that id and the text after the
-    /// digits.
+    /// Returns the recent id at the beginning of the text, and the text after the id. Returns
+    /// `None` if the text does not begin with the digits of a recent id.
     pub(crate) fn take_recent<'t>(&self, text: &'t [u8]) -> Option<(Oid, &'t [u8])>
         ensures { IfSome result (λ pair. text.now ≡ id_text pair.0 ++ pair.1.now) }
     {

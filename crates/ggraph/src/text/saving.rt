@@ -42,8 +42,8 @@ pub fn save<A: Allocator + Copy>(
     Ok(text)
 }
 
-// Returns the first id of a ref that does not have the format. If all refs have the format, returns
-// the id of a detached HEAD that does not have it.
+// Returns the first id that does not have the format, among the ids of the refs and then the id of
+// a detached HEAD.
 fn other_id<A: Allocator + Copy>(
     format: Format,
     refs: &[(RefName<A>, Oid)],
@@ -58,7 +58,7 @@ fn other_id<A: Allocator + Copy>(
     }
 }
 
-// Returns the first id of a ref that does not have the format.
+// Returns the first id, among those of the refs, that does not have the format.
 fn other_ref<A: Allocator + Copy>(format: Format, refs: &[(RefName<A>, Oid)]) -> Option<Oid>
     ensures { MatchOption result (All (IsIdOf format) (ref_ids refs.now))
         (IsFirstOther format (ref_ids refs.now)) }

@@ -11,8 +11,8 @@ pub record IsFanOut (rows : List (List ℕ)) (ids : List Id) : Type 0 where
   pub counted : (byte : ℕ) (d : List ℕ) → byte < 256
       → number (slice_index_or rows byte d) ≡ count_by (begins_within byte) ids
 
--- all ids at an index below `start` begin with a lower byte than this, and all ids from index `end` on with a higher
--- byte
+-- the ids at indexes below `start` begin with a byte lower than `byte`, and the ids from index `end` on begin with a
+-- higher byte
 pub record AreBetween (byte : ℕ) (ids : List Id) (start end : ℕ) : Type 0 where
   pub ordered : start ≤ end
   pub inside : end ≤ length ids

@@ -23,7 +23,7 @@ pub record AddsItems (items : List Item) (old new : List ℕ) : Type 0 where
   pub after : new ≡ old ++ text
   pub holds : HoldsItems items text
 
--- the appended text reads back as this value, if the value ends after the appended text
+-- the appended text reads back as this value, if a value can end before the text that follows
 abbrev pub AddsValue : List ℕ → List ℕ → List ℕ → Type 0
 AddsValue value old new = (text : List ℕ) × (new ≡ old ++ text)
     × ((rest : List ℕ) → EndsValue rest → BeginsWithValue (32 ∷ text ++ rest) value rest)

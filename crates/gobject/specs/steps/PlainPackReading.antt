@@ -26,7 +26,7 @@ pub record SplitsPart (text part : List ℕ) (separator : Separator) (rest : Lis
   pub whole : text ≡ part ++ separator_byte separator ∷ rest
   pub unbroken : IsPart part
 
--- the format of an id with `n` digits
+-- the format of an id with `n` digits, or SHA-1 if no id has `n` digits
 abbrev pub format_of_digits : ℕ → Format
 format_of_digits n = if n == id_text_length Sha256 then Sha256 else Sha1
 
@@ -40,7 +40,7 @@ NoId text = (id : Id) → IsIdText text id → ⊥
 abbrev pub with_parent : {A : Type 0} → Entry A → Id → Entry A
 with_parent entry id = entry_of entry.id (node_of entry.node.kind (entry.node.parents ++ id ∷ []))
 
--- the text is the first word of a line, and announces the next part
+-- the text is the first word of a line; this word determines the next part
 abbrev pub IsWord : {A : Type 0} → List ℕ → Next A → Type 0
 IsWord part (next_is.Id kind) = part ≡ letter kind ∷ []
 IsWord part next_is.Count = part ≡ codes "end"

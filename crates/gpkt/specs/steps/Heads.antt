@@ -1,4 +1,4 @@
--- The reading of one packet: its head, which is the kind of packet that the four digits announce, and its payload.
+-- Reading one packet: first its head, which is the kind of packet that the four digits announce, then its payload.
 use Rattle.std.specs.Prelude.{◌≡◌, ℕ, ◌+◌, ◌<◌, ◌≤◌, Bool, true, false, [], length, take}
 use Rattle.std.specs.Prelude.{Option, Some, None, option_map, Result, Ok, Err}
 use Rattle.std.specs.Io.KnownBytes.{Consumes, IsAtEnd}
@@ -50,7 +50,7 @@ Classifies digits (Err _) = ⊥
 abbrev pub ConsumesBelow : Change → ℕ → Type 0
 ConsumesBelow bytes limit = (taken : Bytes) × Consumes bytes.old bytes.new taken × (length taken < limit)
 
--- fewer than `limit` bytes are consumed, and the input ends after them, if it is known
+-- if the input is known, fewer than `limit` bytes are consumed, and the input ends after them
 abbrev pub EndsBelow : Change → ℕ → Type 0
 EndsBelow bytes limit =
     (taken : Bytes) × Consumes bytes.old bytes.new taken × (length taken < limit) × IsAtEnd bytes.new

@@ -14,8 +14,8 @@ use gname::{HEAD, NameFault, Prefix, RefName};
 use std::alloc::{AllocError, Allocator, Global};
 use std::marker::Model;
 
-/// A refspec: a source and a destination. Source and destination are both ref names, or both are
-/// patterns whose `*` matches the rest of a name.
+/// A refspec: a source and a destination. Both are ref names, or both are patterns that end in `*`.
+/// The `*` of the source matches one or more bytes at the end of a name.
 #[derive(Debug, Drop)]
 pub struct Spec<A: Allocator + Copy = Global> {
     forced: bool,
@@ -145,8 +145,9 @@ impl<A: Allocator + Copy> Spec<A> {
         are_name(self.destination.as_bytes(), rest)
     }
 
-    /// Returns the destination of a name, which is below `refs/`. In a pattern the rest of the name
-    /// replaces the `*`. Returns `None` if the source does not match the name.
+    /// Returns the destination of a name, which is below `refs/`. In a pattern, the part of the
+    /// name that the source's `*` matched replaces the destination's `*`. Returns `None` if the
+    /// source does not match the name.
     ///
     /// Fails with the first fault of the destination if the destination is not a valid ref name.
     /// Fails with `Memory` only if the destination is a valid ref name.

@@ -81,7 +81,7 @@ with_packet format state _ = state
 
 -- ---- sections of a request
 
--- the section of a request; before the command is read, the next packet is the first
+-- the section of a request, which is `First` until the command is read
 abbrev pub place_in : Section → Asked → RequestPlace
 place_in section Empty = First
 place_in Capabilities (Ls asked) = InCapabilities LsRefs
@@ -101,7 +101,7 @@ pub record RequestSoFar : Type 0 where
 abbrev pub HoldsPackets : RequestSoFar → List Packet → Type 0
 HoldsPackets reading lines = reading.state ≡ state_of reading.format lines
 
--- after a refused request, the state of reading may be any state
+-- no contract restricts the state of reading after a refused request
 abbrev pub LeavesNothing : RequestSoFar → List Packet → Type 0
 LeavesNothing reading front = Unit {0}
 
@@ -114,7 +114,7 @@ abbrev pub CarriesWord : CapabilityForm → Type 0
 CarriesWord (Agent value) = is_word_value value ≡ true
 CarriesWord _ = Unit {0}
 
--- the contents of a packet in this section are stored
+-- whether the contents of a packet in this section are stored
 abbrev pub packet_brings : RequestPlace → Packet → Bool
 packet_brings place (Data payload) = text_brings place (text payload)
 packet_brings place _ = false

@@ -1,4 +1,4 @@
--- The steps that read a scenario word by word.
+-- Definitions for private functions and proofs: a scenario that is read word by word.
 use Rattle.std.specs.Prelude.{◌≡◌, ⊤, ℕ, List, [], ◌∷◌, Option, Result, MatchOption, MatchResult}
 use Rattle.gscenario.specs.ScenarioText.{AreArguments, command_of, words_of}
 use Rattle.gscenario.specs.declared.command.EventWord.{EventWord}
@@ -17,7 +17,8 @@ NoArguments A command words = (event : Event A) → command ≡ command_of event
 abbrev pub HasArguments : {A : Type 0} → EventWord → List (List ℕ) → Event A → Type 0
 HasArguments command words event = (command ≡ command_of event) × AreArguments event words
 
--- the result of reading the arguments of a command: an event, `None` if the arguments are malformed, or out of memory
+-- the result of reading the arguments of a command: an event, `None` if they are malformed, or an error if memory runs
+-- out
 abbrev pub ReadsArguments : {A E : Type 0} → EventWord → List (List ℕ) → Result (Option (Event A)) E → Type 0
 ReadsArguments {A} command words result =
     MatchResult result

@@ -17,7 +17,8 @@ module _ {A R P : Type 0} (server_of : R → Server A) (gives : R → P → Give
         → (said ≡ text_packets text) × (goes ≡ false)
     pub last : (reply : ServerReply A R P) → result ≢ answer.GoesOn reply
 
-  -- the answer is the reply in `Ok`, after which the dialogue may continue, or an error packet with the text in `Err`
+  -- The answer is the reply in `Ok`, or an error packet with the text in `Err`. If the boolean is false, the dialogue
+  -- ends after the reply.
   abbrev pub AnswersOf : Result (ServerReply A R P) Bytes → Bool → Answer (ServerReply A R P) → Type 0
   AnswersOf (Ok reply) true result = result ≡ answer.GoesOn reply
   AnswersOf (Ok reply) false result = result ≡ answer.Last reply

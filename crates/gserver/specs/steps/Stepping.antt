@@ -55,7 +55,7 @@ FollowsHeading ids pack _ = ⊥
 
 -- ---- several steps
 
--- since the first state, at least `count` steps were made; the queue still has room for another packet
+-- at least `count` steps lead from the first state to this state; the queue still has room for another packet
 pub record HasSaid (first now : May) (steps_first steps_now count : ℕ) (out : Bytes) : Type 0 where
   pub said : List Packet
   pub spelt : out ≡ canonical_all said

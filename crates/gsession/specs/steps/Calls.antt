@@ -54,13 +54,13 @@ pub record FitsBatch {A : Type 0} (s : SessionState A) (batch : List Id) : Type 
 
 -- ---- the ls-refs reply
 
--- the result of accepting the refs of a complete reply, before a fault ends the session
+-- the result of accepting or rejecting the refs of a complete reply; a fault does not yet end the session
 abbrev pub AnswersRefs : {A : Type 0} → SessionState A → List (Entry A) → LsReply → SessionState A
     → Result (LsTaken A) (ClientFault A) → Type 0
 AnswersRefs old g reply new (Ok taken) = TakesLines old g reply new taken
 AnswersRefs old g reply new (Err fault) = IsRefsFault old g reply fault × (new ≡ old)
 
--- the result of reading an ls-refs reply, before a fault ends the session
+-- the result of reading an ls-refs reply; a fault does not yet end the session
 abbrev pub AnswersLs : {A : Type 0} → SessionState A → List (Entry A) → Change → SessionState A
     → Result (LsTaken A) (ClientFault A) → Type 0
 AnswersLs old g change new (Ok taken) = TakesLs old g change new (Ok taken)
@@ -68,7 +68,8 @@ AnswersLs old g change new (Err fault) = IsLsFault old g change fault × (new �
 
 -- ---- the fetch reply
 
--- the indexer read these bytes of a pack, or failed with a fault that is possible for every pack with this prefix
+-- the indexer read these bytes of a pack, or failed with a fault that is possible for every pack that begins with these
+-- bytes
 abbrev pub MayHaveFed : {F : Type 0} → (F → Bytes → Type 0) → IndexFails → Result F IndexFault → Bytes → Type 0
 MayHaveFed fed index_fails (Ok feed) bytes = fed feed bytes
 MayHaveFed fed index_fails (Err fault) bytes = (more : Bytes) → index_fails (bytes ++ more) fault
@@ -91,7 +92,7 @@ FitsHead asked (head.Acks ids) = is_direct asked ≡ false
 FitsHead asked _ = Unit {0}
 
 module _ {A : Type 0} (indexes : Indexes A) (index_fails : IndexFails) where
-  -- the result of accepting a complete fetch reply, before a fault ends the session
+  -- the result of accepting or rejecting a complete fetch reply; a fault does not yet end the session
   abbrev pub AnswersRead : List Id → SessionState A → RepoState A → FetchReply → SessionState A → RepoState A
       → Result Taken (ClientFault A) → Type 0
   AnswersRead haves old repo_old reply new repo_new (Ok taken) =
@@ -99,7 +100,7 @@ module _ {A : Type 0} (indexes : Indexes A) (index_fails : IndexFails) where
   AnswersRead haves old repo_old reply new repo_new (Err fault) =
       IsReplyFault indexes index_fails haves repo_old reply fault × (new ≡ old) × (repo_new ≡ repo_old)
 
-  -- the result of reading a fetch reply, before a fault ends the session
+  -- the result of reading a fetch reply; a fault does not yet end the session
   abbrev pub AnswersReply : SessionState A → RepoState A → Change → SessionState A → RepoState A
       → Result Taken (ClientFault A) → Type 0
   AnswersReply old repo_old change new repo_new (Ok taken) =

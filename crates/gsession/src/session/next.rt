@@ -6,7 +6,6 @@ ghost use Rattle.gobject.specs.declared.node.Entry.{Entry};
 ghost use Rattle.grequest.specs.Asked.{Fetches};
 
 use crate::fault::ClientFault;
-use crate::limits::max_haves;
 use crate::requests::{batch_size, blank_request, objects_request, refs_request};
 use crate::session::{Session, set_pending};
 use crate::stage::Stage;
@@ -15,7 +14,7 @@ use ggraph::graph_laws::{offers_are_exact, positions_are_nodes};
 use ggraph::{GraphFault, Offers};
 use gname::Oid;
 use gname::laws::ids_have_one_format;
-use grequest::Request;
+use grequest::{Request, max_haves};
 use std::alloc::{AllocError, Allocator};
 use std::mem;
 
@@ -23,7 +22,7 @@ impl<A: Allocator + Copy> Session<A> {
     ghost use Rattle.grequest.specs.RequestValues.{IsOfFormat, asked_by_request};
     ghost use Rattle.gwalk.specs.Offers.{AreOffers};
     ghost use Rattle.gsession.specs.Offering.{AreOffersOf};
-    ghost use Rattle.gsession.specs.Requesting.{IsBatch, MakesNext, Requests, fetch_request, is_due, waiting_for};
+    ghost use Rattle.gsession.specs.Requesting.{HasLimitsFor, IsBatch, MakesNext, Requests, fetch_request, is_due, waiting_for};
     ghost use Rattle.gsession.specs.Sessions.{after_fault, no_memory};
     ghost use Rattle.gsession.specs.steps.Calls.{FitsBatch};
 
@@ -54,6 +53,7 @@ impl<A: Allocator + Copy> Session<A> {
             (Ok (asked_by_request request)))
             (λ fault. Requests self.old repo.now.graph.entries self.new (Err fault)) }
         ensures format { IfOk result (IsOfFormat self.old.format) }
+        ensures limits { IfOk result (HasLimitsFor self.old.options.limits) }
     {
         self.request_on(repo, &mut None)
     }
@@ -74,6 +74,7 @@ impl<A: Allocator + Copy> Session<A> {
             (Ok (asked_by_request request)))
             (λ fault. Requests self.old repo.now.graph.entries self.new (Err fault)) }
         ensures format { IfOk result (IsOfFormat self.old.format) }
+        ensures limits { IfOk result (HasLimitsFor self.old.options.limits) }
         ensures offers { OnOk result (IfSome offers.new
             (AreOffersOf self.new repo.now.graph.entries)) }
     {
@@ -83,7 +84,7 @@ impl<A: Allocator + Copy> Session<A> {
         }
     }
 
-    // Makes the next request, if the session can make one. A fault does not end the session here.
+    // Makes the next request, if the session can make one. A fault does not yet end the session.
     fn make_request(
         &mut self,
         repo: &Repo<A>,
@@ -97,6 +98,7 @@ impl<A: Allocator + Copy> Session<A> {
             (Err fault)
             × (self.new ≡ self.old)) }
         ensures format { IfOk result (IsOfFormat self.old.format) }
+        ensures limits { IfOk result (HasLimitsFor self.old.options.limits) }
         ensures offers { OnOk result (IfSome offers.new
             (AreOffersOf self.new repo.now.graph.entries)) }
     {
@@ -118,6 +120,7 @@ impl<A: Allocator + Copy> Session<A> {
             (λ request. MakesNext self.old g self.new (asked_by_request request))
             (λ fault. (self.new ≡ self.old) × (fault ≡ no_memory)) }
         ensures format { IfOk result (IsOfFormat self.old.format) }
+        ensures limits { IfOk result (HasLimitsFor self.old.options.limits) }
     {
         let alloc = self.allocator();
         let request = refs_request(alloc, self.refspecs.as_slice(), self.offers_unborn)?;
@@ -139,6 +142,7 @@ impl<A: Allocator + Copy> Session<A> {
             (λ request. MakesNext self.old repo.now.graph.entries self.new
             (asked_by_request request)) (λ fault. (self.new ≡ self.old) × (fault ≡ no_memory)) }
         ensures format { IfOk result (IsOfFormat self.old.format) }
+        ensures limits { IfOk result (HasLimitsFor self.old.options.limits) }
         ensures offers { OnOk result (IfSome offers.new
             (AreOffersOf self.new repo.now.graph.entries)) }
     {
@@ -157,6 +161,7 @@ impl<A: Allocator + Copy> Session<A> {
             × (self.new ≡ waiting_for self.old (asked_by_request request) batch.now))
             (λ _. self.new ≡ self.old) }
         ensures format { IfOk result (IsOfFormat self.old.format) }
+        ensures limits { IfOk result (HasLimitsFor self.old.options.limits) }
     {
         let alloc = self.allocator();
         let blank = blank_request(alloc, self.format, self.options);
@@ -192,7 +197,7 @@ impl<A: Allocator + Copy> Session<A> {
         let offer = walk.next(
             repo.graph(),
             self.commons.as_slice(),
-            batch_size(self.rounds),
+            batch_size(self.options.max_batch, self.rounds),
         )?;
         if offer.len() <= max_haves(self.options.limits) - self.commons.len() {
             *offers = Some(walk);
@@ -227,6 +232,7 @@ impl<A: Allocator + Copy> Session<A> {
             ≡ Fetches (fetch_request self.old.options self.old.wants self.old.commons batch.now) }
         requires fits { FitsBatch self.old batch.now }
         requires format { IsOfFormat self.old.format request }
+        requires limits { HasLimitsFor self.old.options.limits request }
         ensures { MatchResult result
             (λ _. self.new ≡ waiting_for self.old (asked_by_request request) batch.now)
             (λ _. self.new ≡ self.old) }

@@ -30,16 +30,16 @@ impl<A: Allocator + Copy> Session<A> {
     ghost use Rattle.gsession.specs.TakingReplies.{Awaits, AwaitsObjects, HasPack, TakesReply, after_acks, reading_for};
 
     /// Reads the reply to a request for objects, and nothing after it. Passes the pack to the
-    /// indexer as it arrives. After the end of the reply, checks that each acknowledged id is one
-    /// of the request's haves, and adds the id to the common ids. Adds all objects of the pack to
-    /// the repository, or no objects.
+    /// indexer while the pack arrives. After the end of the reply, checks that each acknowledged id
+    /// is one of the request's haves, and adds the id to the common ids. Adds all objects of the
+    /// pack to the repository, or no objects.
     ///
     /// Fails with `NoOpenRequest` if no request for objects is open, and reads nothing. Any other
     /// fault ends the session, and leaves the repository unchanged. Fails with `Message` if a
     /// packet of the reply is unreadable or malformed, or if there is not enough memory for an
-    /// acknowledged id. Otherwise fails with `StrangeAck` if an acknowledged id is not a have, then
-    /// with `Index` if the indexer rejected the pack. Otherwise fails with `Repo` if the graph
-    /// rejects the objects, or if out of memory.
+    /// acknowledged id. Otherwise fails with `StrangeAck` if an acknowledged id is not a have.
+    /// Otherwise fails with `Index` if the indexer rejected the pack. Otherwise fails with `Repo`
+    /// if the graph rejects the objects, or if out of memory.
     pub fn take_reply<S: Source, K: Indexer<A>, B: Allocator + Copy>(
         &mut self,
         repo: &mut Repo<A>,
@@ -59,8 +59,8 @@ impl<A: Allocator + Copy> Session<A> {
         }
     }
 
-    // Reads the fetch reply, if the open request is for objects. A fault does not end the session
-    // here.
+    // Reads the fetch reply, if the open request is for objects. A fault does not yet end the
+    // session.
     fn read_objects<S: Source, K: Indexer<A>, B: Allocator + Copy>(
         &mut self,
         repo: &mut Repo<A>,
@@ -84,7 +84,8 @@ impl<A: Allocator + Copy> Session<A> {
         }
     }
 
-    // Returns the parameters for reading the awaited reply, if it is a fetch reply.
+    // Returns the parameters for reading the reply to the open request, or `None` if no request for
+    // objects is open.
     fn reply_reading(&self) -> Option<FetchReading>
         ensures { MatchOption result
             (¬ (AwaitsObjects self.now))
@@ -143,7 +144,7 @@ impl<A: Allocator + Copy> Session<A> {
         Ok(Taken::Round { common })
     }
 
-    // Applies a reply with a pack and perhaps acknowledgments.
+    // Applies a reply with a pack, with or without acknowledgments.
     fn take_pack<K: Indexer<A>>(
         &mut self,
         repo: &mut Repo<A>,

@@ -8,7 +8,6 @@ ghost use Rattle.gsession.specs.TakingRefs.{stage_for};
 
 use crate::asks::{are_named, asked_of, unborn_of, wants_of};
 use crate::fault::ClientFault;
-use crate::limits::max_wants;
 use crate::session::{Session, set_pending};
 use crate::stage::Stage;
 use crate::taken::LsTaken;
@@ -17,7 +16,7 @@ use ggrammar::{MessageFault, Why};
 use glsreply::{LsReply, read_ls_reply_in};
 use gname::Oid;
 use gpkt::{PacketReader, Source};
-use grequest::Request;
+use grequest::{Request, max_wants};
 use std::alloc::Allocator;
 
 impl<A: Allocator + Copy> Session<A> {
@@ -55,8 +54,8 @@ impl<A: Allocator + Copy> Session<A> {
         }
     }
 
-    // Reads the ls-refs reply, if the open request is for refs. A fault does not end the session
-    // here.
+    // Reads the ls-refs reply, if the open request is for refs. A fault does not yet end the
+    // session.
     fn read_refs<S: Source, B: Allocator + Copy>(
         &mut self,
         repo: &Repo<A>,
@@ -103,7 +102,7 @@ impl<A: Allocator + Copy> Session<A> {
         self.take_asked(repo, reply, asks)
     }
 
-    // Stores the updates that the refs of a reply lead to, and the wants.
+    // Stores the requested updates that follow from a reply, and the wants.
     fn take_asked(
         &mut self,
         repo: &Repo<A>,

@@ -1,4 +1,4 @@
--- The steps of a simulation.
+-- Definitions for private functions and proofs: the files, and the world that they describe.
 use Rattle.std.specs.Prelude.{◌≡◌, List}
 use Rattle.ganswer.specs.Servers.{Server}
 use Rattle.gclientrepo.specs.Repos.{RepoState}

@@ -1,4 +1,4 @@
--- The steps of deadlines: the remaining time of a client of the server.
+-- Definitions for private functions and proofs: the remaining time of a client of the server.
 use Rattle.std.specs.Prelude.{◌≡◌, ◌⊎◌, ◌<◌, ◌≤◌, ◌+◌, ◌-◌, ℕ, Option, None, Some}
 
 -- ---- times, in nanoseconds
@@ -13,8 +13,8 @@ request_time = 60_000_000_000
 
 -- ---- remainders
 
--- The remaining time at a moment: the remaining time at an earlier moment, minus the time that has elapsed since the
--- earlier moment. No time remains if all remaining time has elapsed or the clock went backwards.
+-- The time that remains `now`: the time that remained at the moment `at`, minus the time since `at`. No time remains if
+-- that time has elapsed, or if the clock went backwards.
 abbrev pub LeavesOf : ℕ × ℕ → ℕ → Option (ℕ × ℕ) → Type 0
 LeavesOf (left, at) now (Some (rest, moment)) =
     (moment ≡ now) × (at ≤ now) × (rest + (now - at) ≡ left) × (0 < rest)

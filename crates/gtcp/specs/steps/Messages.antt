@@ -1,4 +1,4 @@
--- The steps of the model of a sink that holds a message back.
+-- Definitions for private functions and proofs: the model of a sink that holds a message back.
 use Rattle.std.specs.Prelude.{ℕ, Bool, refl}
 use Rattle.std.specs.Coded.{Coded, code_by, coded×, coded_bool, coded_ℕ}
 use Rattle.gpkt.specs.steps.Devices.{bytes_code}

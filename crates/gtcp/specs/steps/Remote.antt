@@ -1,4 +1,4 @@
--- The steps of the programs that open sockets: a listing, serving, and pairs.
+-- Definitions for private functions and proofs of the programs that open sockets: listings, servers and pairs.
 use Rattle.std.specs.Prelude.{◌≡◌, ◌⊎◌, ℕ, Bool, true, false, List, length, All, Result, Ok, Err}
 use Rattle.gpkt.specs.Sending.{Output, IsUnwritten, Passes, Sends, SendsSome}
 use Rattle.gpkt.specs.Packets.{Bytes}
@@ -29,7 +29,7 @@ abbrev pub PrintsSoFar : {A : Type 0} → Output → List (ProgramFault A) → B
 PrintsSoFar errors faults true = PrintsNone errors faults ⊎ Passes errors (fault_lines faults)
 PrintsSoFar errors faults false = SendsSome errors (fault_lines faults)
 
--- the effect of reporting a connection: the fault of the connection is printed, if it has one and all earlier faults
+-- the effect of reporting a connection: the fault of the connection is printed, if there is one and all earlier faults
 -- could be printed
 abbrev pub Tells : {A : Type 0} → ProgramOutcome A → Bool → Bool → Output → Type 0
 Tells (Ok done) could can errors = IsUnwritten errors × (can ≡ could)
@@ -38,8 +38,8 @@ Tells (Err fault) true true errors = Sends errors (fault_line fault)
 Tells (Err fault) true false errors = SendsSome errors (fault_line fault)
 
 module _ {A : Type 0} (server : Server A) (packs : Packs A) (fails : PackFails A) (path : Bytes) (ends : Ends) where
-  -- this number of connections is served so far, and their faults are printed; the flag states whether the error sink
-  -- still works
+  -- this number of connections has been served so far, and their faults are printed; the flag states whether the error
+  -- sink still works
   pub record ServesSoFar (errors : Output) (is_up : Bool) (connections : ℕ) : Type 0 where
     pub outcomes : List (ProgramOutcome A)
     pub each : All (IsServed server packs fails path ends) outcomes

@@ -1,4 +1,4 @@
--- The steps of turns: the message that a client of the server may send now.
+-- Definitions for private functions and proofs: the time for the message that a client of the server may send now.
 use Rattle.std.specs.Prelude.{◌≡◌, ℕ, Option, None, Some}
 use Rattle.gtcp.specs.declared.timer.Turn.{Turn}
 use Rattle.gtcp.specs.declared.timer.Turn.TheVariants as turn

@@ -1,5 +1,5 @@
-//! The pass down the insertion order. The pass starts at the last want or common id, and ends when
-//! no unvisited position is open.
+//! The pass down the insertion order, from later to earlier objects. The pass starts at the last
+//! want or common id, and ends when no unvisited position is open.
 
 ghost use Rattle.std.specs.Prelude.{◌≡◌, ◌≤◌, ◌<◌, ◌+◌, ℕ, List, IfErr, IfOk, ◌||◌, length, slice_set, true};
 ghost use Rattle.gname.specs.Ids.{Id};
@@ -12,8 +12,8 @@ use gdag::{Graph, GraphFault};
 use gname::Oid;
 use std::alloc::Allocator;
 
-// Passes down until no unvisited position is open. A position is open if it is marked as wanted and
-// not as known.
+// Visits positions in descending order until no unvisited position is open. A position is open if
+// it is marked as wanted and not as known.
 #[tactic(auto, using(crate::proofs::Positions::in_order))]
 pub(crate) fn pass_down<A: Allocator + Copy>(
     graph: &Graph<A>,

@@ -27,7 +27,7 @@ pub(crate) fn no_marks<A: Allocator + Copy>(
     Ok(marks)
 }
 
-// Marks those positions of the ids that are below the end of the marks.
+// Marks the positions of the ids, except positions after the end of the marks.
 pub(crate) fn mark_all<A: Allocator + Copy>(graph: &Graph<A>, ids: &[Oid], marks: &mut Vec<bool, A>)
     ensures { MarksAll graph.now.entries ids.now marks.old.items marks.new.items }
 {

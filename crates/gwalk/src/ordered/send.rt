@@ -12,15 +12,15 @@ use gname::Oid;
 use gobject::Entry;
 use std::alloc::Allocator;
 
-/// Returns the objects to send for the wants to a receiver that has the common ids connected, in
-/// insertion order (gitprotocol-v2(5), "fetch": `want`, `have`, `include-tag`). The list has each
-/// object that some want reaches and no common id reaches. The list also has each tag in a chain of
-/// tags from a tip to a commit of the list. Without `include-tag`, pass no tips. An id that is not
-/// in the graph adds nothing to the list.
+/// Returns the objects to send for the wants, in insertion order (gitprotocol-v2(5), "fetch":
+/// `want`, `have`, `include-tag`). The receiver is assumed to hold the common ids and all their
+/// ancestors. The list has each object that some want reaches and no common id reaches. The list
+/// also has each tag in a chain of tags from a tip to a commit of the list. Without `include-tag`,
+/// pass no tips. An id that is not in the graph adds nothing to the list.
 ///
 /// Each object of the graph must have been inserted after its parents (`Graph::is_ordered`). The
-/// call passes down the insertion order, and starts at the last want or common id. The pass stops
-/// when every remaining object that a want was found to reach was also found to be reachable from a
+/// call searches for new objects in reverse insertion order, from the last want or common id. The
+/// search stops when every unvisited object that it has reached from a want was also reached from a
 /// common id.
 ///
 /// Fails only with `Memory`. The graph's allocator allocates the list, and at most three bytes for

@@ -19,7 +19,7 @@ use std::alloc::Allocator;
 /// itself. Without common ids the call returns `false`, and does not allocate.
 ///
 /// Each object of the graph must have been inserted after its parents (`Graph::is_ordered`). The
-/// call passes up the insertion order from the first common id to the last want.
+/// call visits the objects in insertion order, from the first common id to the last want.
 ///
 /// Fails only with `Memory`. The call allocates one byte for each object up to the last want.
 #[tactic(auto, using(crate::proofs::Positions::in_order))]
@@ -51,7 +51,7 @@ pub fn ready<A: Allocator + Copy>(
 /// (gitglossary(7), "reachable").
 ///
 /// Each object of the graph must have been inserted after its parents (`Graph::is_ordered`). The
-/// call passes up the insertion order from `b` to `a`.
+/// call visits the objects in insertion order, from `b` to `a`.
 ///
 /// Fails only with `Memory`. The call allocates one byte for each object up to `a`.
 #[tactic(auto, using(crate::proofs::Positions::in_order))]

@@ -1,4 +1,4 @@
--- The steps of a world: its start, the delivery of bytes to the client, and its runs.
+-- Definitions for private functions and proofs: the start of a world, the delivery of bytes to the client, and runs.
 use Rattle.std.specs.Prelude.{◌≡◌, ◌↔◌, ⊤, ℕ, Bool, IsTrue, List, slice_get, take, Option, None, Some, Result, Ok, Err}
 use Rattle.gname.specs.Ids.{Id}
 use Rattle.gpkt.specs.Packets.{Bytes}
@@ -25,7 +25,7 @@ use Rattle.gworld.specs.declared.outcome.Outcome.TheVariants as outcomes
 use Rattle.gworld.specs.declared.incoming.Due.{Due}
 use Rattle.gworld.specs.declared.incoming.Due.TheVariants.{Nothing, Refs, Objects}
 
--- the kind of reply that the open request awaits
+-- the kind of reply that answers the open request, or `Nothing` if no request is open
 abbrev pub IsAwaited : Option Asked → Due → Type 0
 IsAwaited None Nothing = ⊤
 IsAwaited (Some (Ls asked)) Refs = ⊤
@@ -61,7 +61,7 @@ module _ {A : Type 0} (indexes : Indexes A) (index_fails : IndexFails) where
       TakesBytes indexes index_fails asked s repo (take count (reply_bytes kept.reply)) outcome after new
       × (IsTrue marked ↔ IsFullAnswer kept asked count outcome)
 
--- a run of the events with these outcomes, in which each step keeps its promises and which ends in a sound world
+-- the events happen with these outcomes, each step keeps its promises, and the run ends in a sound world
 pub record RunsSoundly {A : Type 0} (tools : PackTools A) (w : WorldState A) (events : List (Event A))
     (outcomes : List Outcome) (new : WorldState A) : Type 0 where
   pub sound : IsSound tools new

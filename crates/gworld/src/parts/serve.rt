@@ -21,7 +21,7 @@ use gserve::{End, serve};
 use std::alloc::{AllocError, Allocator};
 
 impl<A: Allocator + Copy> Parts<A> {
-    /// Holds the server's conversation with an unknown client that sends these bytes.
+    /// Runs the server's conversation with an unknown client that sends these bytes.
     pub(crate) fn hear_stranger<K: Packer<A>>(
         &mut self,
         bytes: &[u8],

@@ -26,8 +26,8 @@ returns-then-len-max_haves-clause-batch g c =
     let s = c.args.self.now in
     let of = c.in_ok-walk.ensures.offers in
     let commons = c.as_slice.ensures.value ∙ ap (λ (s : SessionState g.row.A.Denot). s.commons) c.self.view_is in
-    let size = c.batch_size.ensures ∙ ap (λ (s : SessionState g.row.A.Denot). batch_size s.rounds) c.self.view_is in
-    let answers : IsOffer c.args.repo.now.graph.entries s.tips s.commons s.sent (batch_size s.rounds)
+    let size = c.batch_size.ensures ∙ ap (λ (s : SessionState g.row.A.Denot). batch_size s.options.max_batch s.rounds) c.self.view_is in
+    let answers : IsOffer c.args.repo.now.graph.entries s.tips s.commons s.sent (batch_size s.options.max_batch s.rounds)
     c.in_ok-offer.offer.items × AreOffers c.args.repo.now.graph.entries s.tips s.commons
     (s.sent ++ c.in_ok-offer.offer.items) c.next.new.self =
     rw (c.graph.ensures, commons, size) at
@@ -52,8 +52,8 @@ returns-then-len-max_haves-clause-fits g c =
     let s = c.args.self.now in
     let of = c.in_ok-walk.ensures.offers in
     let commons = c.as_slice.ensures.value ∙ ap (λ (s : SessionState g.row.A.Denot). s.commons) c.self.view_is in
-    let size = c.batch_size.ensures ∙ ap (λ (s : SessionState g.row.A.Denot). batch_size s.rounds) c.self.view_is in
-    let answers : IsOffer c.args.repo.now.graph.entries s.tips s.commons s.sent (batch_size s.rounds)
+    let size = c.batch_size.ensures ∙ ap (λ (s : SessionState g.row.A.Denot). batch_size s.options.max_batch s.rounds) c.self.view_is in
+    let answers : IsOffer c.args.repo.now.graph.entries s.tips s.commons s.sent (batch_size s.options.max_batch s.rounds)
     c.in_ok-offer.offer.items × AreOffers c.args.repo.now.graph.entries s.tips s.commons
     (s.sent ++ c.in_ok-offer.offer.items) c.next.new.self =
     rw (c.graph.ensures, commons, size) at
@@ -76,8 +76,8 @@ returns-then-len-max_haves-clause-offers g c =
     let s = c.args.self.now in
     let of = c.in_ok-walk.ensures.offers in
     let commons = c.as_slice.ensures.value ∙ ap (λ (s : SessionState g.row.A.Denot). s.commons) c.self.view_is in
-    let size = c.batch_size.ensures ∙ ap (λ (s : SessionState g.row.A.Denot). batch_size s.rounds) c.self.view_is in
-    let answers : IsOffer c.args.repo.now.graph.entries s.tips s.commons s.sent (batch_size s.rounds)
+    let size = c.batch_size.ensures ∙ ap (λ (s : SessionState g.row.A.Denot). batch_size s.options.max_batch s.rounds) c.self.view_is in
+    let answers : IsOffer c.args.repo.now.graph.entries s.tips s.commons s.sent (batch_size s.options.max_batch s.rounds)
     c.in_ok-offer.offer.items × AreOffers c.args.repo.now.graph.entries s.tips s.commons
     (s.sent ++ c.in_ok-offer.offer.items) c.next.new.self =
     rw (c.graph.ensures, commons, size) at
@@ -91,8 +91,8 @@ returns-else-len-max_haves-clause-batch g c =
     let s = c.args.self.now in
     let of = c.in_ok-walk.ensures.offers in
     let commons = c.as_slice.ensures.value ∙ ap (λ (s : SessionState g.row.A.Denot). s.commons) c.self.view_is in
-    let size = c.batch_size.ensures ∙ ap (λ (s : SessionState g.row.A.Denot). batch_size s.rounds) c.self.view_is in
-    let answers : IsOffer c.args.repo.now.graph.entries s.tips s.commons s.sent (batch_size s.rounds)
+    let size = c.batch_size.ensures ∙ ap (λ (s : SessionState g.row.A.Denot). batch_size s.options.max_batch s.rounds) c.self.view_is in
+    let answers : IsOffer c.args.repo.now.graph.entries s.tips s.commons s.sent (batch_size s.options.max_batch s.rounds)
     c.in_ok-offer.offer.items × AreOffers c.args.repo.now.graph.entries s.tips s.commons
     (s.sent ++ c.in_ok-offer.offer.items) c.next.new.self =
     rw (c.graph.ensures, commons, size) at
