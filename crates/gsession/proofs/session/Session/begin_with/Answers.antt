@@ -12,4 +12,5 @@ invariant_of-result g c =
           c.in_ok-tips.ensures.ids)
           (cc) (cc) (cc) refl refl refl,
       tt,
+      tt,
     )

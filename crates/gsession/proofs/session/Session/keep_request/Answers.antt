@@ -12,4 +12,4 @@ invariant_of-self-2 g c =
     (rw (← c.self.view_is) at c.requires.stage) (rw (← c.self.view_is) at c.requires.pending)
     (rw (← c.self.view_is) at c.requires.fits)
     (ap Some (rw (← c.self.view_is) at c.requires.asked)) c.in_ok-extend_from_slice.ensures.items)
-    (rw (← c.self.view_is) at c.requires.format)
+    (rw (← c.self.view_is) at c.requires.format) (rw (← c.self.view_is) at c.requires.limits)

@@ -18,4 +18,4 @@ invariant_of-self g c =
     (subst (λ (s : SessionState g.row.A.Denot). AwaitsRefs s) (sym v) c.requires.waits)
     (subst (λ (s : SessionState g.row.A.Denot). All (IsIdOf s.format) wants) (sym v) c.requires.ids)
     (subst (λ (s : SessionState g.row.A.Denot). length wants ≤ max_wants s.options.limits) (sym v) c.requires.few)
-    (c.stage_for-self-inside.ensures ∙ ap stage_for c.as_slice.ensures.value)) tt
+    (c.stage_for-self-inside.ensures ∙ ap stage_for c.as_slice.ensures.value)) tt tt

@@ -48,4 +48,4 @@ invariant_of-self g c =
     (subst (λ (s : SessionState g.row.A.Denot). Awaits s asked) back c.requires.1) c.requires.2
     (subst (λ (s : SessionState g.row.A.Denot). AreCommons s.options.limits s.format commons) back
     (subst (λ (l : List (List ℕ)). AreCommons c.args.self.now.options.limits c.args.self.now.format l) (sym is)
-    c.in_ok-check_acks.ensures.commons))) tt
+    c.in_ok-check_acks.ensures.commons))) tt tt

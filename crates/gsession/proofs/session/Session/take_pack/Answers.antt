@@ -85,4 +85,4 @@ invariant_of-self g c =
     (subst (λ (s : SessionState g.row.A.Denot). AreCommons s.options.limits s.format commons) (sym c.self.view_is)
     (subst (λ (l : List (List ℕ)). AreCommons c.args.self.now.options.limits c.args.self.now.format l) (sym is)
     c.in_ok-check_acks.ensures.commons)))
-    tt
+    tt tt
