@@ -23,7 +23,7 @@ pub(crate) const MAX_OPEN: u64 = 16;
 #[derive(Drop)]
 enum SlotContent<'f, F: ObjectFiles> {
     Vacant,
-    Open(Weak<u64, Global>, Box<ObjectPacker<'f, F>, Global>),
+    Open(Weak<u64, Global>, ObjectPacker<'f, F>),
 }
 
 impl<'f, F: ObjectFiles> SlotContent<'f, F> {
@@ -38,7 +38,7 @@ impl<'f, F: ObjectFiles> SlotContent<'f, F> {
     fn packer(&self) -> Option<&ObjectPacker<'f, F>> {
         match self {
             SlotContent::Vacant => None,
-            SlotContent::Open(_, packer) => Some(&**packer),
+            SlotContent::Open(_, packer) => Some(packer),
         }
     }
 }
@@ -75,11 +75,7 @@ impl<'f, F: ObjectFiles> Slot<'f, F> {
 
     /// Puts an object store with its tickets into the slot. Returns `false` if the slot is
     /// borrowed.
-    pub(crate) fn fill(
-        &self,
-        tickets: Weak<u64, Global>,
-        packer: Box<ObjectPacker<'f, F>, Global>,
-    ) -> bool {
+    pub(crate) fn fill(&self, tickets: Weak<u64, Global>, packer: ObjectPacker<'f, F>) -> bool {
         match self.place.try_borrow_mut() {
             Ok(mut place) => {
                 *place = SlotContent::Open(tickets, packer);

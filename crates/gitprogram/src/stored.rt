@@ -63,9 +63,6 @@ impl<'f, 'r, R: Files + AllocGlobal, F: ObjectFiles> Stored<'f, 'r, R, F> {
             return Err(AllocError);
         };
         let tickets = Rc::downgrade(&ticket)?;
-        let Ok(packer) = Box::new(self.rt.alloc(), packer) else {
-            return Err(AllocError);
-        };
         if self.slots.at(number).fill(tickets, packer) {
             Ok(ticket)
         } else {
