@@ -115,9 +115,9 @@ pub fn reads_exactly()
 }
 
 /// Proves that a written reply reads back, whatever bytes follow. The reply must be well-formed for
-/// the reader (`IsReplyIn`). In particular, the pack must be within the reader's size limit, and the
-/// number of acknowledged ids within the reader's limits. The reader's size limit must be the value
-/// of some [`StreamLimit`](crate::StreamLimit).
+/// the reader (`IsReplyIn`). In particular, the pack must be within the reader's size limit, and
+/// the number of acknowledged ids within the reader's limits. The reader's size limit must be the
+/// value of some [`StreamLimit`](crate::StreamLimit).
 pub fn reads_back()
     ensures { (reading : Reading) → reading.limit ≤ max_stream
         → ReadsBack (judge reading) (brings reading) (Says reading) (IsReplyIn reading)

@@ -23,8 +23,8 @@
 //!   4,294,967,295. [`PackBytes`] has at most `gname::MAX_PACK` bytes, and a [`PackLimit`] is at
 //!   most `gname::MAX_PACK`. A [`StreamLimit`], for a pack that is passed to a sink, is at most
 //!   [`MAX_STREAM`], which is 4,294,967,295. A call that builds a value of these types checks the
-//!   format of ids before the limit. A failed [`Acks::push`] changes nothing. Building a reply moves
-//!   existing ids and an existing pack into it, unchanged.
+//!   format of ids before the limit. A failed [`Acks::push`] changes nothing. Building a reply
+//!   moves existing ids and an existing pack into it, unchanged.
 //! - [`write_fetch_reply`] writes exactly the bytes of a reply's packets (`canonical_reply`), or a
 //!   prefix of the bytes if the sink fails. A payload is never too long. The written reply reads
 //!   back under three conditions. The reader has the id format and the limits of the

@@ -11,7 +11,8 @@ returns-clause-fetches g c =
     let repo = c.args.repo.now in
     let specs = c.args.specs.now in
     let input = input_of g.S.Source.remaining g.S.Source.is_down c.args.source.now c.fetch_over_with.new.source in
-    let output = output_of g.W.Sink.contents g.W.Sink.passed_on g.W.Sink.is_down c.args.sink.now c.fetch_over_with.new.sink in
+    let output =
+    output_of g.W.Sink.contents g.W.Sink.passed_on g.W.Sink.is_down c.args.sink.now c.fetch_over_with.new.sink in
     let new = c.fetch_over_with.new.repo in
     let result = c.fetch_over_with.result in
     subst (λ (limit : ℕ). FetchesOver indexes fails (start_of repo specs limit c.args.ends) input output new result)

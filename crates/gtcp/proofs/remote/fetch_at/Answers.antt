@@ -20,8 +20,8 @@ returns-in-Ok-clause-fetches g c =
     (Ok c.in-Ok.fetched))
     c.from.ensures
     (subst (λ (options : PackOptions). FetchesFrom plain_indexes (plain_index_fails g.row.A.Denot)
-    (start_for c.args.repo.now fetch.specs.now c.from.result fetch.ends options) c.hello.result.now c.fetch_from.new.repo
-    (Ok c.in-Ok.fetched))
+    (start_for c.args.repo.now fetch.specs.now c.from.result fetch.ends options) c.hello.result.now
+    c.fetch_from.new.repo (Ok c.in-Ok.fetched))
     c.default.ensures c.in-Ok.ensures.fetches))
 
 pub returns-clause-fetches : goal.returns-clause-fetches
@@ -35,6 +35,6 @@ returns-clause-fetches g c =
     (Err c.in-Err.fault))
     c.from.ensures
     (subst (λ (options : PackOptions). FetchesFrom plain_indexes (plain_index_fails g.row.A.Denot)
-    (start_for c.args.repo.now fetch.specs.now c.from.result fetch.ends options) c.hello.result.now c.fetch_from.new.repo
-    (Err c.in-Err.fault))
+    (start_for c.args.repo.now fetch.specs.now c.from.result fetch.ends options) c.hello.result.now
+    c.fetch_from.new.repo (Err c.in-Err.fault))
     c.default.ensures c.in-Err.ensures.fetches))
