@@ -3,7 +3,7 @@
 use crate::current::fetched_already;
 use crate::directory::{Directories, find_repository};
 use crate::fault::Fault;
-use crate::limits::LIMITS;
+use crate::limits::{LIMITS, MAX_FETCHED_PACK};
 use crate::opening::{open_client, repository_fault};
 use crate::output::Output;
 use crate::progress::{Progress, Watched};
@@ -13,7 +13,7 @@ use gclient::{
     ClientFault, FetchFault, Fetched, GitFetch, MAX_SPECS, PackOptions, RefUpdate, Repo, Spec,
     fetch_git,
 };
-use gcmd::{Ends, PackLimit, ProgramFault, send_report};
+use gcmd::{Ends, ProgramFault, StreamLimit, send_report};
 use ggraph::{Head, Refs, Repository};
 use gitobject::ObjectType;
 use gitobjects::StoredFiles;
@@ -21,7 +21,7 @@ use gitrefs::RefUpdate as RefMove;
 use gitrepository::{Received, RepositoryFault, StoreIndexer, Tips, install_pack};
 use gitwords::{FetchArgs, Verbosity};
 use glsreply::LsReply;
-use gname::{MAX_PACK, Oid, Prefix, RefName};
+use gname::{Oid, Prefix, RefName};
 use gpkt::{FromRead, ToWrite};
 use gtcp::{Peer, Silence};
 use std::alloc::{AllocError, Global};
@@ -593,7 +593,7 @@ fn fetch_of(wanted: Wanted<'_>, progress: bool) -> GitFetch<'_, Global> {
     GitFetch {
         hello: &wanted.remote.hello,
         specs: wanted.specs,
-        limit: PackLimit::new(MAX_PACK).unwrap_or_default(),
+        limit: StreamLimit::new(MAX_FETCHED_PACK).unwrap_or_default(),
         ends: Ends::Plain,
         options: PackOptions {
             ofs_delta: true,
