@@ -13,7 +13,7 @@ use std::time::Duration;
 // A host name that resolves to two addresses.
 const TWO_ADDRESSES: &str = "two";
 
-// Returns the first of the two addresses. No server listens there.
+// Returns the first address to which `TWO_ADDRESSES` resolves. No server listens at this address.
 fn unused_address() -> IpAddr {
     IpAddr::V4(Ipv4Addr::new(127, 0, 0, 2))
 }

@@ -13,7 +13,7 @@ use std::alloc::Global;
 /// The line that a listening server prints.
 const LISTENING_LINE: &[u8] = b"listening PORT\n";
 
-/// The exit status of the program if its arguments do not match the usage, in which case it prints
+/// The exit status of the program if its arguments do not match the usage. The program then prints
 /// the line `USAGE_LINE`.
 pub(crate) const WRONG_USAGE_STATUS: u8 = 2;
 

@@ -1,5 +1,5 @@
--- The predicates before and after a call of `count_allocation`: the first allows a look at the count, the second also a
--- boolean.
+-- The precondition and the postcondition of a call of `count_allocation`. The precondition gives shared access to the
+-- count, and the postcondition gives a boolean result.
 use Rattle.std.proofs.Common.{◌≡◌, ℕ, List, [], ◌∷◌, refl, ap, Bool}
 use seplogic.Ra.Ura.{Ura}
 use mir.Val.{Val, vbool, vptr}
@@ -31,15 +31,16 @@ module _ {M : Type 1} {𝓤 : Ura M} (𝓛 : Logic 𝓤) (at_mem : Memory → SP
   module _ (κ : Lft) (q : Share) (place : ℕ × ℕ) where
     open 𝓛 use {H, A}
 
-    -- what is picked at a call: the lifetime of the look, its share, and where the count lies
+    -- the ghost arguments of a call: the lifetime `κ` of the shared access, a share `q` of `κ`, and the address `place`
+    -- of the count
     abbrev pub picked : Counts.Ghost
     picked = (((κ, tt), (q, tt), tt, (record { ref_ptr = place; now = record { value = tt } }, tt), (vptr place.0 place.1 ∷ [], tt)), tt)
 
-    -- the look, which others may have, too
+    -- shared access to the count, which other borrowers may also have
     abbrev pub look : SProp 𝓤
     look = sem 𝓛 (hidden_shr Count κ (record { value = tt }) place.0 place.1)
 
-    -- the value is a word of yes or no
+    -- the value `v` is the boolean `word`, and the caller gets back the share `q` of the lifetime `κ`
     abbrev pub IsWord : Val → Bool → SProp 𝓤
     IsWord v word = guard 𝓤 (v ≡ vbool word) (A.lft κ q)
 

@@ -3,9 +3,9 @@
 //!
 //! | Line | Meaning |
 //! |---|---|
-//! | `cut 1-17 = OUTCOME` | the input ends after this many bytes |
-//! | `change 18 2-9 a-f = OUTCOME` | the byte at an offset is one of these |
-//! | `change 18 other = OUTCOME` | the same for all other bytes |
+//! | `cut 1-17 = OUTCOME` | the input ends after 1 to 17 bytes |
+//! | `change 18 2-9 a-f = OUTCOME` | the byte at offset 18 becomes one of the listed bytes |
+//! | `change 18 other = OUTCOME` | the byte at offset 18 becomes any other byte |
 //!
 //! An outcome is `nothing`, `as it stands`, `use NAME` or `TEXT \| FAULT`. `nothing` stands for no
 //! reply, `as it stands` for the result of the unchanged request, and `use NAME` for the messages

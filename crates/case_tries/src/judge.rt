@@ -190,7 +190,8 @@ fn fault_line(
     }
 }
 
-/// Returns whether the run stopped at a failed write.
+/// Returns whether the run wrote only a prefix of the expected output, and reported the failed
+/// write.
 pub fn is_as_expected_after_failed_write(row: &Row<'_>, results: &RunResults) -> bool {
     results.status == 1
         && row

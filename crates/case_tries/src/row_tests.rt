@@ -295,7 +295,7 @@ impl<'a, 'b> RowTest<'a, 'b> {
 
     // Tests a fetch into a file: without a failure, while another process holds the lock, and with
     // a failure or a stop at each call. For thorough rows, each write to standard error also fails
-    // in turn. For deep rows, each allocation is also refused in turn.
+    // in turn. For rows with `ByteChanges::EveryValue`, each allocation is also refused in turn.
     fn test_stored_file(&mut self) -> Result<Option<usize>, Trouble> {
         if !has_stored_file(self.row) {
             return Ok(None);

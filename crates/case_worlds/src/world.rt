@@ -34,7 +34,8 @@ impl<'b> WorldInputs<'b> {
     }
 }
 
-/// The number of the allocation to refuse, or 0 to refuse no allocation.
+/// The allocation to refuse. `number` is the number of this allocation, or 0 to refuse no
+/// allocation.
 #[derive(Drop)]
 pub(crate) struct RefusedAllocation<'m> {
     pub(crate) refusing_alloc: &'m RefusingAllocator<Global>,
@@ -145,8 +146,8 @@ fn events_or_trouble<A: Allocator + Copy>(
     }
 }
 
-/// Runs the events and appends their outcomes. Returns `false` if memory ran out before the last
-/// event.
+/// Runs the events and appends their outcomes. Returns `false` if memory ran out before all events
+/// had run.
 pub(crate) fn run_events<A: Allocator + Copy>(
     world: &mut World<Tools, A>,
     events: &[Event<A>],

@@ -117,7 +117,7 @@ fn format_reply_ends(ends: Ends) -> &'static str {
     }
 }
 
-// Returns a line that consists of this start, the files and the arguments.
+// Returns a line that consists of `start`, the files and the arguments.
 fn command_text(
     alloc: Global,
     start: &str,

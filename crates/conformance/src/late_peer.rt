@@ -78,7 +78,7 @@ impl Clock for SimulatedClock {
 /// The delays and limits of a peer.
 #[derive(Clone, Copy)]
 pub struct PeerBehavior {
-    /// The index of the first byte that the peer sends slowly. From there on, each byte is a
+    /// The index of the first byte that the peer sends slowly. From this byte on, each byte is a
     /// separate piece.
     pub slow_from: usize,
     /// The delay before each byte that the peer sends slowly.

@@ -1,4 +1,4 @@
--- The capabilities that are advertised have their form.
+-- The advertised capabilities are well-formed.
 use Rattle.std.proofs.Common.{◌≡◌, All, true, None, refl, arith}
 use Rattle.std.specs.Prelude.{codes}
 use Rattle.std.proofs.lemmas.List.Elements.{All-from_recursion}
@@ -28,7 +28,7 @@ unfolding is_key is_value
 object_format Sha1 = refl
 object_format Sha256 = refl
 
--- ---- the law
+-- ---- the advertisement
 
 format_form : (format : Format) → IsWellFormed (key_with (codes "object-format") (format_name format))
 unfolding is_key is_value

@@ -1,4 +1,4 @@
--- Each request has one answer.
+-- Each request has at most one answer, and each ls-refs request has an answer.
 use Rattle.std.proofs.Common.{◌≡◌, inl, inr, ℕ, Bool, true, false, List, [], ◌∷◌, ◌++◌, Option, Some, None, refl, sym}
 use Rattle.std.proofs.Common.{ap, ◌∙◌, ap₂, subst}
 use Rattle.gobject.specs.Packs.{AreEntries, Indexes, IndexFails, LosesNothing, PackFails, Packs}
@@ -22,7 +22,7 @@ use Rattle.ganswer.proofs.PeelLemmas.{PeelsOrNot, TagOrNot, peels_or_not, tag_or
 use Rattle.gfetchreply.specs.FetchReplies.{FetchReply, Acks, Ready, Pack}
 
 module _ {A : Type 0} (g : List (Entry A)) where
-  -- each id has a peeled id or has none
+  -- `IsPeeled` holds for each id, either with a commit or with `None`
   peeled_of : (a : List ℕ) → (o : Option (List ℕ)) × IsPeeled g a o
   peeled_of a = by_tag (tag_or_not g a)
     where
@@ -65,11 +65,11 @@ module _ {A : Type 0} (server : Server A) (asked : LsRefsAsked) where
       ap (λ (u : Option (List ℕ)). record { unborn = u; lines = a.lines }) (x.unborn ∙ sym y.unborn)
       ∙ ap (λ (l : List RefLine). record { unborn = b.unborn; lines = l }) lines
 
--- ---- a server that packs by a faithful packer has one answer to each request
+-- ---- at most one answer of a server with a faithful packer
 
 module _ {A : Type 0} (one_sent : OneListToSend A) (sent : SentAreEntries A) (packs : Packs A) (fails : PackFails A) (indexes : Indexes A)
     (index_fails : IndexFails) (image : List (Entry A) → List ℕ) (law : LosesNothing packs fails indexes index_fails image) where
-  -- each pack is the image of the one list of objects to send
+  -- a fetch request has at most one pack
   one_pack : (server : Server A) (asked : FetchAsked) (a b : List ℕ) → IsServer server
       → SendsPack server packs asked a → SendsPack server packs asked b → a ≡ b
   one_pack server asked a b is x y =

@@ -1,5 +1,4 @@
--- Answers have the form of their messages: the ids of a server's objects have its graph's format, and an answer has
--- room for its lines.
+-- Well-formed answers: the ids of a server have the object format of its graph, and an answer has room for its lines.
 use Rattle.std.proofs.Common.{◌≡◌, ℕ, ◌+◌, ◌≤◌, Bool, true, false, cond, ◌&&◌, List, [], ◌∷◌, ◌++◌, length, map, All}
 use Rattle.std.proofs.Common.{Contains, Option, Some, None, IsSome, refl, sym, ap, ap₂, ◌∙◌, subst, arith}
 use Rattle.std.proofs.Common.{slice_index_or}
@@ -61,7 +60,7 @@ unmap P f (x ∷ xs) all = All-cons (λ x. P (f x)) x xs (All-head P (f x) (map 
 pub filter_short : {X : Type 0} (p : X → Bool) (xs : List X) → length (filter p xs) ≤ length xs
 filter_short p xs = rw length-filter (count_by-le-length p xs)
 
--- ---- formats of lines
+-- ---- object formats of lines
 
 module _ (law : IdsHaveOneFormat) (format : Format) where
   goes_with : (line : RefLine) (id : List ℕ) → IsIdOf format line.id → IsIdOf format id → has_format_of line id ≡ true
@@ -78,7 +77,7 @@ module _ (law : IdsHaveOneFormat) (format : Format) where
   one_format : (lines : List RefLine) (line : RefLine) → IsIdOf format line.id → IfSome line.peeled (IsIdOf format) → All (λ l. IsIdOf format l.id) lines → has_one_format lines line ≡ true
   one_format lines line a b all = ap₂ (λ (u v : Bool). u && v) (goes_with_first line lines a all) (goes_with_peeled line line.peeled a b)
 
--- ---- room
+-- ---- the number of lines
 
 head_short : (o : Option (List ℕ)) → length (head_ref o) ≤ 1
 head_short None = omega arith
@@ -100,7 +99,7 @@ module _ {A : Type 0} where
   peeled_held : (g : List (Entry A)) (id commit : List ℕ) → PeelsTo g id commit → Holds g commit
   peeled_held g id commit (m, tags, is) = subst (λ (o : Option (Node A)). IsSome o) (sym is.held) refl
 
-  -- ---- refs stand at ids that are held
+  -- ---- refs with ids that the graph holds
 
   symref_held : (g : List (Entry A)) (o : Option (List ℕ)) → ((id : List ℕ) → o ≡ Some id → Holds g id) → All (λ ref. Holds g ref.1) (head_ref o)
   symref_held g None held = All-nil (λ ref. Holds g ref.1)
@@ -128,7 +127,7 @@ module _ {A : Type 0} where
   peeled_format law g graph false id (Some commit) is = absurd (none-some commit (sym is))
   peeled_format law g graph true id (Some commit) is = held_id law g graph commit (peeled_held g.entries id commit is.peels)
 
-  -- an unborn HEAD is not shown as a ref
+  -- a reply lists HEAD at most once: as an unborn HEAD or as a ref
   pub unborn_or_shown : (is_asked : Bool) (head : Head A) (refs : RefList) → length (unborn_packets (if is_asked then missing_target head refs else None)) + length (head_ref (head_id head refs)) ≤ 1
   unborn_or_shown false head refs = let short = head_short (head_id head refs) in omega (arith, short)
   unborn_or_shown true (heads.Symref target) refs = target_or_ref (ref_at refs target) target
@@ -161,7 +160,7 @@ module _ {A : Type 0} where
           (λ l held. held_id places server.graph is.graph l.id held) reply.lines
           (lines_held server asked next.front reply.lines next.so_far.lines front_held)
 
-      -- the line of the next ref goes with those before it
+      -- the line of the next ref has the object format of the lines before it
       pub goes : (line : RefLine) → ShowsLines server asked (ref ∷ []) (line ∷ []) → has_one_format reply.lines line ≡ true
       goes line shows =
           let P : RefLine → Type 0 = λ l. Holds server.graph.entries l.id in
@@ -170,7 +169,7 @@ module _ {A : Type 0} where
           let has : HasAttributes server asked line = All-head (HasAttributes server asked) line [] shows.attributes in
           one_format ids server.graph.format reply.lines line id (peeled_format places server.graph is.graph (ls_has asked Peel) line.id line.peeled has.peeled) formats
 
-      -- and there is room for it
+      -- the reply has room for the line of the next ref
       pub room : has_room reply ≡ true
       room =
           let shown : length reply.lines ≡ length (filter (is_shown asked.prefixes) next.front) = sym (length-map reply.lines name_and_id) ∙ ap length next.so_far.lines.shown in
@@ -183,7 +182,7 @@ module _ {A : Type 0} where
           let refs = is.refs.few in
           lt-ltb (line_count reply) max_lines (omega (arith, shown, few, sum, all, both, one, unborn, refs))
 
--- ---- the common ids have the format of the graph, and are not too many to be acknowledged
+-- ---- the object format and the number of the common ids
 
 new_short : (earlier ids : List (List ℕ)) → length (new_ids earlier ids) ≤ length ids
 new_short earlier [] = omega arith
@@ -200,7 +199,7 @@ module _ {A : Type 0} where
       let new = new_short [] haves in
       omega (arith, some, new)
 
-  -- ids that are held have the graph's format
+  -- ids that the graph holds have the object format of the graph
   held_have_format : PositionsAreNodes A → (g : History A) → IsGraph g → (ids : List (List ℕ)) → list_all (has_format g.format) (filter (λ a. is_some (node_at g.entries a)) ids) ≡ true
   held_have_format law g graph [] = refl
   held_have_format law g graph (a ∷ ids) =
@@ -250,7 +249,7 @@ module _ {A : Type 0} where
   unborn_named (heads.Symref target) refs below true = missing_named (ref_at refs target) target below.well_formed
   unborn_named head refs below true = tt
 
-  -- ---- refs
+  -- ---- ls-refs replies
 
   module _ (places : PositionsAreNodes A) (server : Server A) (is : IsServer server) (asked : LsRefsAsked) where
     fit_line : (line : RefLine) → Holds server.graph.entries line.id → IsRefName line.name → HasAttributes server asked line → IsRefLine server.graph.format line
@@ -281,7 +280,7 @@ module _ {A : Type 0} where
         omega (arith, shown, short, both, one, unborn, refs);
   }
 
-  -- ---- objects
+  -- ---- fetch replies
 
   acks_here : PositionsAreNodes A → (server : Server A) → IsServer server → (asked : FetchAsked) (reading : Reading) → length asked.haves ≤ max_acks reading.limits → reading.format ≡ server.graph.format
       → (ids : List (List ℕ)) → ids ≡ commons_of server asked → AreAcks reading.limits reading.format ids

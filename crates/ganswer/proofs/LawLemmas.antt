@@ -1,4 +1,4 @@
--- What answers bring to a client, and how servers grow.
+-- Laws about answers, and about changes to a server.
 use Rattle.std.proofs.Common.{◌≡◌, inl, inr, ℕ, List, [], ◌∷◌, ◌++◌, All, Contains, Result, Ok, Err, refl, sym, ap, ◌∙◌, subst, append-nil, arith}
 use Rattle.std.specs.List.{IsDistinct}
 use Rattle.std.specs.Str.{bytes_eq}
@@ -28,7 +28,7 @@ pub ls_answers_are_held : {A : Type 0} → LsAnswersAreHeld A
 ls_answers_are_held server asked reply is answers =
     lines_held server asked (all_refs server) reply.lines answers.lines (all_held server is)
 
--- ---- objects
+-- ---- fetch answers
 
 nothing_twice : IsDistinct bytes_eq []
 unfolding IsDistinct
@@ -76,7 +76,7 @@ module _ {A : Type 0} (law : CommonsAreHeld A) where
             sending g.entries client sends.list new asked.wants commons tips format is.graph.differ is.closed agree can.held (connected_commons server asked client connected) sends.sent comes;
       }
 
--- a want that is not held is none of some that are
+-- if the graph holds all wants, no want is absent
 pub none_absent : {A : Type 0} (g : List (Entry A)) (wants : List (List ℕ)) (id : List ℕ) → All (Holds g) wants → IsFirstAbsent g wants id → ⊥
 none_absent g wants id held first =
     let all = subst (All (Holds g)) first.parts held in
@@ -95,7 +95,7 @@ held_wants_are_served sent fails server asked serve.NoWants is can refused = abs
 held_wants_are_served sent fails server asked (serve.NotOurs id) is can refused = absurd (none_absent server.graph.entries asked.wants id can.held refused)
 held_wants_are_served sent fails server asked _ is can refused = absurd refused
 
--- ---- changes
+-- ---- changes to a server
 
 module _ {A : Type 0} where
   stays : (old new : Server A) → new ≡ old → Grows old.graph.entries new.graph.entries

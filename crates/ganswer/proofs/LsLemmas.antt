@@ -1,4 +1,4 @@
--- Lines of refs: one list after the other, each list in two parts, and that there is one list.
+-- The lines of refs: joining and splitting lists of lines, and the uniqueness of these lists.
 use Rattle.std.proofs.Common.{◌≡◌, ℕ, Bool, true, false, cond, List, [], ◌∷◌, ◌++◌, length, map, take, drop, All}
 use Rattle.std.proofs.Common.{Option, Some, None, refl, sym, ap, ap₂, ◌∙◌, subst, ◌+◌, ◌<◌, get_or, Result, Ok, Err}
 use Rattle.std.proofs.Common.{append_assoc, suc, add-one, drop-cons}
@@ -33,7 +33,7 @@ module _ {A : Type 0} (server : Server A) (asked : LsRefsAsked) where
     attributes = All-append (HasAttributes server asked) x y left.attributes right.attributes;
   }
 
-  -- of a ref that is hidden there is no line
+  -- a ref that the request does not include has no line
   pub shows_hidden : (ref : List ℕ × List ℕ) → is_shown asked.prefixes ref ≡ false → ShowsLines server asked (ref ∷ []) []
   shows_hidden ref hidden = record {
     shown = ap (λ (v : Bool). cond v (ref ∷ []) []) (sym hidden);
@@ -46,7 +46,7 @@ module _ {A : Type 0} (server : Server A) (asked : LsRefsAsked) where
     attributes = All-cons (HasAttributes server asked) line [] has (All-nil (HasAttributes server asked));
   }
 
-  -- ---- two parts
+  -- ---- splitting a list of lines
 
   pub record Splits (a b : RefList) (lines : List RefLine) : Type 0 where
     pub first : List RefLine
@@ -75,7 +75,7 @@ module _ {A : Type 0} (server : Server A) (asked : LsRefsAsked) where
         };
       }
 
-  -- ---- one list
+  -- ---- the uniqueness of the lines
 
   module _ (law : PeelsToOne A) where
     one_peeled : (id : List ℕ) (x y : Option (List ℕ)) → IsPeeled server.graph.entries id x → IsPeeled server.graph.entries id y → x ≡ y
@@ -112,17 +112,17 @@ module _ {A : Type 0} (server : Server A) (asked : LsRefsAsked) where
     pub one_list : (refs : RefList) (xs ys : List RefLine) → ShowsLines server asked refs xs → ShowsLines server asked refs ys → xs ≡ ys
     one_list refs xs ys a b = same_lines xs ys (a.shown ∙ sym b.shown) a.attributes b.attributes
 
--- ---- a reply gets its lines one by one
+-- ---- adding lines to a reply
 
 module _ {A : Type 0} (server : Server A) (asked : LsRefsAsked) where
-  -- one line more, or none where the ref is hidden
+  -- adding the line of `ref`, or no line if the request does not include `ref`
   pub with_lines : (front : RefList) (ref : List ℕ × List ℕ) (old new : LsReply) (lines : List RefLine) → new ≡ record old { lines = old.lines ++ lines } → ShowsLines server asked (ref ∷ []) lines
       → IsAnswering server asked front old → IsAnswering server asked (front ++ ref ∷ []) new
   with_lines front ref old new lines is shows so_far =
       subst (IsAnswering server asked (front ++ ref ∷ [])) (sym is)
       (record { lines = shows_join server asked front (ref ∷ []) old.lines lines so_far.lines shows; unborn = so_far.unborn })
 
-  -- ---- HEAD
+  -- ---- the line of HEAD
 
   pub nothing_yet : (reply : LsReply) → reply ≡ record { unborn = unborn_of server asked; lines = [] } → IsAnswering server asked [] reply
   nothing_yet reply is = subst (IsAnswering server asked []) (sym is) (record { lines = shows_none server asked; unborn = refl })
@@ -146,7 +146,7 @@ module _ {A : Type 0} (server : Server A) (asked : LsRefsAsked) where
       (ap (λ (n : List ℕ). (n, id) ∷ []) is_head ∙ ap head_ref stands)
       (added [] (nothing_yet old is))
 
-  -- ---- the refs
+  -- ---- the lines of the other refs
 
   pub ref_next : (k : ℕ) (ref : List ℕ × List ℕ) (reply : LsReply) → k < length server.refs → ref ≡ get_or server.refs k ref
       → IsAnswering server asked (head_ref (head_id server.head server.refs) ++ take k server.refs) reply → IsNextRef server asked ref reply
@@ -167,7 +167,7 @@ module _ {A : Type 0} (server : Server A) (asked : LsRefsAsked) where
       let more : take (k + 1) server.refs ≡ take k server.refs ++ ref ∷ [] = take_more server.refs k ref inside ∙ ap (λ (r : List ℕ × List ℕ). take k server.refs ++ r ∷ []) (sym is) in
       subst (λ (refs : RefList). IsAnswering server asked refs reply) (append_assoc head (take k server.refs) (ref ∷ []) ∙ ap (λ (refs : RefList). head ++ refs) (sym more)) so_far
 
--- ---- writing the lines of refs one after the other
+-- ---- writing the lines of refs
 
 abbrev pub ending : Ends → List Packet
 ending ends = Flush ∷ ends_with ends
@@ -175,13 +175,13 @@ ending ends = Flush ∷ ends_with ends
 abbrev pub lines_and_ending : Ends → List RefLine → List Packet
 lines_and_ending ends lines = map ref_packet lines ++ ending ends
 
--- an answer is its unborn HEAD, and then its lines and its ending
+-- an answer consists of the packets of an unborn HEAD, if any, the lines, and the ending
 pub answer_parts : (ends : Ends) (reply : LsReply) (unborn : Option (List ℕ)) → reply.unborn ≡ unborn → canonical_reply ends reply ≡ unborn_packets unborn ++ lines_and_ending ends reply.lines
 unfolding canonical_reply
 answer_parts ends reply unborn is =
     append_assoc (unborn_packets reply.unborn) (map ref_packet reply.lines) (ending ends) ∙ ap (λ (o : Option (List ℕ)). unborn_packets o ++ lines_and_ending ends reply.lines) is
 
--- lines in two parts
+-- the packets of lines that are split into two parts
 pub two_parts : (ends : Ends) (lines first second : List RefLine) → lines ≡ first ++ second → lines_and_ending ends lines ≡ map ref_packet first ++ lines_and_ending ends second
 two_parts ends lines first second is =
     ap (lines_and_ending ends) is ∙ ap (λ (l : List Packet). l ++ ending ends) (map-append ref_packet first second) ∙ append_assoc (map ref_packet first) (map ref_packet second) (ending ends)
@@ -190,14 +190,14 @@ pub mapped_parts : (lines first second : List RefLine) → lines ≡ first ++ se
 mapped_parts lines first second is = ap (map ref_packet) is ∙ map-append ref_packet first second
 
 module _ {A : Type 0} (server : Server A) (asked : LsRefsAsked) where
-  -- the lines of the refs from a position on are those of the ref there, and those of the refs after it
+  -- the lines of the refs from index `k` are the lines of the ref at `k`, followed by the lines of the later refs
   pub split_at : (refs : RefList) (k : ℕ) (ref : List ℕ × List ℕ) (lines : List RefLine) → k < length refs → ref ≡ get_or refs k ref → ShowsLines server asked (drop k refs) lines
       → Splits server asked (ref ∷ []) (drop (k + 1) refs) lines
   split_at refs k ref lines inside is shows =
       let rest : drop k refs ≡ ref ∷ drop (k + 1) refs = rw add-one (drop-cons refs k ref inside ∙ ap (λ (r : List ℕ × List ℕ). r ∷ drop (suc k) refs) (sym is)) in
       split server asked (ref ∷ []) (drop (k + 1) refs) lines (subst (λ (r : RefList). ShowsLines server asked r lines) rest shows)
 
-  -- so the packets of these lines are those of the line of the ref there, followed by the packets of the lines after it
+  -- the packets of the refs from index `k` are the packets of the ref at `k`, followed by the packets of the later refs
   pub next_line : PeelsToOne A → (refs : RefList) → refs ≡ server.refs → (k : ℕ) (ref : List ℕ × List ℕ) (lines : List RefLine) → k < length refs → ref ≡ get_or refs k ref
       → ShowsLines server asked (drop k server.refs) lines → (line own : List RefLine) → line ≡ own → ShowsLines server asked (ref ∷ []) own
       → (rest : List RefLine) × (map ref_packet lines ≡ map ref_packet line ++ map ref_packet rest) × ShowsLines server asked (drop (k + 1) server.refs) rest

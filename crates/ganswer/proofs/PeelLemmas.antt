@@ -1,4 +1,5 @@
--- What ids peel to: whether a chain of tags ends at a commit is decided by following it, and it stays so.
+-- Peeling tags: following a chain of tags decides whether it ends at a commit, and new objects do not change the
+-- result.
 use Rattle.std.proofs.Common.{◌≡◌, ◌⊎◌, inl, inr, ℕ, zero, suc, Bool, true, false, cond, List, [], ◌∷◌, Option, Some}
 use Rattle.std.proofs.Common.{None, refl, sym, ap, ◌∙◌, subst, arith, ◌<◌, ◌++◌, length, get_or, Bor}
 use Rattle.std.specs.Prelude.{find, slice_get, option_map, IfSome, option_copied, bytes_eq}
@@ -23,14 +24,14 @@ use Rattle.ganswer.specs.Servers.{HoldsRefs}
 use Rattle.ganswer.proofs.FitLemmas.{unmap}
 
 module _ {A : Type 0} (g : List (Entry A)) where
-  -- the id leads to no commit
+  -- the id peels to no commit
   abbrev pub NeverPeels : List ℕ → Type 0
   NeverPeels a = (c : List ℕ) → ¬ (PeelsTo g a c)
 
   abbrev pub PeelsOrNot : List ℕ → Type 0
   PeelsOrNot a = ((c : List ℕ) × PeelsTo g a c) ⊎ NeverPeels a
 
-  -- ---- one object
+  -- ---- the kind of one object
 
   commit_or_not : (a : List ℕ) → IsCommit g a ⊎ (IsCommit g a → ⊥)
   commit_or_not a = by_node (node_at g a) refl
@@ -69,11 +70,11 @@ module _ {A : Type 0} (g : List (Entry A)) where
 
   -- ---- chains of tags
 
-  -- a chain that comes round has no end
+  -- an id peels to no commit if a chain of tags leads from it back to itself
   comes_round : (i : ℕ) (a : List ℕ) → Tags g (suc i) a a → NeverPeels a
   comes_round i a round c (m, chain, commit) = no_cycle g m m i a c (omega arith) chain commit round
 
-  -- an id peels where one does to which tags lead from it
+  -- whether `a` peels to a commit follows from whether `b` does, if tags lead from `a` to `b`
   as_later : (i : ℕ) (a b : List ℕ) → Tags g i a b → PeelsOrNot b → PeelsOrNot a
   as_later i a b leads (inl (c, (m, chain, commit))) =
       let all = tags_on g i m a b c leads chain in
@@ -83,7 +84,7 @@ module _ {A : Type 0} (g : List (Entry A)) where
       let more = onward g peels.0 i a b c peels.1 peels.2 leads in
       never c (more.0, more.2, peels.2))
 
-  -- where no tag leads on, the chain is over
+  -- an id that is not a tag peels to itself or to no commit
   at_end : (a : List ℕ) → ((b : List ℕ) → IsTagOf g a b → ⊥) → PeelsOrNot a
   at_end a untagged =
       elim (commit_or_not a) [
@@ -95,9 +96,9 @@ module _ {A : Type 0} (g : List (Entry A)) where
       over c (zero, here, commit) no_commit = no_commit (subst (IsCommit g) (sym here) commit)
       over c (suc m, (next, tag, rest), commit) no_commit = untagged next tag
 
-  -- ---- following a chain through more and more entries
+  -- ---- following a chain through a growing list of entries
 
-  -- tags lead from the id to one that is of none of the entries
+  -- tags lead from the id `a` to an id that no entry of `h` has
   record LeadsOut (h : List (Entry A)) (a : List ℕ) : Type 0 where
     steps : ℕ
     last : List ℕ
@@ -107,7 +108,7 @@ module _ {A : Type 0} (g : List (Entry A)) where
   abbrev Follows : List (Entry A) → List ℕ → Type 0
   Follows h a = PeelsOrNot a ⊎ LeadsOut h a
 
-  -- one entry more
+  -- following chains through the entries of `h` and one more entry
   module _ (entry : Entry A) (h : List (Entry A)) (follow_others : (b : List ℕ) → Follows h b) where
     entry_is : (b : List ℕ) → bytes_eq entry.id b ≡ true → entry.id ≡ b
     entry_is b same = (bytes_eq-Decides entry.id b).0 same
@@ -116,7 +117,7 @@ module _ {A : Type 0} (g : List (Entry A)) where
     outside b differs out = ap (λ (v : Bool). option_map (λ (e : Entry A). e.node) (cond v (Some entry) (find (has_id b) h))) differs ∙ out
 
     module _ (a : List ℕ) where
-      -- from the entry the chain comes back to it, or leads out
+      -- after `entry`, the chain either returns to `entry` or leads to an id that no entry has
       again : (i : ℕ) (b next : List ℕ) → Tags g i a b → entry.id ≡ b → IsTagOf g b next → (out : LeadsOut h next) → (v : Bool) → bytes_eq entry.id out.last ≡ v → Follows (entry ∷ h) a
       again i b next leads here tag out true same =
           let back : out.last ≡ b = sym (entry_is out.last same) ∙ here in
@@ -145,7 +146,7 @@ module _ {A : Type 0} (g : List (Entry A)) where
   follow [] a = inr (record { steps = zero; last = a; leads = refl; out = refl })
   follow (entry ∷ h) a = follow_more entry h (λ b. follow h b) a (follow h a)
 
-  -- outside of the graph there is no tag
+  -- an id outside the graph is not a tag, so each id peels to a commit or to no commit
   pub peels_or_not : (a : List ℕ) → PeelsOrNot a
   peels_or_not a =
       elim (follow g a) [
@@ -153,10 +154,10 @@ module _ {A : Type 0} (g : List (Entry A)) where
         | inr out ↦ as_later out.steps a out.last out.leads (at_end out.last (λ b tag. none-some tag.node (sym out.out ∙ tag.held)))
       ]
 
--- ---- what ids peel to stays so as objects come, where the graph was closed
+-- ---- peeled ids after objects are added to a closed graph
 
 module _ {A : Type 0} (g h : List (Entry A)) (keeps : Keeps g h) where
-  -- ---- from the graph as it was
+  -- ---- from the old graph to the new graph
 
   tag_stays : (a b : List ℕ) → IsTagOf g a b → IsTagOf h a b
   tag_stays a b is = record { node = is.node; held = keeps a is.node is.held; tag = is.tag; names = is.names }
@@ -175,7 +176,7 @@ module _ {A : Type 0} (g h : List (Entry A)) (keeps : Keeps g h) where
         peels = (peels.0, tags_stay peels.0 a c peels.1, record { node = last.node; held = keeps c last.node last.held; commit = last.commit });
       }
 
-  -- ---- and back to it, from an id that it held
+  -- ---- from the new graph to the old graph, for ids that the old graph holds
 
   was_in : (a : List ℕ) (node : Node A) → Holds g a → IsNode h a node → IsNode g a node
   was_in a node held is =
@@ -214,7 +215,7 @@ module _ {A : Type 0} (g h : List (Entry A)) (keeps : Keeps g h) where
         let P : List ℕ × List ℕ → Type 0 = λ ref. Holds g ref.1 in
         stays_peeled ref.1 (all_standing P refs k ref at (unmap (Holds g) (λ (r : List ℕ × List ℕ). r.1) refs held)) peeled (knows k ref peeled at known)
 
--- ---- the list of what is known
+-- ---- the list of known peeled ids
 
 module _ {A : Type 0} (g : List (Entry A)) (refs : RefList) where
   pub knows_none : KnowsPeels g refs []
@@ -240,21 +241,21 @@ module _ {A : Type 0} (g : List (Entry A)) (refs : RefList) where
             subst (λ (r : List ℕ × List ℕ). IsPeeled g r.1 what) (same_Some ref other same) (subst (IsPeeled g ref.1) last.1 is)
       ]
 
-  -- one ref more, or as before
+  -- the list stays correct if it is unchanged, or if it gets the peeled id of the next ref
   pub knows_next : (old new : List (Option (List ℕ))) (place : ℕ) (ref : List ℕ × List ℕ) (peeled : Option (List ℕ)) → KnowsPeels g refs old → slice_get refs place ≡ Some ref → IsPeeled g ref.1 peeled
       → (new ≡ old) ⊎ ((length old ≡ place) × (new ≡ old ++ peeled ∷ [])) → KnowsPeels g refs new
   knows_next old new place ref peeled knows here is (inl same) = subst (KnowsPeels g refs) (sym same) knows
   knows_next old new place ref peeled knows here is (inr more) =
       subst (KnowsPeels g refs) (sym more.1) (knows_more old ref peeled knows (ap (slice_get refs) more.0 ∙ here) is)
 
-  -- what is looked up in the list
+  -- an item of the list is the peeled id of the ref at the same index
   pub known_item : (peels : List (Option (List ℕ))) → KnowsPeels g refs peels → (place : ℕ) (item : Option (Bor (Option (List ℕ)))) → IsItemAt peels place item
       → (ref : List ℕ × List ℕ) → slice_get refs place ≡ Some ref → IfSome (option_copied item) (IsPeeled g ref.1)
   known_item peels knows place None is ref at = tt
   known_item peels knows place (Some lent) is ref at =
       knows place ref lent.now at (slice_get_read peels (length peels) place lent.now refl (ltb-true _ _ (sym is.0)) is.1)
 
--- the ref at a position of the list that the refs are read from
+-- the item at index `k` of a list that equals the refs is the ref at index `k`
 pub ref_there : (list refs : RefList) → list ≡ refs → (k : ℕ) (ref : List ℕ × List ℕ) → k < length list → ref ≡ get_or list k ref → slice_get refs k ≡ Some ref
 ref_there list refs same k ref inside is =
     subst (λ (r : RefList). slice_get r k ≡ Some ref) same (slice_get_read list (length list) k ref refl inside is)

@@ -1,4 +1,4 @@
--- What is missing of a server's parts, and how a server changes.
+-- The first missing object when a server is created, and changes to a server.
 use Rattle.std.proofs.Common.{◌≡◌, ℕ, ◌+◌, ◌<◌, zero, suc, List, [], ◌∷◌, ◌++◌, length, get_or, take, drop, sym, ap}
 use Rattle.std.proofs.Common.{◌∙◌, subst, append_assoc, append-nil, Some, None, All, Contains, ◌⊎◌, inl, inr, Bool}
 use Rattle.std.proofs.Common.{Result, Ok, Err, refl}
@@ -26,10 +26,11 @@ use Rattle.std.specs.Map.{values_of}
 use Rattle.grefs.specs.declared.head.Head.TheVariants as heads
 use Rattle.ganswer.proofs.FitLemmas.{unmap}
 
--- ---- parents
+-- ---- missing parents
 
 module _ {A : Type 0} where
-  -- the parents up to a position, and those at it
+  -- if all parents of the first `p` objects and of the next object satisfy `P`, all parents of the first `p + 1`
+  -- objects do
   pub parents_more : (P : List ℕ → Type 0) (g : List (Entry A)) (p : ℕ) (parents : List (List ℕ)) → option_map (λ entry. entry.node.parents) (slice_get g p) ≡ Some parents
       → All P (parents_in (take p g)) → All P parents → All P (parents_in (take (p + 1) g))
   parents_more P g p parents at before here =
@@ -41,7 +42,7 @@ module _ {A : Type 0} where
       (sym (ap parents_in grown ∙ flat_map-append (λ (entry : Entry A). entry.node.parents) (take p g) (e.0 ∷ []) ∙ ap (λ (l : List (List ℕ)). parents_in (take p g) ++ l) last))
       (All-append P (parents_in (take p g)) parents before here)
 
-  -- the first that is missing at a position is the first of all, where none is missing before it
+  -- if no parent of the first `p` objects is missing, the first missing parent of the next object is the first of all
   pub first_of_all : (g : List (Entry A)) (p : ℕ) (parents : List (List ℕ)) (id : List ℕ) → option_map (λ entry. entry.node.parents) (slice_get g p) ≡ Some parents
       → All (Holds g) (parents_in (take p g)) → IsFirstAbsent g parents id → IsFirstAbsent g (parents_in g) id
   first_of_all g p parents id at before first =
@@ -69,13 +70,13 @@ module _ {A : Type 0} where
       Contains-append_left first.node.parents (parents_in g) b (subst (λ (e : Entry A). Contains e.node.parents b) (sym (same_Some first entry at)) among)
   parents_at (first ∷ g) (suc p) entry b at among = Contains-append_right first.node.parents (parents_in g) b (parents_at g p entry b at among)
 
-  -- where no parent is missing at any position, none is
+  -- if the graph holds the parents of every object, the graph is closed
   pub closed_by_positions : (g : List (Entry A)) → PositionsAreNodes A → IdsDiffer g → All (Holds g) (parents_in g) → IsClosed g
   closed_by_positions g law differ held a b (node, is_node, among) =
       let place = ((law g differ).0 a node).0 is_node in
       All-contains (Holds g) (parents_in g) b held (parents_at g place.0 (entry_of a node) b place.1 among)
 
-  -- ---- refs
+  -- ---- refs with missing ids
 
   pub holds_refs : (g : List (Entry A)) (refs : RefList) → All (λ (ref : List ℕ × List ℕ). Holds g ref.1) refs → HoldsRefs g refs
   holds_refs g refs held = All-map (Holds g) (λ (ref : List ℕ × List ℕ). ref.1) refs held
@@ -98,7 +99,7 @@ module _ {A : Type 0} where
       let here : slice_get refs k ≡ Some ref = slice_get_read refs (length refs) k ref refl inside is in
       (inside, λ other at. subst (λ (r : List ℕ × List ℕ). IsFirstDangling g refs r.0) (same_Some ref other (sym here ∙ at)) first)
 
-  -- its name is that of the ref at this position
+  -- the name of the ref at index `k` is the name of the first ref with a missing id
   pub named_dangling : (g : List (Entry A)) (refs : RefList) (k : ℕ) (name : List ℕ) → DanglesAt g refs k
       → IfSome (slice_get refs k) (λ (ref : List ℕ × List ℕ). name ≡ ref.0) → IsFirstDangling g refs name
   named_dangling g refs k name dangles named =
@@ -107,7 +108,7 @@ module _ {A : Type 0} where
       let same : name ≡ ref.0 = subst (λ (o : Option (List ℕ × List ℕ)). IfSome o (λ (r : List ℕ × List ℕ). name ≡ r.0)) at named in
       subst (IsFirstDangling g refs) (sym same) (dangles.1 ref at)
 
--- ---- a server to which an object came, or of which a ref was set, is one
+-- ---- valid servers after adding an object or setting a ref
 
 module _ {A : Type 0} where
   head_stays : (g h : List (Entry A)) → Keeps g h → (head : Head A) → HoldsHead g head → HoldsHead h head

@@ -27,8 +27,7 @@ reply_of values.Nothing = Nothing
 reply_of (values.Ls reply) = Ls reply
 reply_of (values.Fetch reply) = Fetch (reply_in reply)
 
--- all ids that the reply acknowledges have this object format; a fetch reply also has these limits, which are those of
--- the request
+-- the acknowledged ids of a fetch reply have this object format, and the reply has the limits of the request
 abbrev pub HasFormat : {A : Type 0} → Option Limits → Format → value.Reply A → Type 0
 HasFormat limits format (values.Fetch reply) =
     (given : Limits) × (limits ≡ Some given) × IsReplyOf given format reply

@@ -18,9 +18,9 @@
 //!   acknowledgments have the limits of the request. Whatever the limits, no request fails because
 //!   its answer has too many lines or too many ids.
 //! - [`Server::answer`] uses exactly one result of the packer if the answer contains a pack or the
-//!   packer fails. In all other cases, `answer` uses no result of the packer. Out of memory never
-//!   hides a fault of the packer (`specs/OnePack.antt`). After a failure, the packer is not asked
-//!   for another pack ([`OnePack`]).
+//!   packer fails. In all other cases, `answer` uses no result of the packer. It never reports out
+//!   of memory instead of a fault of the packer (`specs/OnePack.antt`). After a failure, the packer
+//!   is not asked for another pack ([`OnePack`]).
 //! - [`Server::answer_fetch`] has the same contract, but accepts only fetch requests.
 //! - [`Server::begin_fetch`] returns the answer to a fetch request before the objects are packed
 //!   (`specs/BegunFetches.antt`). The caller can then pack the objects in parts.

@@ -1,4 +1,4 @@
--- How often a conversation asks for objects, also where it fails.
+-- The number of requests for objects in a conversation, completed or failed.
 use Rattle.std.proofs.Common.{◌≡◌, ℕ, ◌+◌, ◌≤◌, List, [], ◌∷◌, ◌++◌, length, None, Some, Ok, refl, sym, ap, subst, ◌∙◌}
 use Rattle.std.proofs.Common.{append-nil, arith, Option, Err, append_assoc}
 use Rattle.gpkt.specs.Change.{Change}
@@ -35,12 +35,12 @@ use Rattle.std.specs.Io.KnownBytes.{Appends}
 use Rattle.std.proofs.lemmas.Grind.{flat_map-append}
 use Rattle.gname.specs.declared.formats.Format.{Format}
 
--- ---- a turn's calls
+-- ---- the calls of a turn
 
 abbrev unknown : Change
 unknown = record { old = None; new = None }
 
--- the laws of sessions
+-- the laws of sessions from which the bound follows
 pub record CountLaws {A : Type 0} (indexes : Indexes A) (index_fails : IndexFails) : Type 0 where
   pub begins_on : BeganBegins A
   pub stays_on : BeganStaysOn indexes index_fails
@@ -49,7 +49,7 @@ pub record CountLaws {A : Type 0} (indexes : Indexes A) (index_fails : IndexFail
   pub begins : BeginsCounted A
   pub counted : CountedStays indexes index_fails
 
--- a request more
+-- one more request adds its `count_of` to the number of requests for objects
 pub one_more : (requests : List Asked) (asked : Asked)
     → objects_asked (requests ++ asked ∷ []) ≡ objects_asked requests + count_of asked
 one_more [] asked = omega arith
@@ -107,7 +107,7 @@ module _ {A : Type 0} (indexes : Indexes A) (index_fails : IndexFails) where
   taken_rounds old waiting (Fetches asked) reply new takes =
       head_rounds old.repo waiting new.session takes.reply new.repo takes.taken takes.takes.1
 
-  -- ---- rounds
+  -- ---- the number of rounds
 
   next_rounds : (old : ClientState A) (asked : Asked) (waiting : SessionState A) → AsksNext old asked waiting
       → waiting.rounds ≡ old.session.rounds + count_of asked
@@ -136,9 +136,9 @@ module _ {A : Type 0} (indexes : Indexes A) (index_fails : IndexFails) where
       let none : (hear_advert start capabilities).session.rounds ≡ 0 = refl in
       omega (arith, turns_rounds (hear_advert start capabilities) talk last are)
 
-  -- ---- so far
+  -- ---- the conversation so far
 
-  -- what a session keeps of its beginning
+  -- the properties of a session and its graph that every call preserves
   record IsGoing (start : Start A) (session : SessionState A) (repo : RepoState A) : Type 0 where
     counted : IsCounted session
     began : BeganOn start.repo.graph.entries session
@@ -149,7 +149,7 @@ module _ {A : Type 0} (indexes : Indexes A) (index_fails : IndexFails) where
   still start = ([], sym (append-nil start.repo.graph.entries))
 
   module _ (laws : CountLaws indexes index_fails) (start : Start A) where
-    -- a call more
+    -- every call preserves `IsGoing`
     called : (old new : SessionState A) (repo after : RepoState A) → IsGoing start old repo
         → HasCalled indexes index_fails repo old new → Grows start.repo.graph.entries after.graph.entries
         → IsGoing start new after
@@ -179,7 +179,7 @@ module _ {A : Type 0} (indexes : Indexes A) (index_fails : IndexFails) where
         (begun_going whole few)
         (heard_call capabilities (Ok tt) ((refl, refl), refl)) (still start)
 
-    -- the next request is made
+    -- the next request preserves `IsGoing`
     asked_going : (old : ClientState A) (asked : Asked) (waiting : SessionState A)
         → IsGoing start old.session old.repo → AsksNext old asked waiting → IsGoing start waiting old.repo
     asked_going old asked waiting was made =
@@ -233,7 +233,7 @@ module _ {A : Type 0} (indexes : Indexes A) (index_fails : IndexFails) where
       let rounds = rounds_are_asked start capabilities talk last are in
       omega (arith, most, rounds, next_rounds last asked waiting made, one_more (asked_in talk) asked)
 
--- ---- what was written, at every end of a conversation: bytes of requests
+-- ---- the bytes of the requests
 
 turns_bytes : (format : Format) (talk : List Turn)
     → flat_map (request_bytes format) (asked_in talk) ≡ requests_bytes format talk
@@ -254,7 +254,7 @@ appends_none None new same = tt
 appends_none (Some bytes) new same =
     subst (λ (n : Option (List ℕ)). Appends (Some bytes) n []) (sym same) (sym (append-nil bytes))
 
--- ---- what was written
+-- ---- the bytes written by the end of a conversation
 
 no_fewer : (most : ℕ) → 0 ≤ most
 no_fewer most = omega arith
@@ -313,7 +313,7 @@ some_asked format output most (turn ∷ talk) asked few failed =
       written = failed.written;
     }
 
--- the lone flush asks for nothing
+-- the lone flush packet is not a request for objects
 flush_few : (talk : List Turn) (most : ℕ) → objects_asked (asked_in talk) ≤ most
     → objects_asked (asked_in talk ++ Empty ∷ []) ≤ most
 flush_few talk most few =

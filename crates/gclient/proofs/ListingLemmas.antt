@@ -1,4 +1,4 @@
--- The steps of a listing, one after the other.
+-- The steps of a listing.
 use Rattle.std.proofs.Common.{◌≡◌, ℕ, Bool, false, List, Option, Some, refl, ap, subst, ◌∙◌}
 use Rattle.gname.specs.declared.formats.Format.{Format}
 use Rattle.gpkt.specs.Packets.{Packet}
@@ -24,7 +24,7 @@ use Rattle.gclient.specs.Listings.{asking_bytes, cannot_ask, cannot_end, cannot_
 use Rattle.gclient.specs.steps.Listings.{HasHeardServer}
 use Rattle.gclient.specs.declared.listing.Heard.{Heard}
 
--- ---- hearing
+-- ---- reading the advertisement
 
 pub fits_no_format : (input : Input) (capabilities : List Capability) (cause : MessageFault)
     → ReadsMessage advert.judge advert.Says input.read capabilities
@@ -40,10 +40,10 @@ fits_no_format input capabilities cause read why frame up = record {
   up = up;
 }
 
--- ---- after hearing
+-- ---- after the advertisement
 
 module _ {S : Type 0} (remaining : S → Option (List ℕ)) (source_down : S → Bool) where
-  -- the advertisement was read, and this holds of what comes after it
+  -- the client has read the advertisement, and `Rest` holds for the remaining input
   pub heard_then : (a b c : S) (heard : Heard) (Rest : Input → Type 0)
       (before : HasHeardServer (input_of remaining source_down a b) heard)
       → Rest (rest_of (input_of remaining source_down a c) (remaining b))
@@ -87,7 +87,7 @@ module _ (asked : LsRefsAsked) {S : Type 0} (remaining : S → Option (List ℕ)
   abbrev Writing : W → W → Output
   Writing x y = output_of contents passed_on is_down x y
 
-  -- the request as it is sent
+  -- the bytes of the request that the client sends are `asking_bytes`
   same_asked : (heard : Heard) (capabilities : List Capability) (told : LsRefsAsked)
       → told ≡ ls_with asked Unborn heard.tells_unborn → heard.tells_unborn ≡ tells_unborn capabilities
       → request_bytes heard.format (Ls told) ≡ asking_bytes heard.format capabilities asked
@@ -95,7 +95,7 @@ module _ (asked : LsRefsAsked) {S : Type 0} (remaining : S → Option (List ℕ)
       ap (λ (a : LsRefsAsked). request_bytes heard.format (Ls a))
       (is ∙ ap (λ (tells : Bool). ls_with asked Unborn tells) unborn)
 
-  -- the request can't be sent
+  -- if the request can't be sent, the listing fails
   pub unasked : {A : Type 0} (a b : S) (x y : W) (heard : Heard) (told : LsRefsAsked)
       → HasHeardServer (Reading a b) heard → told ≡ ls_with asked Unborn heard.tells_unborn
       → FailsToSend (Writing x y) (request_bytes heard.format (Ls told))
@@ -104,7 +104,7 @@ module _ (asked : LsRefsAsked) {S : Type 0} (remaining : S → Option (List ℕ)
       cannot_ask heard.format before.capabilities (heard_alone remaining source_down a b heard before)
       (subst (FailsToSend (Writing x y)) (same_asked heard before.capabilities told is before.unborn) fails)
 
-  -- the reply is refused
+  -- if the client rejects the reply, the listing fails
   pub untaken : {A : Type 0} (a b c : S) (x y : W) (heard : Heard) (told : LsRefsAsked) (cause : MessageFault)
       → HasHeardServer (Reading a b) heard → told ≡ ls_with asked Unborn heard.tells_unborn
       → Passes (Writing x y) (request_bytes heard.format (Ls told))
@@ -116,7 +116,7 @@ module _ (asked : LsRefsAsked) {S : Type 0} (remaining : S → Option (List ℕ)
       (λ (rest : Input). RefusesReply heard.format rest cause) before refused)
       (subst (Passes (Writing x y)) (same_asked heard before.capabilities told is before.unborn) passed)
 
-  -- the lone flush can't be sent
+  -- if the lone flush packet can't be sent, the listing fails
   pub unended : {A : Type 0} (a b c : S) (x y z : W) (heard : Heard) (told : LsRefsAsked) (reply : ls.LsReply)
       → HasHeardServer (Reading a b) heard → told ≡ ls_with asked Unborn heard.tells_unborn
       → Passes (Writing x y) (request_bytes heard.format (Ls told))
@@ -131,7 +131,7 @@ module _ (asked : LsRefsAsked) {S : Type 0} (remaining : S → Option (List ℕ)
       (fails_after contents passed_on is_down x y z (asking_bytes heard.format before.capabilities asked)
       (ending_bytes heard.format) sent fails.0 fails.1)
 
-  -- all is read and sent
+  -- if all steps succeed, the listing is complete
   pub listed : (a b c : S) (x y z : W) (heard : Heard) (told : LsRefsAsked) (reply : ls.LsReply)
       → HasHeardServer (Reading a b) heard → told ≡ ls_with asked Unborn heard.tells_unborn
       → Passes (Writing x y) (request_bytes heard.format (Ls told))

@@ -1,4 +1,4 @@
--- The steps before a reply: hearing the server, asking, and passing requests on.
+-- The steps before a reply: reading the advertisement, and sending requests.
 use Rattle.std.proofs.Common.{◌≡◌, ℕ, ◌<◌, true, List, [], ◌∷◌, length, arith, Some, None, Result, Ok, Err, refl, sym}
 use Rattle.std.proofs.Common.{ap, subst, ◌∙◌, inr, Bool, ◌++◌, Option, append-nil}
 use Rattle.std.specs.Prelude.{IsErrAnd, flat_map}
@@ -34,14 +34,14 @@ use Rattle.std.proofs.lemmas.Grind.{flat_map-append}
 
 -- ---- faults
 
--- a result that is a fault, which is this one
+-- a result that fails with exactly this fault
 pub err_of : {T E : Type 0} (value : E) (result : Result T E) → IsErrAnd result (λ e. e ≡ value) → result ≡ Err value
 err_of value (Ok done) h = absurd h
 err_of value (Err e) h = ap (λ x. Err x) h
 
--- ---- hearing
+-- ---- reading the advertisement
 
--- the client can't go on with the server
+-- the client reads the advertisement, and does not support the server
 pub mismatches : (format other : Format) (input : Input) (capabilities : List Capability) (cause : MessageFault)
     → other ≡ format → ReadsMessage judge Says input.read capabilities → check_fault other capabilities ≡ Some cause.why
     → cause.frame ≡ 0 → IsUp input → RefusesAdvert format input cause
@@ -55,14 +55,14 @@ mismatches format other input capabilities cause same read why frame up = inr (r
   up = up;
 })
 
--- ---- a session that has heard the server
+-- ---- a session that has read the advertisement
 
 pub fresh_is_begun : {A : Type 0} (session : SessionState A) (repo : RepoState A) → HasBegun session repo
     → IsBegun session
 fresh_is_begun {A} session repo fresh =
     (ap (λ (s : SessionState A). s.stage) fresh, ap (λ (s : SessionState A). s.pending) fresh)
 
--- it is as it began, but for what it heard
+-- a new session that has read an advertisement and made no request
 pub record IsHeard {A : Type 0} (repo : RepoState A) (s : SessionState A) : Type 0 where
   pub stage : s.stage ≡ Listing
   pub pending : s.pending ≡ None
@@ -84,7 +84,7 @@ is_heard {A} format repo old new input begun (packets, capabilities, advertises,
     is ∙ ap (λ (s : SessionState A). record s { offers_unborn = tells_unborn capabilities }) begun in
     subst (IsHeard repo) (sym same) (heard_new (start_with old repo) capabilities)
 
--- ---- a session that has taken refs
+-- ---- a session that has accepted an ls-refs reply
 
 stage_by_wants : (wants : List (List ℕ)) → 0 < length wants → stage_for wants ≡ Fetching
 stage_by_wants [] some = absurd (omega (arith, some))
@@ -108,12 +108,12 @@ module _ {A : Type 0} (waiting new : SessionState A) (g : List (Entry A)) (chang
   refs_held none = ap (λ (s : SessionState A). s.stage) takes.1.2.after
       ∙ stage_without takes.1.2.wants (sym takes.1.2.count ∙ none)
 
--- ---- requests that are written and passed on, one after the other
+-- ---- requests that are written and flushed
 
 module _ {W : Type 0} (contents passed_on : W → Option (List ℕ)) (is_down : W → Bool) (loans : W → List ℕ) where
-  -- ---- a write, and a push after it
+  -- ---- a write followed by a flush
 
-  -- what was written by a writer that had not failed was passed on
+  -- a successful write followed by a flush satisfies `HasPassed`
   pub passed_pushed : PushesWritten contents passed_on is_down loans → (a b c : Writer W) (packets : List Packet)
       (result : Result (Unit {0}) WriteFault) → WritesPackets contents passed_on is_down loans a b (Ok tt) packets
       → HasPushed contents passed_on is_down loans b c result
@@ -123,10 +123,10 @@ module _ {W : Type 0} (contents passed_on : W → Option (List ℕ)) (is_down : 
   passed_pushed pushes a b c packets (Err fault) wrote pushed =
       push_fails contents passed_on is_down loans pushes a b c packets fault wrote pushed
 
--- ---- one after the other
+-- ---- consecutive parts of the output
 
 module _ {W : Type 0} (contents passed_on : W → Option (List ℕ)) (is_down : W → Bool) where
-  -- nothing was written before
+  -- if nothing was written from `a` to `b`, the bytes flushed from `b` to `c` are all bytes flushed from `a` to `c`
   unwritten_passes : (a b c : W) (xs : List ℕ) → IsUnwritten (output_of contents passed_on is_down a b)
       → Passes (output_of contents passed_on is_down b c) xs → Passes (output_of contents passed_on is_down a c) xs
   unwritten_passes a b c xs still next = record {
@@ -154,7 +154,7 @@ module _ {W : Type 0} (contents passed_on : W → Option (List ℕ)) (is_down : 
   unwritten_keeps a b c still kept =
       subst (λ (old : Option (List ℕ)). KeepsPassed (record { old = old; new = passed_on c })) still.passed_on kept
 
-  -- ---- requests, one after the other
+  -- ---- consecutive requests
 
   requests_more : (format : Format) (talk : List Turn) (turn : Turn)
       → requests_bytes format talk ++ request_bytes format turn.asked ≡ requests_bytes format (talk ++ turn ∷ [])
@@ -163,7 +163,7 @@ module _ {W : Type 0} (contents passed_on : W → Option (List ℕ)) (is_down : 
       sym (flat_map-append bytes talk (turn ∷ [])
       ∙ ap (λ (xs : List ℕ). flat_map bytes talk ++ xs) (append-nil (bytes turn)))
 
-  -- what is passed on next
+  -- the next bytes are flushed after the requests so far
   pub asked_passes : (format : Format) (a b c : W) (talk : List Turn) (bytes : List ℕ)
       → HasAsked format (output_of contents passed_on is_down a b) talk
       → Passes (output_of contents passed_on is_down b c) bytes
@@ -178,7 +178,7 @@ module _ {W : Type 0} (contents passed_on : W → Option (List ℕ)) (is_down : 
   asked_by_passing format a c [] turn passed = passed
   asked_by_passing format a c (first ∷ talk) turn passed = passed
 
-  -- one request more
+  -- one more request is flushed after the requests so far
   pub asked_more : (format : Format) (a b c : W) (talk : List Turn) (turn : Turn)
       → HasAsked format (output_of contents passed_on is_down a b) talk
       → Passes (output_of contents passed_on is_down b c) (request_bytes format turn.asked)
@@ -189,7 +189,7 @@ module _ {W : Type 0} (contents passed_on : W → Option (List ℕ)) (is_down : 
       (requests_more format talk turn)
       (asked_passes format a b c talk (request_bytes format turn.asked) before next))
 
-  -- a beginning of what is due next is written
+  -- a prefix of the next bytes is written after the requests so far
   pub asked_fails : (format : Format) (a b c : W) (talk : List Turn) (due : List ℕ)
       → HasAsked format (output_of contents passed_on is_down a b) talk
       → SendsSome (output_of contents passed_on is_down b c) due
@@ -200,7 +200,7 @@ module _ {W : Type 0} (contents passed_on : W → Option (List ℕ)) (is_down : 
   asked_fails format a b c (turn ∷ talk) due before next kept =
       fails_after contents passed_on is_down a b c (requests_bytes format (turn ∷ talk)) due before next kept
 
-  -- nothing more is written
+  -- nothing is written after the requests so far
   pub asked_still : (format : Format) (a b c : W) (talk : List Turn)
       → HasAsked format (output_of contents passed_on is_down a b) talk
       → IsUnwritten (output_of contents passed_on is_down b c)

@@ -1,4 +1,4 @@
--- A conversation, turn by turn, and what it keeps.
+-- A conversation turn by turn, and the properties that it preserves.
 use Rattle.std.proofs.Common.{◌≡◌, ℕ, ◌≤◌, Bool, false, List, [], ◌∷◌, ◌++◌, length, Option, None, Ok, Err, refl, sym}
 use Rattle.std.proofs.Common.{ap, subst, ◌∙◌, append_assoc, append-nil, Result}
 use Rattle.std.proofs.lemmas.Grind.{flat_map-append}
@@ -57,9 +57,9 @@ reads_more join old mid new packets talk turn before next =
 module _ {A S W : Type 0} (indexes : Indexes A) (index_fails : IndexFails) (start : Start A)
     (remaining : S → Option (List ℕ)) (source_down : S → Bool)
     (contents passed_on : W → Option (List ℕ)) (sink_down : W → Bool) where
-  -- ---- what was read
+  -- ---- the bytes read
 
-  -- nothing more is read, and this holds of it
+  -- the client has read the replies of the turns so far, and `Rest` holds for the remaining input
   converse_on : (r s t : S) (talk : List Turn) (now : ClientState A) (Rest : Input → Type 0)
       → Converses indexes index_fails start (input_of remaining source_down r s) talk now IsLeft
       → Rest (rest_of (input_of remaining source_down r t) (remaining s))
@@ -85,7 +85,7 @@ module _ {A S W : Type 0} (indexes : Indexes A) (index_fails : IndexFails) (star
       converse_on r s t talk now IsLeft before
       (record { unread = unread.read; up = unread.down ∙ before.rest.up })
 
-  -- a turn more
+  -- the client reads the reply of one more turn
   converse_more : ReadsJoin → (r s t : S) (talk : List Turn) (turn : Turn) (now new : ClientState A)
       → (before : Converses indexes index_fails start (input_of remaining source_down r s) talk now IsLeft)
       → AreTurns indexes index_fails (hear_advert start before.capabilities) (talk ++ turn ∷ []) new
@@ -105,7 +105,7 @@ module _ {A S W : Type 0} (indexes : Indexes A) (index_fails : IndexFails) (star
         rest = record { unread = refl; up = up };
       }
 
-  -- ---- the formats
+  -- ---- the object formats and the tips
 
   pub same_format : (input : Input) (talk : List Turn) (now : ClientState A) (Rest : Input → Type 0)
       → Converses indexes index_fails start input talk now Rest → now.repo.graph.format ≡ start.repo.graph.format
@@ -123,9 +123,9 @@ module _ {A S W : Type 0} (indexes : Indexes A) (index_fails : IndexFails) (star
   same_tips input talk now Rest converses =
       (turns_kept indexes index_fails (hear_advert start converses.capabilities) talk now converses.each).tips
 
-  -- ---- from turn to turn
+  -- ---- from one turn to the next
 
-  -- one turn more
+  -- the conversation continues with one more turn
   pub talked_more : ReadsJoin → (r s t : S) (a b c : W) (now new : ClientState A)
       → HasTalked indexes index_fails start (input_of remaining source_down r s)
       (output_of contents passed_on sink_down a b) now
@@ -147,7 +147,7 @@ module _ {A S W : Type 0} (indexes : Indexes A) (index_fails : IndexFails) (star
             (request_bytes f more.turn.asked)) same more.passed);
       }
 
-  -- a turn that fails
+  -- a turn that fails ends the conversation
   pub talk_failed : (r s t : S) (a b c : W) (now : ClientState A) (repo : RepoState A) (cause : FetchFault A)
       → HasTalked indexes index_fails start (input_of remaining source_down r s)
       (output_of contents passed_on sink_down a b) now
@@ -180,9 +180,9 @@ module _ {A S W : Type 0} (indexes : Indexes A) (index_fails : IndexFails) (star
       (subst (λ (f : Format). Passes (output_of contents passed_on sink_down b c) (request_bytes f asked)) same passed))
       still
 
-  -- ---- the beginning
+  -- ---- the beginning of a conversation
 
-  -- the server is heard, and nothing is asked
+  -- the client has read the advertisement, and has made no request
   pub talked_none : (r s : S) (a : W) (old new : SessionState A) → length start.refspecs ≤ max_specs → old ≡ begin_session start
       → HearsServer {A = A} start.repo.graph.format old (input_of remaining source_down r s) new (Ok tt)
       → HasTalked indexes index_fails start (input_of remaining source_down r s)
@@ -213,7 +213,7 @@ module _ {A S W : Type 0} (indexes : Indexes A) (index_fails : IndexFails) (star
       cannot_hear cause few refuses (record { written = refl; passed_on = refl; down = refl }) refl
   not_heard r s a old new cause few refuses = absurd refuses
 
-  -- ---- the end
+  -- ---- the end of a conversation
 
   pub closed : (r s : S) (a b c : W) (last : ClientState A) (new : RepoState A) (settled : Settled A)
       (fetched : Fetched A)
@@ -268,9 +268,9 @@ module _ {A S W : Type 0} (indexes : Indexes A) (index_fails : IndexFails) (star
       kept) still
   not_closed r s a b c last new cause before next closes = absurd closes
 
--- ---- the refs
+-- ---- the request for refs
 
--- a conversation that came so far, in one format, and on what its session began
+-- a conversation so far: the session and the repository have one object format, and `BeganOn` holds for the first graph
 pub record HasListed {A : Type 0} (indexes : Indexes A) (index_fails : IndexFails) (start : Start A) (input : Input)
     (output : Output) (now : ClientState A) : Type 0 where
   pub talked : HasTalked indexes index_fails start input output now
@@ -280,7 +280,7 @@ pub record HasListed {A : Type 0} (indexes : Indexes A) (index_fails : IndexFail
 module _ {A S W : Type 0} (indexes : Indexes A) (index_fails : IndexFails)
     (remaining : S → Option (List ℕ)) (source_down : S → Bool)
     (contents passed_on : W → Option (List ℕ)) (sink_down : W → Bool) where
-  -- the server is heard, refs are asked for, and the reply is taken
+  -- the client has read the advertisement, requested the refs, and accepted the reply
   pub has_listed : ReadsJoin → DistinctAreOnce → BeganStays A → (repo : RepoState A) → IsConnectedRepo repo
       → (r s t : S) (a b : W) (old hear_advert waiting new : SessionState A) (asked : Asked) (taken : LsTaken A)
       → length old.refspecs ≤ max_specs → HasBegun old repo
@@ -310,9 +310,9 @@ module _ {A S W : Type 0} (indexes : Indexes A) (index_fails : IndexFails)
             (begins_on once repo hear_advert whole is.tips is.sent) turned.is_turn;
       }
 
--- ---- what a conversation keeps: the refs where it fails, and the objects
+-- ---- the refs and the objects that a conversation keeps
 
--- the refs are as they were, and objects only came
+-- the refs are unchanged, and the graph only gained objects
 pub record IsKeptRepo {A : Type 0} (old new : RepoState A) : Type 0 where
   pub refs : new.refs ≡ old.refs
   pub grows : Grows old.graph.entries new.graph.entries
@@ -367,7 +367,7 @@ module _ {A : Type 0} (indexes : Indexes A) (index_fails : IndexFails) (start : 
       (sym fetches.settles.0.graph)
       (subst (λ (l : RefList). Settles last.graph.entries l fetched.settled.asks updates new.refs) kept.refs settled)
 
-  -- whatever a conversation answers
+  -- the effects of a conversation on refs and objects, for each result
 
   pub over_settles : (input : Input) (output : Output) (new : RepoState A) (result : Result (Fetched A) (FetchFault A))
       → FetchesOver indexes index_fails start input output new result

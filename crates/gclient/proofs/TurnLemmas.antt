@@ -1,4 +1,4 @@
--- From a request that is made and sent, and a reply that is taken, to a turn; and what turns keep.
+-- Turns: a request that is sent, and its accepted or rejected reply. Also the properties that turns preserve.
 use Rattle.std.proofs.Common.{◌≡◌, ℕ, Bool, false, List, [], ◌∷◌, ◌++◌, Some, None, Ok, Err, refl, sym, ap, subst, ◌∙◌}
 use Rattle.std.proofs.Common.{◌+◌, ◌≤◌, length, All, bytes_eq, Option, arith}
 use Rattle.gpkt.specs.Sending.{Input, Output, IsUnread, IsUp, Passes}
@@ -47,7 +47,7 @@ use Rattle.gsession.proofs.SessionLemmas.{listing_fetches, settling_fetches}
 -- ---- the request
 
 module _ {A : Type 0} (g : List (Entry A)) (old waiting : SessionState A) where
-  -- what waits is what was asked
+  -- the open request is the request that the session made
   waits_for : (asked : Asked) (batch : List (List ℕ)) → (waiting_for old asked batch).pending ≡ Some asked
   waits_for Empty batch = refl
   waits_for (Ls asked) batch = refl
@@ -59,7 +59,7 @@ module _ {A : Type 0} (g : List (Entry A)) (old waiting : SessionState A) where
   no_listing : old.stage ≡ Fetching → old.stage ≡ Listing → ⊥
   no_listing fetching listing = let same : Listing ≡ Fetching = sym listing ∙ fetching in cc
 
-  -- objects are asked for where they are to be fetched, and refs first
+  -- in the stage `Fetching` the session requests objects, and in the stage `Listing` it requests refs
   pub asks_objects : old.stage ≡ Fetching → (asked : Asked) → Requests old g waiting (Ok asked)
       → (fetched : FetchAsked) × (asked ≡ Fetches fetched)
   asks_objects fetching Empty made = absurd made.1.1
@@ -75,7 +75,7 @@ module _ {A : Type 0} (g : List (Entry A)) (old waiting : SessionState A) where
 -- ---- the source
 
 module _ {A S : Type 0} (is_down : S → Bool) (old new : Reader S) where
-  -- the fault of a reply that was due is the source's exactly where that is down
+  -- the fault of an awaited reply reports a failed source exactly if the source failed
   fits_source : (T : Type 0) (cause : ClientFault A) → old.failed ≡ false → (cause ≡ client.NoOpenRequest → ⊥)
       → LeavesReplies {A = A} {T = T} is_down old new (Err cause) → FitsSource (is_down new.source) cause
   fits_source T (client.Message cause) well due left =
@@ -84,7 +84,7 @@ module _ {A S : Type 0} (is_down : S → Bool) (old new : Reader S) where
   fits_source T cause well due left = left.2
 
 module _ {A : Type 0} (indexes : Indexes A) (index_fails : IndexFails) where
-  -- the reply to what waits is taken
+  -- accepting the reply to the open request completes the turn
   taken_turn : (old : ClientState A) (waiting : SessionState A) (new : ClientState A) (asked due : Asked)
       (reply : List Packet) (input : Input) (output : Output)
       → Requests old.session old.repo.graph.entries waiting (Ok asked)
@@ -106,7 +106,7 @@ module _ {A : Type 0} (indexes : Indexes A) (index_fails : IndexFails) where
         up = up;
       }
 
-  -- it is refused
+  -- if the client rejects the reply to the open request, the turn fails
   refused_turn : {S : Type 0} (is_down : S → Bool) (before after : Reader S) (old : ClientState A)
       (waiting : SessionState A) (asked due : Asked) (T : Type 0) (input : Input) (output : Output)
       (cause : ClientFault A) → asked ≡ due → Requests old.session old.repo.graph.entries waiting (Ok asked)
@@ -122,9 +122,9 @@ module _ {A : Type 0} (indexes : Indexes A) (index_fails : IndexFails) where
             (fits_source {A = A} is_down before after T cause well owed left);
       }) passed
 
-  -- ---- a reply to fetch
+  -- ---- the fetch reply
 
-  -- it was due
+  -- the fault of an awaited fetch reply is not `NoOpenRequest`
   pub objects_due : (waiting : SessionState A) (asked : FetchAsked) (repo : RepoState A) (change : Change)
       (cause : ClientFault A)
       → Awaits waiting asked → IsTakeFault indexes index_fails waiting repo change cause → cause ≡ client.NoOpenRequest
@@ -132,7 +132,7 @@ module _ {A : Type 0} (indexes : Indexes A) (index_fails : IndexFails) where
   objects_due waiting asked repo change cause awaits why is =
       (subst (λ (f : ClientFault A). IsTakeFault indexes index_fails waiting repo change f) is why).0 (asked, awaits)
 
-  -- objects were asked for, and the reply is taken
+  -- requesting objects and accepting the reply is a turn
   pub turned : (old : ClientState A) (waiting new : SessionState A) (asked : Asked) (repo : RepoState A) (input : Input)
       (output : Output) (taken : Taken)
       → Requests old.session old.repo.graph.entries waiting (Ok asked)
@@ -161,7 +161,7 @@ module _ {A : Type 0} (indexes : Indexes A) (index_fails : IndexFails) where
       let stage = stage_of_taken waiting new old.repo repo took.2.0 taken took.2.2.1 in
       (turned old waiting new asked repo input output taken made passed took up, stage.0, stage.1)
 
-  -- objects were asked for, and the reply is refused
+  -- if the client rejects the reply to a request for objects, the turn fails
   pub not_turned : {S : Type 0} (is_down : S → Bool) (before after : Reader S) (old : ClientState A)
       (waiting : SessionState A) (asked : Asked)
       (input : Input) (output : Output) (cause : ClientFault A) → old.session.stage ≡ Fetching
@@ -178,14 +178,14 @@ module _ {A : Type 0} (indexes : Indexes A) (index_fails : IndexFails) where
       refused_turn is_down before after old waiting asked (Fetches is.0) Taken input output cause is.1 made passed why
       (objects_due waiting is.0 old.repo input.read cause awaits why) well left down
 
-  -- ---- a reply to ls-refs
+  -- ---- the ls-refs reply
 
   refs_due : (waiting : SessionState A) (g : List (Entry A)) (change : Change) (cause : ClientFault A)
       → AwaitsRefs waiting → IsLsFault waiting g change cause → cause ≡ client.NoOpenRequest → ⊥
   refs_due waiting g change cause awaits why is =
       (subst (λ (f : ClientFault A). IsLsFault waiting g change f) is why).0 awaits
 
-  -- refs were asked for, and the reply is taken
+  -- requesting refs and accepting the reply is a turn
   pub listed : (old : ClientState A) (waiting new : SessionState A) (asked : Asked) (input : Input) (output : Output)
       (taken : LsTaken A)
       → Requests old.session old.repo.graph.entries waiting (Ok asked)
@@ -197,7 +197,7 @@ module _ {A : Type 0} (indexes : Indexes A) (index_fails : IndexFails) where
       awaits.1 (record { reply = reply; says = read.says; taken = taken; takes = takes; unborn = refl; stays = refl })
       read.read.bytes up
 
-  -- refs were asked for, and the reply is refused
+  -- if the client rejects the reply to a request for refs, the turn fails
   pub not_listed : {S : Type 0} (is_down : S → Bool) (before after : Reader S) (old : ClientState A)
       (waiting : SessionState A) (asked : Asked)
       (input : Input) (output : Output) (cause : ClientFault A) → old.session.stage ≡ Listing
@@ -226,9 +226,9 @@ module _ {A : Type 0} (indexes : Indexes A) (index_fails : IndexFails) where
   not_asked old new input output fetch.WriteFailed asks unread =
       unsent asks.0 new asks.1 unread asks.2
 
--- ---- what turns keep
+-- ---- the properties that turns preserve
 
--- what a client's turns keep: its refs, its formats and its tips, and that objects only come
+-- turns keep the refs, the object formats and the tips, and the graph only gains objects
 pub record IsKept {A : Type 0} (old new : ClientState A) : Type 0 where
   pub refs : new.repo.refs ≡ old.repo.refs
   pub format : new.repo.graph.format ≡ old.repo.graph.format
@@ -237,7 +237,7 @@ pub record IsKept {A : Type 0} (old new : ClientState A) : Type 0 where
   pub tips : new.session.tips ≡ old.session.tips
 
 module _ {A : Type 0} where
-  -- a request changes neither the format nor the tips
+  -- a request changes neither the object format nor the tips
   record IsAsker (old waiting : SessionState A) : Type 0 where
     format : waiting.format ≡ old.format
     tips : waiting.tips ≡ old.tips
@@ -318,7 +318,7 @@ module _ {A : Type 0} (indexes : Indexes A) (index_fails : IndexFails) where
   turns_kept first (turn ∷ talk) last (next, is, rest) =
       kept_on first next last (turn_kept first turn next is) (turns_kept next talk last rest)
 
-  -- one turn more
+  -- one more turn follows the turns of a conversation
   pub turns_more : (first : ClientState A) (talk : List Turn) (turn : Turn) (last new : ClientState A)
       → AreTurns indexes index_fails first talk last → IsTurn indexes index_fails last turn new
       → AreTurns indexes index_fails first (talk ++ turn ∷ []) new
@@ -327,7 +327,7 @@ module _ {A : Type 0} (indexes : Indexes A) (index_fails : IndexFails) where
   turns_more first (other ∷ talk) turn last new (next, is, rest) more =
       (next, is, turns_more next talk turn last new rest more)
 
-  -- ---- on what a session began
+  -- ---- the graph with which a session began
 
   head_began : (g : List (Entry A)) (repo : RepoState A) (waiting : SessionState A) (reply : FetchReply)
       (new : ClientState A) (taken : Taken)
@@ -354,7 +354,7 @@ module _ {A : Type 0} (indexes : Indexes A) (index_fails : IndexFails) where
       taken_began g old is.waiting turn.asked turn.reply new
       (stays g old.repo.graph.entries old.session is.waiting turn.asked grows began is.asks.1) is.takes
 
--- ---- how often objects are asked for: distinct held ids are at most as many as there are objects
+-- ---- the number of offered ids, which is at most the number of objects
 
 pub sent_are_few : {A : Type 0} (g : List (Entry A)) (s : SessionState A) → IsDistinct bytes_eq s.sent → BeganOn g s
     → length s.sent ≤ length g
@@ -366,13 +366,13 @@ sent_are_few {A} g s once began =
     let same = length-map g (λ (entry : Entry A). entry.id) in
     omega (arith, within, same)
 
--- ---- a round
+-- ---- rounds without a pack
 
 stage_is : {x y : Stage} {A : Type 0} (s : SessionState A) → s.stage ≡ x → s.stage ≡ y → x ≡ y
 stage_is s one other = sym one ∙ other
 
 module _ {A : Type 0} (indexes : Indexes A) (index_fails : IndexFails) where
-  -- where only acknowledgments came, the repository stays
+  -- a reply with only acknowledgments leaves the repository, the number of rounds and the offered ids unchanged
   head_round : (old : RepoState A) (waiting new : SessionState A) (reply : FetchReply) (repo : RepoState A)
       (taken : Taken)
       → new.stage ≡ Fetching → TakesHead indexes index_fails waiting old reply new repo taken
@@ -402,7 +402,7 @@ module _ {A : Type 0} (indexes : Indexes A) (index_fails : IndexFails) where
   round_more old turn new before after is =
       round_of old is.waiting turn.asked turn.reply new before after is.asks is.takes
 
-  -- only acknowledgments came
+  -- a turn whose reply has only acknowledgments is one round
   pub round_taken : (old : ClientState A) (input : Input) (output : Output) (new : ClientState A) (taken : Taken)
       (common : ℕ)
       → old.session.stage ≡ Fetching → taken ≡ Round common
@@ -413,7 +413,7 @@ module _ {A : Type 0} (indexes : Indexes A) (index_fails : IndexFails) where
       let more = round_more old h.0.turn new before after h.0.is_turn in
       (after, more.0, more.1)
 
-  -- after a reply more, a session is still one that began on a repository that stayed
+  -- a turn preserves `BeganOn`, if the repository has not changed since the first round
   pub round_began : BeganStays A → (first : RepoState A) (old : ClientState A) (turn : Turn) (new : ClientState A)
       → old.repo ≡ first → BeganOn first.graph.entries old.session → IsTurn indexes index_fails old turn new
       → BeganOn first.graph.entries new.session
@@ -421,7 +421,7 @@ module _ {A : Type 0} (indexes : Indexes A) (index_fails : IndexFails) where
       turn_began indexes index_fails stays first.graph.entries old turn new
       (grows_none first.graph.entries old.repo.graph.entries (ap (λ (r : RepoState A). r.graph.entries) same)) began is
 
--- between rounds there were at most as many as there are objects
+-- in the stage `Fetching`, without an open request, the number of rounds is at most the number of objects
 pub rounds_within : {A : Type 0} (g : List (Entry A)) (s : SessionState A) → IsSession s → s.stage ≡ Fetching
     → s.pending ≡ None → BeganOn g s
     → s.rounds ≤ length g
@@ -432,9 +432,9 @@ rounds_within {A} g s is stage pending began =
     let few = sent_are_few g s is.sent began in
     omega (arith, fits, few)
 
--- ---- the beginning
+-- ---- the beginning of a session
 
--- a session begins on the graph of its repository
+-- a new session satisfies `BeganOn` with the graph of its repository
 pub begins_on : {A : Type 0} → DistinctAreOnce → (repo : RepoState A) (s : SessionState A) → IsConnectedRepo repo
     → s.tips ≡ tips_of repo → s.sent ≡ []
     → BeganOn repo.graph.entries s

@@ -1,4 +1,4 @@
--- Asks, and the pairs of their map.
+-- Requested ref updates, and the pairs of the map that stores them.
 use Rattle.std.proofs.Common.{◌≡◌, ◌≢◌, ◌||◌, ◌≤◌, ℕ, Bool, true, false, cond, if◌then◌else◌, nat_eq, List, [], ◌∷◌, ◌++◌, length, map, get_or, Option, None, Some, refl, sym, ap, ◌∙◌, arith}
 use Rattle.std.proofs.lemmas.Bool.{false≢true}
 use Rattle.std.proofs.lemmas.Cmp.{nat_list_eq_equiv}
@@ -21,7 +21,7 @@ use Rattle.gclientrepo.specs.Asks.{NamesDiffer, ask_of_aim, asked_ids, asks_of, 
 use Rattle.gclientrepo.specs.declared.ask.Ask.{Ask}
 use Rattle.gclientrepo.specs.declared.asks.Aim.{Aim}
 
--- no value is there
+-- an option without a value is `None`
 none_there : {X : Type 0} (found : Option X) → is_some found ≡ false → found ≡ None
 none_there None absent = refl
 none_there (Some x) absent = absurd (false≢true (sym absent))
@@ -34,21 +34,21 @@ module _ (A : Type 0) where
   abbrev asks_here : List (List ℕ × Aim) → List (Ask A)
   asks_here pairs = asks_of pairs
 
-  -- a name of the map is that of an ask
+  -- a look-up in the map finds a name exactly if an update of the ref with this name is requested
   pub asked_pairs : (pairs : List (List ℕ × Aim)) (name : List ℕ) → is_some (lookup (pointwise nat_eq name) pairs) ≡ is_asked (asks_here pairs) name
   asked_pairs [] name = refl
   asked_pairs (pair ∷ pairs) name =
       ap (λ (b : Bool). is_some (cond b (Some pair.1) (lookup (pointwise nat_eq name) pairs))) (nat_list_eq_equiv.symm name pair.0)
       ∙ asked_step (pointwise nat_eq pair.0 name) pair.1 (lookup (pointwise nat_eq name) pairs) (is_asked (asks_here pairs) name) (asked_pairs pairs name)
 
-  -- a new pair is one more ask
+  -- inserting a pair with a new name appends a requested update
   pub pushed_asks : {S : Type 0} (m : IndexMap (List ℕ) Aim S) (new : List (List ℕ × Aim)) (name : List ℕ) (aim : Aim) → is_asked (asks_here m.entries) name ≡ false
       → new ≡ insert_entry (pointwise nat_eq) m.entries name aim → asks_here new ≡ asks_here m.entries ++ ask_of_aim (name, aim) ∷ []
   pushed_asks m new name aim absent is =
       ap asks_here (is ∙ insert_entry-new (pointwise nat_eq) m name aim (none_there (lookup (pointwise nat_eq name) m.entries) (asked_pairs m.entries name ∙ absent)))
       ∙ map-append (λ (pair : List ℕ × Aim). ask_of_aim pair) m.entries ((name, aim) ∷ [])
 
-  -- an ask for a ref of which none is there
+  -- adding a requested update of a ref that the list does not yet have
   pub with_ask_new : (asks : List (Ask A)) (ask : Ask A) → is_asked asks ask.name ≡ false → with_ask asks ask ≡ asks ++ ask ∷ []
   with_ask_new asks ask absent = ap (λ (b : Bool). if b then asks else asks ++ ask ∷ []) absent
 
@@ -61,13 +61,13 @@ module _ (A : Type 0) where
       (λ k d low. λ same.
       false≢true (sym absent ∙ list_any_at (λ (a : Ask A). bytes_eq a.name ask.name) asks k d low ((bytes_eq-Decides (get_or asks k d).name ask.name).1 same)))
 
-  -- what a look-up by position finds
+  -- the result of a look-up by position
   pub at_place : (pairs : List (List ℕ × Aim)) (k : ℕ) (found : Option (Bor (List ℕ) × Bor Aim)) → option_map deref_pair found ≡ slice_get pairs k
       → MatchOption found (length (asks_here pairs) ≤ k) (λ pair. slice_get (asks_here pairs) k ≡ Some (ask_of_aim (pair.0.now, pair.1.now)))
   at_place pairs k None is = let n = length-map pairs (λ (pair : List ℕ × Aim). ask_of_aim {A = A} pair) in let h = past pairs k is in omega arith
   at_place pairs k (Some pair) is = slice_get-map (λ (p : List ℕ × Aim). ask_of_aim {A = A} p) pairs k ∙ ap (option_map (λ (p : List ℕ × Aim). ask_of_aim {A = A} p)) (sym is)
 
-  -- the ids of the map are those that are asked for
+  -- the ids in the map are the new ids of the requested updates
   pub ids_pairs : (pairs : List (List ℕ × Aim)) → map (λ aim. aim.id) (values_of pairs) ≡ asked_ids (asks_here pairs)
   ids_pairs [] = refl
   ids_pairs (pair ∷ pairs) = ap (λ (ids : List (List ℕ)). pair.1.id ∷ ids) (ids_pairs pairs)

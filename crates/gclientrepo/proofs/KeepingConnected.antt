@@ -1,4 +1,4 @@
--- A repository stays connected where refs are settled or set.
+-- A repository stays connected when ref updates are settled or a ref is set.
 use Rattle.std.proofs.Common.{◌≡◌, ◌⊎◌, inl, inr, ℕ, ◌+◌, Bool, true, false, List, [], ◌∷◌, ◌++◌, take, drop, get_or, All, Contains, Option, None, Some, refl, sym, ap, ◌∙◌, subst, arith}
 use Rattle.std.proofs.lemmas.List.{drop_more, get_or-map, length-map, take-append-drop}
 use Rattle.std.proofs.lemmas.List.Elements.{All-contains, All-weaker}
@@ -29,16 +29,16 @@ use Rattle.gclientrepo.specs.steps.Repos.{ComeFrom}
 use Rattle.gclientrepo.proofs.OneSettling.{some_mover, stands}
 use Rattle.gclientrepo.proofs.RepoLemmas.{set_from, connected_installed}
 
--- ---- what a look-up finds
+-- ---- the results of look-ups
 
--- a ref after lower ones stands where it stands
+-- a look-up finds the id of a ref that comes after refs with lower names
 at_after : (front : RefList) (ref : List ℕ × List ℕ) (back : RefList) → AreBelow front ref.0 → ref_at (front ++ ref ∷ back) ref.0 ≡ Some ref.1
 at_after [] ref back below = ref_at-hit ref back ref.0 ((bytes_eq-Decides ref.0 ref.0).1 refl)
 at_after (other ∷ front) ref back below =
     ref_at-skip other (front ++ ref ∷ back) ref.0 (sym (is_eq-slice_cmp other.0 ref.0) ∙ ap is_eq below.0)
     ∙ at_after front ref back below.1
 
--- and so does each ref
+-- a look-up finds the id of each ref of a valid list
 own_look_up : RefsComeInOrder → (refs : RefList) → IsRefs refs → All (λ ref. ref_at refs ref.0 ≡ Some ref.1) refs
 own_look_up law refs are place d low =
     let ref = get_or refs place d in
@@ -55,7 +55,7 @@ found_step other refs ref true e is rest =
     (0, omega arith, ap (λ (n : List ℕ). (n, other.1)) name ∙ ap (λ (i : List ℕ). (ref.0, i)) id)
 found_step other refs ref false e is rest = contains_tail other refs ref (rest (sym (ref_at-skip other refs ref.0 e) ∙ is))
 
--- what is found is there
+-- a ref whose id a look-up finds is in the list
 found_there : (refs : RefList) (ref : List ℕ × List ℕ) → ref_at refs ref.0 ≡ Some ref.1 → Contains refs ref
 found_there [] ref is = absurd (none-some ref.1 is)
 found_there (other ∷ refs) ref is = found_step other refs ref (bytes_eq other.0 ref.0) refl is (λ rest. found_there refs ref rest)
@@ -69,7 +69,7 @@ module _ {A : Type 0} where
         get_or-map id asks there.0 ask ask.id there.1 ∙ ap id there.2,
       )
 
-  -- settled refs are old ones, or stand at asked ids
+  -- each ref after settling is an old ref, or points at the new id of a requested update
   pub come_from : RefsComeInOrder → (g : List (Entry A)) (old : RefList) (asks : List (Ask A)) (updates : List RefUpdate) (new : RefList)
       → IsRefs new → Settles g old asks updates new → ComeFrom old (asked_ids asks) new
   come_from law g old asks updates new are settles =
@@ -82,7 +82,7 @@ module _ {A : Type 0} where
         | inr stays ↦ inl (found_there old ref (sym (settles.others ref.0 stays) ∙ own))
       ]) new (own_look_up law new are)
 
-  -- marks of what connected ids reach
+  -- all marked objects are connected after the objects that connected ids reach are marked
   marks_connected : ReachingGoesOn A → (g : List (Entry A)) (ids : List (List ℕ)) (old new : List Bool) → All (IsConnected g) ids → AreConnected g old → MarksReached g ids old new → AreConnected g new
   marks_connected goes_on g ids old new connected were reached place marked = by (slice_get g place) refl
     where

@@ -1,4 +1,4 @@
--- There is one settling of some asks.
+-- The result of settling requested updates is unique.
 use Rattle.std.proofs.Common.{◌≡◌, ◌≢◌, ◌⊎◌, inl, inr, ℕ, Bool, true, false, List, [], ◌∷◌, All, Contains, Some, refl, sym, ap, ◌∙◌, subst, suc, arith}
 use Rattle.std.proofs.lemmas.Bool.{false≢true}
 use Rattle.std.proofs.lemmas.List.Elements.{All-contains, All-cons, All-nil}
@@ -36,13 +36,13 @@ module _ {A : Type 0} where
   one_list g old (ask ∷ asks) (u ∷ us) (v ∷ vs) a b =
       ap (λ (w : RefUpdate). w ∷ us) (one_update g old ask u v a.0 b.0) ∙ ap (λ (ws : List RefUpdate). v ∷ ws) (one_list g old asks us vs a.1 b.1)
 
-  -- whether an ask may move its ref is decided by what becomes of it
+  -- the outcome of a requested update decides whether the update is allowed
   may_or_not : (g : List (Entry A)) (old : RefList) (ask : Ask A) (u : RefUpdate) → IsUpdate g old ask u → MayMove g old ask ⊎ ¬ (MayMove g old ask)
   may_or_not g old ask Moved is = inl is.1
   may_or_not g old ask Same is = inl (inr (inr (ask.id, is, here)))
   may_or_not g old ask NotForward is = inr is.1
 
-  -- an ask that may move the ref with the name
+  -- an allowed update of the ref with this name
   abbrev pub Mover : List (Entry A) → RefList → List (Ask A) → List ℕ → Type 0
   Mover g old asks name = (ask : Ask A) × Contains asks ask × (ask.name ≡ name) × MayMove g old ask
 
@@ -73,7 +73,7 @@ module _ {A : Type 0} where
         ]
       ]
 
-  -- where the name of an ask that may move its ref stands once the asks are settled
+  -- after settling, the ref of an allowed update points at the new id of this update
   pub stands : (g : List (Entry A)) (old : RefList) (asks : List (Ask A)) (us : List RefUpdate) (new : RefList) (name : List ℕ) → Settles g old asks us new
       → (mover : Mover g old asks name) → ref_at new name ≡ Some (mover.0).id
   stands g old asks us new name settles mover =

@@ -30,7 +30,7 @@ at_step : (same : Bool) (ref : List ℕ × List ℕ) (found : Option (List ℕ �
 at_step true ref found rest is = refl
 at_step false ref found rest is = is
 
--- a look-up in the map is one in the refs
+-- a look-up in the map returns the same id as a look-up in the list of refs
 pub lookup_ref : (refs : RefList) (name : List ℕ) → lookup (is_at (order name)) refs ≡ ref_at refs name
 lookup_ref [] name = refl
 lookup_ref (ref ∷ refs) name =
@@ -40,7 +40,7 @@ lookup_ref (ref ∷ refs) name =
 pub at_other : (name other : List ℕ) → other ≢ name → is_at (order name) other ≡ false
 at_other name other differs = is_eq-slice_cmp name other ∙ other_false name other (bytes_eq name other) refl differs
 
--- ---- a name that is put at an id
+-- ---- setting a name to an id
 
 abbrev Either : List ℕ → List ℕ → RefList → List ℕ × List ℕ → Type 0
 Either name id old ref = (ref ≡ (name, id)) ⊎ Contains old ref
@@ -61,19 +61,19 @@ each_step name id ref refs Equal is rest =
 each_step name id ref refs Greater is rest =
     All-cons (Either name id (ref ∷ refs)) ref (insert_entry order refs name id) (inr (contains_head ref refs)) (either_more name id ref refs (insert_entry order refs name id) rest)
 
--- nothing else comes
+-- after a ref is set, each ref is this ref or an old ref
 pub each_set : (refs : RefList) (name id : List ℕ) → All (Either name id refs) (insert_entry order refs name id)
 each_set [] name id = All-cons (Either name id []) (name, id) [] (inl refl) (All-nil (Either name id []))
 each_set (ref ∷ refs) name id = each_step name id ref refs (order name ref.0) refl (each_set refs name id)
 
--- and the names stay below refs/
+-- after a ref is set, all names are below refs/
 pub names_set : (refs : RefList) (name id : List ℕ) → All (λ ref. IsBelowRefs ref.0) refs → IsBelowRefs name → All (λ ref. IsBelowRefs ref.0) (insert_entry order refs name id)
 names_set refs name id below is =
     let P : List ℕ × List ℕ → Type 0 = λ ref. IsBelowRefs ref.0 in
     All-weaker (Either name id refs) P
     (λ ref either. elim either [ inl same ↦ subst P (sym same) is | inr there ↦ All-contains P refs ref below there ]) (insert_entry order refs name id) (each_set refs name id)
 
--- ---- a name above the others
+-- ---- a name that sorts after all others
 
 pub set_last : (refs : RefList) (name id : List ℕ) → AreBelow refs name → insert_entry order refs name id ≡ refs ++ (name, id) ∷ []
 set_last [] name id below = refl
@@ -81,7 +81,7 @@ set_last (ref ∷ refs) name id below =
     ap (λ (o : Ordering). match_ordering o ((name, id) ∷ ref ∷ refs) ((ref.0, id) ∷ refs) (ref ∷ insert_entry order refs name id)) (flipped ref.0 name below.0)
     ∙ ap (λ (l : RefList). ref ∷ l) (set_last refs name id below.1)
 
--- refs in their order are copied one by one
+-- inserting the next ref of a sorted list appends this ref
 pub copied_more : RefsComeInOrder → (refs : RefList) (place : ℕ) (ref : List ℕ × List ℕ) → IsRefs refs → place < length refs → get_or refs place ref ≡ ref
     → insert_entry order (take place refs) ref.0 ref.1 ≡ take (place + 1) refs
 copied_more law refs place ref are inside is =
@@ -90,9 +90,9 @@ copied_more law refs place ref are inside is =
     let below = (law (take place refs) ref (drop (place + 1) refs) (subst IsRefs parts are)).above in
     set_last (take place refs) ref.0 ref.1 below ∙ sym (take_more refs place ref inside ∙ ap (λ (r : List ℕ × List ℕ). take place refs ++ r ∷ []) is)
 
--- ---- how many there are
+-- ---- the number of refs
 
--- one more, where none is found
+-- the number of refs that a set adds: 1 if a look-up finds no id, otherwise 0
 abbrev pub more_where : Option (List ℕ) → ℕ
 more_where found = if is_some found then 0 else 1
 
@@ -104,11 +104,11 @@ count_there : (found : Option (List ℕ)) → found ≢ None → more_where foun
 count_there None some = absurd (some refl)
 count_there (Some id) some = refl
 
--- one ref more, where the name is new
+-- the new list has one more ref if the name is new, otherwise as many refs as the old list
 abbrev pub CountsSet : RefList → List ℕ → RefList → Type 0
 CountsSet old name new = length new ≡ length old + more_where (lookup (is_at (order name)) old)
 
--- a name that can be set is there, or there is room for one more
+-- a name that can be set already has a ref, or there is room for one more ref
 pub room_for : (old : RefList) (name : List ℕ) (there : Option (List ℕ)) → ref_at old name ≡ there → ¬ (CannotSet old name)
     → length old ≤ max_refs → (length old < max_refs) ⊎ (ref_at old name ≢ None)
 room_for old name (Some id) is can few = inr (λ none. none-some id (sym none ∙ is))
@@ -122,7 +122,7 @@ few_set old new name (inr there) few count =
     let none = count_there (lookup (is_at (order name)) old) (λ no. there (sym (lookup_ref old name) ∙ no)) in
     omega (arith, few, none, count)
 
--- the name is put at the id, and nothing else changes
+-- an insertion into the map sets the ref with this name, and changes no other ref
 pub is_set : (old new : RefList) (name id : List ℕ) → new ≡ insert_entry order old name id → lookup (is_at (order name)) new ≡ Some id
     → ((other : List ℕ) → is_at (order name) other ≡ false → lookup (is_at (order other)) new ≡ lookup (is_at (order other)) old) → CountsSet old name new → SetsRef old new name id
 is_set old new name id is at others count = record {

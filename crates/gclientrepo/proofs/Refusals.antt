@@ -1,4 +1,4 @@
--- A refusal changes nothing.
+-- A failed call leaves the repository unchanged.
 use Rattle.std.proofs.Common.{◌≡◌, ℕ, List, Err}
 use Rattle.gobject.specs.declared.node.Entry.{Entry}
 use Rattle.gdag.specs.declared.fault.GraphFault.TheVariants as graph

@@ -1,4 +1,4 @@
--- Facts on connected repositories.
+-- Facts about connected repositories.
 use Rattle.std.proofs.Common.{◌≡◌, ◌↔◌, ◌⊎◌, IsTrue, inl, inr, ℕ, ◌+◌, ◌<◌, Bool, true, false, List, [], ◌∷◌, ◌++◌, length, take, drop, get_or, All, Contains, Option, None, Some, Result, Ok, Err, IfErr, IfSome, refl, sym, ap, ◌∙◌, subst, arith}
 use Rattle.std.proofs.lemmas.Bool.{false≢true}
 use Rattle.std.proofs.lemmas.List.{drop_more, get_or-map, length-map, take-append-drop, take-map, take_more}
@@ -32,7 +32,7 @@ value_there refs ref there =
       get_or-map (λ (r : List ℕ × List ℕ). r.1) refs place ref ref.1 there.1 ∙ ap (λ (r : List ℕ × List ℕ). r.1) there.2,
     )
 
--- the ids of refs that come from others are theirs, or among the ids
+-- if each ref is one of `others` or points at one of `ids`, its id is an id of `others` or one of `ids`
 values_from : (others : RefList) (ids : List (List ℕ)) (refs : RefList) → ComeFrom others ids refs
     → All (λ (a : List ℕ). Contains (values_of others) a ⊎ Contains ids a) (values_of refs)
 values_from others ids refs from =
@@ -41,7 +41,7 @@ values_from others ids refs from =
     (All-weaker (λ ref. Contains others ref ⊎ Contains ids ref.1) (λ ref. P ref.1)
     (λ ref there. elim there [ inl old ↦ inl (value_there others ref old) | inr asked ↦ inr asked ]) refs from)
 
--- why a call is out of memory, where nothing else can be wrong
+-- the only fault of a call is `Memory`, and a fact P holds for a call that fails
 pub with_reason : {X P : Type 0} (r : Result X GraphFault) → IfErr r (λ fault. fault ≡ Memory) → P → IfErr r (λ fault. (fault ≡ Memory) × P)
 with_reason (Ok x) is p = tt
 with_reason (Err fault) is p = (is, p)
@@ -54,7 +54,7 @@ module _ {A : Type 0} where
     covers = covers g.entries h.entries (values_of refs) known grows differ whole.connected_refs whole.covers;
   }
 
-  -- where nothing is missing of some ids they are connected; else they are not all connected
+  -- if no id is missing in the ancestries of some ids, these ids are connected
   pub all_held : (g : List (Entry A)) (ids : List (List ℕ)) (missing : Option (List ℕ)) → Misses g ids missing → is_some missing ≡ false → All (IsConnected g) ids
   all_held g ids None misses is = misses
   all_held g ids (Some b) misses is = absurd (false≢true (sym is))
@@ -65,31 +65,31 @@ module _ {A : Type 0} where
       let held : is_some (node_at g b) ≡ true = All-contains (IsConnected g) ids misses.0.0 connected misses.0.1 b misses.0.2 in
       false≢true (sym (ap is_some misses.1) ∙ held)
 
-  -- where parents came first each id that is held is connected
+  -- if each entry comes after its parents, each id that the graph holds is connected
   pub held_connected : OrderedIsClosed A → ClosedIsConnected A → (g : List (Entry A)) → IdsDiffer g → IsOrdered g → (a : List ℕ) → Holds g a → IsConnected g a
   held_connected closed connected g differ ordered = (connected g).0 (closed g differ ordered)
 
-  -- an id that is not held is missing
+  -- the first id that the graph does not hold is missing
   pub first_misses : (g : List (Entry A)) (ids : List (List ℕ)) (a : List ℕ) → IsFirstAbsent g ids a → Misses g ids (Some a)
   first_misses g ids a first =
       let there : Contains (first.front ++ a ∷ first.rest) a = Contains-append_right first.front (a ∷ first.rest) a (contains_head a first.rest) in
       ((a, subst (λ (l : List (List ℕ)). Contains l a) (sym first.parts) there, here), first.absent)
 
-  -- where parents came first ids that are held are connected
+  -- if each entry comes after its parents, ids that the graph holds are connected
   pub all_connected : OrderedIsClosed A → ClosedIsConnected A → (g : List (Entry A)) → IdsDiffer g → (ordered : Bool) → IsTrue ordered ↔ IsOrdered g → ordered ≡ true
       → (ids : List (List ℕ)) → All (Holds g) ids → All (IsConnected g) ids
   all_connected closed connected g differ ordered is true_is ids held =
       All-weaker (Holds g) (IsConnected g) (held_connected closed connected g differ (is.0 true_is)) ids held
 
-  -- out of memory for a walk that is needed
+  -- only a walk can decide whether ids of an unordered graph are connected
   pub needs_walk : (g : List (Entry A)) (ids : List (List ℕ)) (ordered : Bool) → All (Holds g) ids → IsTrue ordered ↔ IsOrdered g → ordered ≡ false → NeedsWalk g ids
   needs_walk g ids ordered held is out = record { held = held; unordered = λ first. false≢true (sym out ∙ is.1 first) }
 
-  -- an asked id that is not held is missing
+  -- one of the ids that the graph does not hold is missing
   pub absent_misses : (g : List (Entry A)) (ids : List (List ℕ)) (a : List ℕ) → Contains ids a → node_at g a ≡ None → Misses g ids (Some a)
   absent_misses g ids a there absent = ((a, there, here), absent)
 
-  -- marks of all that the refs reach
+  -- a repository of connected refs and of marks for every object that the refs reach is connected
   pub connected_opened : (g : History A) (refs : RefList) (known : List Bool) → All (IsConnected g.entries) (values_of refs) → AreConnected g.entries known
       → MarksReached g.entries (values_of refs) [] known → IsConnectedRepo (record { graph = g; refs = refs; known = known })
   connected_opened g refs known connected_refs connected marks = record {
@@ -98,7 +98,7 @@ module _ {A : Type 0} where
     covers = λ place entry at reached. (marks.each place entry at).1 (inr reached);
   }
 
-  -- refs that come from those of a connected repository, or stand at connected ids whose ancestries are marked now
+  -- a repository stays connected if each new ref is an old ref or points at a connected id whose ancestry is marked
   pub connected_installed : (g : History A) (old : RefList) (known : List Bool) (ids : List (List ℕ)) (new : RefList) (marks : List Bool)
       → IsConnectedRepo (record { graph = g; refs = old; known = known }) → All (IsConnected g.entries) ids → ComeFrom old ids new
       → AreConnected g.entries marks → MarksReached g.entries ids known marks → IsConnectedRepo (record { graph = g; refs = new; known = marks })
@@ -116,7 +116,7 @@ module _ {A : Type 0} where
             ]);
       }
 
-  -- the ids up to one that is not held are connected, where parents came first
+  -- after connected ids, an id that the graph does not hold is the first id that is not connected
   pub lost_at : (g : List (Entry A)) (ids : List (List ℕ)) (place : ℕ) (a : List ℕ) → place < length ids → get_or ids place a ≡ a
       → All (IsConnected g) (take place ids) → ¬ (Holds g a) → IsFirstLost g ids place
   lost_at g ids place a inside is held absent = record {
@@ -128,7 +128,7 @@ module _ {A : Type 0} where
         (Contains-append_right (take place ids) (a ∷ []) a (contains_head a [])) a here);
   }
 
-  -- the first ref that is not connected
+  -- the ref at the position of the first id that is not connected
   pub unconnected_at : (g : List (Entry A)) (refs : RefList) (place : ℕ) (ref : List ℕ × List ℕ) → IsFirstLost g (values_of refs) place → get_or refs place ref ≡ ref → IsFirstUnconnected g refs ref.0
   unconnected_at g refs place ref first is =
       let value : List ℕ × List ℕ → List ℕ = λ r. r.1 in
@@ -144,7 +144,7 @@ module _ {A : Type 0} where
             first.lost (All-more (IsConnected g) (values_of refs) place ref.1 first.inside first.held (subst (IsConnected g) (sym there) connected));
       }
 
--- something stands at each position of a list
+-- a list has an element at each position below its length
 none_inside : {X : Type 0} (xs : List X) (i : ℕ) → i < length xs → slice_get xs i ≡ None → ⊥
 none_inside xs i low empty =
     elim (slice_get_cases xs i).1 [
@@ -153,7 +153,7 @@ none_inside xs i low empty =
     ]
 
 module _ {A : Type 0} (g : List (Entry A)) (refs : RefList) (place : ℕ) where
-  -- so is the name at that position
+  -- the name at this position is the name of the first ref that is not connected
   named_at : (name : List ℕ) (there : Option (List ℕ × List ℕ)) → IsFirstLost g (values_of refs) place → slice_get refs place ≡ there
       → place < length refs → IfSome there (λ ref. name ≡ ref.0) → IsFirstUnconnected g refs name
   named_at name None first is inside named = absurd (none_inside refs place inside is)
@@ -166,7 +166,7 @@ module _ {A : Type 0} (g : List (Entry A)) (refs : RefList) (place : ℕ) where
       let inside : place < length refs = let low = first.inside in let long = length-map refs (λ (r : List ℕ × List ℕ). r.1) in omega (arith, low, long) in
       named_at name (slice_get refs place) first refl inside named
 
-  -- the ref at a position, after refs that are connected
+  -- the ref at a position after connected refs
   module _ (ref : List ℕ × List ℕ) (inside : place < length refs) (is : get_or refs place ref ≡ ref) (held : All (IsConnected g) (take place (values_of refs))) where
     within : place < length (values_of refs)
     within = let long = length-map refs (λ (r : List ℕ × List ℕ). r.1) in omega (arith, inside, long)
@@ -180,7 +180,7 @@ module _ {A : Type 0} (g : List (Entry A)) (refs : RefList) (place : ℕ) where
     pub connected_ref : IsConnected g ref.1 → All (IsConnected g) (take (place + 1) (values_of refs))
     connected_ref connected = All-more (IsConnected g) (values_of refs) place ref.1 within held (subst (IsConnected g) (sym there) connected)
 
--- refs of which one was set come from the others, or stand at its id
+-- after a ref is set, each ref is an old ref or points at the new id
 pub set_from : (others old new : RefList) (name id : List ℕ) → old ≡ others → SetsRef old new name id → ComeFrom others (id ∷ []) new
 set_from others old new name id same sets =
     let Others : List ℕ × List ℕ → Type 0 = λ ref. Contains others ref ⊎ Contains (id ∷ []) ref.1 in

@@ -43,14 +43,14 @@
 //! # What the contracts do not rule out
 //!
 //! If several ids are missing, no contract says which of them a call returns. No contract rules out
-//! that a call reports out of memory although memory is available, unless it adds an object that
-//! the repository already holds. A call may need a walk if the graph stores an object before one of
-//! its parents. A lack of memory for the walk can hide an unconnected ref or id, or refs that can't
-//! be set. No contract rules out that a walk continues past marked objects. No contract says which
-//! allocator provides memory, which allocator [`Asks::allocator`] returns, or which allocator
-//! [`Asks::ids`] uses for its result. No contract rules out that formatting a fault returns
-//! `fmt::Error` even if every write succeeds. No contract says what formatting writes with options,
-//! such as a width.
+//! that a call reports out of memory although memory is available, unless the call adds an object
+//! that the repository already holds. A call may need a walk if the graph stores an object before
+//! one of its parents. A lack of memory for the walk can hide an unconnected ref or id, or refs
+//! that can't be set. No contract rules out that a walk continues past marked objects. No contract
+//! says which allocator provides memory, which allocator [`Asks::allocator`] returns, or which
+//! allocator [`Asks::ids`] uses for its result. No contract rules out that formatting a fault
+//! returns `fmt::Error` even if every write succeeds. No contract says what formatting writes with
+//! options, such as a width.
 //!
 //! No contract bounds the time or the memory of a call. In this implementation, adding a requested
 //! update takes one hash look-up of the ref's name. Settling `n` updates of `r` refs takes time

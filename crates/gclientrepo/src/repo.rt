@@ -194,8 +194,8 @@ impl<A: Allocator + Copy> Repo<A> {
     /// object that the id reaches.
     ///
     /// Fails with `UnconnectedId` if the repository does not hold an id that the new id reaches.
-    /// Otherwise fails with `Refs` if the ref is HEAD or if there would be too many refs, and only
-    /// then if out of memory. If [`Repo::missing`] needs a walk, out of memory for the walk
+    /// Otherwise fails with `Refs` if the ref is HEAD or if there would be too many refs. Otherwise
+    /// fails only if out of memory. If [`Repo::missing`] needs a walk, out of memory for the walk
     /// (`Graph`) may be reported instead of these faults. A failed call leaves the repository
     /// unchanged.
     pub fn set_local_ref(&mut self, name: RefName<A>, id: Oid) -> Result<(), RepoFault<A>>
@@ -234,10 +234,10 @@ impl<A: Allocator + Copy> Repo<A> {
     /// Before it moves any ref, the call marks every object that the new ids reach.
     ///
     /// Fails with `NotConnected` if the repository does not hold an id that the new ids reach.
-    /// Otherwise fails with `Refs` if an update is for HEAD or if there would be too many refs, and
-    /// only then if out of memory. If [`Repo::missing`] needs a walk, out of memory for the walk
-    /// (`Graph`) may be reported instead of these faults. A failed call leaves the repository
-    /// unchanged.
+    /// Otherwise fails with `Refs` if an update is for HEAD or if there would be too many refs.
+    /// Otherwise fails only if out of memory. If [`Repo::missing`] needs a walk, out of memory for
+    /// the walk (`Graph`) may be reported instead of these faults. A failed call leaves the
+    /// repository unchanged.
     pub fn settle(&mut self, asks: &Asks<A>) -> Result<Vec<RefUpdate, A>, RepoFault<A>>
         ensures settles { MatchResult result
             (λ updates. SettlesAsks self.old asks.now self.new (Ok updates.items))

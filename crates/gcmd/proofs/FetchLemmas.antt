@@ -1,4 +1,4 @@
--- The client of a file, and what is saved of it.
+-- The client's repository of a file, and saving this repository as text.
 use Rattle.std.proofs.Common.{◌≡◌, ℕ, List, All, Ok, Err, refl, sym, ap, subst, ◌∙◌}
 use Rattle.std.proofs.lemmas.List.{append-nil}
 use Rattle.gdag.proofs.OrderLemmas.{all_at}
@@ -23,7 +23,7 @@ use Rattle.gcmd.specs.declared.fault.ProgramFault.{ProgramFault}
 use Rattle.gcmd.specs.declared.fault.ProgramFault.TheVariants as program
 
 module _ {A : Type 0} where
-  -- an id that is held has its graph's format, so no ref of a client stands at an id of another format
+  -- no ref of a connected repository points to an id of another object format, because the graph holds the ref's id
   none_other : PositionsAreNodes A → (repo : RepoState A) (id : List ℕ) → IsGraph repo.graph → IsConnectedRepo repo
       → ¬ (IsFirstOther repo.graph.format (named_ids repo.refs (no_head {A = A})) id)
   none_other places repo id graph whole other =
@@ -33,7 +33,7 @@ module _ {A : Type 0} where
       (subst (All (IsConnected repo.graph.entries)) (sym ids ∙ other.parts) whole.connected_refs) in
       other.other (held_id places repo.graph graph id (full id here))
 
-  -- saving a client fails out of memory
+  -- saving a client's repository fails only for lack of memory
   pub only_memory : PositionsAreNodes A → (repo : RepoState A) (fault : SaveFault) → IsGraph repo.graph → IsConnectedRepo repo
       → SaveRefuses repo.graph.format repo.refs (no_head {A = A}) fault → fault ≡ Memory
   only_memory places repo Memory graph whole refused = refl
@@ -44,7 +44,7 @@ module _ {A : Type 0} where
 module _ {A : Type 0} (file : List ℕ) (graph : History A) (refs : RefList) (head : Head A)
     (text : file ≡ repository_text graph refs head) (loadable : IsLoadable Any graph refs head)
   where
-    -- a client is made of what the file names
+    -- if the repository opens, the file is the text of the client's repository
     pub names_client : (repo : RepoState A) → head ≡ no_head → Opens graph refs (Ok repo) → IsConnectedRepo repo → NamesClient file repo
     names_client repo none opens whole = record {
       text =
@@ -58,7 +58,7 @@ module _ {A : Type 0} (file : List ℕ) (graph : History A) (refs : RefList) (he
       whole = whole;
     }
 
-    -- or none is
+    -- if opening the repository fails, the client's file is rejected
     pub refuses_unconnected : (cause : RepoFault A) (fault : ProgramFault A) → head ≡ no_head → Opens graph refs (Err cause)
         → fault ≡ program.Fetch (fetch.Client (client.Repo cause)) → RefusesClient file fault
     refuses_unconnected cause fault none opens same =

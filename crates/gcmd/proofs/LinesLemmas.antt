@@ -1,4 +1,4 @@
--- Bytes put one after the other, and packets shown one after the other.
+-- Bytes that are written one after the other, and packets that are shown one after the other.
 use Rattle.std.proofs.Common.{◌≡◌, ℕ, ◌+◌, ◌-◌, ◌<◌, Bool, List, [], ◌∷◌, ◌++◌, length, take, drop, Option, Some, None, Ok, Err, Result, true, false, refl, sym, ap, ◌∙◌, inl, inr, subst, append_assoc, append-nil, take-append-drop, arith, codes}
 use Rattle.std.specs.Prelude.{slice_index, ◌/◌, ◌%◌, ◌==◌}
 use Rattle.std.proofs.lemmas.Bool.{false≢true}
@@ -23,7 +23,7 @@ use Rattle.gcmd.proofs.ReadingLemmas.{read_failure}
 
 -- ---- bytes
 
--- the digits of bytes that come in two parts
+-- the digits of `xs ++ ys` are the digits of `xs`, followed by the digits of `ys`
 pub encode_with-append : (table xs ys : List ℕ) → encode_with table (xs ++ ys) ≡ encode_with table xs ++ encode_with table ys
 unfolding encode_with
 encode_with-append table [] ys = refl
@@ -33,17 +33,17 @@ encode_lower-nil : encode_lower [] ≡ []
 unfolding encode_with
 encode_lower-nil = refl
 
--- the digits of a payload that has some
+-- the digits of a payload that is not empty
 pub digits_part-some : (payload : List ℕ) → (length payload == 0) ≡ false → digits_part payload ≡ codes " " ++ encode_lower payload
 digits_part-some [] some = absurd (false≢true (sym some))
 digits_part-some (byte ∷ bytes) some = refl
 
 module _ {W : Type 0} (contents passed_on : W → Option (List ℕ)) (is_down : W → Bool) where
-  -- nothing is put
+  -- writing no bytes leaves the sink unchanged
   pub IsPut-nil : (a : W) → IsPut (output_of contents passed_on is_down a a) (Ok tt) []
   IsPut-nil a = (Appends-nil (contents a), Keeps-refl (passed_on a))
 
-  -- after bytes that were put, others are put, or a beginning of them
+  -- the bytes `xs` are written, and then all bytes of `ys`, or a prefix of `ys` if the sink fails
   pub IsPut-after : (a b c : W) (xs ys : List ℕ) (result : Result (Unit {0}) Down)
       → IsPut (output_of contents passed_on is_down a b) (Ok tt) xs → IsPut (output_of contents passed_on is_down b c) result ys
       → IsPut (output_of contents passed_on is_down a c) result (xs ++ ys)
@@ -59,7 +59,7 @@ module _ {W : Type 0} (contents passed_on : W → Option (List ℕ)) (is_down : 
     Keeps-trans _ _ _ first.1 next.1,
   )
 
-  -- a beginning of the bytes begins what is longer
+  -- if the sink failed after a prefix of `xs`, it failed after a prefix of `xs ++ ys`
   pub IsPut-more : (a b : W) (xs ys : List ℕ) (fault : Down) → IsPut (output_of contents passed_on is_down a b) (Err fault) xs
       → IsPut (output_of contents passed_on is_down a b) (Err fault) (xs ++ ys)
   IsPut-more a b xs ys fault some = (
@@ -73,7 +73,7 @@ module _ {W : Type 0} (contents passed_on : W → Option (List ℕ)) (is_down : 
     some.1,
   )
 
-  -- the digits of a beginning of the bytes are put, and these are the others
+  -- the digits of a prefix of `bytes` are written, and `rest` has the remaining bytes
   pub record IsPutting (start now : W) (bytes rest : List ℕ) : Type 0 where
     pub front : List ℕ
     pub parts : bytes ≡ front ++ rest
@@ -117,14 +117,14 @@ module _ {W : Type 0} (contents passed_on : W → Option (List ℕ)) (is_down : 
       let same : putting.front ≡ bytes = sym (putting.parts ∙ ap (λ l. putting.front ++ l) none ∙ append-nil putting.front) in
       subst (IsPut (output_of contents passed_on is_down start now) (Ok tt)) (ap encode_lower same) putting.put
 
-  -- what was put is passed on
+  -- the packets are shown, and the flush succeeds
   pub HasPassed-all : (input : Input) (a b c : W) (ended : Result (Unit {0}) PacketFault) → ShowsEach input (output_of contents passed_on is_down a b) (Ok ended)
       → Keeps (contents b) (contents c) → PassesAll (contents c) (change_of passed_on b c) → is_down c ≡ false
       → HasPassed input (output_of contents passed_on is_down a c) (Ok ended)
   HasPassed-all input a b c ended (lines, read, put) kept passes up =
       (lines, read, record { written = Appends-kept _ _ _ (shown_lines lines) put.0 kept; passed_on = λ known. passes (IsSome-kept _ _ put.1 known); up = up })
 
-  -- or it is not
+  -- the packets are shown, and the flush fails
   pub ShowsSome-all : (input : Input) (a b c : W) (ended : Result (Unit {0}) PacketFault) → ShowsEach input (output_of contents passed_on is_down a b) (Ok ended)
       → Keeps (contents b) (contents c) → KeepsPassed (change_of passed_on b c) → is_down c ≡ true
       → ShowsSome input (output_of contents passed_on is_down a c)
@@ -138,13 +138,13 @@ module _ {W : Type 0} (contents passed_on : W → Option (List ℕ)) (is_down : 
     }),
   )
 
--- a write failed
+-- a write fails while the packets are shown
 pub ShowsSome-failed : (input : Input) (output : Output) (down : Down) → ShowsEach input output (Err down) → ShowsSome input output
 ShowsSome-failed input output down (lines, read, put) = (lines, read, inl put)
 
 -- ---- packets
 
--- one packet more
+-- the lines of several packets, and of one more packet
 shown_lines-push : (lines : List Packet) (line : Packet) → shown_lines (lines ++ line ∷ []) ≡ shown_lines lines ++ shown_line line
 shown_lines-push [] line = append-nil (shown_line line)
 shown_lines-push (first ∷ lines) line =
@@ -154,7 +154,7 @@ module _
     {S W : Type 0} (remaining : S → Option (List ℕ)) (source_down : S → Bool) (source_loans : S → List ℕ)
     (contents passed_on : W → Option (List ℕ)) (sink_down : W → Bool)
   where
-    -- so many packets are read, and their texts are put
+    -- `count` packets are read, and their lines are written
     pub record IsShowing (start now : Reader S) (before after : W) (count : ℕ) : Type 0 where
       pub lines : List Packet
       pub counted : count ≡ length lines
@@ -196,7 +196,7 @@ module _
         put = put_next showing.lines packet (Ok tt) showing.put put;
       }
 
-      -- the sink fails at it
+      -- the sink fails while the next packet is shown
       pub ShowsEach-failed : ReadsNext → (packet : Packet) (fault : Down) → IsShowing start now before mid count
           → HasRead remaining source_down source_loans now next (Ok (Some packet))
           → IsPut (output_of contents passed_on sink_down mid after) (Err fault) (shown_line packet)
@@ -228,7 +228,7 @@ module _
         showing.put,
       )
 
-    -- no more packets are read
+    -- reading stops at the maximum number of packets
     pub ShowsEach-counted : (start now : Reader S) (before after : W) (count : ℕ) → IsShowing start now before after count → count ≡ max_lines
         → ShowsEach (input_of remaining source_down start.source now.source) (output_of contents passed_on sink_down before after) (Ok (Ok tt))
     ShowsEach-counted start now before after count showing all = (

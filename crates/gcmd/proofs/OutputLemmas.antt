@@ -1,4 +1,4 @@
--- Bytes that were put, and are passed on.
+-- Flushing bytes that were written.
 use Rattle.std.proofs.Common.{◌≡◌, ℕ, Bool, List, Option, Ok, Err, Result, inr}
 use Rattle.std.specs.Prelude.{OnErr, OnOk, is_err}
 use Rattle.std.proofs.KnownBytes.{Appends-kept}
@@ -13,7 +13,7 @@ use Rattle.gcmd.specs.steps.Outputs.{IsPut}
 use Rattle.gcmd.specs.Outputs.{IsSent}
 
 module _ {W : Type 0} (contents passed_on : W → Option (List ℕ)) (is_down : W → Bool) where
-  -- after a flush they are passed on, or that failed
+  -- all bytes are written, and then the flush succeeds or fails
   pub IsSent-flushed : (a b c : W) (bytes : List ℕ) (result : Result (Unit {0}) Down) → IsPut (output_of contents passed_on is_down a b) (Ok tt) bytes
       → Keeps (contents b) (contents c) → OnOk result (PassesAll (contents c) (change_of passed_on b c)) → OnErr result (KeepsPassed (change_of passed_on b c))
       → is_down c ≡ is_err result → IsSent (output_of contents passed_on is_down a c) result bytes

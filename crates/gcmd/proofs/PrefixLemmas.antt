@@ -1,4 +1,4 @@
--- Words that are read as prefixes, one more at a time.
+-- Words that are read as prefixes, one word at a time.
 use Rattle.std.proofs.Common.{◌≡◌, ℕ, ◌+◌, ◌<◌, List, [], ◌∷◌, ◌++◌, length, take, drop, get_or, map, Err, sym, ap, subst, ◌∙◌, append_assoc}
 use Rattle.std.specs.Prelude.{String, string_bytes, All}
 use Rattle.std.proofs.lemmas.List.{map-append, take_more, take-append-drop}
@@ -18,7 +18,7 @@ module _ {Z : Type 0} (words : List (String Z)) (place : ℕ) (word : String Z) 
         (take_more words place word inside ∙ sym (ap (λ (w : String Z). take place words ++ w ∷ []) is))
         ∙ map-append string_bytes (take place words) (word ∷ [])
 
-    -- one prefix more
+    -- the prefixes after one more word is read
     pub words_more : (old new : List (List ℕ)) (text : List ℕ) → old ≡ map string_bytes (take place words)
         → text ≡ string_bytes word → new ≡ old ++ text ∷ [] → new ≡ map string_bytes (take (place + 1) words)
     words_more old new text so_far same kept =
@@ -34,7 +34,7 @@ module _ {Z : Type 0} (words : List (String Z)) (place : ℕ) (word : String Z) 
         (All-append IsPrefix (map string_bytes (take place words)) (string_bytes word ∷ []) so_far
         (All-from_recursion IsPrefix (string_bytes word ∷ []) (is_prefix, tt)))
 
-    -- the word is refused
+    -- the word is the first one that is refused, because all earlier words are prefixes
     pub refuses_prefix : (fault : NameFault) → All IsPrefix (map string_bytes (take place words))
         → Owns prefix_fault (string_bytes word) (Err fault) → RefusesPrefix (map string_bytes words) fault
     refuses_prefix fault so_far refused = record {
@@ -50,7 +50,7 @@ module _ {Z : Type 0} (words : List (String Z)) (place : ℕ) (word : String Z) 
       refused = refused;
     }
 
--- so is what is answered
+-- the result of reading the words, if a word is refused
 pub refuses_prefixes : {A : Type 0} (words : List (List ℕ)) (cause : NameFault) (fault : ProgramFault A)
     → RefusesPrefix words cause → fault ≡ program.Name cause → ReadsPrefixes words (Err fault)
 refuses_prefixes {A} words cause fault refused same = subst (λ (f : ProgramFault A). ReadsPrefixes words (Err f)) (sym same) refused

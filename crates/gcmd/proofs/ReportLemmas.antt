@@ -1,4 +1,4 @@
--- The lines of a report, and refspecs of words, one more at a time.
+-- The lines of a report, one line at a time, and words that are read as refspecs, one word at a time.
 use Rattle.std.proofs.Common.{◌≡◌, ℕ, ◌+◌, ◌≤◌, ◌<◌, List, [], ◌∷◌, ◌++◌, length, take, drop, get_or, map, slice_get, All, Some, Err, sym, ap, subst, ◌∙◌, append_assoc, arith}
 use Rattle.std.specs.List.{AllZip}
 use Rattle.std.specs.Prelude.{String, string_bytes}
@@ -28,7 +28,7 @@ module _ {A : Type 0} where
       ap (λ (t : List ℕ). update_line a b ++ t) (lines_push xs ys x y (omega (arith, same)))
       ∙ sym (append_assoc (update_line a b) (update_lines xs ys) (update_line x y))
 
-  -- what became of the ask at a position
+  -- the line for the requested update at an index is appended
   pub put_standing : (asks : List (Ask A)) (place : ℕ) (name id : List ℕ) (update : RefUpdate) (old new : List ℕ)
       → IsAskAt asks place name id → new ≡ old ++ update_text name id update
       → (ask : Ask A) × (slice_get asks place ≡ Some ask) × (new ≡ old ++ update_line ask update)
@@ -39,7 +39,7 @@ module _ {A : Type 0} where
         ∙ ap (λ (i : List ℕ). old ++ update_text at.0.name i update) (sym at.3),
   )
 
-  -- and of one more
+  -- the lines for the first requested updates, after one more line is appended
   pub updates_more : (asks : List (Ask A)) (updates : List RefUpdate) (place : ℕ) (update : RefUpdate)
       (first old new : List ℕ) → length updates ≡ length asks → place < length asks
       → slice_get updates place ≡ Some update → old ≡ first ++ update_lines (take place asks) (take place updates)
@@ -66,7 +66,7 @@ module _ {A : Type 0} where
       ∙ sym (ap (λ (xs : List (Ask A)). first ++ update_lines xs (take (place + 1) updates)) next_ask
       ∙ ap (λ (ys : List RefUpdate). first ++ update_lines (take place asks ++ ask ∷ []) ys) next_update)
 
-  -- what became of all of them
+  -- the lines for all requested updates
   pub updates_all : (asks : List (Ask A)) (updates : List RefUpdate) (place : ℕ) (first now : List ℕ)
       → length updates ≡ length asks → length asks ≤ place
       → now ≡ first ++ update_lines (take place asks) (take place updates) → now ≡ first ++ update_lines asks updates
@@ -91,7 +91,7 @@ module _ {Z : Type 0} (words : List (String Z)) (place : ℕ) (word : String Z) 
     next_word : take (place + 1) words ≡ take place words ++ word ∷ []
     next_word = take_more words place word inside ∙ sym (ap (λ (w : String Z). take place words ++ w ∷ []) is)
 
-    -- one refspec more
+    -- the refspecs after one more word is read
     pub specs_more : (spec : Refspec) → IsSpec (string_bytes word) spec
         → AllZip IsSpec (map string_bytes (take (place + 1) words)) (specs ++ spec ∷ [])
     specs_more spec reads =
@@ -99,7 +99,7 @@ module _ {Z : Type 0} (words : List (String Z)) (place : ℕ) (word : String Z) 
         (sym (ap (λ (ws : List (String Z)). map string_bytes ws) next_word ∙ map-append string_bytes (take place words) (word ∷ [])))
         (zip_push IsSpec (map string_bytes (take place words)) specs (string_bytes word) spec so_far reads)
 
-    -- the word is refused
+    -- the word is the first one that is refused, because all earlier words are refspecs
     pub refuses_word : (fault : SpecFault) → Reads (IsSpec (string_bytes word)) (Err fault) → RefusesWord (map string_bytes words) fault
     refuses_word fault refused = record {
       front = map string_bytes (take place words);
@@ -115,7 +115,7 @@ module _ {Z : Type 0} (words : List (String Z)) (place : ℕ) (word : String Z) 
       refused = refused;
     }
 
--- so is what is answered
+-- the result of reading the words, if a word is refused
 pub refuses_specs : {A : Type 0} (words : List (List ℕ)) (cause : SpecFault) (fault : ProgramFault A) → RefusesWord words cause
     → fault ≡ program.Spec cause → ReadsSpecs words (Err fault)
 refuses_specs {A} words cause fault refused same = subst (λ (f : ProgramFault A). ReadsSpecs words (Err f)) (sym same) refused

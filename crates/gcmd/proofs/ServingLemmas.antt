@@ -1,4 +1,4 @@
--- The server of a file.
+-- The server that is loaded from a file.
 use Rattle.std.proofs.Common.{◌≡◌, ℕ, List, [], ◌∷◌, ◌++◌, Option, Some, None, refl, sym, ap, subst}
 use Rattle.std.specs.Prelude.{All, IsSome, option_map}
 use Rattle.std.specs.List.{flat_map}
@@ -17,13 +17,13 @@ use Rattle.gcmd.specs.Serving.{MissesPart, NamesParts, NamesServer, RefusesFile}
 use Rattle.gcmd.specs.declared.fault.ProgramFault.{ProgramFault}
 use Rattle.gcmd.specs.declared.fault.ProgramFault.TheVariants as program
 
--- it was made of what the file names
+-- if the file encodes the graph, refs and HEAD of a valid server, the file is the text of the server's repository
 pub names_server : {A : Type 0} (file : List ℕ) (parts server : Server A) → NamesParts file parts → server ≡ parts → IsServer server → NamesServer file server
 names_server file parts server names same whole = record { names = subst (NamesParts file) (sym same) names; whole = whole }
 
--- ---- no parent is missing
+-- ---- parents of the objects in a file
 
--- what holds of what each element brings holds of all that
+-- if `P` holds for all elements of `f x`, for each `x` of a list, then it holds for all elements of `flat_map f`
 all_parts : {X Y : Type 0} (f : X → List Y) (P : Y → Type 0) (xs : List X)
     → ((front : List X) (x : X) (rest : List X) → xs ≡ front ++ x ∷ rest → All P (f x)) → All P (flat_map f xs)
 all_parts f P [] each = All-nil P
@@ -34,7 +34,7 @@ some_or : {X Y : Type 0} (f : X → Y) (a b : Option X) → IsSome (option_map f
 some_or f (Some x) b h = h
 some_or f None b h = absurd (false≢true h)
 
--- what is held stays so
+-- an id that a list of entries holds is still held after more entries are appended
 holds_more : {A : Type 0} (g more : List (Entry A)) (id : List ℕ) → Holds g id → Holds (g ++ more) id
 holds_more {A} g more id h =
     subst (λ found. IsSome (option_map (λ (entry : Entry A). entry.node) found)) (sym (find-append (has_id id) g more)) (some_or _ _ _ h)
@@ -62,6 +62,6 @@ module _ {A : Type 0} (file : List ℕ) (parts : Server A) (names : NamesParts f
   misses_part (build.MissingParent id) unserved = unserved
   misses_part build.Memory unserved = unserved
 
-  -- something else is
+  -- a file is rejected if its parts do not form a server
   pub refuses_file : (cause : BuildFault A) (fault : ProgramFault A) → IsUnserved parts cause → fault ≡ program.Build cause → RefusesFile file fault
   refuses_file cause fault unserved same = subst (RefusesFile file) (sym same) (parts, names, misses_part cause unserved)

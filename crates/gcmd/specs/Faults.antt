@@ -100,7 +100,7 @@ printed_of_build fault =
 
 -- ---- requests
 
--- the position of the packet for which a request was refused
+-- the position of the packet at which a request was refused
 abbrev pub frame_in_request : ServeFault → Option ℕ
 frame_in_request (serve.Request fault) = Some fault.frame
 frame_in_request _ = None
@@ -132,7 +132,7 @@ printed_of_request fault = record (plain (number_and_name (serve_fault_row fault
 
 -- ---- fetching
 
--- the position of the packet for which a message was refused
+-- the position of the packet at which a message was refused
 abbrev pub frame_in_client : {A : Type 0} → ClientFault A → Option ℕ
 frame_in_client (client.Message fault) = Some fault.frame
 frame_in_client _ = None

@@ -61,7 +61,7 @@ module _ {A : Type 0} (file : Bytes) (input : Input) (output : Output) where
     pub unread : IsUnread input
     pub unwritten : IsUnwritten output
 
-  -- serving the repository of the file has this outcome
+  -- the file is the text of a server's repository, and serving this repository has the outcome
   pub record IsServedBy (Does : Server A → ProgramOutcome A → Type 0) (outcome : ProgramOutcome A) : Type 0 where
     pub server : Server A
     pub names : NamesServer file server

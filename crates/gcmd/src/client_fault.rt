@@ -11,7 +11,7 @@ use ggraph::IndexFault;
 use gname::Oid;
 use std::alloc::Allocator;
 
-/// Returns the position of the packet for which a message was refused.
+/// Returns the position of the packet at which a message was refused.
 pub(crate) fn frame_in_client<A: Allocator + Copy>(fault: &ClientFault<A>) -> Option<u64>
     ensures { result ≡ frame_in_client fault.now }
 {

@@ -1,4 +1,4 @@
--- Choosing from a list.
+-- Selection of the elements of a list that satisfy a property.
 use Rattle.std.proofs.Common.{◌≡◌, ◌⊎◌, inl, inr, ℕ, zero, suc, ◌≤◌, Bool, true, false, true≢false, cond, List, [], ◌∷◌, ◌++◌, length, filter, get_or, All, Contains, Some, refl, sym, ap, subst, ◌∙◌, arith}
 use Rattle.std.specs.List.{slice_get, IsDistinct, AllByRecursion}
 use Rattle.std.proofs.lemmas.Option.{same_Some, none-some}
@@ -6,7 +6,7 @@ use Rattle.std.proofs.lemmas.List.Elements.{All-contains, Contains-append_right,
 use Rattle.gdag.specs.Selecting.{Selects, none, keep, skip}
 use Rattle.gdag.proofs.IdLists.{either_way, nothing_in_nil, contains_head, contains_tail, contains_cases}
 
--- an element is chosen, or it has not P
+-- an element is selected, or does not satisfy P
 pub chosen_or_not : {X : Type 0} (P : X → Type 0) (xs ys : List X) (k : ℕ) (x : X) → Selects P xs ys → slice_get xs k ≡ Some x → Contains ys x ⊎ ¬ (P x)
 chosen_or_not P xs ys k x none at = absurd (none-some x at)
 chosen_or_not {X} P xs ys zero x (keep {x = first} {ys = more} p rest) at =
@@ -19,7 +19,7 @@ chosen_or_not {X} P xs ys (suc k) x (keep {x = first} {xs = others} {ys = more} 
 chosen_or_not {X} P xs ys zero x (skip {x = first} left_out rest) at = inr (subst (λ y. ¬ (P y)) (same_Some first x at) left_out)
 chosen_or_not {X} P xs ys (suc k) x (skip {x = first} {xs = others} left_out rest) at = chosen_or_not P others ys k x rest at
 
--- one list is chosen
+-- the selected list is unique
 pub one_choice : {X : Type 0} (P : X → Type 0) (xs ys zs : List X) → Selects P xs ys → Selects P xs zs → ys ≡ zs
 one_choice P xs ys zs none none = refl
 one_choice P xs ys zs (keep {x = x} {xs = others} {ys = more} p rest) (keep {ys = less} q last) = ap (λ l. x ∷ l) (one_choice P others more less rest last)
@@ -32,7 +32,7 @@ chosen_few P xs ys none = omega arith
 chosen_few P xs ys (keep {xs = others} {ys = more} p rest) = let l = chosen_few P others more rest in omega arith
 chosen_few P xs ys (skip {xs = others} left_out rest) = let l = chosen_few P others ys rest in omega arith
 
--- choosing from a list with one more
+-- selecting from a list with one more element that satisfies P
 pub selects_keep : {X : Type 0} (P : X → Type 0) (xs ys : List X) (x : X) → Selects P xs ys → P x → Selects P (xs ++ x ∷ []) (ys ++ x ∷ [])
 selects_keep P xs ys x none here = keep here none
 selects_keep P xs ys x (keep {xs = others} {ys = more} p rest) here = keep p (selects_keep P others more x rest here)
@@ -43,7 +43,7 @@ selects_skip P xs ys x none out = skip out none
 selects_skip P xs ys x (keep {xs = others} {ys = more} p rest) out = keep p (selects_skip P others more x rest out)
 selects_skip P xs ys x (skip {xs = others} {ys = more} left_out rest) out = skip left_out (selects_skip P others more x rest out)
 
--- ---- which elements are chosen
+-- ---- the selected elements
 
 module _ {X : Type 0} (P : X → Type 0) where
   pub select_from : {xs ys : List X} → Selects P xs ys → (a : X) → Contains ys a → P a × Contains xs a
@@ -68,7 +68,7 @@ module _ {X : Type 0} (P : X → Type 0) where
         | inr later ↦ select_has s a holds later
       ]
 
-  -- what holds of each element holds of each that is chosen
+  -- if Q holds for each element of a list, Q holds for each selected element
   pub chosen_all : (Q : X → Type 0) (xs ys : List X) → Selects P xs ys → All Q xs → All Q ys
   chosen_all Q xs ys chosen all k d inside =
       All-contains Q xs (get_or ys k d) all (select_from chosen (get_or ys k d) (Contains-get_or ys k d inside)).1
@@ -84,7 +84,7 @@ module _ {X : Type 0} (P : X → Type 0) where
   select_distinct e (keep {x = x} p s) h = (select_each (λ y. e x y ≡ false) s h.0, select_distinct e s h.1)
   select_distinct e (skip p s) h = select_distinct e s h.1
 
--- ---- the same choice, and one from a longer list
+-- ---- selection by equivalent properties
 
 pub selects_same : {X : Type 0} (P Q : X → Type 0) (xs ys : List X) → ((x : X) → P x → Q x) → ((x : X) → Q x → P x) → Selects P xs ys → Selects Q xs ys
 selects_same P Q xs ys to back none = none
@@ -100,7 +100,7 @@ selects_before P xs ys more out none = selects_none P more out
 selects_before P xs ys more out (keep {xs = others} {ys = chosen} p rest) = keep p (selects_before P others chosen more out rest)
 selects_before P xs ys more out (skip {xs = others} left_out rest) = skip left_out (selects_before P others ys more out rest)
 
--- ---- a filter chooses
+-- ---- selection by a filter
 
 pub filter_selects : {X : Type 0} → (P : X → Type 0) (p : X → Bool) → ((x : X) → p x ≡ true → P x) → ((x : X) → P x → p x ≡ true) → (xs : List X) → Selects P xs (filter p xs)
 filter_selects P p to back [] = none

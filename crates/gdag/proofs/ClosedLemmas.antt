@@ -1,4 +1,4 @@
--- A graph is closed where each entry's parents are held.
+-- A graph is closed exactly if it contains the parents of each entry.
 use Rattle.std.proofs.Common.{◌≡◌, inl, inr, ℕ, ◌+◌, take, List, [], ◌∷◌, Some, refl, sym, ap, ◌∙◌, subst, All}
 use Rattle.std.specs.List.{slice_get}
 use Rattle.std.specs.Option.{option_map}
@@ -12,7 +12,7 @@ use Rattle.gdag.specs.Reach.{IsClosed}
 use Rattle.gdag.proofs.Holding.{mapped_from, has_id_is, is_has_id, id_cases, node_here, node_there}
 
 module _ {A : Type 0} (P : Node A → Type 0) where
-  -- what holds of each entry's node holds of a node that is found
+  -- if P holds for the node of each entry, P holds for each node that a look-up finds
   holds_of_found : (g : List (Entry A)) (a : List ℕ) (node : Node A) → All (λ entry. P entry.node) g → IsNode g a node → P node
   holds_of_found [] a node each is = absurd (none-some node is)
   holds_of_found (entry ∷ g) a node each is =
@@ -21,7 +21,7 @@ module _ {A : Type 0} (P : Node A → Type 0) where
         | inr other ↦ holds_of_found g a node (All-tail (λ (e : Entry A). P e.node) entry g each) (sym (node_there entry g a other) ∙ is)
       ]
 
-  -- and the other way round, where ids differ
+  -- if the ids are distinct and P holds for each node that a look-up finds, P holds for the node of each entry
   holds_of_each : (g : List (Entry A)) → IdsDiffer g → ((a : List ℕ) (node : Node A) → IsNode g a node → P node) → All (λ entry. P entry.node) g
   holds_of_each [] differ found = All-nil (λ (e : Entry A). P e.node)
   holds_of_each (entry ∷ g) differ found =
@@ -45,14 +45,15 @@ each_from_closed {A} g differ closed =
 pub parents_entry : {A : Type 0} (g : List (Entry A)) (p : ℕ) (parents : List (List ℕ)) → option_map (λ entry. entry.node.parents) (slice_get g p) ≡ Some parents → (entry : Entry A) × (slice_get g p ≡ Some entry) × (entry.node.parents ≡ parents)
 parents_entry g p parents at = mapped_from (λ entry. entry.node.parents) (slice_get g p) parents at
 
--- where each entry's parents are held, those at a position are
+-- if a graph contains the parents of each entry, it contains the parents of the entry at position `p`
 pub holds_at : {A : Type 0} (g : List (Entry A)) (p : ℕ) (parents : List (List ℕ)) → option_map (λ entry. entry.node.parents) (slice_get g p) ≡ Some parents → All (HoldsParents g) g → All (Holds g) parents
 holds_at {A} g p parents at each =
     let e = parents_entry g p parents at in
     let P : Entry A → Type 0 = λ entry. All (Holds g) entry.node.parents in
     subst (All (Holds g)) e.2 (subst P (get_or_from_slice_get g p e.0 e.0 e.1) (each p e.0 (slice_get_within g p e.0 e.1)))
 
--- and one position more
+-- if a graph contains the parents of the first `p` entries and of the entry at position `p`, this is true of `p + 1`
+-- entries
 pub holds_more : {A : Type 0} (g : List (Entry A)) (p : ℕ) (parents : List (List ℕ)) → option_map (λ entry. entry.node.parents) (slice_get g p) ≡ Some parents → All (HoldsParents g) (take p g) → All (Holds g) parents → All (HoldsParents g) (take (p + 1) g)
 holds_more {A} g p parents at each here =
     let e = parents_entry g p parents at in

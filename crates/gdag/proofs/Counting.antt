@@ -1,4 +1,4 @@
--- How many held ids some ids reach.
+-- The number of ids in a graph that some ids reach.
 use Rattle.std.proofs.Common.{◌≡◌, inl, inr, ℕ, ◌≤◌, false, List, [], ◌∷◌, ◌++◌, length, All, Contains, bytes_eq, None, refl, sym, ap, ◌∙◌, subst, arith}
 use Rattle.std.specs.List.{IsDistinct}
 use Rattle.std.specs.Option.{is_some}
@@ -21,7 +21,7 @@ use Rattle.gdag.proofs.Reaching.{position_at}
 pub use Rattle.gdag.proofs.Reaching.{ids_of}
 use Rattle.gdag.proofs.Sharing.{reached_already}
 
--- ---- distinct ids that are reached are counted
+-- ---- the count of distinct reachable ids
 
 id_among : {A : Type 0} (list : List (Entry A)) (entry : Entry A) → Contains list entry → Contains (ids_of list) entry.id
 id_among [] entry among = nothing_in_nil entry among
@@ -48,7 +48,7 @@ reached_are_counted {A} g tips ids held parents counts distinct each =
     let same = length-map counts.list (λ (entry : Entry A). entry.id) in let is = counts.held_are in
     omega (arith, within, same, is)
 
--- ---- the count stays as the graph grows
+-- ---- the count after the graph grows
 
 absent_member : {A : Type 0} (g : List (Entry A)) (a : List ℕ) (entry : Entry A) → node_at g a ≡ None → Contains g entry → has_id a entry ≡ false
 absent_member [] a entry absent among = nothing_in_nil entry among
@@ -58,7 +58,7 @@ absent_member {A} (first ∷ g) a entry absent among =
       | inr later ↦ absent_member g a entry (absent_tail first g a absent) later
     ]
 
--- an entry that came later is new
+-- the id of an entry of `more` is not an id of `g`
 new_after : {A : Type 0} (g more : List (Entry A)) (entry : Entry A) → IdsDiffer (g ++ more) → Contains more entry → node_at g entry.id ≡ None
 new_after [] more entry differ among = refl
 new_after (first ∷ g) more entry differ among =

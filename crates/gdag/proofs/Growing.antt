@@ -1,4 +1,4 @@
--- What a graph keeps as entries come in.
+-- The properties that a graph keeps when entries are inserted.
 use Rattle.std.proofs.Common.{◌≡◌, inl, inr, ℕ, zero, suc, ◌+◌, ◌<◌, ◌≤◌, false, List, [], ◌∷◌, ◌++◌, length, get_or, take, All, Some, None, refl, sym, ap, ◌∙◌, subst, arith, append_assoc, drop, add-one}
 use Rattle.std.specs.List.{slice_get}
 use Rattle.std.specs.Option.{is_some}
@@ -18,7 +18,7 @@ use Rattle.gname.specs.declared.formats.Format.{Format}
 use Rattle.gdag.proofs.Reaching.{kept_along, reaches_parent}
 use Rattle.gdag.proofs.Holding.{held_node, has_id_is, is_has_id, id_cases, node_here, node_there, absent_head, absent_tail}
 
--- ---- nodes after an append
+-- ---- nodes after entries are appended
 
 pub node_in_front : {A : Type 0} (g more : List (Entry A)) (a : List ℕ) (node : Node A) → IsNode g a node → IsNode (g ++ more) a node
 node_in_front [] more a node is = absurd (none-some node is)
@@ -70,7 +70,7 @@ differ_take g zero differ = tt
 differ_take [] (suc n) differ = tt
 differ_take (entry ∷ g) (suc n) differ = (absent_take g n entry.id differ.0, differ_take g n differ.1)
 
--- the first entries of a graph are a graph's
+-- the first entries of a valid graph form a valid graph
 pub graph_take : {A : Type 0} (format : Format) (g : List (Entry A)) (n : ℕ) → IsGraph (record { format = format; entries = g }) → IsGraph (record { format = format; entries = take n g })
 graph_take {A} format g n graph = record {
   differ = differ_take g n graph.differ;
@@ -79,7 +79,7 @@ graph_take {A} format g n graph = record {
   few = let e = graph.few in let l = length-take n g in omega arith;
 }
 
--- ---- growing
+-- ---- growth of graphs
 
 pub grows_keeps : {A : Type 0} (g h : List (Entry A)) → Grows g h → Keeps g h
 grows_keeps {A} g h grows a node is =
@@ -93,7 +93,7 @@ keeps_reaching g h keeps a b here = here
 keeps_reaching g h keeps a b (onward {b = m} p r) =
     onward (p.0, keeps a p.0 p.1, p.2) (keeps_reaching g h keeps m b r)
 
--- nothing new is reached from an id that was connected
+-- an id that was connected in `g` reaches no new ids in `h`
 pub reached_before : {A : Type 0} (g h : List (Entry A)) → Keeps g h → (a : List ℕ) → IsConnected g a → (b c : List ℕ) → Reaches g a b → HasParent h b c → Reaches g a c
 reached_before {A} g h keeps a connected b c r p =
     let n = held_node g b (connected b r) in
@@ -106,9 +106,9 @@ keeps_connected g h keeps a connected b r =
     let n = held_node g b (connected b before) in
     rw (keeps b n.0 n.1) refl
 
--- ---- inserting
+-- ---- insertion of entries
 
--- a graph that stays grows by nothing
+-- an unchanged graph grows to itself
 pub grows_none : {A : Type 0} (g h : List (Entry A)) → h ≡ g → Grows g h
 grows_none g h same = ([], same ∙ sym (append-nil g))
 
@@ -138,13 +138,13 @@ inserts_held {A} format old (entry ∷ entries) new (next, c, rest) =
     let keeps = grows_keeps next new (inserts_grows format next entries new rest) in
     All-cons (λ (e : Entry A). IsNode new e.id e.node) entry entries (keeps entry.id entry.node (comes_held format old entry next c)) (inserts_held format next entries new rest)
 
--- one entry more
+-- inserting one more entry after a list
 pub inserts_more : {A : Type 0} (format : Format) (old entries : List (Entry A)) (entry : Entry A) (mid new : List (Entry A)) → Inserts format old entries mid → ComesIn format mid entry new → Inserts format old (entries ++ entry ∷ []) new
 inserts_more {A} format old [] entry mid new is c =
     let P : List (Entry A) → Type 0 = λ x. ComesIn format x entry new in (new, subst P is c, refl)
 inserts_more format old (first ∷ entries) entry mid new (next, c, rest) d = (next, c, inserts_more format next entries entry mid new rest d)
 
--- what holds of a list holds of what stands at a position of it
+-- if P holds for each element of a list, P holds for the element at position `k`
 pub all_standing : {X : Type 0} (P : X → Type 0) (xs : List X) (k : ℕ) (x : X) → slice_get xs k ≡ Some x → All P xs → P x
 all_standing P xs k x at all = subst P (get_or_from_slice_get xs k x x at) (all k x (slice_get_within xs k x at))
 
@@ -156,7 +156,7 @@ at_front xs k x inside is =
     let rest : drop k xs ≡ x ∷ drop (k + 1) xs = rw add-one (drop-cons xs k x inside ∙ ap (λ y. y ∷ drop (suc k) xs) (sym is)) in
     sym (take-append-drop k xs) ∙ ap (λ ys. take k xs ++ ys) rest
 
--- the new entries are cut off again
+-- the first entries of the longer graph are the old entries
 pub cut_off : {A : Type 0} (format : Format) (old front mid : List (Entry A)) (n : ℕ) → Inserts format old front mid → n ≡ length old → take n mid ≡ old
 cut_off format old front mid n comes is =
     let grown = inserts_grows format old front mid comes in
@@ -176,7 +176,7 @@ refused format old front entry back mid fault comes cause = record {
 pub grows_length : {A : Type 0} (old new : List (Entry A)) → Grows old new → length old ≤ length new
 grows_length old new grown = let e = length-append old grown.0 in let l = ap length grown.1 in omega (arith, e, l)
 
--- the graph is as it was
+-- cutting back to the old number of entries restores the old graph
 pub cut_back_again : {A : Type 0} (old mid new back : History A) (front : List (Entry A)) (n : ℕ) → mid.format ≡ old.format → Inserts old.format old.entries front mid.entries → new ≡ mid → n ≡ length old.entries → back ≡ record { format = new.format; entries = take n new.entries } → back ≡ old
 cut_back_again {A} old mid new back front n formats comes same is cut =
     let with : History A → History A = λ h. record { format = h.format; entries = take n h.entries } in

@@ -1,4 +1,4 @@
--- Which node stands under an id, entry by entry.
+-- The node of an id in a graph, entry by entry.
 use Rattle.std.proofs.Common.{◌≡◌, ◌⊎◌, inl, inr, ℕ, zero, suc, ◌<◌, true, false, List, [], ◌∷◌, length, IsSome, Option, Some, None, refl, sym, ap, ◌∙◌, arith}
 use Rattle.std.specs.List.{position_or_len, slice_get}
 use Rattle.std.specs.Option.{option_map}
@@ -26,7 +26,7 @@ node_here entry g a e = rw e refl
 pub node_there : {A : Type 0} (entry : Entry A) (g : List (Entry A)) (a : List ℕ) → has_id a entry ≡ false → node_at (entry ∷ g) a ≡ node_at g a
 node_there entry g a e = rw e refl
 
--- an id that is not held is no entry's
+-- if a graph does not contain an id, its first entry has another id
 pub absent_head : {A : Type 0} (entry : Entry A) (g : List (Entry A)) (a : List ℕ) → node_at (entry ∷ g) a ≡ None → has_id a entry ≡ false
 absent_head entry g a none =
     elim (id_cases a entry) [
@@ -44,7 +44,7 @@ absent_at (first ∷ g) a zero entry none at same =
     false≢true (sym (absent_head first g a none) ∙ is_has_id a first (ap (λ x. x.id) is ∙ same))
 absent_at (first ∷ g) a (suc k) entry none at same = absent_at g a k entry (absent_tail first g a none) at same
 
--- where ids differ, the position of an entry's id is the entry's own
+-- if the ids are distinct, the position of an entry's id is the position of the entry
 own_position_from : {A : Type 0} (g : List (Entry A)) (k : ℕ) (entry : Entry A) → IdsDiffer g → slice_get g k ≡ Some entry → (position_or_len (has_id entry.id) g ≡ k) × (k < length g)
 own_position_from [] k entry differ at = absurd (none-some entry at)
 own_position_from (first ∷ g) zero entry differ at =
@@ -68,11 +68,11 @@ pub some_is : {X : Type 0} (o : Option X) → IsSome o → (x : X) × (o ≡ Som
 some_is None is = absurd (false≢true is)
 some_is (Some x) is = (x, refl)
 
--- an id that is held has a node
+-- each id that a graph contains has a node
 pub held_node : {A : Type 0} (g : List (Entry A)) (a : List ℕ) → Holds g a → (node : Node A) × IsNode g a node
 held_node g a held = some_is (node_at g a) held
 
--- what a map gives comes from a value
+-- if `option_map` returns a value, the value comes from an element of the option
 pub mapped_from : {X Y : Type 0} (f : X → Y) (o : Option X) (y : Y) → option_map f o ≡ Some y
     → (x : X) × (o ≡ Some x) × (f x ≡ y)
 mapped_from f None y e = absurd (none-some y e)
@@ -85,6 +85,6 @@ none_is (Some x) out = absurd (out refl)
 pub not_held : {A : Type 0} (g : List (Entry A)) (a : List ℕ) → ¬ (Holds g a) → node_at g a ≡ None
 not_held g a out = none_is (node_at g a) out
 
--- and one alone
+-- an id has at most one node
 pub one_node : {A : Type 0} (g : List (Entry A)) (a : List ℕ) (m n : Node A) → IsNode g a m → IsNode g a n → m ≡ n
 one_node g a m n left right = same_Some m n (sym left ∙ right)

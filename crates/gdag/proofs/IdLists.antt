@@ -1,4 +1,4 @@
--- Lists of ids: which ids they have, and which of others are new to them.
+-- Lists of ids: the ids that a list contains, and the ids of another list that are new to it.
 use Rattle.std.proofs.Common.{◌≡◌, ◌⊎◌, ℕ, zero, suc, Bool, true, false, true≢false, cond, ◌||◌, List, [], ◌∷◌, ◌++◌, Contains, flat_map, bytes_eq, refl, sym, ap, ap₂, subst, ◌∙◌, inl, inr, append_assoc, append-nil, if◌then◌else◌, arith}
 use Rattle.std.specs.List.{list_any, IsDistinct}
 use Rattle.std.proofs.lemmas.Cmp.{nat_list_eq_equiv}
@@ -9,9 +9,9 @@ use Rattle.std.proofs.lemmas.Map.Views.{Contains-from_any, list_any-from_Contain
 use Rattle.indexmap.specs.IndexSet.{insert_key}
 use Rattle.gdag.specs.Levels.{is_in, new_ids}
 
--- ---- which ids a list has
+-- ---- the ids in a list
 
--- a test goes one way or the other
+-- a test is true or false
 pub either_way : {P : Type 0} → (b : Bool) → (b ≡ true → P) → (b ≡ false → P) → P
 either_way true t f = t refl
 either_way false t f = f refl
@@ -25,7 +25,7 @@ contains_head x xs = (0, omega arith, refl)
 pub contains_tail : {X : Type 0} → (x : X) (xs : List X) (a : X) → Contains xs a → Contains (x ∷ xs) a
 contains_tail x xs a h = Contains-append_right (x ∷ []) xs a h
 
--- a list of one has that one alone
+-- a list of one element contains no other element
 pub only_one : {X : Type 0} → (x a : X) → Contains (x ∷ []) a → a ≡ x
 only_one x a (zero, inside, is) = sym is
 only_one x a (suc k, inside, is) = absurd (omega (arith, inside))
@@ -53,7 +53,7 @@ in_from_contains ids a h = is_in-any ids a ∙ any_from_contains ids a h
 pub absent_from_in : (ids : List (List ℕ)) (a : List ℕ) → is_in ids a ≡ false → ¬ (Contains ids a)
 absent_from_in ids a e h = true≢false (sym (in_from_contains ids a h) ∙ e)
 
--- an id is in a list or is not
+-- an id is in a list, or it is not
 pub in_or_not : (ids : List (List ℕ)) (a : List ℕ) → Contains ids a ⊎ ¬ (Contains ids a)
 in_or_not ids a = either_way (is_in ids a) (λ e. inl (contains_from_in ids a e)) (λ e. inr (absent_from_in ids a e))
 
@@ -61,7 +61,7 @@ pub same_or_not : (a b : List ℕ) → (a ≡ b) ⊎ ¬ (a ≡ b)
 same_or_not a b =
     either_way (bytes_eq a b) (λ e. inl ((bytes_eq-Decides a b).0 e)) (λ e. inr (λ h. true≢false (sym ((bytes_eq-Decides a b).1 h) ∙ e)))
 
--- ---- the ids that are new
+-- ---- the new ids
 
 pub new_ids-old : (s : List (List ℕ)) (x : List ℕ) (xs : List (List ℕ)) → is_in s x ≡ true → new_ids s (x ∷ xs) ≡ new_ids s xs
 new_ids-old s x xs e = ap (λ b. cond b (new_ids s xs) (x ∷ new_ids (s ++ x ∷ []) xs)) e
@@ -69,7 +69,7 @@ new_ids-old s x xs e = ap (λ b. cond b (new_ids s xs) (x ∷ new_ids (s ++ x �
 pub new_ids-new : (s : List (List ℕ)) (x : List ℕ) (xs : List (List ℕ)) → is_in s x ≡ false → new_ids s (x ∷ xs) ≡ x ∷ new_ids (s ++ x ∷ []) xs
 new_ids-new s x xs e = ap (λ b. cond b (new_ids s xs) (x ∷ new_ids (s ++ x ∷ []) xs)) e
 
--- a list with the ids that are new to it after
+-- the list `s`, followed by the ids of `xs` that are new to `s`
 abbrev pub with_new : List (List ℕ) → List (List ℕ) → List (List ℕ)
 with_new s xs = s ++ new_ids s xs
 
@@ -87,7 +87,7 @@ with_new-distinct s (x ∷ xs) d =
     (λ e. subst (λ (l : List (List ℕ)). IsDistinct bytes_eq l) (sym (with_new-new s x xs e))
     (with_new-distinct (s ++ x ∷ []) xs (IsDistinct-push nat_list_eq_equiv s x d (sym (is_in-any s x) ∙ e))))
 
--- a new id is one of the others and was not in the list
+-- a new id is an id of `xs` and is not in the list `s`
 pub new_ids-from : (s xs : List (List ℕ)) (a : List ℕ) → Contains (new_ids s xs) a → Contains xs a × ¬ (Contains s a)
 new_ids-from s [] a h = nothing_in_nil a h
 new_ids-from s (x ∷ xs) a h =
@@ -98,7 +98,7 @@ new_ids-from s (x ∷ xs) a h =
       | inr later ↦ let r = new_ids-from (s ++ x ∷ []) xs a later in (contains_tail x xs a r.0, λ c. r.1 (Contains-append_left s (x ∷ []) a c))
     ])
 
--- and each such id is new
+-- each id of `xs` that is not in the list `s` is a new id
 pub new_ids-has : (s xs : List (List ℕ)) (a : List ℕ) → Contains xs a → ¬ (Contains s a) → Contains (new_ids s xs) a
 new_ids-has s [] a h out = nothing_in_nil a h
 new_ids-has s (x ∷ xs) a h out =
@@ -114,7 +114,7 @@ new_ids-has s (x ∷ xs) a h out =
           (λ c. elim (Contains-push_cases s x a c) [ inl before ↦ out before | inr same ↦ other same ]))
     ]))
 
--- the new ids of a beginning come first
+-- the new ids of two joined lists: first those of `xs`, then those of `ys`
 pub new_ids-append : (s xs ys : List (List ℕ)) → new_ids s (xs ++ ys) ≡ new_ids s xs ++ new_ids (with_new s xs) ys
 new_ids-append s [] ys = ap (λ l. new_ids l ys) (sym (append-nil s))
 new_ids-append s (x ∷ xs) ys =
@@ -127,7 +127,7 @@ new_ids-append s (x ∷ xs) ys =
     ∙ ap (λ l. x ∷ (new_ids later xs ++ new_ids l ys)) (append_assoc s (x ∷ []) (new_ids later xs))
     ∙ ap whole (sym (new_ids-new s x xs e)))
 
--- a list takes in one id more
+-- inserting one more id into a list as a set
 pub with_new-insert : (s : List (List ℕ)) (x : List ℕ) (xs : List (List ℕ)) → with_new (insert_key bytes_eq s x) xs ≡ with_new s (x ∷ xs)
 with_new-insert s x xs =
     let grown : Bool → List (List ℕ) = λ b. with_new (if b then s else s ++ x ∷ []) xs in
@@ -135,7 +135,7 @@ with_new-insert s x xs =
     (λ e. ap grown (sym (is_in-any s x) ∙ e) ∙ sym (with_new-old s x xs e))
     (λ e. ap grown (sym (is_in-any s x) ∙ e) ∙ sym (with_new-new s x xs e))
 
--- ---- the ids that each of some ids gives
+-- ---- the ids that come from each id of a list
 
 pub flat_map-has : {X Y : Type 0} → (f : X → List Y) (xs : List X) (b : X) (a : Y) → Contains xs b → Contains (f b) a → Contains (flat_map f xs) a
 flat_map-has f [] b a h given = nothing_in_nil b h

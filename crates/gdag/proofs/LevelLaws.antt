@@ -1,4 +1,4 @@
--- What the levels about some tips are: the ids at each distance, each once, and few.
+-- The levels from some tips: the ids at each distance, each id once, with a bound on their number.
 use Rattle.std.proofs.Common.{◌≡◌, ◌⊎◌, ℕ, zero, suc, ◌<◌, ◌≤◌, ◌+◌, Bool, cond, List, [], ◌∷◌, ◌++◌, length, find, Contains, flat_map, bytes_eq, Option, Some, None, option_map, unwrap_or, refl, sym, ap, subst, ◌∙◌, inl, inr, length-append, eq-or-lt_of_le, arith}
 use Rattle.std.specs.List.{IsDistinct}
 use Rattle.std.proofs.lemmas.Cmp.{nat_list_eq_equiv}
@@ -39,11 +39,11 @@ entry_parent {A} (entry ∷ g) b a node e h =
 
 -- ---- levels
 
--- some tip leads to the id by fewer than k steps
+-- a path of fewer than k steps leads from some tip to the id
 abbrev pub IsNearer : {A : Type 0} → List (Entry A) → List (List ℕ) → ℕ → List ℕ → Type 0
 IsNearer g tips k a = (j : ℕ) × (j < k) × Steps g tips j a
 
--- what is proved of level k and of those before it, together
+-- the facts about level k and the earlier levels, proved together
 pub record Exact {A : Type 0} (g : List (Entry A)) (tips : List (List ℕ)) (k : ℕ) : Type 0 where
   pub near : (a : List ℕ) → Contains (levels_below g tips k) a → IsNearer g tips k a
   pub near_back : (a : List ℕ) → IsNearer g tips k a → Contains (levels_below g tips k) a
@@ -112,7 +112,7 @@ module _ {A : Type 0} (g : List (Entry A)) (tips : List (List ℕ)) where
     at_back = next_at_back k exact;
   }
 
-  -- ---- each id once, and few
+  -- ---- distinct ids and their number
 
   once_and_next : (k : ℕ) → IsDistinct bytes_eq (levels_below g tips k) × IsDistinct bytes_eq (levels_below g tips (suc k))
   unfolding IsDistinct
@@ -135,7 +135,7 @@ module _ {A : Type 0} (g : List (Entry A)) (tips : List (List ℕ)) where
       any_from_contains (tips ++ all_parents g) q (step_from near.0 q near.2)) in
       omega (arith, within, length-append tips (all_parents g))
 
-  -- ---- the levels end
+  -- ---- the empty level
 
   some_empty : (k : ℕ) → ((j : ℕ) × (level g tips j ≡ [])) ⊎ (k ≤ length (levels_below g tips k))
   some_empty zero = inr (omega arith)

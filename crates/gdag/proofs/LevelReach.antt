@@ -1,4 +1,4 @@
--- The ids of all levels about some tips are those that a tip reaches.
+-- The ids of all levels are the ids that a tip reaches.
 use Rattle.std.proofs.Common.{◌≡◌, ◌↔◌, ℕ, zero, suc, ◌≤◌, List, [], Contains, subst, inl, inr, eq-or-lt_of_le, arith}
 use Rattle.std.proofs.lemmas.List.Elements.{Contains-append_right, Contains-append_cases}
 use Rattle.gobject.specs.declared.node.Entry.{Entry}
@@ -8,14 +8,14 @@ use Rattle.gdag.proofs.IdLists.{nothing_in_nil, in_or_not}
 use Rattle.gdag.proofs.Reaching.{reaches_parent}
 use Rattle.gdag.proofs.LevelLaws.{exact_at, levels_end}
 
--- ---- all levels about some ids are what one of them reaches
+-- ---- the ids of all levels
 
 module _ {A : Type 0} (g : List (Entry A)) (tips : List (List ℕ)) where
   steps_on : (b a : List ℕ) → Reaches g b a → (j : ℕ) → Steps g tips j b → (i : ℕ) × Steps g tips i a
   steps_on b a here j path = (j, path)
   steps_on b a (onward {b = c} parent more) j path = steps_on c a more (suc j) (b, path, parent)
 
-  -- what is at a position down to the empty level is before it
+  -- an id that some path of at most `count` steps reaches is in a level before the empty level `count`
   settled : (count : ℕ) → level g tips count ≡ [] → (j : ℕ) (a : List ℕ) → j ≤ count → Steps g tips j a → Contains (levels_below g tips count) a
   settled count last j a h path =
       let exact = exact_at g tips count in
@@ -48,7 +48,7 @@ module _ {A : Type 0} (g : List (Entry A)) (tips : List (List ℕ)) where
   pub in_reached : (count : ℕ) (a : List ℕ) → Contains (levels_below g tips count) a → SomeReaches g tips a
   in_reached count a h = let near = (exact_at g tips count).near a h in steps_reach near.0 a near.2
 
-  -- an id of the levels down to one is at one of them
+  -- an id of the first `k` levels is in one of these levels
   at_level : (k : ℕ) (a : List ℕ) → Contains (levels_below g tips k) a → (j : ℕ) × Contains (level g tips j) a
   at_level zero a h = nothing_in_nil a h
   at_level (suc k) a h =

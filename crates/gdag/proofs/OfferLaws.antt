@@ -1,4 +1,4 @@
--- There is one offer, and what is in it; common ids and distinct ids.
+-- The uniqueness and the ids of an offer, the common ids, and the distinct ids of a list.
 use Rattle.std.proofs.Common.{◌≡◌, ◌↔◌, is_some, ℕ, zero, suc, ◌≤◌, Bool, false, List, [], ◌∷◌, ◌++◌, length, take, drop, Contains, bytes_eq, sym, ap, subst, ◌∙◌, inl, inr, eq-or-lt_of_le, append-nil, length-take, take-append-drop, take_all, leb-true, leb-false, leb, arith}
 use Rattle.std.specs.List.{IsDistinct, AllByRecursion}
 use Rattle.std.proofs.lemmas.List.Elements.{Contains-append_left}
@@ -31,7 +31,7 @@ contains_from_take : {X : Type 0} → (n : ℕ) (xs : List X) (a : X) → Contai
 contains_from_take {X} n xs a h =
     subst (λ (l : List X). Contains l a) (take-append-drop n xs) (Contains-append_left (take n xs) (drop n xs) a h)
 
--- ---- the levels below an empty one are all levels
+-- ---- the levels before an empty level
 
 module _ {A : Type 0} (g : List (Entry A)) (tips : List (List ℕ)) where
   same_above : (j k : ℕ) → j ≤ k → level g tips j ≡ [] → levels_below g tips k ≡ levels_below g tips j
@@ -82,7 +82,7 @@ module _ {A : Type 0} (g : List (Entry A)) (tips : List (List ℕ)) where
         (select_has P x.chosen a may (reached_levels x.ids a x.levels reach));
   }
 
--- ---- the common ids are the haves that are held, each once
+-- ---- the common ids
 
 module _ {A : Type 0} (g : List (Entry A)) (haves : List (List ℕ)) where
   chosen : Selects (Holds g) (new_ids [] haves) (common_of g haves)
@@ -99,7 +99,7 @@ module _ {A : Type 0} (g : List (Entry A)) (haves : List (List ℕ)) where
   commons_are_held =
       (select_distinct (Holds g) bytes_eq chosen (with_new-distinct [] haves tt), λ a. (each a, λ h. all a h.0 h.1))
 
--- ---- the distinct ids of a list are its ids, each once
+-- ---- the distinct ids of a list
 
 pub distinct_are_once : (ids : List (List ℕ)) → AreDistinct ids
 unfolding IsDistinct

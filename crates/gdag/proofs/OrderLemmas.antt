@@ -1,4 +1,4 @@
--- Each entry of a graph could come next after those before it.
+-- Each entry of a graph could be appended to the entries before it.
 use Rattle.std.proofs.Common.{◌≡◌, ℕ, List, [], ◌∷◌, ◌++◌, All, None, refl, ◌∙◌, arith, false}
 use Rattle.std.proofs.lemmas.List.{length-append}
 use Rattle.std.proofs.lemmas.List.Elements.{All-head, All-tail}

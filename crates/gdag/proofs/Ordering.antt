@@ -1,4 +1,4 @@
--- Graphs in which parents come first.
+-- Graphs in which each entry comes after its parents.
 use Rattle.std.proofs.Common.{◌≡◌, ◌⊎◌, inl, inr, ℕ, zero, suc, ◌<◌, ◌≤◌, List, [], ◌∷◌, ◌++◌, length, take, All, Contains, Some, refl, sym, ◌∙◌, subst, arith}
 use Rattle.std.specs.List.{slice_get}
 use Rattle.std.proofs.lemmas.List.{take-append-le}
@@ -13,7 +13,7 @@ use Rattle.gdag.specs.Reach.{Reaches, here, onward, IsClosed}
 use Rattle.gdag.proofs.Reaching.{node_at_position, held_at_position, position_at, position_of_node}
 use Rattle.gdag.proofs.Holding.{mapped_from, own_position}
 
--- ---- one entry more
+-- ---- one more entry
 
 at_more : {X : Type 0} (xs : List X) (x y : X) (p : ℕ) → slice_get (xs ++ x ∷ []) p ≡ Some y → ((p < length xs) × (slice_get xs p ≡ Some y)) ⊎ ((p ≡ length xs) × (y ≡ x))
 at_more [] x y zero at = inr (refl, sym (same_Some x y at))
@@ -64,19 +64,19 @@ in_take [] (suc n) p x at = absurd (none-some x at)
 in_take (first ∷ xs) (suc n) zero x at = (at, omega arith)
 in_take (first ∷ xs) (suc n) (suc p) x at = let h = in_take xs n p x at in (h.0, let l = h.1 in omega arith)
 
--- what the entries before a position hold has a smaller position
+-- an id of the entries before a position has a lower position
 pub position_before : {A : Type 0} (g : List (Entry A)) (p : ℕ) (a : List ℕ) → IdsDiffer g → Holds (take p g) a → (q : ℕ) × (position_of g a ≡ Some q) × (q < p)
 position_before {A} g p a differ held =
     let at = position_at (take p g) a held in
     let inside = in_take g p at.0 at.1 at.2 in
     (at.0, (rw at.3 at (own_position g at.0 at.1 differ inside.0)), inside.1)
 
--- an id's node is that of the entry at its position
+-- the node of an id is the node of the entry at the position of the id
 pub entry_at_position : {A : Type 0} (g : List (Entry A)) (a : List ℕ) (p : ℕ) (node : Node A) → position_of g a ≡ Some p → IsNode g a node → (entry : Entry A) × (slice_get g p ≡ Some entry) × (entry.node ≡ node)
 entry_at_position g a p node position is =
     mapped_from (λ entry. entry.node) (slice_get g p) node (sym (node_at_position g a p position) ∙ is)
 
--- the parents of the entry at a position have smaller positions
+-- the parents of an entry have lower positions than the entry
 pub parent_position : {A : Type 0} (g : List (Entry A)) (p : ℕ) (entry : Entry A) (b : List ℕ) → IdsDiffer g → IsOrdered g → slice_get g p ≡ Some entry → Contains entry.node.parents b → (q : ℕ) × (position_of g b ≡ Some q) × (q < p)
 parent_position g p entry b differ ordered at among =
     position_before g p b differ (All-contains (Holds (take p g)) entry.node.parents b (ordered p entry at) among)
@@ -86,7 +86,7 @@ step_down {A} g a b p differ ordered parent position =
     let at = entry_at_position g a p parent.0 position parent.1 in
     parent_position g p at.0 b differ ordered at.1 (rw (← at.2) at parent.2)
 
--- reaching goes down
+-- a reachable id has the same or a lower position
 pub reaching_down : {A : Type 0} (g : List (Entry A)) (a b : List ℕ) (p : ℕ) → IdsDiffer g → IsOrdered g → Reaches g a b → position_of g a ≡ Some p → (q : ℕ) × (position_of g b ≡ Some q) × (q ≤ p)
 reaching_down g a b p differ ordered here position = (p, position, omega arith)
 reaching_down g a b p differ ordered (onward {b = m} parent rest) position =

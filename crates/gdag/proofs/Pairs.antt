@@ -1,4 +1,4 @@
--- A graph's entries and the pairs of its map, also as the map grows and is cut back.
+-- The entries of a graph and the pairs of its map, also after the map is changed.
 use Rattle.std.proofs.Common.{◌≡◌, ℕ, zero, suc, ◌≤◌, Bool, true, false, cond, nat_eq, List, [], ◌∷◌, length, Option, Some, None, refl, sym, ap, ◌∙◌, arith, ◌↔◌, ◌<◌, ◌++◌, take, All, IsTrue}
 use Rattle.std.specs.List.{find, position, position_or_len, slice_get}
 use Rattle.std.specs.Cmp.Lexicographic.{pointwise}
@@ -26,7 +26,7 @@ node_step : {A : Type 0} (b : Bool) (entry : Entry A) (found : Option (Entry A))
 node_step true entry found rest same = refl
 node_step false entry found rest same = same
 
--- a look-up in the map finds the node of the entry
+-- a look-up in the map finds the node of the entry with the id
 pub node_at_pairs : {A : Type 0} (pairs : List (List ℕ × Node A)) (a : List ℕ) → lookup (pointwise nat_eq a) pairs ≡ node_at (entries_of pairs) a
 node_at_pairs [] a = refl
 node_at_pairs {A} (pair ∷ pairs) a =
@@ -45,20 +45,20 @@ first_position : {A : Type 0} (pairs : List (List ℕ × Node A)) (a : List ℕ)
 first_position [] a = refl
 first_position (pair ∷ pairs) a = rw (same_test a pair.0, first_position pairs a) refl
 
--- and the index of an id is the position of its entry
+-- the index of an id in the map is the position of its entry
 pub position_of_pairs : {A : Type 0} (pairs : List (List ℕ × Node A)) (a : List ℕ) → position (pointwise nat_eq a) (keys_of pairs) ≡ position_of (entries_of pairs) a
 position_of_pairs pairs a = rw (first_position pairs a, length_keys pairs) refl
 
--- the pairs of the map's entries are the map's
+-- converting the pairs of a map to entries and back returns the same pairs
 pub pairs_again : {A : Type 0} (pairs : List (List ℕ × Node A)) → pairs_of (entries_of pairs) ≡ pairs
 pairs_again [] = refl
 pairs_again (pair ∷ pairs) = ap (λ rest. pair ∷ rest) (pairs_again pairs)
 
--- the entry at a position is made of the pair there
+-- the entry at a position consists of the id and the node of the pair at this position
 pub entry_at_pair : {A : Type 0} (pairs : List (List ℕ × Node A)) (k : ℕ) → slice_get (entries_of pairs) k ≡ option_map (λ pair. entry_of pair.0 pair.1) (slice_get pairs k)
 entry_at_pair pairs k = slice_get-map (λ pair. entry_of pair.0 pair.1) pairs k
 
--- and has the parents of the value there
+-- the entry at a position has the parents of the node at this position in the map
 pub parents_at_value : {A : Type 0} (pairs : List (List ℕ × Node A)) (k : ℕ) (node : Node A) → slice_get (values_of pairs) k ≡ Some node → option_map (λ (entry : Entry A). entry.node.parents) (slice_get (entries_of pairs) k) ≡ Some node.parents
 parents_at_value {A} [] k node at = absurd (none-some node at)
 parents_at_value {A} (pair ∷ pairs) zero node at = ap (λ (o : Option (Node A)). option_map (λ (n : Node A). n.parents) o) at
@@ -69,24 +69,24 @@ past [] k none = omega arith
 past (x ∷ xs) zero none = absurd (none-some x none)
 past (x ∷ xs) (suc k) none = let h = past xs k none in omega arith
 
--- what a look-up by position finds, as an entry
+-- the result of a look-up by position, as an entry
 pub at_pair : {A : Type 0} (pairs : List (List ℕ × Node A)) (k : ℕ) (found : Option (Bor (List ℕ) × Bor (Node A))) → option_map deref_pair found ≡ slice_get pairs k → MatchOption found (length (entries_of pairs) ≤ k) (λ pair. slice_get (entries_of pairs) k ≡ Some (entry_of pair.0.now pair.1.now))
 at_pair pairs k None is = let n = length_pairs pairs in let h = past pairs k is in omega arith
 at_pair pairs k (Some pair) is = entry_at_pair pairs k ∙ ap (option_map (λ pair. entry_of pair.0 pair.1)) (sym is)
 
--- ---- as the map grows and is cut back
+-- ---- changes of the map
 
--- a new pair goes last
+-- a pair with a new id is appended
 pub pushed_pairs : {A S : Type 0} (m : IndexMap (List ℕ) (Node A) S) (new : List (List ℕ × Node A)) (entry : Entry A) → node_at (entries_of m.entries) entry.id ≡ None → new ≡ insert_entry (pointwise nat_eq) m.entries entry.id entry.node → entries_of new ≡ entries_of m.entries ++ entry ∷ []
 pushed_pairs m new entry absent is =
     ap entries_of (is ∙ insert_entry-new (pointwise nat_eq) m entry.id entry.node (node_at_pairs m.entries entry.id ∙ absent))
     ∙ map-append (λ pair. entry_of pair.0 pair.1) m.entries ((entry.id, entry.node) ∷ [])
 
--- the first pairs are the first entries
+-- the first `n` pairs are the first `n` entries
 pub taken_pairs : {A : Type 0} (pairs new : List (List ℕ × Node A)) (n : ℕ) → new ≡ take n pairs → entries_of new ≡ take n (entries_of pairs)
 taken_pairs pairs new n is = ap entries_of is ∙ sym (take-map (λ pair. entry_of pair.0 pair.1) n pairs)
 
--- what a graph keeps as an entry comes
+-- a graph stays valid, and its `ordered` flag correct, when an entry is appended
 pub pushed : {A : Type 0} (format : Format) (g new : List (Entry A)) (entry : Entry A) (ordered : Bool) → new ≡ g ++ entry ∷ [] → IsGraph (record { format = format; entries = g }) → node_at g entry.id ≡ None → HasIdsOf format entry → IsShaped entry.node → length g < max_nodes → IsTrue ordered ↔ (IsOrdered g × All (Holds g) entry.node.parents) → IsGraph (record { format = format; entries = new }) × (IsTrue ordered ↔ IsOrdered new)
 pushed {A} format g new entry ordered is graph absent ids shaped room flag =
     rw is (
@@ -94,7 +94,7 @@ pushed {A} format g new entry ordered is graph absent ids shaped room flag =
       (λ t. ordered_push g entry (flag.0 t).0 (flag.0 t).1, λ o. flag.1 (ordered_before g entry o, ordered_last g entry o)),
     )
 
--- and as it is cut back
+-- a graph stays valid, and its `ordered` flag correct, when it is cut back
 pub cut : {A : Type 0} (format : Format) (g new : List (Entry A)) (n : ℕ) (ordered : Bool) → new ≡ take n g → IsGraph (record { format = format; entries = g }) → IsTrue ordered ↔ IsOrdered (take n g) → IsGraph (record { format = format; entries = new }) × (IsTrue ordered ↔ IsOrdered new)
 cut {A} format g new n ordered is graph flag =
     rw is (graph_take format g n graph, flag)

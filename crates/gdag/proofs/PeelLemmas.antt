@@ -1,4 +1,4 @@
--- Chains of tags: that they have one end, and that one which ends is no longer than the graph.
+-- Chains of tags: a chain has at most one end, and a chain that ends is not longer than the graph.
 use Rattle.std.proofs.Common.{◌≡◌, ◌⊎◌, inl, inr, ℕ, zero, suc, ◌+◌, ◌-◌, ◌<◌, ◌≤◌, List, [], ◌∷◌, length, Bool, true, false, is_some, Some, None, refl, sym, ◌∙◌, ap, subst, arith}
 use Rattle.std.specs.Str.{bytes_eq}
 use Rattle.std.specs.List.{AllByRecursion, IsDistinct, slice_get}
@@ -27,7 +27,7 @@ module _ {A : Type 0} (g : List (Entry A)) where
       let same = one_node g a tb.node tc.node tb.held tc.held in
       let both : Some b ≡ Some c = sym tb.names ∙ ap (λ (n : Node A). slice_get n.parents 0) same ∙ tc.names in cc
 
-  -- a chain that ends at a commit goes through each object to which fewer tags lead
+  -- a chain from `a` to a commit passes through each id `b` to which a chain from `a` leads
   pub onward : (m i : ℕ) (a b c : List ℕ) → Tags g m a c → IsCommit g c → Tags g i a b → (j : ℕ) × (m ≡ i + j) × Tags g j b c
   onward m zero a b c chain commit here = (m, omega arith, subst (λ (x : List ℕ). Tags g m x c) here chain)
   onward zero (suc i) a b c chain commit (next, tag, rest) = absurd (no_tag c next commit (subst (λ (x : List ℕ). IsTagOf g x next) chain tag))
@@ -36,7 +36,7 @@ module _ {A : Type 0} (g : List (Entry A)) where
       let more = onward m i next b c rest commit (subst (λ (x : List ℕ). Tags g i x b) same rest') in
       (more.0, omega (arith, more.1), more.2)
 
-  -- where a chain that ends has come, there is its commit or one more tag
+  -- each id on a chain that ends is the commit at the end, or a tag
   pub peel_cases : (a b c : List ℕ) (i : ℕ) → Tags g i a b → PeelsTo g a c
       → ((b ≡ c) × IsCommit g b) ⊎ ((next : List ℕ) × IsTagOf g b next)
   peel_cases a b c i here (m, chain, commit) = by (onward m i a b c chain commit here)
@@ -68,7 +68,7 @@ module _ {A : Type 0} (g : List (Entry A)) where
   tags_more zero a b c here tag = (c, subst (λ (x : List ℕ). IsTagOf g x c) (sym here) tag, refl)
   tags_more (suc m) a b c (next, first, rest) tag = (next, first, tags_more m next b c rest tag)
 
-  -- one chain after the other
+  -- a chain of tags followed by another chain
   pub tags_on : (m n : ℕ) (a b c : List ℕ) → Tags g m a b → Tags g n b c → (k : ℕ) × Tags g k a c
   tags_on zero n a b c same rest = (n, subst (λ (x : List ℕ). Tags g n x c) (sym same) rest)
   tags_on (suc m) n a b c (next, tag, more) rest =
@@ -78,7 +78,7 @@ module _ {A : Type 0} (g : List (Entry A)) where
   one_tag_more m a b c node chain held tag names =
       tags_more m a b c chain (record { node = node; held = held; tag = tag; names = names })
 
-  -- no tag is on a chain from itself, where the chain ends
+  -- a tag whose chain ends is not on a cycle
   pub no_cycle : (fuel m k : ℕ) (a c : List ℕ) → m ≤ fuel → Tags g m a c → IsCommit g c → Tags g (suc k) a a → ⊥
   no_cycle zero m k a c le chain commit (next, tag, rest) =
       let more = onward m (suc k) a a c chain commit (next, tag, rest) in omega (arith, more.1)
@@ -86,7 +86,7 @@ module _ {A : Type 0} (g : List (Entry A)) where
       let more = onward m (suc k) a a c chain commit (next, tag, rest) in
       no_cycle fuel more.0 k a c (omega (arith, more.1)) more.2 commit (next, tag, rest)
 
-  -- what is left of a longer chain from the same id
+  -- the rest of a longer chain from the same id
   pub rest_of : (i m d : ℕ) (a b c : List ℕ) → m ≡ i + d → Tags g i a b → Tags g m a c → Tags g d b c
   rest_of zero m d a b c e here more =
       let same : m ≡ d = omega (arith, e) in
@@ -96,7 +96,7 @@ module _ {A : Type 0} (g : List (Entry A)) where
       let same = one_next a next' next tag' tag in
       rest_of i m d next b c (omega (arith, e)) rest (subst (λ (x : List ℕ). Tags g m x c) same rest')
 
-  -- a chain that comes to an id again has no end
+  -- a chain that reaches the same id twice does not end
   pub peel_round : (a b c : List ℕ) (i m : ℕ) → i < m → Tags g i a b → Tags g m a b → PeelsTo g a c → ⊥
   peel_round a b c i m less here again (k, chain, commit) =
       let d = m - suc i in
@@ -104,7 +104,7 @@ module _ {A : Type 0} (g : List (Entry A)) where
       let end = onward k i a b c chain commit here in
       no_cycle end.0 end.0 d b c (omega arith) end.2 commit round
 
-  -- the ids of a chain
+  -- the ids on a chain, in order
   trail : (m : ℕ) (a c : List ℕ) → Tags g m a c → List (List ℕ)
   trail zero a c here = a ∷ []
   trail (suc m) a c (next, tag, rest) = a ∷ trail m next c rest
@@ -132,7 +132,7 @@ module _ {A : Type 0} (g : List (Entry A)) where
     trail_distinct m next c rest commit,
   )
 
--- ---- a chain that ends has fewer tags than the graph has entries
+-- ---- the length of a chain that ends
 
 chain_held : {A : Type 0} → (g : List (Entry A)) (m k : ℕ) (a c y : List ℕ) → Tags g m a c → IsCommit g c → Tags g k a y → Holds g y
 chain_held g m k a c y chain commit here =

@@ -1,4 +1,4 @@
--- The nodes, the positions and the entries of ids are one.
+-- Look-ups of an id by node and by position agree.
 use Rattle.std.proofs.Common.{◌≡◌, ℕ, true, List, [], ◌∷◌, get_or, Some, refl, ap, ◌∙◌, subst}
 use Rattle.std.specs.List.{slice_get}
 use Rattle.std.proofs.lemmas.Option.{none-some, slice_get-get_or, get_or_from_slice_get}
@@ -40,7 +40,7 @@ positions_are_nodes A g differ = (
   λ a p. (at_of_position g a p, λ at. own_position g p (entry_of a at.0) differ at.1),
 )
 
--- an id that is held has the format of its graph
+-- each id that a graph contains has the format of the graph
 pub held_id : {A : Type 0} → PositionsAreNodes A → (g : History A) → IsGraph g → (a : List ℕ) → Holds g.entries a → IsIdOf g.format a
 held_id law g graph a held =
     let node = held_node g.entries a held in

@@ -14,7 +14,7 @@ use Rattle.gdag.specs.Graphs.{IsNode, Holds, HasParent}
 use Rattle.gdag.specs.Reach.{Reaches, here, onward, SomeReaches, IsConnected, IsClosed}
 use Rattle.gdag.proofs.Holding.{has_id_is, held_node}
 
--- ---- reaching
+-- ---- reachability
 
 pub reaches_parent : {A : Type 0} (g : List (Entry A)) (a b c : List ℕ) → Reaches g a b → HasParent g b c → Reaches g a c
 reaches_parent g a b c here p = onward p here
@@ -24,12 +24,12 @@ pub reaches_on : {A : Type 0} (g : List (Entry A)) (a b c : List ℕ) → Reache
 reaches_on g a b c here s = s
 reaches_on g a b c (onward {b = m} q r) s = onward q (reaches_on g m b c r s)
 
--- what is kept along each step is kept along the whole way
+-- if each step from an id to a parent keeps a property, the property holds for each reachable id
 pub kept_along : {A : Type 0} (g : List (Entry A)) (P : List ℕ → Type 0) → ((a b : List ℕ) → P a → HasParent g a b → P b) → (a b : List ℕ) → Reaches g a b → P a → P b
 kept_along g P step a b here h = h
 kept_along g P step a b (onward {b = m} q r) h = kept_along g P step m b r (step a m h q)
 
--- in a closed graph each id that is held is connected
+-- in a closed graph, each id that the graph contains is connected
 pub connected_in_closed : {A : Type 0} (g : List (Entry A)) → IsClosed g → (a : List ℕ) → Holds g a → IsConnected g a
 connected_in_closed g closed a held b r = kept_along g (Holds g) (λ x y _ p. closed x y p) a b r held
 
@@ -42,7 +42,7 @@ pub position_inside : {A : Type 0} (g : List (Entry A)) (a : List ℕ) (p : ℕ)
 position_inside [] a p e = absurd (none-some p e)
 position_inside (entry ∷ g) a p e = (position-Some (has_id a) (entry ∷ g) p entry e).0
 
--- a position is that of one id
+-- at most one id has a given position
 pub position_same : {A : Type 0} (g : List (Entry A)) (a b : List ℕ) (p : ℕ) → position_of g a ≡ Some p → position_of g b ≡ Some p → a ≡ b
 position_same [] a b p e f = absurd (none-some p e)
 position_same (entry ∷ g) a b p e f =
@@ -57,21 +57,21 @@ pub node_at_position : {A : Type 0} (g : List (Entry A)) (a : List ℕ) (p : ℕ
 node_at_position g a p e =
     ap (option_map (λ entry. entry.node)) (find_at (has_id a) g ∙ ap (slice_get g) (position_is g a p e))
 
--- an id without a position is not held
+-- a graph does not contain an id that has no position
 pub node_at_none : {A : Type 0} (g : List (Entry A)) (a : List ℕ) → position_of g a ≡ None → node_at g a ≡ None
 node_at_none {A} g a e =
     let n = position_or_len (has_id a) g in
     let past : length g ≤ n = grind (arith, nat_tests) in
     ap (option_map (λ (entry : Entry A). entry.node)) (find_at (has_id a) g ∙ slice_get_past g n past)
 
--- an id with a position is held
+-- a graph contains each id that has a position
 pub held_at_position : {A : Type 0} (g : List (Entry A)) (a : List ℕ) (p : ℕ) → position_of g a ≡ Some p → Holds g a
 held_at_position [] a p e = absurd (none-some p e)
 held_at_position {A} (entry ∷ g) a p e =
     let at = slice_get-get_or (entry ∷ g) p entry (position_inside (entry ∷ g) a p e) in
     rw (node_at_position (entry ∷ g) a p e, at) refl
 
--- an id that is held has a position
+-- each id that a graph contains has a position
 pub position_of_node : {A : Type 0} (g : List (Entry A)) (a : List ℕ) (node : Node A) → IsNode g a node → (p : ℕ) × (position_of g a ≡ Some p)
 position_of_node {A} g a node is = by (position_of g a) refl
   where
@@ -79,7 +79,7 @@ position_of_node {A} g a node is = by (position_of g a) refl
     by None none = absurd (none-some node (sym (node_at_none g a none) ∙ is))
     by (Some p) at = (p, at)
 
--- its entry is there
+-- each id that a graph contains has a position with an entry of this id
 pub position_at : {A : Type 0} (g : List (Entry A)) (a : List ℕ) → Holds g a → (p : ℕ) × (entry : Entry A) × (slice_get g p ≡ Some entry) × (entry.id ≡ a)
 position_at [] a held = absurd (false≢true held)
 position_at {A} (first ∷ g) a held =
@@ -92,11 +92,11 @@ position_at {A} (first ∷ g) a held =
 abbrev pub ids_of : {A : Type 0} → List (Entry A) → List (List ℕ)
 ids_of list = map (λ entry. entry.id) list
 
--- what stands at a position is in the list
+-- the element at a position is in the list
 pub standing_among : {X : Type 0} (xs : List X) (k : ℕ) (x : X) → slice_get xs k ≡ Some x → Contains xs x
 standing_among xs k x at = (k, slice_get_within xs k x at, get_or_from_slice_get xs k x x at)
 
--- an id that is held is one of the entries'
+-- each id that a graph contains is the id of an entry
 pub held_among : {A : Type 0} (g : List (Entry A)) (a : List ℕ) → Holds g a → Contains (ids_of g) a
 held_among {A} g a held =
     let at = position_at g a held in

@@ -1,4 +1,4 @@
--- Why entries are refused.
+-- The reasons to refuse entries.
 use Rattle.std.proofs.Common.{◌≡◌, ◌≢◌, ◌⊎◌, inl, inr, ℕ, List, [], ◌∷◌, ◌++◌, All, None, refl, sym, ap, ◌∙◌, subst, arith}
 use Rattle.std.proofs.lemmas.Option.{none-some}
 use Rattle.std.proofs.lemmas.List.Elements.{All-nil, All-cons, All-head, All-tail}
@@ -21,7 +21,7 @@ all_front P [] x back all = All-nil P
 all_front P (y ∷ front) x back all =
     All-cons P y front (All-head P y (front ++ x ∷ back) all) (all_front P front x back (All-tail P y (front ++ x ∷ back) all))
 
--- an entry that is fit, and under whose id no other node stands, is refused for lack of room alone
+-- a well-formed entry whose id has no other node is refused only with `TooMany` or `Memory`
 fit_fault : {A : Type 0} (format : Format) (g : List (Entry A)) (entry : Entry A) (fault : GraphFault)
     → HasIdsOf format entry → IsShaped entry.node → ((other : Node A) → IsNode g entry.id other → other ≡ entry.node)
     → IsCause format g entry fault → (fault ≡ TooMany) ⊎ (fault ≡ Memory)
@@ -40,7 +40,7 @@ agreeing_entries_fit {A} g h entries format fault graph agree are refused =
     (at (λ entry. IsShaped entry.node) graph.shaped)
     (λ other held. sym (still refused.entry.id refused.entry.node other own held)) refused.cause
 
--- ---- one refusal
+-- ---- uniqueness of the fault
 
 module _ {A : Type 0} (format : Format) (g : List (Entry A)) (entry : Entry A) where
   held_is_old : (node : Node A) (id : List ℕ) → id ≡ entry.id → IsNode g id node → node_at g entry.id ≡ None → ⊥
@@ -55,12 +55,12 @@ module _ {A : Type 0} (format : Format) (g : List (Entry A)) (entry : Entry A) w
   one_cause Memory Memory c d = refl
   one_cause _ _ c d = grind (arith, held_is_old)
 
--- an entry that can come in makes one graph
+-- the graph after the insertion of an entry is unique
 comes_one : {A : Type 0} (format : Format) (old : List (Entry A)) (entry : Entry A) (new other : List (Entry A))
     → ComesIn format old entry new → ComesIn format old entry other → new ≡ other
 comes_one format old entry new other a b = grind arith
 
--- and it is refused as out of memory alone
+-- an entry that can be inserted is refused only with `Memory`
 comes_refused : {A : Type 0} (format : Format) (old : List (Entry A)) (entry : Entry A) (new : List (Entry A)) (fault : GraphFault) → ComesIn format old entry new → IsCause format old entry fault → fault ≡ Memory
 comes_refused format old entry new fault comes cause =
     elim (fit_fault format old entry fault comes.ids comes.shaped (λ other held. grind arith) cause) [
@@ -70,7 +70,7 @@ comes_refused format old entry new fault comes cause =
       | inr memory ↦ memory
     ]
 
--- a list is refused, entry by entry
+-- a list of entries is refused with this fault, defined by recursion over the list
 abbrev pub Refuses : {A : Type 0} → Format → List (Entry A) → List (Entry A) → GraphFault → Type 0
 Refuses format [] old fault = ⊥
 Refuses {A} format (entry ∷ entries) old fault =

@@ -1,4 +1,4 @@
--- Graphs that agree, and what a list of entries brings from one to the other.
+-- Graphs that agree, and the ids that a list of entries adds to the other graph.
 use Rattle.std.proofs.Common.{◌≡◌, ◌⊎◌, inl, inr, ℕ, zero, suc, List, [], ◌∷◌, ◌++◌, get_or, All, Contains, Option, Some, None, refl, sym, ap, ◌∙◌, subst, arith}
 use Rattle.std.specs.List.{slice_get}
 use Rattle.std.specs.Option.{is_some, option_map}
@@ -25,11 +25,11 @@ use Rattle.gdag.proofs.IdLists.{nothing_in_nil, contains_cases}
 use Rattle.gdag.proofs.Choosing.{chosen_or_not, chosen_all, chosen_few}
 use Rattle.gdag.proofs.Growing.{grows_keeps, comes_grows, inserts_grows, inserts_held, node_in_front, node_after, reached_before}
 
--- a node that is there is held
+-- a graph contains each id that has a node
 pub holds_node : {A : Type 0} (g : List (Entry A)) (a : List ℕ) (node : Node A) → IsNode g a node → Holds g a
 holds_node g a node is = ap is_some is
 
--- ---- closed, connected, reached before
+-- ---- closed graphs and connected ids
 
 pub closed_from_connected : {A : Type 0} (g : List (Entry A)) → ((a : List ℕ) → Holds g a → IsConnected g a) → IsClosed g
 closed_from_connected g connected a b parent = connected a (holds_node g a parent.0 parent.1) b (onward parent here)
@@ -37,9 +37,9 @@ closed_from_connected g connected a b parent = connected a (holds_node g a paren
 pub reached_already : {A : Type 0} (g h : List (Entry A)) (a b : List ℕ) → Keeps g h → IsConnected g a → Reaches h a b → Reaches g a b
 reached_already g h a b keeps connected r = kept_along h (Reaches g a) (reached_before g h keeps a connected) a b r here
 
--- ---- agreeing
+-- ---- graphs that agree
 
--- a parent in the one graph of an id that the other holds is a parent there
+-- if graph `h` contains `a`, each parent of `a` in graph `g` is also a parent of `a` in `h`
 pub parent_shared : {A : Type 0} (g h : List (Entry A)) (a b : List ℕ) → Agree g h → Holds h a → HasParent g a b → HasParent h a b
 parent_shared {A} g h a b agree held parent =
     let there = held_node h a held in
@@ -50,7 +50,7 @@ pub path_shared : {A : Type 0} (g h : List (Entry A)) (a b : List ℕ) → Agree
 path_shared g h a b agree connected r =
     kept_along g (Reaches h a) (λ x y way parent. reaches_parent h a x y way (parent_shared g h x y agree (connected x way) parent)) a b r here
 
--- ---- nothing else comes in
+-- ---- the entries that an insertion adds
 
 pub entry_is : {A : Type 0} (entry : Entry A) (a : List ℕ) (node : Node A) → entry.id ≡ a → entry.node ≡ node → entry ≡ entry_of a node
 entry_is entry a node ids nodes = ap (λ x. entry_of x entry.node) ids ∙ ap (entry_of a) nodes
@@ -93,7 +93,7 @@ adds_only_parents old entries new only a b parent =
       | inr listed ↦ inr (parent.0, listed, parent.2)
     ]
 
--- a closed graph stays so as an entry comes in whose parents are held
+-- a closed graph stays closed when an entry is inserted and the graph contains all parents of that entry
 pub closed_stays : {A : Type 0} (format : Format) (g : List (Entry A)) (entry : Entry A) (h : List (Entry A)) → IsClosed g → HoldsParents g entry → ComesIn format g entry h → IsClosed h
 closed_stays {A} format g entry h closed held comes a b parent =
     let keeps = grows_keeps g h (comes_grows format g entry h comes) in
@@ -106,7 +106,7 @@ closed_stays {A} format g entry h closed held comes a b parent =
       ]
     ]
 
--- agreeing is kept when entries come in with which the other graph agrees
+-- two graphs still agree after entries are inserted with which the first graph agrees
 pub agree_inserted : {A : Type 0} (g h entries new : List (Entry A)) (format : Format) → Agree g h → All (AgreesWith g) entries → Inserts format h entries new → Agree g new
 agree_inserted {A} g h entries new format agree theirs inserts a m n left right =
     elim (adds_only format h entries new inserts a n right) [
@@ -114,9 +114,9 @@ agree_inserted {A} g h entries new format agree theirs inserts a m n left right 
       | inr listed ↦ All-contains (AgreesWith g) entries (entry_of a n) theirs listed m left
     ]
 
--- ---- choosing
+-- ---- selected entries
 
--- an id of no entry is none of a chosen one's
+-- an id that a graph does not contain is not the id of a selected entry
 chosen_absent : {A : Type 0} (P : Entry A → Type 0) (g list : List (Entry A)) (a : List ℕ) → Selects P g list → node_at g a ≡ None → node_at list a ≡ None
 chosen_absent P g list a none absent = refl
 chosen_absent P g list a (keep {x = entry} {xs = others} {ys = more} p rest) absent =
@@ -129,7 +129,7 @@ chosen_differ P g list (keep {x = entry} {xs = others} {ys = more} p rest) diffe
     (chosen_absent P others more entry.id rest differ.0, chosen_differ P others more rest differ.1)
 chosen_differ P g list (skip {xs = others} left_out rest) differ = chosen_differ P others list rest differ.1
 
--- chosen entries of a graph are a graph's
+-- selected entries of a valid graph form a valid graph
 pub chosen_graph : {A : Type 0} (P : Entry A → Type 0) (g : History A) (list : List (Entry A)) → IsGraph g → Selects P g.entries list → IsGraph (record { format = g.format; entries = list })
 chosen_graph {A} P g list graph chosen = record {
   differ = chosen_differ P g.entries list chosen graph.differ;
@@ -138,7 +138,7 @@ chosen_graph {A} P g list graph chosen = record {
   few = let l = chosen_few P g.entries list chosen in let f = graph.few in omega arith;
 }
 
--- where ids differ, each entry is the node of its id
+-- if the ids are distinct, each id has the node of its entry
 pub own_node : {A : Type 0} (g : List (Entry A)) (k : ℕ) (entry : Entry A) → IdsDiffer g → slice_get g k ≡ Some entry → IsNode g entry.id entry.node
 own_node {A} g k entry differ at =
     node_at_position g entry.id k (own_position g k entry differ at) ∙ ap (option_map (λ (e : Entry A). e.node)) at
@@ -146,11 +146,11 @@ own_node {A} g k entry differ at =
 pub own_nodes : {A : Type 0} (g : List (Entry A)) → IdsDiffer g → All (λ entry. IsNode g entry.id entry.node) g
 own_nodes g differ k d inside = own_node g k (get_or g k d) differ (slice_get-get_or g k d inside)
 
--- a graph agrees with its entries
+-- a graph agrees with each of its entries
 pub nodes_agree : {A : Type 0} (g entries : List (Entry A)) → All (λ entry. IsNode g entry.id entry.node) entries → All (AgreesWith g) entries
 nodes_agree g entries are k d inside = λ node is. let entry = get_or entries k d in one_node g entry.id node entry.node is (are k d inside)
 
--- chosen entries of a graph are its nodes, and a pack may have them
+-- the graph maps the id of each selected entry to the entry's node
 pub chosen_nodes : {A : Type 0} (P : Entry A → Type 0) (g list : List (Entry A)) → IdsDiffer g → Selects P g list → All (λ entry. IsNode g entry.id entry.node) list
 chosen_nodes {A} P g list differ chosen = chosen_all P (λ (entry : Entry A). IsNode g entry.id entry.node) g list chosen (own_nodes g differ)
 
@@ -163,7 +163,7 @@ ids_of_any one format list ids k d inside = let of = ids k d inside in record {
 pub graph_entries : {A : Type 0} → IdsHaveOneFormat → (g : History A) → IsGraph g → AreEntries g.entries
 graph_entries one g graph = record { differ = graph.differ; ids = ids_of_any one g.format g.entries graph.ids }
 
--- ---- the list to send is enough
+-- ---- the graph that receives the list to send
 
 module _ {A : Type 0} (s c list new : List (Entry A)) (wants commons tips : List (List ℕ)) (format : Format)
     (differ : IdsDiffer s) (closed : IsClosed s) (agree : Agree s c) (held : All (Holds s) wants) (connected : All (IsConnected c) commons)
@@ -177,7 +177,7 @@ module _ {A : Type 0} (s c list new : List (Entry A)) (wants commons tips : List
   wanted_held : (a : List ℕ) → SomeReaches s wants a → Holds s a
   wanted_held a (want, among, way) = connected_in_closed s closed want (All-contains (Holds s) wants want held among) a way
 
-  -- what a common id reaches was held before
+  -- the new graph contains every id that a common id reaches
   known_held : (a : List ℕ) → SomeReaches s commons a → Holds new a
   known_held a (common, among, way) =
       let whole : IsConnected c common = All-contains (IsConnected c) commons common connected among in
@@ -198,7 +198,7 @@ module _ {A : Type 0} (s c list new : List (Entry A)) (wants commons tips : List
         })))
       ]
 
-  -- all that the wants reach in the one graph is held in the other
+  -- the new graph contains every id that the wants reach in the sender's graph
   pub arrives : (a : List ℕ) → SomeReaches s wants a → Holds new a
   arrives a wanted =
       let at = position_at s a (wanted_held a wanted) in
@@ -217,7 +217,7 @@ module _ {A : Type 0} (s c list new : List (Entry A)) (wants commons tips : List
       let among = Contains-get_or wants k d inside in
       (λ b way. arrives b (want, among, wanted_there want among b way), λ b way. arrives b (want, among, way))
 
--- it still is once the graph from which they are sent has more
+-- this remains true after the sender's graph gains nodes
 has_still : {A : Type 0} (s t h : List (Entry A)) (want : List ℕ) → IsClosed s → Keeps s t → Holds s want → IsConnected h want × ((a : List ℕ) → Reaches s want a → Holds h a) → IsConnected h want × ((a : List ℕ) → Reaches t want a → Holds h a)
 has_still s t h want closed keeps held has =
     (has.0, λ a way. has.1 a (reached_already s t want a keeps (connected_in_closed s closed want held) way))
@@ -235,7 +235,7 @@ peels_by : {A : Type 0} (g : List (Entry A)) (steps : ℕ) (a c : List ℕ) → 
 peels_by g zero a c same commit = inl same
 peels_by g (suc steps) a c (next, tag, rest) commit = inr (next, tag, (steps, rest, commit))
 
--- a tag's id has that id as its parent
+-- the object of a tag is a parent of the tag
 pub names_parent : {A : Type 0} (g : List (Entry A)) (a b : List ℕ) → IsTagOf g a b → HasParent g a b
 names_parent g a b tag =
     (tag.node, tag.held, standing_among tag.node.parents 0 b tag.names)

@@ -48,11 +48,11 @@ impl<A: Allocator + Copy> Graph<A> {
     /// to the entry:
     ///
     /// - `OtherFormat`: the entry's id or one of its parents does not have the graph's format.
-    /// - `TooManyParents`.
+    /// - `TooManyParents`: the entry has more than `MAX_PARENTS` parents.
     /// - `TagShape`: the entry is a tag without exactly one parent.
     /// - `Conflict`: the entry's id has a different node in the graph or earlier in the list.
     /// - `TooMany`: the graph already has the maximum number of nodes.
-    /// - `Memory`.
+    /// - `Memory`: memory runs out.
     pub fn insert_all(&mut self, entries: Vec<Entry<A>, A>) -> Result<usize, GraphFault>
         ensures adds { Adds self.old entries.items self.new result }
         ensures only { AddsOnly self.old.entries entries.items self.new.entries }

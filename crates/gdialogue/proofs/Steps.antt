@@ -1,4 +1,4 @@
--- The steps of a dialogue: a packet that is heard, and packets that are said.
+-- The steps of a dialogue: receiving a packet, and queuing packets.
 use Rattle.std.proofs.Common.{◌≡◌, ℕ, ◌+◌, ◌<◌, ◌^◌, Bool, true, false, List, [], ◌∷◌, ◌++◌, length, Option, Some, None, Result, Ok, Err, refl, sym, ap, ◌∙◌, subst, append-nil, append_assoc}
 use Rattle.std.proofs.lemmas.List.{length_push}
 use Rattle.gpkt.specs.Packets.{Bytes, Packet}
@@ -58,7 +58,7 @@ module _ {S M R : Type 0} (judge : S → Judge) (brings : S → List Packet → 
     unstopped = refl;
   }
 
-  -- what a message does with a packet
+  -- the contract of a message that receives a packet, for every list of earlier packets
   abbrev Takes : M → M → Packet → Result Step Why → Type 0
   Takes message new packet result = (front : List Packet) → IsOpen (judge_of message) front → message_holds message front
       → TakesPacket (judge_of message) (brings_of message) message_holds left front packet new result
@@ -74,7 +74,7 @@ module _ {S M R : Type 0} (judge : S → Judge) (brings : S → List Packet → 
       subst (TakesPacket (judge_of message) (brings_of message) message_holds left h.front packet new) is
       (takes h.front (open_there side message frame talk h) h.held)
 
-  -- all packets, the one that is heard among them
+  -- the received packets, with one more packet, end with the packets of the current message
   with_packet : (side : S) (message : M) (frame : ℕ) (packet : Packet) (talk : Talk) (h : Hearing side message frame talk)
       → talk.heard ++ packet ∷ [] ≡ h.heard ++ (h.front ++ packet ∷ [])
   with_packet side message frame packet talk h =
@@ -119,7 +119,7 @@ module _ {S M R : Type 0} (judge : S → Judge) (brings : S → List Packet → 
         t.1,
       )
 
-  -- it opens with a reply
+  -- a dialogue that starts with this reply opens with it
   pub opens_with : (side : S) (reply : R) → ((packets : List Packet) (goes : Bool) → may reply packets goes → opens side packets goes)
       → Saying side reply no_talk
   opens_with side reply opened = record { first = side; due = λ rest goes h. so_far rest goes (opened rest goes h) }
@@ -128,13 +128,13 @@ module _ {S M R : Type 0} (judge : S → Judge) (brings : S → List Packet → 
       so_far rest true h = (dialogue.Answered.opened rest h, refl)
       so_far rest false h = dialogue.HasEnded.opened rest h
 
-  -- what is said to a message
+  -- the contract of a side that answers a message
   abbrev AnswersIt : S → M → Answer R → S → Type 0
   AnswersIt side message result after = (lines packets : List Packet) (goes : Bool) → judge_of message ≡ judge side
       → IsWhole (judge side) lines → message_holds message lines
       → MayAnswer may result packets goes → answers side lines packets goes after
 
-  -- how the talk ended, by its packets
+  -- equal lists of packets and equal stop reasons describe the same end of a dialogue
   ends_so : (first after : S) (heard all said : List Packet) (stop stopped : Option Stop) → all ≡ heard → stopped ≡ stop
       → Ended first heard stop said after
       → Ended first all stopped said after
@@ -142,7 +142,7 @@ module _ {S M R : Type 0} (judge : S → Judge) (brings : S → List Packet → 
       subst (λ l. Ended first l stopped said after) (sym is)
       (subst (λ s. Ended first heard s said after) (sym same) h)
 
-  -- an answer that may be said, and what was heard and said with it
+  -- the dialogue up to and including an answer that the side permits
   answered_so : (side after : S) (first : S) (heard lines : List Packet) (packets rest : List Packet) (all : List Packet) (stopped : Option Stop) (goes : Bool)
       → Answered judge brings opens answers refuses first heard packets side → IsWhole (judge side) lines → answers side lines rest goes after
       → all ≡ heard ++ lines → stopped ≡ None → SoFar first goes all stopped (packets ++ rest) after
@@ -183,11 +183,11 @@ module _ {S M R : Type 0} (judge : S → Judge) (brings : S → List Packet → 
             (with_packet side message frame packet talk h) h.unstopped;
       }
 
-  -- what is said to a message that is refused
+  -- the contract of a side that refuses a message
   abbrev RefusesIt : S → MessageFault → R → S → Type 0
   RefusesIt side fault reply after = (packets : List Packet) (goes : Bool) → may reply packets goes → refuses side fault packets after
 
-  -- a message is refused
+  -- a reply to a refused message ends the dialogue
   refuses_so : (side after : S) (message : M) (frame : ℕ) (rest lines all : List Packet) (stop stopped : Option Stop) (why : Why)
       (talk : Talk) (h : Hearing side message frame talk) → refuses side (record { frame = frame; why = why }) rest after
       → IsRefused (judge side) (brings side) lines stop (record { frame = length h.front; why = why })
@@ -223,14 +223,14 @@ module _ {S M R : Type 0} (judge : S → Judge) (brings : S → List Packet → 
         (dialogue.stopped h.front stop h.goes) h.all refl;
   }
 
-  -- what a call said, and what it leads to
+  -- the contract of a call that queues packets of a reply
   abbrev Led : R → R → Bytes → Said → Type 0
   Led = SaysSome may
 
   led_to : (old new : R) (out : Bytes) (result other : Said) (h : Led old new out result) → result ≡ other → LeadsTo may old new h.said other
   led_to old new out result other h is = subst (LeadsTo may old new h.said) is h.leads
 
-  -- more of a reply follows
+  -- more packets of the reply remain
   pub says_more : (side : S) (old new : R) (out : Bytes) (result : Said) → Led old new out result → result ≡ said.More
       → (talk : Talk) → Saying side old talk → Says (Stands side (stage.Says new)) talk out
   says_more side old new out result says is talk h =
@@ -261,7 +261,7 @@ module _ {S M R : Type 0} (judge : S → Judge) (brings : S → List Packet → 
         };
       }
 
-  -- the whole of a reply is said, and the next message is heard
+  -- the reply is complete, and the next message is expected
   pub hears_next : (side : S) (message : M) (old new : R) (out : Bytes) (result : Said) → Led old new out result → result ≡ said.Whole
       → message_holds message [] → judge_of message ≡ judge side → brings_of message ≡ brings side → LawsOf (judge side)
       → (talk : Talk) → Saying side old talk → Says (Stands side (stage.Hears message 0)) talk out
@@ -285,7 +285,7 @@ module _ {S M R : Type 0} (judge : S → Judge) (brings : S → List Packet → 
         };
       }
 
-  -- a reply that ends the dialogue
+  -- a reply that ends the dialogue is complete
   pub says_last : (side : S) (old new : R) (out : Bytes) (result : Said) → Led old new out result → result ≡ said.Last
       → (talk : Talk) → Saying side old talk → Says (Stands side stage.Over) talk out
   says_last side old new out result says is talk h = record {
@@ -294,7 +294,7 @@ module _ {S M R : Type 0} (judge : S → Judge) (brings : S → List Packet → 
     held = record { first = h.first; ended = h.due says.said false (led_to old new out result said.Last says is) };
   }
 
-  -- the last reply is said
+  -- the last reply is complete
   pub ends_whole : (side : S) (old new : R) (out : Bytes) (result : Said) → Led old new out result → result ≡ said.Whole
       → (talk : Talk) → Ending side old talk → Says (Stands side stage.Over) talk out
   ends_whole side old new out result says is talk h = record {

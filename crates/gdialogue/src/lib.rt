@@ -16,8 +16,8 @@
 //!   runs out for a packet, or if no more packets arrive before its end.
 //! - A reply sends only packets that its contract permits, and sends them completely. The reply can
 //!   determine the packets while it is sent (`SaysSome` in `specs/Sides.antt`).
-//! - Each dialogue ends. Each call decreases the number of packets that remain in the message, of
-//!   calls that remain for the reply, or of messages that remain (`left_of`).
+//! - Each dialogue ends. Each call decreases the number of remaining packets of the message, of
+//!   remaining calls for the reply, or of remaining messages (`left_of`).
 //!
 //! # What the contracts do not rule out
 //!

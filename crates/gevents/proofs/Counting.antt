@@ -1,4 +1,4 @@
--- Connections, and the count of the bytes that were sent on them.
+-- The count of the bytes sent on a connection.
 use Rattle.std.proofs.Common.{◌≡◌, ◌+◌, ◌-◌, ◌^◌, ℕ, [], ◌++◌, Option, length, min, refl, sym, ap, ◌∙◌, arith, append-nil, length-append}
 use Rattle.std.specs.Io.KnownBytes.{Keeps}
 use Rattle.std.proofs.KnownBytes.{Appends-kept, Appends-nil}
@@ -9,13 +9,13 @@ use Rattle.gtalk.specs.Talks.{Talk}
 use Rattle.gtalk.specs.declared.connection.Connection.{Connection}
 use Rattle.gevents.specs.Peers.{IsCounted, SendsCounted, count_of}
 
--- the count of bytes after which others come
+-- the count plus the number of newly sent bytes, saturated, is the count of all sent bytes
 pub counts_on : (sent said : Bytes) (count was is : ℕ) → was ≡ count_of sent → length said ≡ count → is ≡ min (was + count) (2 ^ 64 - 1)
     → is ≡ count_of (sent ++ said)
 counts_on sent said count was is before few after = omega (arith, before, few, after, length-append sent said)
 
 module _ {C A : Type 0} (holds : C → Talk → Type 0) where
-  -- bytes came, and none were sent
+  -- receiving bytes leaves the count of sent bytes unchanged
   pub counted_on : (old new : Connection C A) (more : Bytes) (count : ℕ) → Moves {A = A} holds old new more []
       → IsCounted {A = A} holds old count → IsCounted {A = A} holds new count
   counted_on old new more count moves h = record {
@@ -25,7 +25,7 @@ module _ {C A : Type 0} (holds : C → Talk → Type 0) where
     counted = h.counted ∙ ap count_of (sym (append-nil h.sent));
   }
 
-  -- bytes were sent
+  -- sending bytes adds their number to the count
   pub counted_sent : (old new : Connection C A) (written : Change) (count was is : ℕ) → SendsCounted {A = A} holds old new written count
       → is ≡ min (was + count) (2 ^ 64 - 1) → IsCounted {A = A} holds old was → IsCounted {A = A} holds new is
   counted_sent old new written count was is s more h = record {
@@ -35,7 +35,7 @@ module _ {C A : Type 0} (holds : C → Talk → Type 0) where
     counted = counts_on h.sent s.said count was is h.counted s.counted more;
   }
 
-  -- nothing was sent
+  -- a call that sends nothing counts 0 sent bytes
   pub none_counted : (c : Connection C A) (old new : Option Bytes) → Moves {A = A} holds c c [] [] → Keeps old new
       → SendsCounted {A = A} holds c c (record { old = old; new = new }) 0
   none_counted c old new stays keeps = record {

@@ -209,7 +209,7 @@ impl<C: Conversation, A: Allocator + Copy> Peer<C, A> {
         read_some(&mut self.connection, &mut self.stream)
     }
 
-    // Frees the send queue if no more bytes have arrived.
+    // Frees the send queue if all of its bytes were sent.
     fn rest(&mut self) {
         self.connection.give_back();
     }

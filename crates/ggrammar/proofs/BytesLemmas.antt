@@ -1,4 +1,4 @@
--- Messages at the front of some bytes; and bytes that are refused: with one fault, where no message is at their front.
+-- Bytes that begin with a message, and bytes that are refused. Refused bytes begin with no message and have one fault.
 use Rattle.std.proofs.Common.{◌≡◌, ℕ, Bool, List, [], ◌∷◌, ◌++◌, length, inl, inr, Option, Some, None, Ok, Err, sym}
 use Rattle.std.proofs.Common.{subst, ap, ◌∙◌, append_assoc, append-nil, length-append, arith, zero, suc, ◌<◌, ◌⊎◌, drop}
 use Rattle.std.proofs.Common.{Result, refl}
@@ -24,7 +24,7 @@ module _ (judge : Judge) where
   pub reads_front : ReadsFront judge
   reads_front lines bytes rest whole at = record { whole = whole; bytes = (at.front, at.parts, at.spelt) }
 
-  -- a complete list does not go on to another
+  -- if a complete list of packets is a prefix of another complete list, the two lists are equal
   no_longer : (lines others more : List Packet) (bytes rest after : List ℕ) → IsWhole judge lines
       → IsWhole judge others → others ≡ lines ++ more → SpellsAll more bytes → rest ≡ bytes ++ after
       → (others ≡ lines) × (after ≡ rest)
@@ -33,7 +33,7 @@ module _ (judge : Judge) where
       let empty : bytes ≡ [] = subst (λ xs. SpellsAll xs bytes) none most in
       (longer ∙ ap (λ xs. lines ++ xs) none ∙ append-nil lines, sym (left ∙ ap (λ xs. xs ++ after) empty))
 
-  -- of two complete lists at the front of the same bytes neither is longer
+  -- two complete lists of packets at the front of the same bytes are equal
   same_lines : OneBegins → (lines others : List Packet) (front next rest after : List ℕ) → IsWhole judge lines → IsWhole judge others
       → SpellsAll lines front → SpellsAll others next → front ++ rest ≡ next ++ after → (others ≡ lines) × (after ≡ rest)
   same_lines begins lines others front next rest after whole also spelt read same =
@@ -52,7 +52,7 @@ module _ (judge : Judge) where
       let h = same_lines begins lines others bytes (bytes ++ rest) rest [] whole also spelt read (sym (append-nil (bytes ++ rest))) in
       (h.0, sym h.1)
 
-  -- a complete list does not go on with a packet that is refused
+  -- no complete list contains a packet that the judge rejects
   refused_is_not_whole : (front more : List Packet) (packet : Packet) (reason : Why) → judge front packet ≡ Refused reason
       → IsWhole judge (front ++ packet ∷ more) → ⊥
   refused_is_not_whole front more packet reason refuses whole =
@@ -62,7 +62,7 @@ module _ (judge : Judge) where
       ]
 
   module _ (one : OneReading) (no_packet : RefusedIsNoPacket) (four : HasFourBytes) (brings : List Packet → Packet → Bool) where
-    -- a packet is spelt where a message goes on
+    -- the bytes `mid` begin with the packet `line`, which the judge accepts after the packets `front`
     module _ (front : List Packet) (line : Packet) (mid new spelling rest : List ℕ) (parts : mid ≡ spelling ++ rest)
         (spelt : Spells line spelling) (fits : (reason : Why) → judge front line ≡ Refused reason → ⊥) where
       refuses_packet : (reason : Why) (packet : Packet) → Reads (known_bytes mid new) (Ok (Some packet)) → judge front packet ≡ Refused reason → ⊥
@@ -89,7 +89,7 @@ module _ (judge : Judge) where
       refuses why.Memory certain h = certain
       refuses reason certain h = refuses_packet reason h.0 h.1 h.2
 
-    -- where the bytes between are known
+    -- bytes that are refused after the packets `front` do not begin with a complete message
     refused_at : OneBegins → (front lines : List Packet) (bytes new rest : List ℕ) (between : Option (List ℕ)) (reason : Why)
         → IsUnfinished judge front → ReadsPackets (record { old = Some bytes; new = between }) front
         → IsReasonAfter judge brings front (record { old = between; new = Some new }) reason → IsOfBytes reason
@@ -126,7 +126,7 @@ module _ (judge : Judge) where
 module _ (judge : Judge) (brings : List Packet → Packet → Bool) where
   -- ---- one refusal
 
-  -- what a packet's reading says of a refusal after these packets
+  -- the result of reading the next packet explains why the message is rejected after the packets `front`
   abbrev Explains : List Packet → Result (Option Packet) PacketFault → Why → Type 0
   Explains front (Err fault) reason = reason ≡ why.Line fault
   Explains front (Ok None) reason = reason ≡ why.Ended
@@ -156,14 +156,14 @@ module _ (judge : Judge) (brings : List Packet → Packet → Bool) where
   one_explained front (Ok None) one other a b = a ∙ sym b
   one_explained front (Ok (Some packet)) one other a b = cc (a, b)
 
-  -- after these packets the bytes are refused with this fault, for a reason in them
+  -- the message is rejected with this fault after the packets `front`, because of the content of the bytes
   record Refuses (front : List Packet) (between : Option (List ℕ)) (new : List ℕ) (fault : MessageFault) : Type 0 where
     goes : IsOpen judge front
     frame : fault.frame ≡ length front
     reason : IsReasonAfter judge brings front (record { old = between; new = Some new }) fault.why
     certain : IsOfBytes fault.why
 
-  -- a list that is refused is not gone on with
+  -- two refusals of the same bytes have the same fault and leave the same bytes
   module _ (law : OneOutcome) (one : OneReading) (no_packet : RefusedIsNoPacket) (four : HasFourBytes) where
     one_after : (front : List Packet) (mid new after : List ℕ) (fault other : MessageFault)
         → Refuses front (Some mid) new fault → Refuses front (Some mid) after other → (fault ≡ other) × (new ≡ after)
@@ -175,7 +175,7 @@ module _ (judge : Judge) (brings : List Packet → Packet → Bool) where
         let reason = one_explained front b.outcome fault.why other.why explains b.explains in
         ((λ i. record { frame = (h.frame ∙ sym k.frame) i; why = reason i }), same.1)
 
-    -- one list begins the other
+    -- two refusals are equal if the packets before the one are a prefix of the packets before the other
     one_further : (front others more : List Packet) (mid next new after bytes : List ℕ) (fault other : MessageFault)
         → others ≡ front ++ more → SpellsAll more bytes → mid ≡ bytes ++ next
         → Refuses front (Some mid) new fault → Refuses others (Some next) after other → (fault ≡ other) × (new ≡ after)
@@ -189,7 +189,7 @@ module _ (judge : Judge) (brings : List Packet → Packet → Bool) where
         (λ why is. IsOpen-never_refuses front line more why (subst (IsOpen judge) longer k.goes) is)
         fault.why h.certain h.reason)
 
-    -- where the bytes between are known
+    -- two refusals of the same bytes are equal, after whichever packets they occur
     one_between : OneBegins → (front others : List Packet) (bytes new after : List ℕ) (fault other : MessageFault)
         (between beyond : Option (List ℕ)) → ReadsPackets (record { old = Some bytes; new = between }) front
         → ReadsPackets (record { old = Some bytes; new = beyond }) others → Refuses front between new fault

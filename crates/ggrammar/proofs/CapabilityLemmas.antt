@@ -1,4 +1,4 @@
--- A text is a capability exactly where it is the text of one that is well formed.
+-- A text is read as a capability exactly if it is the text of a well-formed capability.
 use Rattle.std.proofs.Common.{◌≡◌, ℕ, suc, ◌+◌, ◌<◌, ◌&&◌, Bool, true, false, nat_lt, if◌then◌else◌, List, [], ◌∷◌, ◌++◌, length, take, drop, get_or, position, Option, Some, None, refl, sym, ap, subst, ◌∙◌, append-nil, arith}
 use Rattle.std.specs.Prelude.{IfSome, IsTrue}
 use Rattle.std.specs.List.{position_or_len}
@@ -11,7 +11,7 @@ use Rattle.std.proofs.lemmas.Bool.Decides.{nat_tests}
 use Rattle.std.proofs.lemmas.Grind.{common_steps}
 use Rattle.ggrammar.specs.Capabilities.{Capability, CapabilityIsItsText, IsWellFormed, capability_of, capability_split, capability_text, is_equals_sign, is_key, is_key_byte, is_value, has_length, key_and_value, value_text}
 
--- ---- the text of a capability is read as it
+-- ---- reading the text of a capability
 
 other_byte : (byte : ℕ) → is_key_byte byte ≡ true → is_equals_sign byte ≡ false
 other_byte byte h = grind (arith, nat_tests, common_steps)
@@ -49,9 +49,9 @@ read_of_parts key (Some value) form value_form =
     ∙ (ap (key_and_value key) back
     ∙ cond-true (is_key key && is_value value) (Some (record { key = key; value = Some value })) None (rw (form, value_form) refl)))
 
--- ---- a text that is read as a capability is its text
+-- ---- the text of a capability that was read
 
--- what a choice answers is what was chosen
+-- if a choice between `capability` and `None` yields `other`, the test is true and `other` is `capability`
 chosen : (test : Bool) (capability other : Capability) → (if test then Some capability else None) ≡ Some other → (test ≡ true) × (capability ≡ other)
 chosen true capability other e = (refl, cc)
 chosen false capability other e = let none : None ≡ Some other = e in cc

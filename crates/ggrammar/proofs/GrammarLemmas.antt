@@ -1,15 +1,15 @@
--- Facts on open and complete lists of packets, for every judge.
+-- Facts about open and complete lists of packets, for every judge.
 use Rattle.std.proofs.Common.{◌≡◌, List, [], ◌∷◌, ◌++◌, ◌⊎◌, inl, inr, refl, sym, ap, subst, ◌∙◌, append_assoc}
 use Rattle.gpkt.specs.Packets.{Packet}
 use Rattle.ggrammar.specs.Grammar.{Judge, Open, Whole, Refused, IsOpen, HasEndings, LawsOf, OpenIsUnfinished, RefusesFirstMisfits, IsPrefixFree}
 use Rattle.ggrammar.specs.declared.fault.Why.{Why}
 
--- an empty list has no position
+-- an empty list has no element
 pub nil_has_none : {X : Type 0} (front : List X) (x : X) (back : List X) → [] ≡ front ++ x ∷ back → ⊥
 nil_has_none [] x back e = cc
 nil_has_none (y ∷ front) x back e = cc
 
--- a position of a list with one more is the last, or one of the list's
+-- an element of the list `xs` followed by `x` is the last element `x` or an element of `xs`
 pub split_push : {X : Type 0} (xs : List X) (x : X) (front : List X) (y : X) (back : List X) → xs ++ x ∷ [] ≡ front ++ y ∷ back
     → ((front ≡ xs) × (y ≡ x) × (back ≡ [])) ⊎ ((more : List X) × (xs ≡ front ++ y ∷ more))
 split_push [] x [] y back e = inl (refl, cc, cc)
@@ -49,7 +49,7 @@ IsOpen-never_refuses front packet back why opened refuses = let goes = opened.ea
 
 -- ---- the laws of every judge
 
--- no message begins another
+-- no message is a proper prefix of another
 pub IsPrefixFree-always : (judge : Judge) → IsPrefixFree judge
 IsPrefixFree-always judge lines back short long =
     let same : long.front ++ long.last ∷ [] ≡ short.front ++ short.last ∷ back =
@@ -59,7 +59,7 @@ IsPrefixFree-always judge lines back short long =
       | inr h ↦ absurd (IsOpen-never_ends short.front short.last h.0 (subst (IsOpen judge) h.1 long.goes) short.ends)
     ]
 
--- where each open list has an ending, it begins a message and holds none
+-- if each open list can be completed, an open list begins a message and has no complete message as a prefix
 pub OpenIsUnfinished-by_endings : (judge : Judge) → HasEndings judge → OpenIsUnfinished judge
 OpenIsUnfinished-by_endings judge endings front opened = record {
   begins = endings front opened;
@@ -69,7 +69,7 @@ OpenIsUnfinished-by_endings judge endings front opened = record {
       IsOpen-never_ends is_whole.front is_whole.last back (subst (IsOpen judge) same opened) is_whole.ends;
 }
 
--- and a refused packet is the first that does not fit
+-- if each open list can be completed, a rejected packet is the first packet that does not fit
 pub RefusesFirstMisfits-by_endings : (judge : Judge) → HasEndings judge → RefusesFirstMisfits judge
 RefusesFirstMisfits-by_endings judge endings front packet why opened refuses = record {
   before = OpenIsUnfinished-by_endings judge endings front opened;

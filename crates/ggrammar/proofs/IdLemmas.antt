@@ -1,4 +1,4 @@
--- Reading an id answers what its text spells.
+-- Reading a text as an id returns the id that the text encodes.
 use Rattle.std.proofs.Common.{◌≡◌, ℕ, ◌≤◌, List, length, Option, None, Some, Result, Ok, Err, inl, inr, refl, sym, ap, subst, ◌∙◌, ◌==◌, arith}
 use Rattle.std.proofs.lemmas.Bool.{cond-true, cond-false, eq-eqb}
 use Rattle.std.proofs.lemmas.Bool.Decides.{eqb_tells}
@@ -12,7 +12,7 @@ use Rattle.gname.specs.declared.ids.OidFault.{OidFault}
 use Rattle.gname.proofs.IdLemmas.{few_digits}
 use Rattle.ggrammar.specs.Ids.{id_of_text, ok_of, IdIsSpelt}
 
--- ---- an id is what its text spells
+-- ---- the id that a text encodes
 
 pub decodes : (decoded : Result (List ℕ) FromHexError) (id : List ℕ) → ok_of decoded ≡ Some id → decoded ≡ Ok id
 decodes (Ok other) id e = cc
@@ -37,7 +37,7 @@ is_spelt format text id h =
 pub id_formed : TextsHaveOneReading → (format : Format) (text id : List ℕ) → id_of_text format text ≡ Some id → IsIdOf format id
 id_formed law format text id e = ((law format text).0 id (spelt_by format text id e)).1
 
--- what reading a text answers
+-- the result of reading a text, as the specification states it
 pub id_read : (format : Format) (text id : List ℕ) → ReadsId format text (Ok id) → Some id ≡ id_of_text format text
 id_read format text id h = sym (is_spelt format text id h.0)
 
@@ -51,7 +51,7 @@ none_spelt format text fault (Some id) law h e =
 pub id_refused : (format : Format) (text : List ℕ) (fault : OidFault) → TextsHaveOneReading → ReadsId format text (Err fault) → None ≡ id_of_text format text
 id_refused format text fault law h = none_spelt format text fault (id_of_text format text) law h refl
 
--- the text of an id spells it in its format, and is short
+-- the text of an id encodes this id in its format, and has at most 64 hex digits
 pub id_spells : IdsHaveOneFormat → IdsHaveTexts → (format : Format) (id : List ℕ) → IsIdOf format id → IsIdTextOf format (id_text id) id
 id_spells one texts format id h =
     let of = one format id h in

@@ -1,4 +1,4 @@
--- Reading a kind of message, by what its packets say.
+-- Reading a message of any kind, by the meaning of its packets.
 use Rattle.std.proofs.Common.{◌≡◌, ℕ, Bool, List, ◌++◌, Option, Some, None, Result, Ok, Err, refl, subst, ap, ◌∙◌}
 use Rattle.std.specs.Prelude.{IfErr}
 use Rattle.gpkt.specs.Packets.{Packet, canonical_all}
@@ -10,7 +10,7 @@ use Rattle.ggrammar.specs.declared.fault.MessageFault.{MessageFault}
 
 module _ {M : Type 0} (judge : Judge) (brings : List Packet → Packet → Bool) (Says : Meaning M) (laws : LawsOfBytes judge)
     (says_whole : SaysWhole judge Says) (one_meaning : OneMeaning Says) where
-  -- what was read is what is said at the front
+  -- the message that is read is the message that the packets at the front of the bytes encode
   read_is_said : (bytes new rest : List ℕ) (message other : M) (read : ReadsMessage judge Says (known_bytes bytes new) message)
       → SaysAtFront Says bytes rest other → (message ≡ other) × (new ≡ rest)
   read_is_said bytes new rest message other read (lines, at, says) =
@@ -44,7 +44,7 @@ module _ {M : Type 0} (judge : Judge) (brings : List Packet → Packet → Bool)
       answers (canonical_all lines ++ rest) new rest result message read certain
       (lines, record { front = canonical_all lines; parts = refl; spelt = spells lines h.1 }, h.0)
 
-  -- ---- a message that may be missing
+  -- ---- an input that may end before the message
 
   answers_if_any : (bytes new rest : List ℕ) (result : Result (Option M) MessageFault) (message : M)
       → ReadsIfAny judge brings Says (known_bytes bytes new) result → IfErr result (λ fault. IsOfBytes fault.why)

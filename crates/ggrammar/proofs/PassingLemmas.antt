@@ -1,4 +1,4 @@
--- Packets that are written, and then passed on by a push.
+-- Packets that are written, and then flushed by a push.
 use Rattle.std.proofs.Common.{◌≡◌, ℕ, Bool, false, List, [], Option, Result, Ok, Err, refl, sym, ◌∙◌, append-nil}
 use Rattle.std.specs.Prelude.{OnOk}
 use Rattle.std.proofs.lemmas.Bool.{false≢true}
@@ -12,7 +12,7 @@ use Rattle.gpkt.specs.declared.fault.WriteFault.TheVariants.{Failed, Payload, Io
 use Rattle.gpkt.proofs.SendingLemmas.{keeps_on, keeps_still}
 use Rattle.ggrammar.specs.Writing.{WritesPackets}
 
--- a beginning of what is due stands, and what was passed on before still is
+-- a prefix of the encoded packets was written, the sink has failed, and bytes flushed before stay flushed
 abbrev pub SendsPart : Output → List Packet → Type 0
 SendsPart output packets = SendsSome output (canonical_all packets) × KeepsPassed output.passed_on
 
@@ -23,7 +23,7 @@ module _ {W : Type 0} (contents passed_on : W → Option (List ℕ)) (is_down : 
   abbrev Pushes : Writer W → Writer W → Result (Unit {0}) WriteFault → Type 0
   Pushes old new result = HasPushed contents passed_on is_down loans old new result
 
-  -- what was written by a writer that had not failed was passed on
+  -- after a successful write and a successful push, the written packets are flushed
   pub pushed_passes : PushesWritten contents passed_on is_down loans → (a b c : Writer W) (packets : List Packet)
       (done : Unit {0}) → Writes a b (Ok tt) packets → Pushes b c (Ok done)
       → Passes (output_of contents passed_on is_down a.sink c.sink) (canonical_all packets)
@@ -31,7 +31,7 @@ module _ {W : Type 0} (contents passed_on : W → Option (List ℕ)) (is_down : 
       let all = pushes a b c (canonical_all packets) (Ok done) wrote.written pushed in
       record { written = all.0; passed_on = λ known. all.1; up = pushed.outcome.0.2 }
 
-  -- or the push failed
+  -- after a successful write and a failed push, bytes flushed before stay flushed, and the sink has failed
   pub push_fails : PushesWritten contents passed_on is_down loans → (a b c : Writer W) (packets : List Packet)
       (fault : WriteFault) → Writes a b (Ok tt) packets → Pushes b c (Err fault)
       → SendsPart (output_of contents passed_on is_down a.sink c.sink) packets
@@ -49,7 +49,7 @@ module _ {W : Type 0} (contents passed_on : W → Option (List ℕ)) (is_down : 
   push_fails pushes a b c packets Failed wrote pushed =
       absurd (false≢true (sym wrote.written.outcome.0.1 ∙ pushed.outcome.0))
 
-  -- a write that failed
+  -- after a failed write, a prefix of the packets is written, and the sink has failed
   pub write_fails : (a b : Writer W) (packets : List Packet) (fault : WriteFault) → a.failed ≡ false
       → Writes a b (Err fault) packets → SendsPart (output_of contents passed_on is_down a.sink b.sink) packets
   write_fails a b packets Io ready wrote = (
@@ -65,7 +65,7 @@ module _ {W : Type 0} (contents passed_on : W → Option (List ℕ)) (is_down : 
   write_fails a b packets Payload ready wrote = absurd (wrote.fits refl)
   write_fails a b packets Failed ready wrote = absurd (false≢true (sym ready ∙ wrote.written.outcome.0))
 
-  -- the writer goes on
+  -- after a successful push, the writer has not failed
   pub push_goes_on : (b c : Writer W) (result : Result (Unit {0}) WriteFault) → Pushes b c result
       → OnOk result (c.failed ≡ false)
   push_goes_on b c (Ok done) pushed = pushed.outcome.0.1

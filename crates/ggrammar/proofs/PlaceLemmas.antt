@@ -1,4 +1,4 @@
--- Positions and what packets give there, with a packet more; the texts of packets.
+-- Places in a grammar and values in packets, for a list extended by one packet. The texts of packets.
 use Rattle.std.proofs.Common.{◌≡◌, List, [], ◌∷◌, ◌++◌, Option, None, Some, refl, sym, ap, ◌∙◌, append_assoc, append-nil}
 use Rattle.std.specs.List.{cons_option, filter_map}
 use Rattle.std.specs.Option.{option_to_list}
@@ -20,7 +20,7 @@ collect-push next give place (first ∷ front) packet =
     ap (λ xs. give place first ++ xs) (collect-push next give (next place first) front packet)
     ∙ sym (append_assoc (give place first) (collect next give (next place first) front) (give (place_after next (next place first) front) packet))
 
--- what is given of a list with one more
+-- filtering a list extended by `x` appends the value `found` of `x`, if there is one
 pub filter_map-push : {X Y : Type 0} (give : X → Option Y) (xs : List X) (x : X) (found : Option Y) → give x ≡ found
     → filter_map give (xs ++ x ∷ []) ≡ filter_map give xs ++ option_to_list found
 filter_map-push give xs x None is = filter_map-append give xs (x ∷ []) ∙ ap (λ o. filter_map give xs ++ cons_option o []) is

@@ -1,4 +1,4 @@
--- Packets read one after the other.
+-- Consecutive reads of packets.
 use Rattle.std.proofs.Common.{◌≡◌, ℕ, List, [], ◌∷◌, ◌++◌, length, Option, Some, None, Ok, Result, Bool, true, ◌+◌, refl, sym, subst, ap, ◌∙◌, append_assoc, append-nil}
 use Rattle.gpkt.specs.Packets.{Packet, Spells, SpellsAll, packet_of}
 use Rattle.gpkt.specs.PacketReading.{Reads, Reader, ReadsPackets, HasRead, read_of}
@@ -32,14 +32,14 @@ ReadsPackets-push (Some x) (Some y) None lines packet p q = absurd q
 ReadsPackets-push (Some x) (Some y) (Some z) lines packet p q =
     (p.0 ++ q.0, p.1 ∙ ap (λ xs. p.0 ++ xs) q.1 ∙ sym (append_assoc p.0 q.0 z), SpellsAll-push lines packet p.0 q.0 p.2 q.2)
 
--- what the next packet is
+-- the packet that a read returns, without addresses
 pub read_some : (result : Result (Option LentPacket) PacketFault) (field : Option LentPacket) (line : LentPacket) → result ≡ Ok field → field ≡ Some line → read_of result ≡ Ok (Some (packet_of line))
 read_some result field line e f = ap read_of (e ∙ ap (λ x. Ok x) f)
 
 pub read_none : (result : Result (Option LentPacket) PacketFault) (field : Option LentPacket) → result ≡ Ok field → field ≡ None → read_of result ≡ Ok None
 read_none result field e f = ap read_of (e ∙ ap (λ x. Ok x) f)
 
--- a packet that is taken
+-- the reason to reject a packet that was read is a reason to reject the message
 pub reason_after : (judge : Judge) (brings : List Packet → Packet → Bool) (front : List Packet) (bytes : Change) (packet : Packet) (why : Why)
     → Reads bytes (Ok (Some packet)) → IsReason (judge front packet) (brings front packet) why → IsReasonAfter judge brings front bytes why
 reason_after judge brings front bytes packet (why.Line fault) read h = absurd h
@@ -54,7 +54,7 @@ pub record IsGoing {M : Type 0} (judge : Judge) (holds : M → List Packet → T
   pub count : frame ≡ length lines
   pub bytes : ReadsPackets (record { old = old; new = new }) lines
 
--- a message whose grammar stays takes a packet as the first grammar says
+-- if the judge of a message is still its first judge, the message accepts or rejects a packet as the first judge does
 pub takes_as : {M : Type 0} (holds left : M → List Packet → Type 0) (judge first : Judge)
     (brings at_first : List Packet → Packet → Bool) (old new : M) (packet : Packet) (result taken : Result Step Why)
     → judge ≡ first → brings ≡ at_first
@@ -69,11 +69,11 @@ takes_as holds left judge first brings at_first old new packet result taken same
     (takes front (subst (λ j. IsOpen j front) (sym same) goes) held)))
 
 module _ {M : Type 0} (judge : Judge) (brings : List Packet → Packet → Bool) (holds left : M → List Packet → Type 0) where
-  -- what the message has before its first packet
+  -- before its first packet, the message has no packets
   pub nothing_yet : (old : Option (List ℕ)) (message : M) → holds message [] → IsGoing judge holds old old message 0
   nothing_yet old message held = record { lines = []; goes = IsOpen-nil judge; held = held; count = refl; bytes = ReadsPackets-nil old }
 
-  -- the message is refused here
+  -- a message that is rejected after its packets so far
   pub refused_there : HasEndings judge → (old new last : Option (List ℕ)) (message after : M) (frame : ℕ) (reason : Why)
       → (going : IsGoing judge holds old new message frame) → left after going.lines
       → IsReasonAfter judge brings going.lines (record { old = new; new = last }) reason
@@ -91,7 +91,7 @@ module _ {M : Type 0} (judge : Judge) (brings : List Packet → Packet → Bool)
     leaves = leaves;
   }
 
-  -- the message goes on
+  -- after a packet that does not end the message, the message is still being read
   pub goes_on : (old new last : Option (List ℕ)) (message after : M) (frame : ℕ) (packet : Packet) → (going : IsGoing judge holds old new message frame) → Reads (record { old = new; new = last }) (Ok (Some packet))
       → TakesPacket judge brings holds left going.lines packet after (Ok step.Open) → IsGoing judge holds old last after (frame + 1)
   goes_on old new last message after frame packet going read taken = record {
@@ -102,7 +102,7 @@ module _ {M : Type 0} (judge : Judge) (brings : List Packet → Packet → Bool)
     bytes = ReadsPackets-push old new last going.lines packet going.bytes read;
   }
 
-  -- the message ends
+  -- after a packet that ends the message, the message is complete
   pub ends_there : (old new last : Option (List ℕ)) (message after : M) (frame : ℕ) (packet : Packet) → (going : IsGoing judge holds old new message frame) → Reads (record { old = new; new = last }) (Ok (Some packet))
       → TakesPacket judge brings holds left going.lines packet after (Ok step.Whole) → HasTaken judge brings holds left (record { old = old; new = last }) after
   ends_there old new last message after frame packet going read taken = record {
@@ -115,12 +115,12 @@ module _ {M : Type 0} (judge : Judge) (brings : List Packet → Packet → Bool)
   }
 
 module _ {S : Type 0} (remaining : S → Option (List ℕ)) (is_down : S → Bool) (loans : S → List ℕ) where
-  -- a reader that gives a packet had not failed before
+  -- a reader that returns a packet had not failed before the call
   pub not_failed : (old new : Reader S) (packet : Packet) {P : Type 0}
       → HasRead remaining is_down loans old new (Ok (Some packet)) → old.failed ≡ true → P
   not_failed old new packet h failed = let well = h.after.0 in absurd (false≢true (sym well ∙ failed))
 
-  -- nor has it now
+  -- a reader that returns a packet has not failed after the call either
   pub still_well : (old new : Reader S) (packet : Packet)
       → HasRead remaining is_down loans old new (Ok (Some packet)) → new.failed ≡ old.failed
   still_well old new packet h = h.after.1 ∙ sym h.after.0

@@ -12,7 +12,7 @@ pub texts_of-data : (payloads : List (List ℕ)) → texts_of (map Data payloads
 texts_of-data [] = refl
 texts_of-data (payload ∷ payloads) = ap (λ (xs : List (List ℕ)). text payload ∷ xs) (texts_of-data payloads)
 
--- of a test that was passed
+-- if a choice between a value and `None` yields a value, the test is true
 pub tested : {X : Type 0} (b : Bool) (x : Option X) (y : X) → (if b then x else None) ≡ Some y
     → (b ≡ true) × (x ≡ Some y)
 tested true x y e = (refl, e)
@@ -22,7 +22,7 @@ pub is_none-None : {X : Type 0} (found : Option X) → is_none found ≡ true �
 is_none-None None e = refl
 is_none-None (Some x) e = cc
 
--- a text with a word at its front
+-- if `rest` is the rest of a text after a word, the text is the word followed by `rest`
 pub follows_word : (word line rest : List ℕ) → after_word word line ≡ Some rest → line ≡ word ++ rest
 unfolding after_word
 follows_word word line rest e =

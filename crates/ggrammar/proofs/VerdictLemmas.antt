@@ -1,4 +1,4 @@
--- Verdicts: what is refused is refused for the packet's own sake, and a peer's error comes before all else.
+-- Verdicts: packets are rejected only because of their content, and an error of the peer takes precedence.
 use Rattle.std.proofs.Common.{◌≡◌, ℕ, Bool, true, false, cond, List, Option, Some, None, refl, ap}
 use Rattle.gpkt.specs.Packets.{Packet, Data}
 use Rattle.ggrammar.specs.Endings.{after_flush}
@@ -8,7 +8,7 @@ use Rattle.ggrammar.specs.MessageReading.{IsAccepted}
 use Rattle.ggrammar.specs.PeerErrors.{peer_error, unless_error}
 use Rattle.ggrammar.specs.declared.fault.Why.TheVariants.{Limit, UnexpectedFrame}
 
--- ---- packets are refused for their own sake
+-- ---- rejection because of the content of a packet
 
 pub of_test : (test : Bool) (one other : Verdict) → IsForPacket one → IsForPacket other
     → IsForPacket (cond test one other)
@@ -23,12 +23,12 @@ pub past_error : (said : Option (List ℕ)) (verdict : Verdict) → IsForPacket 
 past_error (Some said) verdict h = tt
 past_error None verdict h = h
 
--- after the flush
+-- a packet after the flush is rejected only because of its content
 pub of_end : (packet : Packet) → IsForPacket (after_flush packet)
 of_end (Data payload) = past_error (peer_error payload) (Refused UnexpectedFrame) tt
 of_end _ = tt
 
--- ---- what is not refused reports no error, and had room
+-- ---- accepted packets
 
 pub open_unless : (said : Option (List ℕ)) (verdict : Verdict) → unless_error said verdict ≡ Open → verdict ≡ Open
 open_unless None verdict e = e
@@ -50,7 +50,7 @@ room_left false e = cc
 pub room_goes_on : (room : Bool) → room ≡ true → if_room room ≡ Open
 room_goes_on room e = ap if_room e
 
--- and where there is room, nothing is complete yet
+-- the verdict on room for a packet never completes a message
 pub room_not_whole : (room : Bool) → if_room room ≡ Whole → ⊥
 room_not_whole true e = cc
 room_not_whole false e = cc

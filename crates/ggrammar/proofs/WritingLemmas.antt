@@ -1,4 +1,4 @@
--- Packets written one after the other.
+-- Consecutive writes of packets.
 use Rattle.std.proofs.Common.{◌≡◌, ◌≢◌, ℕ, ◌<◌, ◌↔◌, Bool, false, List, [], ◌++◌, length, Option, Result, Ok, Err, sym, subst, ap, ◌∙◌, append_assoc, append-nil, arith}
 use Rattle.std.specs.Prelude.{IfErr, IsErrOf}
 use Rattle.gpkt.specs.Packets.{Packet, canonical, canonical_all, max_payload, payload_of}
@@ -8,7 +8,7 @@ use Rattle.gpkt.specs.declared.fault.WriteFault.{WriteFault}
 use Rattle.gpkt.specs.declared.fault.WriteFault.TheVariants.{Payload}
 use Rattle.ggrammar.specs.Writing.{WritesPackets, WritesPacket, WritesFitting, PacketsArePart, StartsWriting, GoesOnWriting, GoesOnAfterPart, FailsWriting, EndsWriting}
 
--- a call that was not to write too long a packet
+-- a call whose fault is never `Payload` does not return `Err Payload`
 not_payload : (result : Result (Unit {0}) WriteFault) → IfErr result (λ fault. fault ≢ Payload) → result ≢ Err Payload
 not_payload (Ok done) other = λ e. cc
 not_payload (Err fault) other = λ e. other cc
@@ -29,7 +29,7 @@ module _ {W : Type 0} (contents passed_on : W → Option (List ℕ)) (is_down : 
   pub writes_fitting : WritesFitting contents passed_on is_down loans
   writes_fitting old new result line h long short = writes_packet old new result line h (fitting old result line long short)
 
-  -- packets that were written, and then more
+  -- writing `front` and then `more` is writing `front ++ more`
   followed : CanonicalJoins → WritesJoin contents passed_on is_down loans → (old mid new : Writer W) (front more : List Packet)
       (result : Result (Unit {0}) WriteFault) → WritesPackets contents passed_on is_down loans old mid (Ok tt) front
       → WritesPackets contents passed_on is_down loans mid new result more → WritesPackets contents passed_on is_down loans old new result (front ++ more)
@@ -39,7 +39,7 @@ module _ {W : Type 0} (contents passed_on : W → Option (List ℕ)) (is_down : 
     fits = h.fits;
   }
 
-  -- packets that could not be written, and no more after them
+  -- a failed write of `front` is a failed write of `front ++ more`
   cut : CanonicalJoins → FailsOfMore contents passed_on is_down loans → (old new : Writer W) (front more : List Packet) (fault : WriteFault)
       → WritesPackets contents passed_on is_down loans old new (Err fault) front → WritesPackets contents passed_on is_down loans old new (Err fault) (front ++ more)
   cut canonical_joins fails old new front more fault wrote = record {

@@ -57,7 +57,7 @@ OneRefusal judge =
     → ReadsRefused judge brings others (known_bytes bytes after) other → IsOfBytes fault.why → IsOfBytes other.why
     → (fault ≡ other) × (new ≡ after)
 
--- the reason to reject is the content of the packet, not a fault of the packet reader, the end of the input, or out of
+-- the reason to reject is the content of the packet, not a fault of the packet reader, the end of the input, or lack of
 -- memory
 abbrev pub IsOfPacket : Why → Type 0
 IsOfPacket (Line fault) = ⊥

@@ -102,13 +102,13 @@ LeavesReader is_down old new (Err fault) =
 
 -- ---- one packet of a message
 
--- the packet is accepted according to the verdict, and the predicate is true afterwards, or the packet is rejected
+-- the packet is accepted according to the verdict, and `taken` is true afterwards, or the packet is rejected
 abbrev pub TakesAs : Verdict → Bool → Type 0 → Result Step Why → Type 0
 TakesAs verdict brings taken (Ok step.Open) = (verdict ≡ Open) × taken
 TakesAs verdict brings taken (Ok step.Whole) = (verdict ≡ Whole) × taken
 TakesAs verdict brings taken (Err why) = IsReason verdict brings why
 
--- a packet that does not end the message is accepted, and the predicate is true afterwards, or the packet is rejected
+-- the packet is accepted, does not end the message, and `taken` is true afterwards, or the packet is rejected
 abbrev pub AddsAs : Verdict → Bool → Type 0 → Result Unit Why → Type 0
 AddsAs verdict brings taken (Ok done) = (verdict ≡ Open) × taken
 AddsAs verdict brings taken (Err why) = IsReason verdict brings why

@@ -1,14 +1,14 @@
--- The positions of packets in a message, and the values in the packets. The grammar determines the position of the next
--- packet.
+-- The places in the grammar of a message, such as its sections, and the values in the packets. Each packet leads from
+-- one place to the next.
 use Rattle.std.specs.Prelude.{List, [], ◌∷◌, ◌++◌}
 use Rattle.gpkt.specs.Packets.{Packet}
 
--- the position after these packets
+-- the place in the grammar after these packets, if `place` is the place before them
 abbrev pub place_after : {Place : Type 0} → (Place → Packet → Place) → Place → List Packet → Place
 place_after next place [] = place
 place_after next place (packet ∷ packets) = place_after next (next place packet) packets
 
--- the values of the packets, in order; the value of a packet depends on its position
+-- the values in the packets, in order; the values in a packet depend on its place in the grammar
 abbrev pub collect : {Place X : Type 0} → (Place → Packet → Place) → (Place → Packet → List X) → Place
     → List Packet → List X
 collect next give place [] = []

@@ -66,7 +66,7 @@ module _
         (start now next : Writer W) (lines coming part rest : List Packet) → IsWriting start now lines coming
         → coming ≡ part ++ rest → WritesPart now next (Ok tt) part → IsWriting start next lines rest
 
-    -- if writing some of the packets fails, and the fault is returned, the whole write of the packets has failed
+    -- if writing some of the remaining packets fails, the write of all packets fails with the same fault
     abbrev pub FailsWriting : Type 0
     FailsWriting =
         (start now new : Writer W) (lines coming front rest : List Packet) (fault : WriteFault)

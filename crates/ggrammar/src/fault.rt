@@ -144,7 +144,7 @@ impl Why {
         self.fault_row().phrase
     }
 
-    // Returns the row of the fault in the table.
+    // Returns the number and the name of the fault, and its text for the peer.
     fn fault_row(&self) -> WhyRow
         ensures { row_view result ≡ why_row self.now }
     {

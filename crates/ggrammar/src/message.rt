@@ -30,7 +30,7 @@ pub trait Message {
     // Whether the message consists of exactly these packets so far.
     ghost holds: { Self → List Packet → Type 0 };
 
-    // Whether the message may be left in this state if it accepts these packets and rejects the
+    // Whether the message may be in this state after it accepted these packets and rejected the
     // next packet.
     ghost left: { Self → List Packet → Type 0 };
 

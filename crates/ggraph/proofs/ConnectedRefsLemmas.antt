@@ -1,4 +1,4 @@
--- Refs over a graph.
+-- Refs that are connected in a graph.
 use Rattle.std.proofs.Common.{◌≡◌, inl, inr, ◌⊎◌, ℕ, zero, suc, take, drop, slice_get, List, [], ◌∷◌, ◌++◌, Some, sym, ap, subst, All, Contains}
 use Rattle.std.proofs.lemmas.List.Elements.{All-nil, All-cons, All-head, All-tail, All-contains}
 use Rattle.std.proofs.lemmas.Option.{none-some, same_Some}
@@ -40,7 +40,7 @@ module _ {A : Type 0} where
   pub setting_keeps_connected_refs : SettingKeepsConnectedRefs A
   setting_keeps_connected_refs g old new name id connected_refs connected sets = from_each g old name id connected_refs connected new sets.each
 
--- a list at one of its positions
+-- a list, split at one of its positions
 pub split_there : {X : Type 0} (xs : List X) (place : ℕ) (x : X) → slice_get xs place ≡ Some x → xs ≡ take place xs ++ x ∷ drop (suc place) xs
 split_there {X} [] place x at = absurd (none-some x at)
 split_there {X} (y ∷ xs) zero x at = ap (λ (z : X). z ∷ xs) (same_Some y x at)

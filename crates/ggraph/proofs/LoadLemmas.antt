@@ -1,4 +1,4 @@
--- The items that the lines of a text stand for, one after the other, and reading one line more.
+-- The items that the lines of a text encode, and reading one more line.
 use Rattle.std.specs.Prelude.{◌==◌}
 use Rattle.std.proofs.Common.{true, ◌≡◌, ℕ, ◌+◌, ◌≤◌, List, [], ◌∷◌, ◌++◌, length, map, refl, sym, ◌∙◌, ap, subst, arith}
 use Rattle.std.proofs.lemmas.Bool.Decides.{nat_tests}
@@ -11,16 +11,16 @@ use Rattle.ggraph.specs.steps.Reading.{Item, MayCome, ComesNext, after, line_of,
 use Rattle.gobject.specs.PlainPackText.{line, text_of}
 use Rattle.gobject.proofs.PlainPackLines.{text_of-append}
 
--- the items may come one after the other, and this is read then
+-- each item of the list is allowed after the items before it, and `new` is the state after all items
 abbrev pub ReadsTo : {A : Type 0} → Order → Reading A → List (Item A) → Reading A → Type 0
 ReadsTo order old [] new = new ≡ old
 ReadsTo order old (item ∷ items) new = MayCome order old item × ReadsTo order (after old item) items new
 
--- their text
+-- the text of some items
 abbrev pub items_text : {A : Type 0} → List (Item A) → List ℕ
 items_text items = text_of (map line_of items)
 
--- the front of a text is these items, and the rest is left
+-- the text consists of the lines of these items and the text `rest`, and `new` is the state after the items
 pub record HasRead {A : Type 0} (order : Order) (text : List ℕ) (items : List (Item A)) (rest : List ℕ) (new : Reading A) : Type 0 where
   pub spells : text ≡ items_text items ++ rest
   pub reads : ReadsTo order nothing_read items new
@@ -29,7 +29,7 @@ pub reads_more : {A : Type 0} (order : Order) (old mid new : Reading A) (items :
 reads_more {A} order old mid new [] item here may e = (subst (λ (r : Reading A). MayCome order r item) here may, e ∙ ap (λ (r : Reading A). after r item) here)
 reads_more order old mid new (first ∷ items) item (may_first, rest) may e = (may_first, reads_more order (after old first) mid new items item rest may e)
 
--- a line more at the end
+-- the text of some lines and one more line
 pub text_of-push : (lines : List (List ℕ)) (last : List ℕ) → text_of (lines ++ last ∷ []) ≡ text_of lines ++ line last
 text_of-push lines last = text_of-append lines (last ∷ []) ∙ ap (λ (t : List ℕ). text_of lines ++ t) (append-nil (line last))
 
@@ -45,7 +45,7 @@ has_read_more order text items rest this after_it old new so_far next item is ma
   reads = reads_more order nothing_read old new items item so_far.reads may e;
 }
 
--- what is read so far, and which line comes next
+-- the items that were read so far, the unread text, and the number of the next line
 abbrev pub Progress : {A : Type 0} → Order → List ℕ → List ℕ → Reading A → ℕ → Type 0
 Progress {A} order text rest reading number =
     (items : List (Item A)) × HasRead order text items rest reading × (number ≡ length items + 1) × (number + length rest ≤ length text + 1)

@@ -1,4 +1,4 @@
--- What a graph, refs and HEAD hold may be loaded, in any order of nodes, where all ids are of one format.
+-- A graph, refs and HEAD whose ids have one format form a valid repository, with its nodes in any order.
 use Rattle.std.proofs.Common.{ℕ, List, [], ◌∷◌, ◌++◌, All, subst}
 use Rattle.std.proofs.lemmas.List.Elements.{All-cons, All-head, All-nil, All-tail}
 use Rattle.gname.specs.Ids.{IsIdOf}

@@ -1,4 +1,4 @@
--- Digits that were read as an id are those that the id is written with exactly where none is an upper-case letter.
+-- Digits that encode some bytes are the text of these bytes exactly if none of the digits is an upper-case letter.
 use Rattle.std.proofs.Common.{◌≡◌, ℕ, ◌+◌, ◌*◌, ◌/◌, ◌%◌, ◌<◌, ◌==◌, suc, nat_lt, Bool, false, if◌then◌else◌, List, [], ◌∷◌, slice_index, All, Option, Some, None, Result, Ok, Err, refl, sym, ap, ◌∙◌, subst, arith}
 use Rattle.std.proofs.lemmas.Bool.{eqb-true}
 use Rattle.std.proofs.lemmas.Bool.Decides.{nat_tests}
@@ -12,17 +12,17 @@ use Rattle.hex.specs.Hex.{IsBytes, decode_of, decode_pairs, digit_or_error, enco
 use Rattle.hex.specs.declared.error.FromHexError.{FromHexError}
 use Rattle.hex.proofs.HexLemmas.{decode_of-even, decode_of-ok}
 
--- no upper-case letter
+-- the byte is not an upper-case letter
 abbrev pub NotUpper : ℕ → Type 0
 NotUpper c = is_ascii_uppercase c ≡ false
 
 -- ---- one digit
 
--- the digit of a value below 16, as a number
+-- the byte of the digit for a value below 16, in lower case
 abbrev glyph : ℕ → ℕ
 glyph v = if nat_lt v 10 then 48 + v else 87 + v
 
--- the table has it at its position
+-- whether the table has the digit for the value at position `v`
 abbrev stands : ℕ → Bool
 stands v = slice_index lower_digits v == glyph v
 
@@ -33,18 +33,18 @@ table_glyph v small =
     let place : slice_index (range_with_len 0 16) v ≡ v = get_or-range_with_len 0 16 v 0 small ∙ omega arith in
     eqb-true _ _ (rw place at here)
 
--- a digit that is no upper-case letter is that of its value
+-- a digit that is not an upper-case letter is the lower-case digit for its value
 read_glyph : (c v : ℕ) → hex_digit_value c ≡ Some v → NotUpper c → (v < 16) × (glyph v ≡ c)
 read_glyph c v h low = (grind (arith, nat_tests), grind (arith, nat_tests))
 
--- the digit of a value is none
+-- the lower-case digit for a value is not an upper-case letter
 glyph_lower : (v : ℕ) → v < 16 → NotUpper (glyph v)
 glyph_lower v small = grind (arith, nat_tests)
 
 written_lower : (v : ℕ) → v < 16 → NotUpper (slice_index lower_digits v)
 written_lower v small = subst NotUpper (sym (table_glyph v small)) (glyph_lower v small)
 
--- ---- what is written
+-- ---- the digits that are written
 
 encode_is_lower : (bytes : List ℕ) → IsBytes bytes → All NotUpper (encode_lower bytes)
 unfolding encode_with
@@ -56,15 +56,15 @@ encode_is_lower (b ∷ rest) h =
     All-cons NotUpper (slice_index lower_digits (b / 16)) (second ∷ encode_lower rest) (written_lower (b / 16) (omega arith))
     (All-cons NotUpper second (encode_lower rest) (written_lower (b % 16) (omega arith)) more)
 
--- ---- what is read
+-- ---- the digits that are read
 
--- what an `Ok` after `>>=` shows
+-- if `r >>= f` returns `Ok`, both `r` and the call of `f` return `Ok`
 both_ok : {A B : Type 0} (r : Result A FromHexError) (f : A → Result B FromHexError) (y : B)
     → (r >>= f) ≡ Ok y → (x : A) × (r ≡ Ok x) × (f x ≡ Ok y)
 both_ok (Ok x) f y h = (x, refl, h)
 both_ok (Err e) f y h = cc h
 
--- a digit that read, and its value
+-- a digit that was decoded, and its value
 digit_some : (c i : ℕ) (o : Option ℕ) (v : ℕ) → digit_or_error c i o ≡ Ok v → o ≡ Some v
 digit_some c i (Some w) v h = ap Some (ap (λ (r : Result ℕ FromHexError). result_unwrap_or r 0) h)
 digit_some c i None v h = cc h
@@ -93,13 +93,13 @@ read_lower i (a ∷ b ∷ rest) bytes h low =
     ∙ ap (λ (t : List ℕ). slice_index lower_digits (p0.0 / 16) ∷ slice_index lower_digits (p0.0 % 16) ∷ t) more
     ∙ ap encode_lower e
 
--- ---- both
+-- ---- writing and reading
 
--- digits with no upper-case letter are the text of the bytes that they spell
+-- digits without upper-case letters are the text of the bytes that they encode
 pub lower_is_text : (text bytes : List ℕ) → decode_of text ≡ Ok bytes → All NotUpper text → text ≡ encode_lower bytes
 lower_is_text text bytes h low =
     read_lower 0 text bytes (sym (decode_of-even text (decode_of-ok text bytes h).0) ∙ h) low
 
--- the text of the bytes that digits spell has none
+-- digits that are the text of the bytes that they encode have no upper-case letters
 pub text_is_lower : (text bytes : List ℕ) → decode_of text ≡ Ok bytes → text ≡ encode_lower bytes → All NotUpper text
 text_is_lower text bytes h e = subst (All NotUpper) (sym e) (encode_is_lower bytes (decode_of-ok text bytes h).3)

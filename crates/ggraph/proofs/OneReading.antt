@@ -1,4 +1,4 @@
--- A text has one reading as a repository.
+-- A text is the text of at most one repository.
 use Rattle.std.specs.Prelude.{◌==◌, ◌&&◌, not}
 use Rattle.std.proofs.Common.{◌≡◌, ◌≢◌, inl, inr, Bool, true, false, ℕ, List, [], ◌∷◌, ◌++◌, map, All, codes, refl, sym, ◌∙◌, ap, subst}
 use Rattle.std.proofs.lemmas.List.{append_assoc, append-nil}
@@ -27,7 +27,7 @@ use Rattle.ggraph.proofs.Lines.{AreLines, IsLine, clean_line, line-append, one_l
 use Rattle.ggraph.proofs.ReadingLemmas.{one_item}
 
 module _ (laws : TextLaws) where
-  -- ---- the same lines are the same items
+  -- ---- equal lines have equal items
 
   module _ {A : Type 0} (order other : Order) where
     pub same_reading : (old mid new : Reading A) (items more : List (Item A)) → ReadsTo order old items mid → ReadsTo other old more new → map line_of items ≡ map line_of more → mid ≡ new
@@ -51,7 +51,7 @@ module _ (laws : TextLaws) where
         let one = one_item laws order other old a b here.0 there.0 first in
         next_item (after old a) mid new items more line rest here.1 (subst (λ (i : Item A). ReadsTo other (after old i) more new) (sym one) there.1) later
 
-  -- ---- what may be loaded is read
+  -- ---- reading the text of a valid repository
 
   reads_on : {A : Type 0} (order : Order) (old mid new : Reading A) (xs ys : List (Item A)) → ReadsTo order old xs mid → ReadsTo order mid ys new → ReadsTo order old (xs ++ ys) new
   reads_on {A} order old mid new [] ys here there = subst (λ (r : Reading A). ReadsTo order r ys new) here there
@@ -100,7 +100,7 @@ module _ (laws : TextLaws) where
       ap (λ (ls : List (List ℕ)). first_line g.format ∷ ls) (lines_through node g.entries (map ref refs ++ (heads head ∷ ends ∷ [])))
       ∙ ap (λ (ls : List (List ℕ)). first_line g.format ∷ (map node_text g.entries ++ ls)) (lines_through ref refs (heads head ∷ ends ∷ []))
 
-  -- ---- no line has an LF
+  -- ---- lines without an LF
 
   abbrev is_line : List ℕ → Bool
   is_line [] = true
@@ -167,7 +167,7 @@ module _ (laws : TextLaws) where
   lines_are_lines order g refs head valid =
       subst AreLines (lines_whole g refs head) (items_are_lines order nothing_read (whole_reading g refs head) (whole_items g refs head) (reads_whole order g refs head valid))
 
-  -- ---- one reading
+  -- ---- uniqueness of the repository
 
   pub one_repository : {A : Type 0} (order other : Order) (g h : History A) (refs others : RefList) (head at : Head A) → IsLoadable order g refs head → IsLoadable other h others at → repository_text g refs head ≡ repository_text h others at → whole_reading g refs head ≡ whole_reading h others at
   one_repository order other g h refs others head at here there e =

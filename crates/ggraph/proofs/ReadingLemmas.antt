@@ -1,4 +1,4 @@
--- Which line may come next: each line stands for one item.
+-- The lines that are allowed next. Each of these lines encodes one item.
 use Rattle.std.proofs.Common.{ap₂, ◌≡◌, ℕ, List, [], ◌∷◌, ◌++◌, All, codes, refl, sym, ◌∙◌, ap, subst, arith, get_or, length, Result, Ok, Err, Option, Some, None, MatchOption, MatchResult, OnOk, IfErr}
 use Rattle.std.proofs.lemmas.List.{append_cancel_left}
 use Rattle.std.proofs.lemmas.List.Elements.{All-head, All-tail, All-cons}
@@ -29,7 +29,7 @@ use Rattle.ggraph.specs.steps.TextLaws.{TextLaws}
 use Rattle.ggraph.specs.declared.fault.LoadFault.TheVariants as faults
 use Rattle.ggraph.proofs.TextLemmas.{one_front, one_id}
 
--- ---- lines that differ
+-- ---- lines of different items
 
 abbrev first_byte : List ℕ → ℕ
 first_byte xs = get_or xs 0 0
@@ -37,7 +37,7 @@ first_byte xs = get_or xs 0 0
 abbrev third_byte : List ℕ → ℕ
 third_byte xs = get_or xs 2 0
 
--- a line that begins as that of HEAD on a ref
+-- a line that begins with `h ref ` and has a malformed target is not the line of a valid HEAD
 no_head_on : {A : Type 0} (format : Format) (line text : List ℕ) → line ≡ codes "h ref " ++ text → (IsBelowRefs text → ⊥) → IsNoHead A format line
 no_head_on format line text is none (heads_of.Symref target) valid e =
     none (subst IsBelowRefs (sym (append_cancel_left (codes "h ref ") text target (sym is ∙ e))) valid)
@@ -57,13 +57,13 @@ head_on_line format line text (Ok (Some (heads_of.Symref target))) is facts =
 head_on_line format line text (Ok (Some _)) is facts = absurd facts
 head_on_line format line text (Err e) is below = (text, below, is)
 
--- ---- HEAD on a ref, out of memory for the name
+-- ---- out of memory for the target of a symbolic HEAD
 
 pub symref_short : {A : Type 0} (order : Order) (old : Reading A) (line : List ℕ) (number : ℕ) → RefMayCome old.stage → IsSymrefLine A line → RefusesLine order old line number faults.Memory
 symref_short order old line number due (target, below, is) = (heads (heads_of.Symref target), is, (due, below), tt)
 
 module _ (laws : TextLaws) where
-  -- the first bytes of lines tell items apart
+  -- the number of each kind of item, which the first byte of its line determines
   abbrev tag : {A : Type 0} → Item A → ℕ
   tag (begins format) = 0
   tag (node entry) = 1
@@ -90,7 +90,7 @@ module _ (laws : TextLaws) where
   tagged (heads heads_of.None) = refl
   tagged ends = refl
 
-  -- ---- lines that say one thing
+  -- ---- uniqueness of the contents of a line
 
   letters_one : (k l : Kind) (s t : List ℕ) → letter k ∷ s ≡ letter l ∷ t → (k ≡ l) × (s ≡ t)
   letters_one Commit Commit s t e = (refl, append_cancel_left (codes "c") s t e)
@@ -137,21 +137,21 @@ module _ (laws : TextLaws) where
     one_head (heads_of.Symref a) (heads_of.Symref b) va vb e = ap heads_of.Symref (append_cancel_left (codes "h ref ") a b e)
     one_head _ _ va vb e = let h = ap third_byte e in absurd (omega (arith, h))
 
-  -- ---- lines that may not come
+  -- ---- lines that are not allowed next
 
   module _ {A : Type 0} (order : Order) (old : Reading A) (line : List ℕ) where
-    -- the line begins with the letter of a kind, and no node that has it may come
+    -- the line begins with the letter of a kind, but is not the line of an entry that is allowed next
     no_node_comes : (kind : Kind) (rest : List ℕ) → line ≡ letter kind ∷ rest → ((entry : Entry A) → letter kind ∷ rest ≡ node_text entry → MayFollow order old.graph.format old.graph.entries entry → ⊥) → NeverComes order old line
     no_node_comes kind rest is never (node entry) e may = never entry (sym is ∙ e) may.1
     no_node_comes kind rest is never item e may =
         let h = sym (letter_told kind rest) ∙ ap told (sym is ∙ e) ∙ tagged item in absurd (omega (arith, h))
 
-    -- the line begins as a ref's, and no ref that has it may come
+    -- the line begins with `r` and a space, but is not the line of a ref that is allowed next
     no_ref_comes : (rest : List ℕ) → line ≡ codes "r " ++ rest → ((it : List ℕ × List ℕ) → line ≡ ref_line it → RefMayFollow old.graph.format old.refs it → ⊥) → NeverComes order old line
     no_ref_comes rest is never (ref it) e may = never it e may.1
     no_ref_comes rest is never item e may = let h = ap told (sym is ∙ e) ∙ tagged item in absurd (omega (arith, h))
 
-  -- ---- a line that may come stands for one item
+  -- ---- uniqueness of the item of a line
 
   pub one_item : {A : Type 0} → (order other : Order) (old : Reading A) (a b : Item A) → MayCome order old a → MayCome other old b → line_of a ≡ line_of b → a ≡ b
   one_item order other old (begins f) (begins g) may there e = ap begins (formats_one f g e)
@@ -161,16 +161,16 @@ module _ (laws : TextLaws) where
   one_item order other old ends ends may there e = refl
   one_item order other old a b may there e = let h = sym (tagged a) ∙ ap told e ∙ tagged b in absurd (omega (arith, h))
 
-  -- ---- what taking a node answers
+  -- ---- the result of reading the line of a node
 
-  -- the id of a node's line is missing
+  -- the line of a node has no id
   pub no_node_id : {A : Type 0} (order : Order) (old : Reading A) (kind : Kind) (text : List ℕ) → old.stage ≡ Nodes → BeginsWithNoSpacedId old.graph.format text → NeverComes order old (letter kind ∷ text)
   no_node_id {A} order old kind text here none = no_node_comes order old (letter kind ∷ text) kind text refl never
     where
       never : (entry : Entry A) → letter kind ∷ text ≡ node_text entry → MayFollow order old.graph.format old.graph.entries entry → ⊥
       never entry e may = none entry.id (ids_text entry.node.parents) may.comes.ids.id (letters_one kind entry.node.kind text (ids_text (ids_of entry)) e).1
 
-  -- its parents are wrong
+  -- the ids of the parents on the line of a node are malformed
   pub no_node_parents : {A : Type 0} (order : Order) (old : Reading A) (kind : Kind) (text id after : List ℕ) → old.stage ≡ Nodes → text ≡ codes " " ++ (id_text id ++ after) → IsIdOf old.graph.format id → IsNoParents old.graph.format after → NeverComes order old (letter kind ∷ text)
   no_node_parents {A} order old kind text id after here is valid none = no_node_comes order old (letter kind ∷ text) kind text refl never
     where
@@ -204,9 +204,9 @@ module _ (laws : TextLaws) where
     node_stopped number (Err (faults.Text at)) valid facts = (facts.0, refused Any valid facts.1)
     node_stopped number (Err (faults.ParentLater at)) valid facts = (facts.0, facts.1, refused ParentsFirst valid facts.3, node this, node_line_is A kind text id after parents is are, (here, facts.2))
 
-  -- ---- what taking a ref answers
+  -- ---- the result of reading the line of a ref
 
-  -- the id of a ref's line is missing, or the space after it
+  -- the line of a ref has no id, or no space after the id
   pub no_ref_parts : {A : Type 0} (order : Order) (old : Reading A) (line text : List ℕ) → RefMayCome old.stage → line ≡ codes "r " ++ text → BeginsWithNoRefId old.graph.format text → NeverComes order old line
   no_ref_parts order old line text due is none = no_ref_comes order old line text is (λ it e may.
       none it.1 it.0 may.id (append_cancel_left (codes "r ") text (id_text it.1 ++ (codes " " ++ it.0)) (sym is ∙ e)))

@@ -1,4 +1,4 @@
--- Writing a text, one line more, and the first id of another format.
+-- Writing a text line by line, and the first id of another format.
 use Rattle.std.proofs.Common.{◌≡◌, ℕ, ◌+◌, ◌<◌, List, [], ◌∷◌, ◌++◌, length, get_or, slice_get, take, drop, map, All, Option, Some, None, MatchOption, codes, refl, sym, ◌∙◌, ap, subst, arith}
 use Rattle.std.proofs.lemmas.List.{append_assoc, map-append, map_push, take_more, take-append-drop}
 use Rattle.std.proofs.lemmas.List.Elements.{All-append, All-cons, All-nil, All-push}
@@ -20,16 +20,16 @@ lines_more f old xs x =
     append_assoc old (text_of (map f xs)) (line (f x))
     ∙ ap (λ (t : List ℕ). old ++ t) (sym (ap text_of (map_push f xs x) ∙ text_of-push (map f xs) (f x)))
 
--- the item that a loop is at is the next of those after it
+-- the elements before position `i` and the element at this position are the first `i + 1` elements
 pub next_seen : {X : Type 0} (xs : List X) (i : ℕ) (x : X) → i < length xs → x ≡ get_or xs i x → take i xs ++ x ∷ [] ≡ take (i + 1) xs
 next_seen {X} xs i x lt is = ap (λ (y : X). take i xs ++ y ∷ []) is ∙ sym (take_more xs i x lt)
 
--- an entry at a position within a list
+-- the element at a position inside a list
 entry_at : {X : Type 0} (xs : List X) (i : ℕ) → i < length xs → (x : X) × (slice_get xs i ≡ Some x) × (take i xs ++ x ∷ [] ≡ take (i + 1) xs)
 entry_at [] i lt = absurd (grind (arith, lt))
 entry_at (x ∷ xs) i lt = (get_or (x ∷ xs) i x, slice_get-get_or (x ∷ xs) i x lt, sym (take_more (x ∷ xs) i x lt))
 
--- the line of an entry more
+-- appending the line of one more entry
 pub nodes_more : {A : Type 0} (entries : List (Entry A)) (place : ℕ) → place < length entries → (first old new : List ℕ) → old ≡ first ++ text_of (map node_text (take place entries)) → ((entry : Entry A) → slice_get entries place ≡ Some entry → new ≡ old ++ line (node_text entry)) → new ≡ first ++ text_of (map node_text (take (place + 1) entries))
 nodes_more {A} entries place inside first old new so_far put =
     let at = entry_at entries place inside in
@@ -38,7 +38,7 @@ nodes_more {A} entries place inside first old new so_far put =
     ∙ lines_more node_text first (take place entries) at.0
     ∙ ap (λ (es : List (Entry A)). first ++ text_of (map node_text es)) at.2
 
--- the parts of a repository, put one after the other, are its text
+-- the lines of a repository, appended one after another, are its text
 pub whole_text : {A : Type 0} (g : History A) (refs : RefList) (head : Head A) → (((line (first_line g.format) ++ text_of (map node_text g.entries)) ++ text_of (map ref_line refs)) ++ line (head_line head)) ++ codes "end\n" ≡ repository_text g refs head
 whole_text {A} g refs head =
     let first = line (first_line g.format) in
@@ -55,7 +55,7 @@ whole_text {A} g refs head =
 
 -- ---- the first id of another format
 
--- each ref up to a position, and the one at it, stand at ids of the format
+-- if the ids of the first `i` refs and of the next ref have the format, the ids of the first `i + 1` refs have it
 pub ids_push : (format : Format) (refs : RefList) (i : ℕ) (ref : List ℕ × List ℕ) → i < length refs → ref ≡ get_or refs i ref → All (IsIdOf format) (ref_ids (take i refs)) → IsIdOf format ref.1 → All (IsIdOf format) (ref_ids (take (i + 1) refs))
 ids_push format refs i ref lt is all this =
     subst (λ (rs : RefList). All (IsIdOf format) (ref_ids rs)) (next_seen refs i ref lt is)
@@ -77,7 +77,7 @@ first_ref format refs i ref lt is all other =
       other = other;
     }
 
--- one among the refs is the first
+-- the first id of another format among the refs is the first among all ids
 pub other_in_refs : {A : Type 0} (format : Format) (refs : RefList) (head : Head A) (id : List ℕ) → IsFirstOther format (ref_ids refs) id → IsFirstOther format (named_ids refs head) id
 other_in_refs format refs head id first = record {
   front = first.front;
@@ -87,7 +87,7 @@ other_in_refs format refs head id first = record {
   other = first.other;
 }
 
--- where there is none among the refs, HEAD's is
+-- if the ids of all refs have the format, the id of a detached HEAD with another format is the first such id
 pub other_in_head : {A : Type 0} (format : Format) (refs : RefList) (head : Head A) (id : List ℕ) → All (IsIdOf format) (ref_ids refs) → IsFirstOther format (head_ids head) id → IsFirstOther format (named_ids refs head) id
 other_in_head format refs head id all first = record {
   front = ref_ids refs ++ first.front;
@@ -101,7 +101,7 @@ pub other_in_head_result : {A : Type 0} (format : Format) (refs : RefList) (head
 other_in_head_result format refs head None all here = All-append (IsIdOf format) (ref_ids refs) (head_ids head) all here
 other_in_head_result format refs head (Some id) all here = other_in_head format refs head id all here
 
--- the one id that HEAD stands at
+-- an id of another format is the first such id in a list that contains only this id
 pub head_is_other : (format : Format) (id : List ℕ) → (IsIdOf format id → ⊥) → IsFirstOther format (id ∷ []) id
 head_is_other format id other = record { front = []; rest = []; parts = refl; before = All-nil (IsIdOf format); other = other }
 

@@ -1,4 +1,4 @@
--- Where a text is refused, and that no text of a repository is.
+-- The line at which a text is refused. The text of a valid repository is not refused.
 use Rattle.std.proofs.Common.{◌≡◌, inl, inr, ℕ, ◌+◌, List, [], ◌∷◌, ◌++◌, length, map, Ok, Err, refl, sym, ◌∙◌, ap, subst}
 use Rattle.std.proofs.lemmas.List.{append_assoc, length-map, map_push}
 use Rattle.grefs.specs.RefLists.{RefList}
@@ -37,7 +37,7 @@ module _ (laws : TextLaws) where
   -- ---- the next line
 
   module _ {A : Type 0} (order : Order) (items : List (Item A)) (old : Reading A) (reads : ReadsTo order nothing_read items old) where
-    -- a line that may not come is no next line
+    -- no text begins with the lines that were read and a line that is not allowed next
     begins_not : (other : Order) (line : List ℕ) → NeverComes other old line → BeginsText A other (map line_of items ++ line ∷ []) → ⊥
     begins_not other line never more =
         let parts : map line_of items ++ line ∷ more.more ≡ map line_of (whole_items laws more.graph more.refs more.head) =
@@ -45,19 +45,20 @@ module _ (laws : TextLaws) where
         let next = next_item laws order other nothing_read old (whole_reading laws more.graph more.refs more.head) items (whole_items laws more.graph more.refs more.head) line more.more reads (reads_whole laws other more.graph more.refs more.head more.loadable) parts in
         never next.0 next.1 next.2
 
-    -- one that may is, in each order in which the lines before it are read
+    -- some text begins with the lines that were read and a line that is allowed next, in each order that allows these
+    -- lines
     begins_with : (other : Order) (line : List ℕ) (item : Item A) → ReadsTo other nothing_read items old → line ≡ line_of item → MayCome other old item → BeginsText A other (map line_of items ++ line ∷ [])
     begins_with other line item there is may =
         let longer = reads_more other nothing_read old (after old item) items item there may refl in
         subst (BeginsText A other) (map_push line_of items item ∙ ap (λ (l : List ℕ). map line_of items ++ l ∷ []) (sym is)) (begins_so_far other (items ++ item ∷ []) (after old item) longer)
 
-    -- before the last line, the lines are not all
+    -- before the last line is read, the lines are not a complete text
     whole_not : (old.stage ≡ Done → ⊥) → IsWholeText A order (map line_of items) → ⊥
     whole_not early all =
         let same = same_reading laws order order nothing_read old (whole_reading laws all.graph all.refs all.head) items (whole_items laws all.graph all.refs all.head) reads (reads_whole laws order all.graph all.refs all.head all.loadable) (sym all.parts ∙ sym (lines_whole laws all.graph all.refs all.head)) in
         early (ap (λ (r : Reading A). r.stage) same)
 
-  -- ---- what is reported
+  -- ---- the fault that is reported
 
   goes_on : {A : Type 0} (order : Order) (text rest this after_it : List ℕ) (items : List (Item A)) (old : Reading A) → HasRead order text items rest old → rest ≡ line this ++ after_it → IsInLine this → GoesOn text (map line_of items) this
   goes_on order text rest this after_it items old so_far next clean = (
@@ -116,7 +117,7 @@ module _ (laws : TextLaws) where
     inr (rest, so_far.spells, clean, λ none. whole_not order items old so_far.reads (early none)),
   )
 
-  -- ---- no text of a repository is refused
+  -- ---- the text of a valid repository
 
   pub lines_begun : {A : Type 0} (order : Order) (lines : List (List ℕ)) → BeginsText A order lines → AreLines lines
   lines_begun order lines more = front_lines lines more.more (subst AreLines more.parts (lines_are_lines laws order more.graph more.refs more.head more.loadable))
@@ -152,7 +153,7 @@ module _ (laws : TextLaws) where
     not_stopped (faults.ParentLater at) (first, (lines, counted, begun, (line, goes, never, may))) =
         absurd (never (subst (λ (o : Order). BeginsText A o (lines ++ line ∷ [])) first (goes_on_begins lines line begun goes)))
 
-  -- a text of a repository is loaded as that repository, or out of memory
+  -- if loading the text of a valid repository fails, the fault is `Memory`
   pub accepts_err : {A : Type 0} (order : Order) (text : List ℕ) (fault : LoadFault) → StopsAt A order text fault → AcceptsText A order text (Err fault)
   accepts_err order text fault stops g refs head valid e = not_stopped order text g refs head valid e fault stops
 

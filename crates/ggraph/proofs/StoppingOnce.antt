@@ -12,12 +12,12 @@ use Rattle.ggraph.proofs.Lines.{AreLines, IsLine, back_lines, line_from, not_a_l
 use Rattle.ggraph.proofs.LoadLemmas.{text_of-push}
 use Rattle.ggraph.proofs.Stopping.{lines_begun, loadable_in_any}
 
--- the line after some lines, which go on in the other list
+-- the list `lines` begins with `front` and one more line, and the text `rest` begins with this line
 abbrev Extends : List (List ℕ) → List ℕ → List (List ℕ) → Type 0
 Extends front rest lines =
     (this : List ℕ) × (more : List (List ℕ)) × (after : List ℕ) × (lines ≡ front ++ this ∷ more) × (rest ≡ line this ++ after)
 
--- of two lists of lines at the front of a text, they are one, or one goes on with the line that follows the other
+-- if a text begins with two lists of lines, they are equal, or one continues with the next line after the other
 lines_meet : (lines others : List (List ℕ)) (x y : List ℕ) → AreLines lines → AreLines others
     → text_of lines ++ x ≡ text_of others ++ y → (lines ≡ others) ⊎ Extends lines x others ⊎ Extends others y lines
 lines_meet [] [] x y here there same = inl refl
@@ -35,7 +35,7 @@ lines_meet (first ∷ lines) (second ∷ others) x y here there same =
       | inr (inr h) ↦ inr (inr (h.0, h.1, h.2, ap (λ (l : List ℕ). l ∷ lines) parts.0 ∙ ap (λ (ls : List (List ℕ)). second ∷ ls) h.3, h.4))
     ]
 
--- the line that a text goes on with, and what follows it
+-- a text consists of the lines, the next line and the rest
 goes_rest : (text : List ℕ) (lines : List (List ℕ)) (this : List ℕ) (goes : GoesOn text lines this) → text ≡ text_of lines ++ (line this ++ goes.0)
 goes_rest text lines this goes =
     goes.1 ∙ ap (λ (t : List ℕ). t ++ goes.0) (text_of-push lines this) ∙ append_assoc (text_of lines) (line this) goes.0
@@ -54,7 +54,8 @@ module _ (laws : TextLaws) where
     parts = h.parts;
   }
 
-  -- reading stops after these lines: they begin a text, and no line that follows them does with them
+  -- reading stops after `lines`: some text begins with these lines, but no text begins with these lines and the next
+  -- line
   record Stops (A : Type 0) (order : Order) (text : List ℕ) (lines : List (List ℕ)) : Type 0 where
     rest : List ℕ
     parts : text ≡ text_of lines ++ rest
@@ -62,7 +63,7 @@ module _ (laws : TextLaws) where
     never : (this more : List ℕ) → IsLine this → rest ≡ line this ++ more → BeginsText A order (lines ++ this ∷ []) → ⊥
 
   module _ (A : Type 0) (order : Order) (text : List ℕ) where
-    -- at a line with which they begin none
+    -- reading stops before a line if no text begins with the lines and this line
     stops_line : (lines : List (List ℕ)) (this : List ℕ) → BeginsText A order lines → (goes : GoesOn text lines this)
         → (BeginsText A order (lines ++ this ∷ []) → ⊥) → Stops A order text lines
     stops_line lines this begun goes never =
@@ -74,7 +75,7 @@ module _ (laws : TextLaws) where
           never = λ other more clean same on. never (subst P (sym (one_line this other goes.0 more (line_from this goes.2) clean same).0) on);
         }
 
-    -- or where no line follows
+    -- reading stops if no further line follows
     stops_end : (lines : List (List ℕ)) → BeginsText A order lines → EndsEarly A order text lines → Stops A order text lines
     stops_end lines begun early = record {
       rest = early.0;
@@ -91,14 +92,14 @@ module _ (laws : TextLaws) where
     stops_later lines first begun later =
         stops_line lines later.0 begun later.1 (λ on. later.2 (subst (λ (o : Order). BeginsText A o (lines ++ later.0 ∷ [])) first on))
 
-    -- where reading stops, it does not go on
+    -- no text begins with the lines before the stop and the next line
     stops_here : (lines others : List (List ℕ)) (s : Stops A order text lines) → BeginsText A order others → Extends lines s.rest others → ⊥
     stops_here lines others s h on =
         let each = back_lines lines (on.0 ∷ on.1) (subst AreLines on.3 (lines_begun laws order others h)) in
         let same : others ++ h.more ≡ (lines ++ on.0 ∷ []) ++ (on.1 ++ h.more) = ap (λ (ls : List (List ℕ)). ls ++ h.more) on.3 ∙ simp append_assoc in
         s.never on.0 on.2 each.0 on.4 (record { graph = h.graph; refs = h.refs; head = h.head; loadable = h.loadable; more = on.1 ++ h.more; parts = h.parts ∙ same })
 
-    -- so it stops after one list of lines
+    -- reading stops after at most one list of lines
     one_place : (lines others : List (List ℕ)) → Stops A order text lines → Stops A order text others → lines ≡ others
     one_place lines others s t =
         elim (lines_meet lines others s.rest t.rest (lines_begun laws order lines s.begins) (lines_begun laws order others t.begins) (sym s.parts ∙ t.parts)) [
@@ -107,7 +108,7 @@ module _ (laws : TextLaws) where
           | inr (inr on) ↦ absurd (stops_here others lines t s.begins on)
         ]
 
-    -- a line that only an order refuses is not one that no order allows
+    -- a line that is wrong only because of a later parent is not wrong for another reason
     one_reason : (lines : List (List ℕ)) → IsWrongLine A text lines ⊎ EndsEarly A order text lines → NamesLaterParent A text lines → ⊥
     one_reason lines (inl wrong) later =
         let P : List ℕ → Type 0 = λ l. BeginsText A Any (lines ++ l ∷ []) in

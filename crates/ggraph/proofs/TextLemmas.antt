@@ -21,13 +21,13 @@ ids_text-append (id ∷ ids) more =
     ap (λ (t : List ℕ). 32 ∷ id_text id ++ t) (ids_text-append ids more)
     ∙ ap (λ (t : List ℕ). 32 ∷ t) (sym (append_assoc (id_text id) (ids_text ids) (ids_text more)))
 
--- a list of ids that the text is has these ids first, and the rest is those after them
+-- if the text is a list of ids, the text `rest` is the list of the ids after `ids`
 abbrev pub IsLeft : Format → List ℕ → List (List ℕ) → List ℕ → Type 0
 IsLeft format text ids rest =
     (all : List (List ℕ)) → All (IsIdOf format) all → text ≡ ids_text all →
     (more : List (List ℕ)) × All (IsIdOf format) more × (rest ≡ ids_text more) × (length all ≡ length ids + length more)
 
--- what is read so far and what is left
+-- the ids that were read so far, and the unread text
 pub record IdsSoFar (format : Format) (text : List ℕ) (ids : List (List ℕ)) (rest : List ℕ) : Type 0 where
   pub reads : text ≡ ids_text ids ++ rest
   pub valid : All (IsIdOf format) ids
@@ -54,19 +54,19 @@ module _ (laws : TextLaws) (format : Format) where
   id_drop : (id rest : List ℕ) → IsIdOf format id → drop (id_text_length format) (id_text id ++ rest) ≡ rest
   id_drop id rest valid = subst (λ n. drop n (id_text id ++ rest) ≡ rest) (length-id_text id valid) (drop-append_seam (id_text id) rest)
 
-  -- a text is of one id
+  -- a text is the text of at most one id
   pub one_id : (a b : List ℕ) → IsIdOf format a → IsIdOf format b → id_text a ≡ id_text b → a ≡ b
   one_id a b va vb same =
       laws.one_id (id_text a) a b (is_text (id_text a) a va (id_spells a va)) (is_text (id_text a) b vb (subst (λ (t : List ℕ). IsIdTextOf format t b) (sym same) (id_spells b vb)))
 
-  -- an id at the front, and what follows it, are one
+  -- the id at the beginning of a text, and the text after the id, are unique
   pub one_front : (a b r s : List ℕ) → IsIdOf format a → IsIdOf format b → id_text a ++ r ≡ id_text b ++ s → (a ≡ b) × (r ≡ s)
   one_front a b r s va vb same = (
     one_id a b va vb (sym (id_take a r va) ∙ ap (take (id_text_length format)) same ∙ id_take b s vb),
     sym (id_drop a r va) ∙ ap (drop (id_text_length format)) same ∙ id_drop b s vb,
   )
 
-  -- ---- where there is no id
+  -- ---- texts that do not begin with an id
 
   pub no_id_short : (text : List ℕ) → length text < id_text_length format → BeginsWithNoId format text
   no_id_short text short id rest valid e = omega (arith, ap length e, length-append (id_text id) rest, length-id_text id valid)
@@ -130,7 +130,7 @@ module _ (laws : TextLaws) (format : Format) where
       let step = left_step rest id after valid e before.0 before.1 before.2 in
       omega (arith, before.3, step.3, connected, few)
 
-  -- ---- lines of which a part is missing
+  -- ---- lines with a missing part
 
   pub no_ref_space : (text after id : List ℕ) → text ≡ id_text id ++ after → IsIdOf format id → ((rest : List ℕ) → after ≢ codes " " ++ rest) → BeginsWithNoRefId format text
   no_ref_space text after id e valid none other rest ok same = none rest (one_front id other after (codes " " ++ rest) valid ok (sym e ∙ same)).1

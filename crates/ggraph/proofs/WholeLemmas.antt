@@ -1,4 +1,4 @@
--- What the items of a whole text are: the lines of a repository.
+-- The items of a complete text are the lines of a repository.
 use Rattle.std.proofs.Common.{◌≡◌, inl, inr, ℕ, List, [], ◌∷◌, ◌++◌, map, refl, sym, ◌∙◌, ap, subst}
 use Rattle.std.proofs.lemmas.List.{append_assoc, append-nil, map_push}
 use Rattle.gname.specs.declared.formats.Format.{Format}
@@ -18,7 +18,7 @@ use Rattle.ggraph.specs.steps.Reading.{Item, MayCome, RefMayCome, after, begins,
 use Rattle.ggraph.specs.steps.Reading.{nothing_read, ref}
 use Rattle.ggraph.proofs.LoadLemmas.{HasRead, ReadsTo, items_text}
 
--- ---- each element after those before it
+-- ---- elements and the elements before them
 
 each_none : {X : Type 0} (P : List X → X → Type 0) → EachFollows P []
 each_none P [] x back e = cc
@@ -35,9 +35,9 @@ each_push {X} P (first ∷ xs) last each this (y ∷ ys) x back e =
     let later = each_push (λ front z. P (first ∷ front) z) xs last (λ front z rest h. each (first ∷ front) z rest (ap (λ (zs : List X). first ∷ zs) h)) this ys x back rest in
     subst (λ (z : X). P (z ∷ ys) x) same later
 
--- ---- the lines so far
+-- ---- the lines that were read
 
--- the lines of nodes and of refs
+-- the first line, the lines of nodes and refs, and the lines `more`
 abbrev begun : {A : Type 0} → Reading A → List (List ℕ) → List (List ℕ)
 begun r more = first_line r.graph.format ∷ (map node_text r.graph.entries ++ (map ref_line r.refs ++ more))
 
@@ -53,7 +53,7 @@ record IsFine {A : Type 0} (order : Order) (r : Reading A) (lines : List (List �
   valid : IsLoadable order r.graph r.refs r.head
 
 module _ {A : Type 0} (order : Order) (r : Reading A) (lines : List (List ℕ)) where
-  -- the lines of nodes and refs, at either stage where a ref may come
+  -- the lines that were read, at either stage at which the line of a ref is allowed
   so_far : RefMayCome r.stage → ShapeAt r.stage r lines → lines ≡ first_line r.graph.format ∷ (map node_text r.graph.entries ++ map ref_line r.refs)
   so_far (inl here) shape =
       let at_nodes = subst (λ (s : TextStage). ShapeAt s r lines) here shape in
@@ -88,7 +88,7 @@ module _ {A : Type 0} (order : Order) (r : Reading A) (lines : List (List ℕ)) 
       ∙ ap (λ (ls : List (List ℕ)). first_line r.graph.format ∷ ls) (append_assoc (map node_text r.graph.entries) (map ref_line r.refs ++ head_line r.head ∷ []) (last_line ∷ []))
       ∙ ap (λ (ls : List (List ℕ)). first_line r.graph.format ∷ (map node_text r.graph.entries ++ ls)) (append_assoc (map ref_line r.refs) (head_line r.head ∷ []) (last_line ∷ []))
 
-  -- nothing is read yet, and so nothing is wrong in any format
+  -- before the first line is read, the contents are valid in each format
   fine_in : (format : Format) → r ≡ nothing_read → IsLoadable order (record { format = format; entries = [] }) r.refs r.head
   fine_in format none = record {
     nodes = each_none (MayFollow order format);
@@ -115,13 +115,13 @@ reads_fine {A} order old new (item ∷ items) lines fine reads =
 begin_fine : {A : Type 0} (order : Order) → IsFine {A = A} order nothing_read []
 begin_fine {A} order = record { shape = (refl, refl); valid = fine_in order nothing_read [] Sha1 refl }
 
--- a text that was read to its end is the text of what was read
+-- a text that was read to its end is the text of the repository that was read
 pub whole_read : {A : Type 0} (order : Order) (text : List ℕ) (items : List (Item A)) (g : History A) (refs : RefList) (head : Head A) → HasRead order text items [] (record { stage = Done; graph = g; refs = refs; head = head }) → (text ≡ repository_text g refs head) × IsLoadable order g refs head
 whole_read {A} order text items g refs head all =
     let fine = reads_fine order nothing_read (record { stage = Done; graph = g; refs = refs; head = head }) items [] (begin_fine order) all.reads in
     (all.spells ∙ append-nil (items_text items) ∙ ap text_of fine.shape, fine.valid)
 
--- ---- what is read so far begins a text
+-- ---- texts that begin with the lines that were read
 
 at_begin : {A : Type 0} (order : Order) (lines : List (List ℕ)) → lines ≡ [] → BeginsText A order lines
 at_begin {A} order lines none =
@@ -135,7 +135,7 @@ at_begin {A} order lines none =
       parts = ap (λ (ls : List (List ℕ)). ls ++ lines_of first.graph [] first.head) (sym none);
     }
 
--- HEAD may stand at nothing, and then all lines but the last two are those of nodes and refs
+-- the lines of nodes and refs are the beginning of a text without HEAD, which ends with two more lines
 at_refs : {A : Type 0} (order : Order) (r : Reading A) (lines : List (List ℕ)) → lines ≡ first_line r.graph.format ∷ (map node_text r.graph.entries ++ map ref_line r.refs) → IsLoadable order r.graph r.refs r.head → BeginsText A order lines
 at_refs {A} order r lines shape valid =
     let ending = head_line {A = A} None ∷ last_line ∷ [] in

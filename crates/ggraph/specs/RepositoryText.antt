@@ -70,7 +70,7 @@ pub record RefMayFollow (format : Format) (refs : RefList) (ref : Name × Id) : 
   pub comes : NameMayComeNext refs ref.0
   pub id : IsIdOf format ref.1
 
--- P holds for each element of the list, together with the elements before it
+-- P holds for each element of the list, with the list of the elements before it as the first argument
 abbrev pub EachFollows : {X : Type 0} → (List X → X → Type 0) → List X → Type 0
 EachFollows {X} P xs = (front : List X) (x : X) (rest : List X) → xs ≡ front ++ x ∷ rest → P front x
 

@@ -1,4 +1,4 @@
--- Facts on advertisements: what is kept of the packets, and what may be added.
+-- Facts about advertisements: the state of a reader after some packets, and capabilities that can be added.
 use Rattle.std.proofs.Common.{◌≡◌, ℕ, ◌+◌, ◌<◌, ◌≤◌, Bool, true, false, not, ◌&&◌, if◌then◌else◌, ◌==◌, nat_le, nat_lt, Bor, map, List, [], ◌∷◌, ◌++◌, length, drop, get_or, ◌⊎◌, inl, inr, Option, Some, None, Result, Ok, Err, refl, sym, ap, subst, ◌∙◌, append-nil, arith}
 use Rattle.std.specs.Prelude.{IfSome, IsTrue, ⊤}
 use Rattle.std.specs.List.{list_all}
@@ -77,12 +77,12 @@ value_is : (value : Option (List ℕ)) → IfSome value (λ bytes. IsTrue (is_va
 value_is None h = refl
 value_is (Some value) h = h
 
--- a capability that is read has its form
+-- a capability that is read from a text is well-formed
 pub capability_of_form : CapabilityIsItsText → (line : List ℕ) (capability : Capability) → capability_of line ≡ Some capability → is_capability capability ≡ true
 capability_of_form texts line capability e =
     let form = ((texts line capability).0 e).1 in rw (form.key, value_is capability.value form.value) refl
 
--- with room for it, a capability goes on; the reason that it is not added is the reason that it is refused
+-- the reason that a well-formed capability is not added is a reason to reject its packet
 not_added : (room : Bool) (reason : Why) → IsBuildReason true room reason → IsReason (if_room room) true reason
 not_added room why.BadText h = absurd cc
 not_added room why.Limit h = rw h.1 refl
@@ -95,13 +95,13 @@ capability_is_not_added texts line capability capabilities reason is h =
     subst (λ (o : Option Capability). IsReason (judge_capability (length capabilities) o) true reason) (sym is)
     (not_added (has_room capabilities) reason (subst (λ (form : Bool). IsBuildReason form (has_room capabilities) reason) (capability_of_form texts line capability is) h))
 
--- the packets of the capabilities from a position on
+-- the packets of the capabilities from position `at` on: the packet of the capability `found`, then the rest
 pub packets_from : (capabilities : List Capability) (at : ℕ) (found : Capability) → at < length capabilities → found ≡ get_or capabilities at found
     → map capability_packet (drop at capabilities) ≡ capability_packet found ∷ [] ++ map capability_packet (drop (at + 1) capabilities)
 packets_from capabilities at found inside is =
     ap (map capability_packet) (drop_more capabilities at found inside ∙ ap (λ (x : Capability). x ∷ drop (at + 1) capabilities) (sym is))
 
--- ---- what is kept of the packets
+-- ---- the state of a reader after some packets
 
 capabilities_in-push : (has : Bool) (texts : List (List ℕ)) (payload : List ℕ) → not has ≡ (length texts == 0)
     → capabilities_in (texts ++ text payload ∷ []) ≡ capabilities_in texts ++ added_by has (Data payload)
@@ -118,7 +118,7 @@ same_brings : (has : Bool) (count : ℕ) → not has ≡ (count == 0) → nat_lt
 same_brings true count e = grind (arith, nat_tests)
 same_brings false count e = grind (arith, nat_tests)
 
--- the judge of the packets judges by what is kept of them
+-- the verdict on a packet depends on the packets before it only through the state of the reader
 pub judge_kept : (front : List Packet) (has : Bool) (capabilities : List Capability) (packet : Packet) → IsKept front has capabilities → judge front packet ≡ judge_after has capabilities packet
 unfolding judge_at
 judge_kept front has capabilities (Data payload) kept =
@@ -151,7 +151,7 @@ IsKept-push law front true capabilities Flush new_has new_capabilities kept take
 IsKept-push law front has capabilities packet new_has new_capabilities kept (inl e) is_new adds = absurd cc
 IsKept-push law front has capabilities packet new_has new_capabilities kept (inr e) is_new adds = absurd cc
 
--- ---- taking a packet
+-- ---- accepting a packet
 
 pub error_is_taken : (has : Bool) (capabilities : List Capability) (payload said : List ℕ) (brought : Bool) → peer_error payload ≡ Some said
     → IsReason (judge_after has capabilities (Data payload)) brought (why.RemoteErr (kept_text said))

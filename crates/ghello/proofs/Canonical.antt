@@ -1,4 +1,4 @@
--- What is written says its value, and each payload fits a packet.
+-- The packets that are written for a value encode the value, and each payload fits into a packet.
 use Rattle.std.proofs.Common.{◌≡◌, ℕ, ◌+◌, ◌≤◌, List, [], ◌∷◌, ◌++◌, map, length, Option, Some, None, refl, sym, ap, subst, ◌∙◌, arith}
 use Rattle.std.specs.Prelude.{All, IfSome}
 use Rattle.std.proofs.lemmas.List.{length_push, length-append}

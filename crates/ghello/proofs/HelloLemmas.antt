@@ -1,4 +1,4 @@
--- Facts on hellos: the parts of a payload, and what the judge's lists are.
+-- Facts about hellos: the parts of a payload, and the lists of packets that the judge accepts.
 use Rattle.std.proofs.Common.{◌≡◌, ℕ, ◌+◌, ◌<◌, ◌≤◌, Bool, true, false, ◌&&◌, nat_eq, nat_le, ◌^◌, List, [], ◌∷◌, ◌++◌, length, take, drop, codes, position, Option, Some, None, Result, Ok, Err, refl, sym, ap, subst, ◌∙◌, append_assoc, arith}
 use Rattle.std.specs.List.{All, list_all, slice_split, starts_with, join_with_byte, position_or_len}
 use Rattle.std.specs.Prelude.{⊤}
@@ -52,7 +52,7 @@ cut_nowhere text e =
     let past : length text ≤ position_or_len is_nul text = grind (arith, common_steps) in
     slice_split_none is_nul text (λ k d within. fails_before_first is_nul text k d (omega arith))
 
--- ---- what the parts say
+-- ---- the hello that the parts of a payload encode
 
 with_says : (path host : Option (List ℕ)) (hello : Hello) → hello_with path host ≡ Some hello → (path ≡ Some hello.path) × (host ≡ Some hello.host) × IsHello hello
 with_says None host hello e = absurd cc
@@ -63,7 +63,7 @@ with_says (Some path) (Some host) hello e =
     let forms = and_parts (is_path path) (is_host host) h.0 in
     (ap (λ (x : Hello). Some x.path) same, ap (λ (x : Hello). Some x.host) same, subst IsHello same (record { path = forms.0; host = forms.1 }))
 
--- two ways to put a payload together
+-- the payload with its parts and NULs appended in sequence, in two equal forms
 pub joined : (command host_word host version end : List ℕ)
     → command ++ nul ++ host_word ++ host ++ nul ++ nul ++ version ++ end ≡ command ++ 0 ∷ (host_word ++ host ++ 0 ∷ 0 ∷ (version ++ end))
 joined command host_word host version end = simp append_assoc
@@ -80,7 +80,7 @@ parts_say (command ∷ host ∷ [] ∷ version ∷ [] ∷ []) hello e =
     )
 parts_say parts hello e = absurd cc
 
--- a payload that says a hello is the one written of it
+-- a payload that is parsed as a hello is the payload that is written for this hello
 pub hello_is_said : (payload : List ℕ) (hello : Hello) → hello_of payload ≡ Some hello → Says (Data payload ∷ []) hello
 unfolding hello_of canonical_hello
 hello_is_said payload hello e =
@@ -88,7 +88,7 @@ hello_is_said payload hello e =
     let same : payload ≡ hello_payload hello = sym (join_with_byte-slice_split 0 payload) ∙ h.1 in
     record { form = h.0; line = ap (λ (xs : List ℕ). Data xs ∷ []) same }
 
--- more parts than five say nothing
+-- more than five parts encode no hello
 hello_of_rest : (command host nothing version end : List ℕ) (parts : List (List ℕ)) → 0 < length parts
     → hello_of_parts (command ∷ host ∷ nothing ∷ version ∷ end ∷ parts) ≡ None
 hello_of_rest command host [] version [] [] some = absurd (omega (arith, some))
@@ -104,7 +104,7 @@ too_many_parts payload command after_command host after_host nothing after_nothi
     sym (ap hello_of_parts (a ∙ ap (λ (xs : List (List ℕ)). command ∷ xs) (b ∙ ap (λ (xs : List (List ℕ)). host ∷ xs) (c ∙ ap (λ (xs : List (List ℕ)). nothing ∷ xs) (d ∙ ap (λ (xs : List (List ℕ)). version ∷ xs) e))))
     ∙ hello_of_rest command host nothing version end (slice_split is_nul after_end) some)
 
--- ---- the other way round
+-- ---- parsing the payload of a hello
 
 printable_not_nul : (byte : ℕ) → is_printable byte ≡ true → is_nul byte ≡ false
 printable_not_nul byte h = grind (arith, nat_tests, common_steps)
@@ -152,14 +152,14 @@ line_is_said hello form =
     ∙ (ap (λ (host : Option (List ℕ)). hello_with (Some hello.path) host) (word_follows (codes "host=") hello.host)
     ∙ cond-true (is_hello hello) (Some hello) None forms))
 
--- the payload of a hello says it
+-- the payload of a hello is parsed as this hello
 pub said_is_hello : (payload : List ℕ) (hello : Hello) → Says (Data payload ∷ []) hello → hello_of payload ≡ Some hello
 unfolding canonical_hello
 said_is_hello payload hello says =
     let same : payload ≡ hello_payload hello = (let line = says.line in cc) in
     ap hello_of same ∙ line_is_said hello says.form
 
--- and no other hello
+-- a list of packets encodes at most one hello
 pub one_hello : OneMeaning Says
 unfolding canonical_hello
 one_hello packets said other says also =
@@ -167,7 +167,7 @@ one_hello packets said other says also =
     let both : Some said ≡ Some other = sym (line_is_said said says.form) ∙ (ap hello_of (sym same) ∙ line_is_said other also.form) in
     cc
 
--- ---- the judge's lists
+-- ---- the lists of packets that the judge accepts
 
 payload_never_open : (said : Option Hello) → judge_payload said ≡ Open → ⊥
 payload_never_open None e = cc
@@ -177,7 +177,7 @@ whole_payload : (said : Option Hello) → judge_payload said ≡ Whole → (hell
 whole_payload None e = absurd cc
 whole_payload (Some hello) e = (hello, refl)
 
--- no packet goes on with a hello
+-- the verdict on a packet of a hello is never `Open`
 pub never_open : (packets : List Packet) (packet : Packet) → judge packets packet ≡ Open → ⊥
 never_open packets (Data payload) e = payload_never_open (hello_of payload) e
 never_open packets _ e = cc
@@ -189,7 +189,7 @@ open_is_empty (packet ∷ packets) opened = absurd (never_open [] packet (opened
 pub open_is_short : (packets : List Packet) → IsOpen judge packets → length packets < 2 ^ 60
 open_is_short packets opened = rw (open_is_empty packets opened) (omega arith)
 
--- the packet that completes a hello says one
+-- a packet that completes a hello encodes a hello
 pub whole_packet : (packets : List Packet) (packet : Packet) → judge packets packet ≡ Whole → (hello : Hello) × (hello_in (packet ∷ []) ≡ Some hello)
 whole_packet packets (Data payload) e = whole_payload (hello_of payload) e
 whole_packet packets _ e = absurd cc
@@ -200,12 +200,12 @@ whole_list packets whole =
     let h = whole_packet whole.front whole.last whole.ends in
     (h.0, ap hello_in same ∙ h.1)
 
--- what one packet says
+-- packets that are parsed as a hello encode this hello
 pub packet_says : (packets : List Packet) (hello : Hello) → hello_in packets ≡ Some hello → Says packets hello
 packet_says (Data payload ∷ []) hello e = hello_is_said payload hello e
 packet_says packets hello e = absurd cc
 
--- a list that says a hello is complete
+-- a list of packets that encodes a hello is complete
 pub said_is_whole : NothingIsOpen judge → (packets : List Packet) (hello : Hello) → Says packets hello → IsWhole judge packets
 unfolding canonical_hello
 said_is_whole nothing packets hello says = record {
@@ -222,7 +222,7 @@ hello_says_whole nothing packets = (
   (λ h. said_is_whole nothing packets h.0 h.1),
 )
 
--- ---- an ending
+-- ---- completing a hello
 
 sample : Hello
 sample = record { path = codes "/"; host = codes "h" }
@@ -240,7 +240,7 @@ hello_has_endings nothing packets opened = (
 
 -- ---- reading
 
--- what is taken by the verdict of a judge is taken by the judge
+-- `TakesAs` for the verdict of the judge implies `TakesPacket`, if `left` is true for the packets before this one
 TakesPacket-by_verdict : {M : Type 0} (judge : Judge) (brings : List Packet → Packet → Bool) (holds left : M → List Packet → Type 0)
     (front : List Packet) (packet : Packet) (new : M) (result : Result Step Why) → left new front
     → TakesAs (judge front packet) (brings front packet) (holds new (front ++ packet ∷ [])) result

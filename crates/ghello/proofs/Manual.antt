@@ -1,5 +1,5 @@
--- What an open list of an advertisement's packets is, and how it can end; and that the table of advertisements and the
--- manual's words have the same complete lists of packets.
+-- The form of an open list of an advertisement's packets, and how the list can be completed. The judge of
+-- advertisements and the manual accept the same complete lists of packets.
 use Rattle.std.proofs.Common.{◌≡◌, ℕ, ◌<◌, ◌≤◌, ◌^◌, ◌⊎◌, inl, inr, Bool, true, false, if◌then◌else◌, ◌==◌, nat_lt}
 use Rattle.std.proofs.Common.{List, [], ◌∷◌, ◌++◌, map, length, Option, Some, None, refl, sym, ap, subst, ◌∙◌}
 use Rattle.std.proofs.Common.{append-nil, append_assoc, arith, suc, ◌+◌, ◌&&◌, codes, take, drop, get_or, position}
@@ -24,7 +24,7 @@ use Rattle.std.proofs.lemmas.Bool.{and_parts, cond-true, lt-ltb}
 use Rattle.gpkt.specs.Laws.{TextOrLine}
 use Rattle.ggrammar.specs.Kinds.{AsInManual}
 
--- ---- what an open list is, once the version came
+-- ---- the form of an open list after the version line
 
 pub record HasBegun (front : List Packet) (capabilities : List Capability) : Type 0 where
   pub first : List ℕ
@@ -47,7 +47,7 @@ listed (payload ∷ payloads) (capability ∷ capabilities) e =
     let rest : map (λ line. capability_of (text line)) payloads ≡ map (λ other. Some other) capabilities = cc in
     rw first (ap (λ (xs : List Capability). capability ∷ xs) (listed payloads capabilities rest))
 
--- the texts and the capabilities of such a list
+-- the texts and the capabilities of an open list after the version line
 pub begun_texts : (front : List Packet) (capabilities : List Capability) (h : HasBegun front capabilities) → texts_of front ≡ text h.first ∷ map text h.payloads
 begun_texts front capabilities h = ap texts_of h.parts ∙ ap (λ (xs : List (List ℕ)). text h.first ∷ xs) (texts_of-data h.payloads)
 
@@ -57,7 +57,7 @@ begun_capabilities front capabilities h = ap capabilities_in (begun_texts front 
 not_first : {X Y : Type 0} (x : X) (xs : List X) (a b : Y) → (if length (x ∷ xs) == 0 then a else b) ≡ b
 not_first x xs a b = let other : (length (x ∷ xs) == 0) ≡ false = grind (arith, nat_tests) in rw other refl
 
--- a text in such a list
+-- the verdict on a data packet after the version line
 pub begun_judge : (front : List Packet) (capabilities : List Capability) (payload : List ℕ) → HasBegun front capabilities
     → judge front (Data payload) ≡ unless_error (peer_error payload) (judge_capability (length capabilities) (capability_of (text payload)))
 unfolding judge_at
@@ -159,9 +159,9 @@ ending laws front opened (inr h) = (Flush ∷ [], record { front = front; last =
 pub advert_has_endings : LawsOf judge → HasEndings judge
 advert_has_endings laws front opened = ending laws front opened (open_shape front opened)
 
--- ---- the table and the manual
+-- ---- the judge and the manual
 
--- ---- what the table accepts is in the manual
+-- ---- from the judge to the manual
 
 no_whole_version : (b : Bool) → (if b then Open else Refused why.BadText) ≡ Whole → ⊥
 no_whole_version true e = cc
@@ -200,7 +200,7 @@ said_is_advert more packets capabilities says =
       few = begun.few;
     })
 
--- ---- a packet that reports an error is neither the version nor a capability
+-- ---- packets that report an error: neither the version nor a capability
 
 cut_line : (line said : List ℕ) → codes "ERR " ++ said ≡ line ++ 10 ∷ [] → (rest : List ℕ) × (line ≡ codes "ERR " ++ rest)
 cut_line (a ∷ b ∷ c ∷ d ∷ rest) said e = (rest, cc)
@@ -239,7 +239,7 @@ capability_reports_none : TextOrLine → (payload : List ℕ) (said : Option (Li
 capability_reports_none law payload None capability is e = refl
 capability_reports_none law payload (Some said) capability is e = absurd (let h = error_text law payload said is in no_error_capability (text payload) h.0 capability h.1 e)
 
--- ---- what is in the manual the table accepts
+-- ---- from the manual to the judge
 
 module _ (law : TextOrLine) (more_texts : TextsOfMore) (laws : LawsOf judge) where
   version_goes : (payload : List ℕ) → text payload ≡ version → judge [] (Data payload) ≡ Open

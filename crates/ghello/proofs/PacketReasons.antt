@@ -1,4 +1,4 @@
--- Packets are refused for their own sake.
+-- Packets are rejected only because of their content.
 use Rattle.std.proofs.Common.{ℕ, ◌==◌, List, length, Option, Some, None}
 use Rattle.std.specs.Prelude.{nat_lt}
 use Rattle.std.specs.Str.{bytes_eq}

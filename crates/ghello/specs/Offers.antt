@@ -59,7 +59,7 @@ abbrev pub lacks_command : List Capability → Bool
 lacks_command capabilities =
     not (list_any (has_key (codes "ls-refs")) capabilities && list_any (has_key (codes "fetch")) capabilities)
 
--- the reason why a client with ids of this format can't use the server
+-- the reason why a client with ids of this format cannot use the server, or `None` if the client can use it
 abbrev pub check_fault : Format → List Capability → Option Why
 check_fault format capabilities =
     if lacks_command capabilities then Some UnknownCommand

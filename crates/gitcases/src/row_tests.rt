@@ -16,7 +16,7 @@ const BITS: [u8; 8] = [1, 2, 4, 8, 16, 32, 64, 128];
 // An upper bound on the number of allocations in a run.
 const MAX_REFUSED: u64 = 100_000;
 
-// The maximum number of calls after which the files are replaced.
+// An exclusive upper bound on the number of calls before the files are replaced.
 const MAX_CALLS: u64 = 60;
 
 /// Tests a row with each `Variation`.

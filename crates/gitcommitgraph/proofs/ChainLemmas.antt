@@ -1,4 +1,4 @@
--- Commits of files, and of files of a chain, by their positions.
+-- The commits of a file and of a chain of files, by their positions.
 use Rattle.std.proofs.Common.{◌≡◌, ◌≢◌, ℕ, ◌+◌, ◌<◌, ◌≤◌, List, [], ◌∷◌, ◌++◌, Option, Some, None, IfSome, IsSome, MatchOption, length, take, get_or, map, All, refl, sym, ap, subst, ◌∙◌, length-append, arith}
 use Rattle.std.specs.declared.vec.Vec.{Vec}
 use Rattle.std.proofs.lemmas.Grind.{flat_map-append}
@@ -19,7 +19,7 @@ use Rattle.gitcommitgraph.proofs.ParentLemmas.{commit_at, commits_before, length
 
 -- ---- one file
 
--- a place of an id is that of a commit
+-- the index of an id in the table of ids is the index of a commit of the file
 pub finds_in_file : (file : GraphFile) (id : Id) (result : Option ℕ) → IsGraphFile file → IsPlaceOf file.ids id result → FindsCommit (file_commits file) id result
 finds_in_file file id None formed none = λ k c inside same.
     let n = length-commits file.edges file.ids file.rows formed.each in
@@ -34,7 +34,7 @@ finds_in_file file id (Some place) formed found =
       λ c. ap (λ (c : Commit). c.id) (commit_at file.edges file.ids file.rows place c inside (omega (arith, each, inside))) ∙ found.1 [],
     )
 
--- the commit at a place
+-- the commit at an index of a file: the id and the parents of the row at this index
 pub at_place : (file : GraphFile) (place : ℕ) (c : Commit) → IsGraphFile file → place < length (file_commits file)
     → get_or (file_commits file) place c ≡ record { id = get_or file.ids place []; parents = row_parents file.edges (get_or file.rows place []) }
 at_place file place c formed inside =
@@ -42,7 +42,7 @@ at_place file place c formed inside =
     let each = formed.each in
     commit_at file.edges file.ids file.rows place c (omega (arith, n, inside)) (omega (arith, n, each, inside))
 
--- bytes of an id make an id
+-- twenty bytes can be converted to an id
 pub is_made : (bytes : List ℕ) (result : Option Id) → length bytes ≡ 20 → MatchOption result ((format : Format) → length bytes ≢ id_length format) (λ id. (id ≡ bytes) × IsId id) → IsSome result
 is_made bytes None long h = absurd (h Sha1 long)
 is_made bytes (Some id) long h = refl
@@ -59,7 +59,7 @@ above_more bases files place file low high is same so_far =
 -- ---- files of a chain
 
 module _ (files : List GraphFile) (i : ℕ) (file : GraphFile) (inside : i < length files) (is : file ≡ get_or files i file) where
-  -- the commits of one file more
+  -- the commits of one more file
   more : graph_commits (take (i + 1) files) ≡ graph_commits (take i files) ++ file_commits file
   more =
       ap graph_commits (take_more files i file inside) ∙ flat_map-append file_commits (take i files) (get_or files i file ∷ [])
@@ -68,7 +68,7 @@ module _ (files : List GraphFile) (i : ℕ) (file : GraphFile) (inside : i < len
   pub length-more : length (graph_commits (take (i + 1) files)) ≡ length (graph_commits (take i files)) + length (file_commits file)
   length-more = ap length more ∙ length-append (graph_commits (take i files)) (file_commits file)
 
-  -- they are no more than all
+  -- the first `i + 1` files have at most as many commits as all files
   pub length-le : length (graph_commits (take i files)) + length (file_commits file) ≤ length (graph_commits files)
   length-le =
       let all = length-flat_map-take file_commits files i file inside in
@@ -78,7 +78,7 @@ module _ (files : List GraphFile) (i : ℕ) (file : GraphFile) (inside : i < len
   pub all_more : (P : Commit → Type 0) → All P (graph_commits (take i files)) → All P (file_commits file) → All P (graph_commits (take (i + 1) files))
   all_more P before here = subst (All P) (sym more) (All-append P (graph_commits (take i files)) (file_commits file) before here)
 
-  -- a commit of the file is one of all
+  -- each commit of the file is a commit of the chain
   pub commit_in : (position place : ℕ) (c : Commit) → place < length (file_commits file) → position ≡ length (graph_commits (take i files)) + place
       → get_or (graph_commits files) position c ≡ get_or (file_commits file) place c
   commit_in position place c within at =
@@ -86,7 +86,7 @@ module _ (files : List GraphFile) (i : ℕ) (file : GraphFile) (inside : i < len
       ∙ get_or-flat_map file_commits files i place file c inside (subst (λ (f : GraphFile). place < length (file_commits f)) is within)
       ∙ ap (λ (f : GraphFile). get_or (file_commits f) place c) (sym is)
 
--- ---- a file more
+-- ---- one more file
 
 below_more : (n m : ℕ) → n ≤ m → (c : Commit) → HasParentsBelow n c → HasParentsBelow m c
 below_more n m low c h k d inside = let p = h k d inside in omega (arith, p, low)
@@ -125,7 +125,7 @@ module _ (old : List GraphFile) (file : GraphFile) (count new_count : ℕ) (grap
     within = subst (λ (n : List GraphFile). HasPositionsBefore (length (graph_commits n)) file) (sym after) (subst (λ n. HasPositionsBefore n file) count_is within);
   }
 
--- ---- what is known of all commits
+-- ---- properties of all commits
 
 ids_long : (edges : List (List ℕ)) (ids : List Id) (rows : List (List ℕ)) → AreLong 20 ids → All (λ (c : Commit). length c.id ≡ 20) (commits_of edges ids rows)
 ids_long edges [] rows long = All-nil (λ (c : Commit). length c.id ≡ 20)
@@ -140,7 +140,7 @@ all_long (file ∷ files) formed =
     All-append (λ (c : Commit). length c.id ≡ 20) (file_commits file) (graph_commits files)
     (ids_long file.edges file.ids file.rows (All-head IsGraphFile file files formed).ids) (all_long files (All-tail IsGraphFile file files formed))
 
--- an id of another length is that of no commit
+-- no commit has an id whose length differs from twenty bytes
 pub other_id : (files : List GraphFile) (id : Id) → All IsGraphFile files → length id ≢ 20 → All (λ (c : Commit). c.id ≢ id) (graph_commits files)
 other_id files id formed other k c inside same = other (ap length (sym same) ∙ all_long files formed k c inside)
 
@@ -148,7 +148,7 @@ pub lists_inside : {A : Type 0} (n most : ℕ) (parents : List ℕ) (found : Opt
 lists_inside n most parents None all h = tt
 lists_inside n most parents (Some list) all h = subst (All (λ p. p < n)) (sym h.0) all
 
--- how many commits there are with a file more
+-- the number of commits after one more file is added
 pub length-one_more : (old : List GraphFile) (file : GraphFile) → length (graph_commits (old ++ file ∷ [])) ≡ length (graph_commits old) + length (file_commits file)
 length-one_more old file =
     ap length (flat_map-append file_commits old (file ∷ []) ∙ ap (λ l. graph_commits old ++ l) (append-nil (file_commits file)))

@@ -1,4 +1,4 @@
--- A text is that of one file, and what is found in it is that file's.
+-- A text encodes at most one file, and the tables found in the text are the tables of this file.
 use Rattle.std.proofs.Common.{◌≡◌, ◌≢◌, ℕ, zero, suc, ◌+◌, ◌-◌, ◌*◌, ◌<◌, ◌≤◌, ◌^◌, inl, inr, List, [], ◌∷◌, ◌++◌, codes, length, take, drop, get_or, slice_range, All, count_by, refl, sym, ap, subst, ◌∙◌, length-append, arith}
 use Rattle.std.specs.List.{concat}
 use Rattle.std.specs.Int.{w32, to_be_bytes}
@@ -43,7 +43,7 @@ module _ (file : GraphFile) (bytes : List ℕ) (is : IsGraphText file bytes) whe
   pub has_header : ((chunks bases : ℕ) (rest : List ℕ) → ¬ (take (length bytes - 20) bytes ≡ header chunks bases ++ rest)) → ⊥
   has_header none = none (length is.chunks) (length file.bases) _ (headed (length file.bases) is.chunks file.checksum bytes is.framed)
 
--- ---- the rows that were found are those of the text
+-- ---- the rows of the table of contents, as found in the text
 
 same_rows : (n m : ℕ) (body : List ℕ) (one other : List (List ℕ)) → n ≡ m → IsTable n body one → IsTable m body other → one ≡ other
 same_rows n m body one other same first second =
@@ -82,7 +82,7 @@ module _ (file : GraphFile) (bytes : List ℕ) (is : IsGraphText file bytes) (fi
     named_are : chunks_of bytes (row ∷ more) ≡ is.chunks
     named_are = chunks_are (length file.bases) is.chunks file.checksum bytes is.framed fits
 
-    -- what lies at a span has the bytes of the chunk
+    -- the bytes at the span of a chunk are the bytes of the chunk
     bytes_at : (name x : List ℕ) (span : Span) → IsSpan rows name span → HasChunk is.chunks name x → part bytes span ≡ x
     bytes_at name x span at has =
         one_chunk is.chunks name (part bytes span) x is.framed.named
@@ -110,7 +110,7 @@ module _ (file : GraphFile) (bytes : List ℕ) (is : IsGraphText file bytes) (fi
       | inr other ↦ elim other [ inl ids ↦ not_lacking _ _ ids is.ids | inr data_rows ↦ not_lacking _ _ data_rows is.rows ]
     ]
 
-    -- the length of what lies at a span
+    -- the length of a span is the length of the bytes at the span
     size_at : (name x : List ℕ) (span : Span) → IsSpan rows name span → part bytes span ≡ x → size span ≡ length x
     size_at name x span at same =
         let within = span_within start end row more own.are name span (subst (λ r. IsSpan r name span) rows_are at) in
@@ -158,7 +158,7 @@ same_file a b bases ids rows edges checksum =
     ∙ ap (λ x. record { bases = b.bases; ids = b.ids; rows = b.rows; edges = x; checksum = a.checksum }) edges
     ∙ ap (λ x. record { bases = b.bases; ids = b.ids; rows = b.rows; edges = b.edges; checksum = x }) checksum
 
--- two frames of one text are the same
+-- two frames of the same text have the same chunks
 same_chunks : (bytes : List ℕ) (bases_one bases_other : ℕ) (one other : List Chunk) (sum_one sum_other : Id) → IsFramed bases_one one sum_one bytes → IsFramed bases_other other sum_other bytes
     → length bytes < 2 ^ 64 → one ≡ other
 same_chunks bytes bases_one bases_other one other sum_one sum_other first second fits =
@@ -167,11 +167,11 @@ same_chunks bytes bases_one bases_other one other sum_one sum_other first second
     (is_table bases_one one sum_one bytes first fits) (is_table bases_other other sum_other bytes second fits) in
     sym (chunks_are bases_one one sum_one bytes first fits) ∙ ap (chunks_of bytes) rows ∙ chunks_are bases_other other sum_other bytes second fits
 
--- rows that make the same bytes
+-- rows of `n` bytes whose concatenation is `bytes` are the pieces of `bytes`
 same_pieces : (n : ℕ) (rows : List (List ℕ)) (bytes : List ℕ) → 0 < n → AreLong n rows → concat rows ≡ bytes → rows ≡ pieces n bytes
 same_pieces n rows bytes some long same = sym (pieces_back n rows some long) ∙ ap (pieces n) same
 
--- two files of one text are the same
+-- two files with the same text are equal
 pub texts_are_one : (one other : GraphFile) (bytes : List ℕ) → IsGraphText one bytes → IsGraphText other bytes → length bytes < 2 ^ 64 → one ≡ other
 texts_are_one one other bytes first second fits =
     let chunks = same_chunks bytes (length one.bases) (length other.bases) first.chunks second.chunks one.checksum other.checksum first.framed second.framed fits in
@@ -184,7 +184,7 @@ texts_are_one one other bytes first second fits =
     (rows 4 one.edges other.edges (omega arith) first.formed.edges second.formed.edges (one_optional second.chunks _ _ _ named (subst (λ c. MayHaveChunk c (codes "EDGE") (concat one.edges)) chunks first.edges) second.edges))
     (sym (sum_is (length one.bases) first.chunks one.checksum bytes first.framed) ∙ sum_is (length other.bases) second.chunks other.checksum bytes second.framed)
 
--- ---- the tables that were found are those of the file
+-- ---- the tables of the file, as found in the text
 
 -- the fan-out table, cut into rows
 abbrev fans : ℕ → List Id → List (List ℕ)

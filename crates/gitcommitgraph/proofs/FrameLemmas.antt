@@ -1,4 +1,4 @@
--- A text that has the frame of a file, read back: its table of contents and its chunks.
+-- Reading the table of contents and the chunks of a text that has the frame of a file.
 use Rattle.std.proofs.Common.{◌≡◌, ◌≢◌, ℕ, zero, suc, ◌+◌, ◌-◌, ◌*◌, ◌/◌, ◌<◌, ◌≤◌, ◌^◌, inl, inr, List, [], ◌∷◌, ◌++◌, length, take, drop, get_or, slice_range, All, AllPairs, refl, sym, ap, subst, ◌∙◌, length-append, arith}
 use Rattle.std.specs.List.{concat, flat_map}
 use Rattle.std.specs.Int.{w64, from_be_bytes, to_be_bytes}
@@ -14,7 +14,7 @@ use Rattle.gitcommitgraph.specs.Texts.{AreNamed, Chunk, HasChunk, IsFramed, MayH
 use Rattle.gitcommitgraph.specs.steps.Rows.{AreRows, IsRising, IsTable, pieces, row_name, row_offset}
 use Rattle.gitcommitgraph.proofs.RowLemmas.{chunks_from, chunks_of, range_take}
 
--- ---- rows of so many bytes
+-- ---- rows of the same length
 
 pub length-joined : (n : ℕ) (rows : List (List ℕ)) → AreLong n rows → length (concat rows) ≡ length rows * n
 length-joined n [] long = omega arith
@@ -32,7 +32,7 @@ cut_joined n (row ∷ rows) long =
     ∙ ap (λ r. row ∷ first_chunks n (length rows) r) (drop_at row (concat rows) n first)
     ∙ ap (λ r. row ∷ r) (cut_joined n rows (All-tail (λ r. length r ≡ n) row rows long))
 
--- what rows make together is cut into them again
+-- splitting the concatenation of rows of `n` bytes returns the same rows
 pub pieces_back : (n : ℕ) (rows : List (List ℕ)) → 0 < n → AreLong n rows → pieces n (concat rows) ≡ rows
 pieces_back n rows some long =
     ap (λ m. first_chunks n (m / n) (concat rows)) (length-joined n rows long)
@@ -79,7 +79,7 @@ length-rows : (offset : ℕ) (chunks : List Chunk) → length (rows_of offset ch
 length-rows offset [] = refl
 length-rows offset (c ∷ chunks) = ap suc (length-rows (offset + length c.bytes) chunks)
 
--- where the chunks end
+-- the offset of the end of the chunks, if the first chunk begins at `offset`
 abbrev pub ends_at : ℕ → List Chunk → ℕ
 ends_at offset chunks = offset + length (flat_map chunk_bytes chunks)
 
@@ -152,7 +152,7 @@ module _ (start : ℕ) (chunks : List Chunk) (named : AreNamed chunks) (low : en
     distinct = distinct;
   }
 
--- ---- the chunks that the rows name
+-- ---- the chunks that the rows describe
 
 rebuilt : (text sum : List ℕ) (offset : ℕ) (chunks : List Chunk) → Named chunks → ends_at offset chunks < 2 ^ 64 → drop offset text ≡ flat_map chunk_bytes chunks ++ sum
     → chunks_from text (first_row offset chunks) (more_rows offset chunks) ≡ chunks
@@ -217,7 +217,7 @@ module _ (bases : ℕ) (chunks : List Chunk) (sum : Id) (text : List ℕ) (frame
   sum_is =
       ap (λ k. drop k text) before_sum ∙ sym (drop-drop (length filled) start text) ∙ ap (drop (length filled)) after_table ∙ drop_at filled sum (length filled) refl
 
-  -- the header is at the front
+  -- the text begins with the header
   pub headed : take (length text - 20) text ≡ header (length chunks) bases ++ drop 8 (take (length text - 20) text)
   headed =
       let n = text_long in
@@ -234,7 +234,7 @@ module _ (bases : ℕ) (chunks : List Chunk) (sum : Id) (text : List ℕ) (frame
   low : ends_at begin chunks < 2 ^ 64
   low = let n = text_long bases chunks sum text framed in omega (arith, n, fits)
 
-  -- the table comes after the header
+  -- the table of contents follows the header
   pub is_table : IsTable (length chunks) (take end text) (rows_of begin chunks)
   is_table =
       let n = text_long bases chunks sum text framed in
@@ -250,7 +250,7 @@ module _ (bases : ℕ) (chunks : List Chunk) (sum : Id) (text : List ℕ) (frame
         are = subst (λ e. AreRows begin e (rows_of begin chunks)) (sym (short ∙ before_sum bases chunks sum text framed)) (are_rows begin chunks framed.named low);
       }
 
-  -- the chunks are those that the rows name
+  -- the chunks that the rows describe are the chunks of the text
   pub chunks_are : chunks_of text (rows_of begin chunks) ≡ chunks
   chunks_are = rebuilt text sum begin chunks framed.named.long low (after_table bases chunks sum text framed)
 

@@ -65,7 +65,7 @@ each_is_line (suc n) (id ∷ ids) text h few =
     (id, subst (IsLine id) (sym first) h.2)
     (each_is_line n ids (drop 41 text) (subst (IsChainText ids) (sym rest) h.4) (let left = ap length rest in omega (arith, few, one, long, left)))
 
--- ---- a text names the files of one chain
+-- ---- at most one chain for the same text
 
 one_line : (a b : Id) (line : List ℕ) → IsLine a line → IsLine b line → a ≡ b
 one_line a b line first second =

@@ -1,4 +1,4 @@
--- Ids that ascend, and the fan-out table.
+-- Ascending ids, and the fan-out table.
 use Rattle.std.proofs.Common.{◌≡◌, ◌≢◌, ℕ, zero, suc, ◌+◌, ◌-◌, ◌<◌, ◌≤◌, true, false, Bool, cond, IsTrue, List, [], ◌∷◌, length, drop, get_or, nat_le, All, Err, inl, inr, refl, sym, ap, subst, ◌∙◌, count_by, slice_range, arith, ◌↔◌}
 use Rattle.std.specs.List.{HoldsAt, IsAllAdjacentAnswer}
 use Rattle.std.specs.List.Sorted.{IsBinarySearchResult, IsPartitionedBy, IsPartitionPoint, IsSortedBy}
@@ -19,7 +19,7 @@ use Rattle.gitcommitgraph.specs.Texts.{begins_within}
 use Rattle.gitcommitgraph.specs.steps.Rows.{IsRising, row_offset}
 use Rattle.gitcommitgraph.specs.steps.Tables.{AreBetween}
 
--- ---- what `is_sorted_by` answers
+-- ---- the result of `is_sorted_by`
 
 pub rising_decides : (rows : List (List ℕ)) (r : Bool) → IsAllAdjacentAnswer (λ x y b. b ≡ nat_le (row_offset x) (row_offset y)) rows r → IsTrue r ↔ IsRising rows
 rising_decides rows true h = (λ _. λ k d inside. leb-true (row_offset (get_or rows k d)) (row_offset (get_or rows (k + 1) d)) (sym (h k d inside)), λ _. refl)
@@ -34,7 +34,7 @@ pub ascending_decides : (ids : List Id) (r : Bool) → IsAllAdjacentAnswer (λ x
 ascending_decides ids true h = (λ _. λ k d inside. lt_is_less (slice_cmp nat_cmp (get_or ids k d) (get_or ids (k + 1) d)) (sym (h k d inside)), λ _. refl)
 ascending_decides ids false h = (λ is. absurd (false≢true is), λ up. absurd (false≢true (h.2 [] ∙ ap is_lt (up h.0 [] h.1))))
 
--- ---- the first bytes of ids that ascend
+-- ---- the first bytes of ascending ids
 
 byte_rises : (a b : ℕ) (o : Ordering) → ordering_then (nat_cmp a b) o ≡ Less → a ≤ b
 byte_rises a b o h = by_ranked (a < b) (a ≡ b) (b < a) (nat_cmp a b) (ranked a b (nat_cmp a b) refl)
@@ -52,7 +52,7 @@ parted byte ids up =
     IsPartitionedBy-leb (λ id. get_or id 0 0) ids byte
     (IsNonDecreasingBy-from_all_adjacent (λ id. get_or id 0 0) ids (λ k d inside. first_rises (get_or ids k d) (get_or ids (k + 1) d) (up k d inside)))
 
--- ---- the place at which a test begins to fail is how many pass
+-- ---- the partition point of a test, which is the number of elements that satisfy the test
 
 module _ {X : Type 0} (p : X → Bool) where
   tail_parted : (x : X) (xs : List X) → IsPartitionedBy p (x ∷ xs) → IsPartitionedBy p xs
@@ -89,7 +89,7 @@ module _ {X : Type 0} (p : X → Bool) where
       subst (λ n. IsPartitionPoint (λ y. p y ≡ true) (λ y. p y ≡ false) (x ∷ xs) n) (sym (sum_by-cons (λ y. cond (p y) 1 0) x xs))
       (counted_case x xs (p x) refl h (counted xs (tail_parted x xs h)))
 
--- the other way round: such a place is that number
+-- conversely, a partition point of the ids is the number of ids that satisfy `p`
 pub counts : (p : Id → Bool) (ids : List Id) (place : ℕ) → IsPartitionedBy p ids → IsPartitionPoint (λ y. p y ≡ true) (λ y. p y ≡ false) ids place → place ≤ length ids
     → place ≡ count_by p ids
 counts p ids place h at inside =
@@ -118,7 +118,8 @@ module _ (byte : ℕ) (ids : List Id) (up : IsAscending ids) where
   below : (k : ℕ) (d : Id) → k < count_by (begins_within byte) ids → get_or (get_or ids k d) 0 0 ≤ byte
   below k d high = passes_low byte _ ((counted (begins_within byte) ids (parted byte ids up)).0 k d (omega arith) high)
 
--- two places between which all that is before the one is low, and all from the other on is high
+-- the range of ids that can begin with `byte`: the ids before `start` begin with a lower byte, and the ids from `end`
+-- on begin with a higher byte
 between : (byte : ℕ) (ids : List Id) (start end : ℕ) → start ≤ length ids → end ≤ length ids
     → ((k : ℕ) (d : Id) → k < start → get_or (get_or ids k d) 0 0 < byte)
     → ((k : ℕ) (d : Id) → end ≤ k → k < length ids → byte < get_or (get_or ids k d) 0 0)
@@ -151,7 +152,7 @@ between_both byte ids start end up some first last =
     (λ k d h. let low = below (byte - 1) ids up k d (omega (arith, first, h)) in omega (arith, low, some))
     (λ k d h inside. above byte ids up k d (omega (arith, last, h)) inside)
 
--- ---- a search among ids that ascend
+-- ---- a search among ascending ids
 
 back_is_greater : (a b : Id) → slice_cmp nat_cmp a b ≡ Less → is_lt (slice_cmp nat_cmp b a) ≡ false
 back_is_greater a b h = ap is_lt (nat_list_cmp_total.antisymm b a ∙ ap ordering_reverse h)
@@ -177,7 +178,7 @@ no_id ids id place up search_result k d inside same =
       | inr higher ↦ not_both Greater equal (parts.1 k d higher inside) (λ h. cc)
     ]
 
--- ---- a search among some of them
+-- ---- a search in a range of ascending ids
 
 module _ (ids : List Id) (start end : ℕ) (part : List Id) (cut : part ≡ slice_range ids start end) (ordered : start ≤ end) (inside : end ≤ length ids) where
   part_long : length part ≡ end - start
@@ -224,7 +225,7 @@ module _ (ids : List Id) (start end : ℕ) (part : List Id) (cut : part ≡ slic
         ]
       ]
 
--- ---- the fan-out table, a byte later
+-- ---- the fan-out table up to one more byte
 
 pub fan_more : (rows : List (List ℕ)) (ids : List Id) (byte : ℕ) → byte < length rows → number (get_or rows byte []) ≡ count_by (begins_within byte) ids
     → ((b : ℕ) (d : List ℕ) → b < byte → number (get_or rows b d) ≡ count_by (begins_within b) ids)

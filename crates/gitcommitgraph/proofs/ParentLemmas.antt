@@ -1,4 +1,4 @@
--- Parents: what two numbers and the edges spell, and what is tested of them.
+-- The parents that two numbers and the edges encode, and the checks of parent positions.
 use Rattle.std.proofs.Common.{◌≡◌, ◌≢◌, ℕ, zero, suc, ◌+◌, ◌-◌, ◌<◌, ◌≤◌, inl, inr, cond, List, [], ◌∷◌, ◌++◌, length, drop, get_or, All, eqb, ltb, refl, sym, ap, subst, ◌∙◌, length-append, arith}
 use Rattle.std.proofs.lemmas.Bool.{cases_eq, cases_lt, eq-eqb, le-ltb, lt-ltb, ne_eqb}
 use Rattle.std.proofs.lemmas.List.{append_assoc, drop_more}
@@ -7,7 +7,7 @@ use Rattle.gname.specs.Ids.{Id}
 use Rattle.gitcommitgraph.specs.Chains.{HasParentsBelow}
 use Rattle.gitcommitgraph.specs.Files.{Commit, IsBefore, IsEdgeBefore, IsRowBefore, commits_of, edge_list, first_parent, mark, no_parent, number, parents_by, row_parents, second_parent}
 
--- ---- the parents that two numbers spell
+-- ---- the parents that two numbers encode
 
 module _ (edges : List (List ℕ)) (first second : ℕ) where
   abbrev after_second : List ℕ
@@ -57,7 +57,7 @@ module _ (edges : List (List ℕ)) (i : ℕ) (d : List ℕ) (inside : i < length
     | inr high ↦ let n = ap length (edges_last high) in omega (arith, n)
   ]
 
--- a list that goes on with the edges, one edge later
+-- a list of parents that is extended by one more edge
 module _ (start list : List ℕ) (edges : List (List ℕ)) (i p : ℕ) (d : List ℕ) (inside : i < length edges)
     (so_far : list ++ edge_list (drop i edges) ≡ start ++ edge_list edges) where
   pub follows_inner : number (get_or edges i d) < mark → p ≡ number (get_or edges i d) → (list ++ p ∷ []) ++ edge_list (drop (i + 1) edges) ≡ start ++ edge_list edges
@@ -120,7 +120,7 @@ module _ (end : ℕ) where
       (parents_before edges (first_parent row) (second_parent row) listed one.first one.second)
       (commits_before edges ids rows listed (All-tail (IsRowBefore end) row rows h))
 
--- ---- commits by their places
+-- ---- commits by their indexes
 
 pub length-commits : (edges : List (List ℕ)) (ids : List Id) (rows : List (List ℕ)) → length rows ≡ length ids → length (commits_of edges ids rows) ≡ length ids
 length-commits edges [] rows same = refl

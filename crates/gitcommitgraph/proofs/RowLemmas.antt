@@ -1,4 +1,4 @@
--- The table of contents, and the chunks that it names.
+-- The table of contents, and the chunks that its rows describe.
 use Rattle.std.proofs.Common.{◌≡◌, ◌≢◌, ℕ, zero, suc, ◌+◌, ◌-◌, ◌*◌, ◌<◌, ◌≤◌, List, [], ◌∷◌, ◌++◌, length, take, drop, get_or, slice_range, All, refl, sym, ap, subst, ◌∙◌, arith}
 use Rattle.std.specs.List.{concat, flat_map}
 use Rattle.std.specs.List.Sorted.{IsNonDecreasingBy}
@@ -11,19 +11,19 @@ use Rattle.gitcommitgraph.specs.Texts.{AreNamed, Chunk, HasChunk, chunk_bytes, c
 use Rattle.gitcommitgraph.specs.steps.Rows.{AreRows, IsRising, IsSpan, LacksName, row_name, row_offset}
 use Rattle.gitcommitgraph.specs.declared.contents.Span.{Span}
 
--- ---- parts of bytes
+-- ---- ranges of bytes
 
 take_nil : (k : ℕ) → take {A = ℕ} k [] ≡ []
 take_nil zero = refl
 take_nil (suc k) = refl
 
--- a front, and what comes after it
+-- the first `m` elements and the next `n` elements are the first `m + n` elements
 pub take_joins : (m n : ℕ) (l : List ℕ) → take m l ++ take n (drop m l) ≡ take (m + n) l
 take_joins zero n l = let same : n ≡ zero + n = omega arith in ap (λ k. take k l) same
 take_joins (suc m) n [] = take_nil n ∙ sym (take_nil (suc m + n))
 take_joins (suc m) n (x ∷ l) = let same : suc (m + n) ≡ suc m + n = omega arith in ap (λ t. x ∷ t) (take_joins m n l) ∙ ap (λ k. take k (x ∷ l)) same
 
--- bytes from one place to another, and on to a third
+-- two adjacent ranges are one range
 pub range_joins : (a b c : ℕ) (l : List ℕ) → a ≤ b → b ≤ c → slice_range l a b ++ slice_range l b c ≡ slice_range l a c
 range_joins a b c l low high =
     let at : b ≡ a + (b - a) = omega (arith, low) in
@@ -31,7 +31,7 @@ range_joins a b c l low high =
     let long : c - a ≡ (b - a) + (c - b) = omega (arith, low, high) in
     ap (λ r. take (b - a) (drop a l) ++ take (c - b) r) rest ∙ take_joins (b - a) (c - b) (drop a l) ∙ ap (λ n. take n (drop a l)) (sym long)
 
--- a part of a front
+-- a range within the first `n` elements is the same range of the whole list
 pub range_take : (a b n : ℕ) (l : List ℕ) → a ≤ b → b ≤ n → slice_range (take n l) a b ≡ slice_range l a b
 range_take a b n l low high =
     let m : a + (n - a) ≡ n = omega (arith, low, high) in
@@ -41,7 +41,7 @@ range_take a b n l low high =
 pub length-range : (a b : ℕ) (l : List ℕ) → a ≤ b → b ≤ length l → length (slice_range l a b) ≡ b - a
 length-range a b l low high = let rest = length-drop a l in length-take-le (b - a) (drop a l) (omega (arith, rest, low, high))
 
--- ---- the chunks that rows name
+-- ---- the chunks that rows describe
 
 abbrev pub chunk_from : List ℕ → List ℕ → List ℕ → Chunk
 chunk_from bytes row next = record { name = row_name row; bytes = slice_range bytes (row_offset row) (row_offset next) }
@@ -55,7 +55,7 @@ pub record IsRow (row : List ℕ) : Type 0 where
   pub long : length row ≡ 12
   pub bytes : (i : ℕ) → get_or row i 0 < 256
 
--- rows of which none has a lower offset than the one before, and a last one that has no name and the end as its offset
+-- rows whose offsets never decrease, up to a last row without a name, whose offset is `end`
 abbrev pub LeadTo : ℕ → List ℕ → List (List ℕ) → Type 0
 LeadTo end row [] = IsRow row × (row_name row ≡ no_name) × (row_offset row ≡ end)
 LeadTo end row (next ∷ rows) = IsRow row × (row_offset row ≤ row_offset next) × LeadTo end next rows
@@ -68,13 +68,13 @@ row_is row is =
     (λ i. subst (λ b. b < 256) (sym (get_or-drop 4 row i 0)) (is.bytes (4 + i))) refl in
     sym (take-append-drop 4 row) ∙ ap (λ l. row_name row ++ l) (sym bytes)
 
--- no offset is past the end
+-- the offset of the first row is at most `end`
 before_end : (end : ℕ) (row : List ℕ) (rows : List (List ℕ)) → LeadTo end row rows → row_offset row ≤ end
 before_end end row [] h = let e = h.2 in omega (arith, e)
 before_end end row (next ∷ rows) h = let low = h.1 in let more = before_end end next rows h.2 in omega (arith, low, more)
 
 module _ (bytes : List ℕ) (end : ℕ) (within : end ≤ length bytes) where
-  -- the table of contents of the chunks is the rows
+  -- the table of contents of the described chunks consists of the rows
   pub contents_are : (row : List ℕ) (rows : List (List ℕ)) → LeadTo end row rows → contents (row_offset row) (chunks_from bytes row rows) ≡ concat (row ∷ rows)
   contents_are row [] h =
       ap (λ n. n ++ to_be_bytes w64 (row_offset row)) (sym h.1) ∙ sym (row_is row h.0) ∙ sym (append-nil row)
@@ -88,7 +88,7 @@ module _ (bytes : List ℕ) (end : ℕ) (within : end ≤ length bytes) where
       ∙ sym (append_assoc (row_name row) (to_be_bytes w64 (row_offset row)) (concat (next ∷ rows)))
       ∙ ap (λ l. l ++ concat (next ∷ rows)) (sym (row_is row h.0))
 
-  -- the chunks are all bytes from the first offset to the end
+  -- the described chunks together are all bytes from the offset of the first row to `end`
   pub bytes_are : (row : List ℕ) (rows : List (List ℕ)) → LeadTo end row rows → flat_map chunk_bytes (chunks_from bytes row rows) ≡ slice_range bytes (row_offset row) end
   bytes_are row [] h =
       let none : end - row_offset row ≡ 0 = let e = h.2 in omega (arith, e) in
@@ -110,12 +110,12 @@ chunk_at bytes row (next ∷ rows) (suc k) c d inside =
     chunk_at bytes next rows k c d (omega (arith, inside))
     ∙ ap (λ n. chunk_from bytes (get_or (next ∷ rows) k d) (get_or (row ∷ next ∷ rows) n d)) on
 
--- the chunks that a list of rows names
+-- the chunks that a list of rows describes
 abbrev pub chunks_of : List ℕ → List (List ℕ) → List Chunk
 chunks_of bytes [] = []
 chunks_of bytes (row ∷ rows) = chunks_from bytes row rows
 
--- ---- from what is tested of the rows
+-- ---- consequences of the checks of the rows
 
 rising_rest : (row : List ℕ) (rows : List (List ℕ)) → IsRising (row ∷ rows) → IsRising rows
 rising_rest row rows up k d h =
@@ -158,7 +158,7 @@ module _ (start end : ℕ) (row : List ℕ) (rows : List (List ℕ)) (are : AreR
             are.distinct i j [] low (omega (arith, n, inside)) (sym (ap (λ (c : Chunk). c.name) one) ∙ same ∙ ap (λ (c : Chunk). c.name) other);
       }
 
-  -- a chunk that was found is one of the chunks
+  -- a chunk whose span was found is one of the described chunks
   pub has_chunk : (bytes name : List ℕ) (span : Span) → IsSpan (row ∷ rows) name span → HasChunk (chunks_from bytes row rows) name (slice_range bytes span.start span.end)
   has_chunk bytes name span is =
       let n = length-chunks bytes row rows in
@@ -178,7 +178,7 @@ module _ (start end : ℕ) (row : List ℕ) (rows : List (List ℕ)) (are : AreR
       let at = chunk_at bytes row rows k c [] (omega (arith, n, inside)) in
       lacks k [] (omega (arith, n, inside)) (sym (ap (λ (c : Chunk). c.name) at) ∙ same)
 
-  -- it lies before the end
+  -- the span of a chunk ends at or before `end`
   pub span_within : (name : List ℕ) (span : Span) → IsSpan (row ∷ rows) name span → (span.start ≤ span.end) × (span.end ≤ end)
   span_within name span is =
       let up : IsNonDecreasingBy row_offset (row ∷ rows) = IsNonDecreasingBy-from_all_adjacent row_offset (row ∷ rows) are.rising in
@@ -191,9 +191,9 @@ module _ (start end : ℕ) (row : List ℕ) (rows : List (List ℕ)) (are : AreR
       let at = ap (λ n. row_offset (get_or (row ∷ rows) n [])) (sym one_less) ∙ are.last [] in
       (omega (arith, from, to, rises), omega (arith, to, last, at))
 
--- ---- bytes cut into pieces
+-- ---- bytes split into pieces
 
--- bytes are below 256 in each piece
+-- the first `n` elements are below 256 if all elements are
 pub take_small : (n : ℕ) (l : List ℕ) → ((i : ℕ) → get_or l i 0 < 256) → (i : ℕ) → get_or (take n l) i 0 < 256
 take_small zero l h i = omega arith
 take_small (suc n) [] h i = omega arith
@@ -210,7 +210,7 @@ pieces_small n (suc k) l h = λ j d inside. elim j as (λ j. j < suc (length (fi
   | suc j ↦ λ here. pieces_small n k (drop n l) (drop_small n l h) j d (omega (arith, here))
 ] inside
 
--- each piece is so long, and they are as many
+-- each of the first `k` pieces has `n` bytes
 pub pieces_long : (n k : ℕ) (l : List ℕ) → k * n ≤ length l → All (λ row. length row ≡ n) (first_chunks n k l)
 pieces_long n zero l h = λ j d inside. absurd (omega (arith, inside))
 pieces_long n (suc k) l h =
@@ -223,7 +223,7 @@ pub pieces_many : (n k : ℕ) (l : List ℕ) → length (first_chunks n k l) ≡
 pieces_many n zero l = refl
 pieces_many n (suc k) l = ap suc (pieces_many n k (drop n l))
 
--- together they are the bytes
+-- the concatenation of all pieces is the original bytes
 pub pieces_joined : (n k : ℕ) (l : List ℕ) → length l ≡ k * n → concat (first_chunks n k l) ≡ l
 pieces_joined n zero l h = sym (nil l (omega (arith, h))) where
   nil : (l : List ℕ) → length l ≡ 0 → l ≡ []

@@ -1,4 +1,4 @@
--- The text of a file, from what is tested of it.
+-- The form of the text of a file, from the checks that the text passed.
 use Rattle.std.proofs.Common.{◌≡◌, ℕ, zero, suc, ◌+◌, ◌-◌, ◌*◌, ◌/◌, ◌%◌, ◌<◌, ◌≤◌, inl, inr, List, [], ◌∷◌, ◌++◌, codes, length, take, drop, get_or, slice_range, All, count_by, refl, sym, ap, subst, ◌∙◌, add-one, arith}
 use Rattle.std.specs.List.{concat, flat_map}
 use Rattle.std.specs.Int.{w32, to_be_bytes}
@@ -17,7 +17,7 @@ use Rattle.gitcommitgraph.proofs.RowLemmas.{IsRow, are_named, bytes_are, chunks_
 
 -- ---- the bytes of a file, part by part
 
--- the header, the table and the chunks, and the trailer
+-- the parts of a file: the header, the table of contents, the chunks, and the trailer
 four_parts : (a b n : ℕ) (l : List ℕ) → a ≤ b → b ≤ n → take a l ++ (slice_range l a b ++ (slice_range l b n ++ drop n l)) ≡ l
 four_parts a b n l low high =
     let long : a + (n - a) ≡ n = omega (arith, low, high) in
@@ -27,7 +27,7 @@ four_parts a b n l low high =
     ∙ sym (append_assoc (take a l) (slice_range l a n) (drop n l))
     ∙ ap (λ r. r ++ drop n l) first ∙ take-append-drop n l
 
--- the table of contents is cut into rows
+-- the table of contents, split into rows
 module _ (bytes : List ℕ) (chunks bases : ℕ) (rest : List ℕ) (places : Places) (long : 20 ≤ length bytes)
     (small : (i : ℕ) → get_or bytes i 0 < 256) (headed : take (length bytes - 20) bytes ≡ header chunks bases ++ rest)
     (lengths : HaveLengths places bases) where
@@ -37,7 +37,7 @@ module _ (bytes : List ℕ) (chunks bases : ℕ) (rest : List ℕ) (places : Pla
   abbrev start : ℕ
   start = 8 + 12 * (chunks + 1)
 
-  -- the rows are these
+  -- the first row, and the other rows
   abbrev row : List ℕ
   row = take 12 (slice_range bytes 8 start)
 
@@ -127,7 +127,7 @@ module _ (bytes : List ℕ) (chunks bases : ℕ) (rest : List ℕ) (places : Pla
 
 -- ---- the tables
 
--- what lies there is rows of so many bytes, and they are as many as fit
+-- the bytes at a span, split into rows of `n` bytes
 module _ (n : ℕ) (bytes : List ℕ) (span : Span) (within : IsWithin bytes span) (even : size span % n ≡ 0) where
   part_long : length (part bytes span) ≡ size span
   part_long = length-range span.start span.end bytes within.ordered within.inside

@@ -1,4 +1,4 @@
--- A configuration that is read, part by part.
+-- Reading a configuration part by part.
 use Rattle.std.proofs.Common.{◌≡◌, ℕ, ◌+◌, ◌<◌, ◌≤◌, true, Option, List, [], ◌∷◌, ◌++◌, All, length, map, refl, ap, sym, subst, ◌∙◌, append_assoc, append-nil, arith}
 use Rattle.std.specs.Prelude.{IfOk, Result, Ok, Err}
 use Rattle.std.specs.Str.{str_to_ascii_lowercase}
@@ -8,7 +8,7 @@ use Rattle.gitconfig.specs.declared.setting.Setting as settings
 use Rattle.std.proofs.lemmas.List.{map-append}
 use Rattle.gitconfig.specs.steps.Readings.{section_after}
 
--- a text of a list of parts that goes on, by one part more
+-- a property of the list of `done`, `x` and `more` still holds if `x` is counted as the last part of `done`
 one_more : {X : Type 0} (P : List X → Type 0) (done more : List X) (x : X) → P (done ++ x ∷ more) → P ((done ++ x ∷ []) ++ more)
 one_more P done more x h = subst P (sym (append_assoc done (x ∷ []) more)) h
 

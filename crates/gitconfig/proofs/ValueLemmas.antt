@@ -1,4 +1,4 @@
--- A value that is read, piece by piece.
+-- Reading a value piece by piece.
 use Rattle.std.proofs.Common.{◌≡◌, ◌⊎◌, inl, inr, ℕ, ◌+◌, ◌<◌, ◌≤◌, Bool, true, false, List, [], ◌∷◌, ◌++◌, All, length, map, take, refl, ap, sym, subst, ◌∙◌, append_assoc, append-nil, arith, length-append}
 use Rattle.std.proofs.lemmas.List.{length-map, map-append}
 use Rattle.std.proofs.lemmas.List.Elements.{All-nil, All-push}
@@ -15,14 +15,14 @@ some_last : {X : Type 0} (xs : List X) (x : X) → [] ≡ xs ++ x ∷ [] → ⊥
 some_last [] x is = cc
 some_last (y ∷ xs) x is = cc
 
--- the last element is one
+-- a list has only one last element
 pub last_once : {X : Type 0} (xs ys : List X) (a b : X) → xs ++ a ∷ [] ≡ ys ++ b ∷ [] → a ≡ b
 last_once [] [] a b is = cc
 last_once [] (y ∷ ys) a b is = let rest : [] ≡ ys ++ b ∷ [] = cc in absurd (some_last ys b rest)
 last_once (x ∷ xs) [] a b is = let rest : [] ≡ xs ++ a ∷ [] = cc in absurd (some_last xs a rest)
 last_once (x ∷ xs) (y ∷ ys) a b is = let rest : xs ++ a ∷ [] ≡ ys ++ b ∷ [] = cc in last_once xs ys a b rest
 
--- the bytes of one piece more
+-- the marked bytes of concatenated lists of pieces are the concatenated marked bytes
 pub marked_append : (pieces more : List Piece) → mark_pieces (pieces ++ more) ≡ mark_pieces pieces ++ mark_pieces more
 marked_append [] more = refl
 marked_append (Byte b ∷ pieces) more = ap (λ l. (b, false) ∷ l) (marked_append pieces more)
@@ -40,16 +40,16 @@ pub pieces_end : (quoted : Bool) (text rest : List ℕ) (done : List Piece) → 
 pieces_end quoted text rest done so_far out ends =
     subst (λ l. HasPieces false text l rest) (append-nil done) (so_far [] rest (refl, out, ends))
 
--- ---- a value so far
+-- ---- a partly read value
 
 abbrev bytes_of : List (ℕ × Bool) → List ℕ
 bytes_of marks = map (λ b. b.0) marks
 
--- what a piece adds is as it is said, where the bytes and the count are these
+-- the marked bytes of a partly read value can be replaced by an equal list
 reshaped : {A : Type 0} (marks more : List (ℕ × Bool)) (new : ValueText A) → marks ≡ more → IsValueSoFar more new → IsValueSoFar marks new
 reshaped marks more new is has = subst (λ m. IsValueSoFar m new) (sym is) has
 
--- no bytes yet: neither kept ones nor blanks after them
+-- the start of a value: no bytes have been read
 pub value_start : {A : Type 0} (value : ValueText A) → value.bytes.items ≡ [] → value.kept ≡ 0 → IsValueSoFar [] value
 value_start value none zero = record {
   before = [];
@@ -65,7 +65,7 @@ value_start value none zero = record {
   count = zero;
 }
 
--- the first byte stays the first
+-- after one more byte, the value still does not begin with an unquoted blank
 first_stays : (kept after : List (ℕ × Bool)) (b : ℕ) → ((x : ℕ × Bool) (more : List (ℕ × Bool)) → kept ≡ x ∷ more → x.1 ≡ false) → (kept ≡ [] → after ≡ []) → (x : ℕ × Bool) (more : List (ℕ × Bool)) → kept ++ after ++ (b, false) ∷ [] ≡ x ∷ more → x.1 ≡ false
 first_stays [] after b first started x more is =
     let none : after ≡ [] = started refl in
@@ -95,7 +95,7 @@ push_byte marks b old new bytes count has =
       count = count ∙ ap length is ∙ length-map all (λ (x : ℕ × Bool). x.0);
     }
 
--- no byte is kept where there is none
+-- if the value has no bytes, both `kept` and `after` are empty
 none_kept : (kept after : List (ℕ × Bool)) → [] ≡ bytes_of (kept ++ after) → (kept ≡ []) × (after ≡ [])
 none_kept [] [] is = (refl, refl)
 none_kept [] (x ∷ after) is = cc
@@ -152,7 +152,7 @@ push_none marks old new bytes count has = record {
   count = count ∙ has.count;
 }
 
--- a piece is added
+-- the value after one more piece
 pub pushed : {A : Type 0} (pieces : List Piece) (piece : Piece) (old new : ValueText A) → Pushes piece old new → IsValueSoFar (mark_pieces pieces) old → IsValueSoFar (mark_pieces (pieces ++ piece ∷ [])) new
 pushed pieces (Byte b) old new adds has = reshaped (mark_pieces (pieces ++ Byte b ∷ [])) (mark_pieces pieces ++ (b, false) ∷ []) new (marked_append pieces (Byte b ∷ [])) (push_byte (mark_pieces pieces) b old new adds.0 adds.1 has)
 pushed pieces (Blank b) old new (kept, inl none) has = reshaped (mark_pieces (pieces ++ Blank b ∷ [])) (mark_pieces pieces ++ (b, true) ∷ []) new (marked_append pieces (Blank b ∷ [])) (push_none (mark_pieces pieces ++ (b, true) ∷ []) old new (none.1 ∙ sym none.0) kept (push_first_blank (mark_pieces pieces) b old none.0 has))
@@ -160,7 +160,7 @@ pushed pieces (Blank b) old new (kept, inr some) has = reshaped (mark_pieces (pi
 pushed pieces Quote old new same has = reshaped (mark_pieces (pieces ++ Quote ∷ [])) (mark_pieces pieces) new (marked_append pieces (Quote ∷ []) ∙ append-nil (mark_pieces pieces)) (push_none (mark_pieces pieces) old new same.1 same.0 has)
 pushed pieces Joint old new same has = reshaped (mark_pieces (pieces ++ Joint ∷ [])) (mark_pieces pieces) new (marked_append pieces (Joint ∷ []) ∙ append-nil (mark_pieces pieces)) (push_none (mark_pieces pieces) old new same.1 same.0 has)
 
--- the bytes that are kept are the value
+-- the first `length kept` bytes of a value are the bytes of `kept`
 took : (kept after : List (ℕ × Bool)) → take (length kept) (bytes_of (kept ++ after)) ≡ bytes_of kept
 took [] after = refl
 took (x ∷ kept) after = ap (λ l. x.0 ∷ l) (took kept after)

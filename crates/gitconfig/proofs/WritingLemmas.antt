@@ -1,4 +1,4 @@
--- A configuration that is written, part by part.
+-- Writing a configuration part by part.
 use Rattle.std.proofs.Common.{◌≡◌, ℕ, ◌<◌, ◌≤◌, ◌==◌, ◌||◌, Bool, true, false, inl, inr, List, [], ◌∷◌, ◌++◌, All, Some, codes, map, refl, ap, sym, subst, ◌∙◌, append_assoc, append-nil, arith}
 use Rattle.std.specs.Char.{is_ascii_alphabetic, is_ascii_lowercase, to_ascii_lowercase}
 use Rattle.std.specs.List.{list_all}
@@ -15,7 +15,7 @@ use Rattle.gitconfig.specs.declared.pieces.Piece.TheVariants.{Byte, Blank, Quote
 use Rattle.gitconfig.specs.steps.Writing.{AddsByte, AddsItems, AddsQuoted, AddsValue, HoldsItems, is_word}
 use Rattle.gitconfig.proofs.ValueLemmas.{marked_append}
 
--- ---- parts, one after the other
+-- ---- concatenated parts
 
 holds_both : (a b : List Item) (s t : List ℕ) → HoldsItems a s → HoldsItems b t → HoldsItems (a ++ b) (s ++ t)
 holds_both a b s t one two = λ rest more has.
@@ -111,7 +111,7 @@ subheader_of word sub rest is subis = record {
   );
 }
 
--- a space is an item
+-- a byte of white space is an item
 space_item : (b : ℕ) (rest : List ℕ) (more : List Item) → is_space b ≡ true → HasItems rest more → HasItems (b ∷ rest) (Nothing ∷ more)
 space_item b rest more space has = (rest, inl (b, refl, space), has)
 
@@ -142,7 +142,7 @@ adds_subsection word sub old new is subis same =
 
 -- ---- values
 
--- bytes of a value, none of which is a blank that may be left out
+-- the bytes of a value, none of which is marked as an unquoted blank
 plain_marks : List ℕ → List (ℕ × Bool)
 plain_marks value = map (λ b. (b, false)) value
 
@@ -183,7 +183,7 @@ unfolding plain_marks
 byte_marks [] = refl
 byte_marks (b ∷ value) = ap (λ l. (b, false) ∷ l) (byte_marks value)
 
--- a value as it is
+-- a value without special bytes, written unchanged
 plain_pieces : (value rest : List ℕ) → All (λ b. is_special false b ≡ false) value → EndsValue rest → HasPieces false (value ++ rest) (map Byte value) rest
 plain_pieces [] rest each ends = (refl, refl, ends)
 plain_pieces (b ∷ value) rest each ends =
@@ -200,7 +200,7 @@ adds_plain value old new each is = (
   ),
 )
 
--- a value in quotes
+-- a value written in quotes
 pub adds_in_quotes : (value old between new : List ℕ) → AddsQuoted value (old ++ 34 ∷ []) between → new ≡ between ++ 34 ∷ [] → AddsValue value old new
 adds_in_quotes value old between new quoted is =
     let text : List ℕ = 34 ∷ (quoted.0 ++ 34 ∷ []) in (
@@ -264,7 +264,7 @@ adds_setting name value old between new is adds same =
       );
     }
 
--- ---- the whole
+-- ---- the whole configuration
 
 pub is_config : (items : List Item) (text : List ℕ) → AddsItems items [] text → IsConfig text (settings_of [] items)
 is_config items text adds = record {

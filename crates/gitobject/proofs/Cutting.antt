@@ -1,4 +1,4 @@
--- Texts that are cut in parts.
+-- Splitting texts into parts.
 use Rattle.std.proofs.Common.{◌≡◌, ◌≢◌, ℕ, ◌+◌, ◌<◌, true, false, nat_eq, List, [], ◌∷◌, ◌++◌, length, take, drop, get_or, All, Option, None, Some, MatchOption, refl, sym, ap, subst, ◌∙◌, arith}
 use Rattle.std.specs.Prelude.{slice_index}
 use Rattle.std.specs.Borrow.{Bor}
@@ -8,7 +8,7 @@ use Rattle.std.proofs.lemmas.List.{take-append-drop, take-append-le, take_all}
 use Rattle.std.proofs.lemmas.List.Elements.{All-head, All-tail}
 use Rattle.std.proofs.lemmas.Slice.Eq.{bytes_eq-Decides}
 
--- fronts of one length, and what comes after them
+-- if two texts are equal and their first parts have the same length, both parts are equal
 pub same_fronts : {X : Type 0} (a b x y : List X) → length a ≡ length b → a ++ x ≡ b ++ y → (a ≡ b) × (x ≡ y)
 same_fronts [] [] x y long is = (refl, is)
 same_fronts [] (c ∷ b) x y long is = absurd (omega (arith, long))
@@ -21,7 +21,7 @@ same_fronts (c ∷ a) (d ∷ b) x y long is =
     let front = rest.0 in
     (cc, rest.1)
 
--- a text is cut in one way at the first byte of this value
+-- a text can be split at the first byte `s` in only one way
 pub cut_once : (s : ℕ) (x y u v : List ℕ) → All (λ b. b ≢ s) x → All (λ b. b ≢ s) y → x ++ s ∷ u ≡ y ++ s ∷ v → (x ≡ y) × (u ≡ v)
 cut_once s [] [] u v one two is = (refl, cc)
 cut_once s [] (c ∷ y) u v one two is =
@@ -35,7 +35,7 @@ cut_once s (c ∷ x) (d ∷ y) u v one two is =
     let front = rest.0 in
     (cc, rest.1)
 
--- ---- the first byte of a value
+-- ---- the first byte of a given value
 
 at_front : (front : List ℕ) (b : ℕ) (rest : List ℕ) → get_or (front ++ b ∷ rest) (length front) 0 ≡ b
 at_front [] b rest = refl
@@ -51,7 +51,7 @@ found_first text front b rest is = (
   ap (λ l. get_or l (length front) 0) is ∙ at_front front b rest,
 )
 
--- ---- a word
+-- ---- a word at the start of a text
 
 take_front : (a b : List ℕ) → take (length a) (a ++ b) ≡ a
 take_front a b = take-append-le (length a) a b (omega arith) ∙ take_all (length a) a (omega arith)

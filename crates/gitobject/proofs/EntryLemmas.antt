@@ -1,4 +1,4 @@
--- The entries of trees, as they are read.
+-- Reading the entries of trees.
 use Rattle.std.proofs.Common.{◌≡◌, ◌≢◌, ◌==◌, eqb-true, true, false, take, drop, ℕ, ◌<◌, List, [], ◌∷◌, ◌++◌, length, All, Option, None, Some, MatchOption, refl, sym, ap, subst, ◌∙◌, append_assoc, length-append, arith}
 use Rattle.std.specs.List.{filter_map, cons_option}
 use Rattle.std.specs.Option.{option_to_list}
@@ -42,7 +42,7 @@ is_nil : (l : List ℕ) → (length l == 0) ≡ true → l ≡ []
 is_nil [] h = refl
 is_nil (x ∷ l) h = let none = eqb-true (length (x ∷ l)) 0 h in absurd (omega (arith, none))
 
--- where an entry ends, the next one begins
+-- the parts of a text that begins with an entry: the mode, a space, the name, NUL, the id, and the rest
 pub entry_parts : (e : Entry) (rest : List ℕ) → entry_text e ++ rest ≡ e.mode ++ 32 ∷ (e.name ++ 0 ∷ (e.id ++ rest))
 entry_parts e rest = simp append_assoc
 
@@ -130,7 +130,7 @@ tree_more body rest after done e is parts =
 pub entries_more : (done : List Entry) (e : Entry) → All IsEntry done → IsEntry e → All IsEntry (done ++ e ∷ [])
 entries_more done e each is = All-push IsEntry done e each is
 
--- what is left of a tree is a tree
+-- the text that follows the first entries of a tree is a tree
 rest_is_tree : (done es : List Entry) (rest : List ℕ) → All IsEntry done → All IsEntry es → tree_text done ++ rest ≡ tree_text es → (more : List Entry) × (rest ≡ tree_text more) × All IsEntry more
 rest_is_tree [] es rest one two is = (es, is, two)
 rest_is_tree (d ∷ done) [] rest one two is = absurd (never_empty d (tree_text done ++ rest) (sym (append_assoc (entry_text d) (tree_text done) rest) ∙ is))

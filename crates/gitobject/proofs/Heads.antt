@@ -1,4 +1,4 @@
--- The lines with which commits and tags begin, as they are read.
+-- Reading the lines at the start of commits and tags.
 use Rattle.std.proofs.Common.{◌≡◌, ◌≢◌, ℕ, List, [], ◌∷◌, ◌++◌, length, All, codes, Ok, Err, sym, ap, subst, ◌∙◌, append_assoc, arith}
 use Rattle.std.proofs.lemmas.List.{append-nil, append_cancel_left}
 use Rattle.gname.specs.Ids.{Id, IsIdTextOf, ReadsId}
@@ -69,7 +69,7 @@ has_name text after name rest begins parts = (name, rest, begins ∙ ap (λ l. c
 -- ---- the lines of parents
 
 module _ (text rest : List ℕ) (done : List Id) where
-  -- the parents so far, and those of the rest
+  -- if no parent line follows, the parents `done` that were read so far are all parents of the text
   pub parents_end : ((ids : List Id) → HasParents rest ids → HasParents text (done ++ ids)) → GoesOn rest → HasParents text done
   parents_end goes on = let P : List Id → Type 0 = λ ids. HasParents text ids in subst P (append-nil done) (goes [] on)
 
@@ -78,7 +78,7 @@ module _ (text rest : List ℕ) (done : List Id) where
   parents_more goes id after line ids has =
       let P : List Id → Type 0 = λ all. HasParents text all in subst P (sym (append_assoc done (id ∷ []) ids)) (goes (id ∷ ids) (after, line, has))
 
--- what has parents has those of the rest, after one line
+-- the text after the first parent line has the remaining parents
 pub parents_after : (rest after : List ℕ) (id : Id) → BeginsWithId (codes "parent ") rest id after → (ids : List Id) → HasParents rest ids → (more : List Id) × HasParents after more
 parents_after rest after id line [] on = absurd (on.other (line.digits ++ 10 ∷ after) line.parts)
 parents_after rest after id line (other ∷ ids) has =
@@ -90,6 +90,6 @@ pub no_parents : (rest : List ℕ) → ¬ (GoesOn rest) → ((id : Id) (after : 
 no_parents rest ends none [] on = ends on
 no_parents rest ends none (id ∷ ids) has = none id has.0 has.1
 
--- a parent more, after those that were there
+-- a list that is extended by the parents `done` and then by `id`
 pub pushed : (old now new done : List Id) (id : Id) → now ≡ old ++ done → new ≡ now ++ id ∷ [] → new ≡ old ++ (done ++ id ∷ [])
 pushed old now new done id is push = push ∙ ap (λ l. l ++ id ∷ []) is ∙ append_assoc old done (id ∷ [])

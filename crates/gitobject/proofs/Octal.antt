@@ -3,12 +3,12 @@ use Rattle.std.proofs.Common.{◌≡◌, ℕ, zero, suc, ◌+◌, ◌*◌, ◌%�
 use Rattle.std.specs.Char.{digit_value}
 use Rattle.std.specs.Str.Parse.{AllDigits}
 
--- each digit of a numeral is one
+-- each byte of an octal numeral is an octal digit
 pub digit_at : (ds : List ℕ) (i : ℕ) → i < length ds → AllDigits 8 ds → digit_value (get_or ds i 0) < 8
 digit_at [] i inside h = absurd (omega (arith, inside))
 digit_at (d ∷ ds) zero inside h = h.0
 digit_at (d ∷ ds) (suc i) inside h = digit_at ds i (omega (arith, inside)) h.1
 
--- sixteen bits of a number and a digit more
+-- the lowest sixteen bits of a number after one more octal digit `d`
 pub bits_more : (v n d : ℕ) → n ≡ v % 65536 → (n * 8 + d) % 65536 ≡ (v * 8 + d) % 65536
 bits_more v n d is = omega arith

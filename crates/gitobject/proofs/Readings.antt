@@ -1,4 +1,4 @@
--- An object has one reading.
+-- Objects can be read in only one way.
 use Rattle.std.proofs.Common.{◌≡◌, ℕ, List, [], ◌∷◌, ◌++◌, codes, refl, sym, subst, ◌∙◌}
 use Rattle.gname.specs.Ids.{Id}
 use Rattle.gitobject.specs.Laws.{LinksAreOne}
@@ -11,7 +11,7 @@ use Rattle.gitobject.specs.declared.types.ObjectType.TheVariants.{Commit, Tree, 
 use Rattle.gitobject.proofs.EntryLemmas.{trees_once}
 use Rattle.gitobject.proofs.Heads.{begins_once, type_once}
 
--- a fault of one reading is that of another, to which it leads
+-- a fault that is permitted for the reading `A` is also permitted for the reading `B`, if `B` implies `A`
 pub fault_of : (A B : Type 0) → (B → A) → (fault : ObjectFault) → IsObjectFault A fault → IsObjectFault B fault
 fault_of A B leads Malformed none = λ b. none (leads b)
 fault_of A B leads Memory none = none
@@ -54,9 +54,9 @@ links_once Tag body links others one two =
     let targets = same.0 in let kinds = same.1 in let l = one.3 in let r = two.3 in
     cc
 
--- ---- commits, as they are read
+-- ---- reading commits
 
--- the parents of a commit come after the line of its tree
+-- the parent lines of a commit follow its tree line
 pub commit_parents : (body : List ℕ) (tree : Id) (rest : List ℕ) → BeginsWithId (codes "tree ") body tree rest
     → (other : Id) × (parents : List Id) × IsCommit body other parents → (ids : List Id) × HasParents rest ids
 commit_parents body tree rest line has =
@@ -64,7 +64,7 @@ commit_parents body tree rest line has =
     let P : List ℕ → Type 0 = λ l. HasParents l has.1 in
     (has.1, subst P same.1 has.2.follows)
 
--- ---- tags, as they are read
+-- ---- reading tags
 
 module _ (body after : List ℕ) (id : Id) (object : BeginsWithId (codes "object ") body id after) where
   tag_after : (target : Id) (kind : ObjectType) (is : IsTag body target kind) → BeginsWithType after kind is.after_type
@@ -81,7 +81,7 @@ module _ (body after : List ℕ) (id : Id) (object : BeginsWithId (codes "object
       let same = type_once after other kind is.after_type rest (tag_after target other is) typed in
       none (subst BeginsWithName same.1 is.named)
 
--- ---- why a commit is not read
+-- ---- the faults of reading commits
 
 pub commit_fault : (body : List ℕ) (tree : Id) (rest : List ℕ) → BeginsWithId (codes "tree ") body tree rest → (fault : ObjectFault)
     → IsObjectFault ((ids : List Id) × HasParents rest ids) fault → IsObjectFault ((other : Id) × (parents : List Id) × IsCommit body other parents) fault

@@ -1,4 +1,4 @@
--- The words of types, and the texts of objects.
+-- The names of object types, and the texts of objects.
 use Rattle.std.proofs.Common.{◌≡◌, ◌≢◌, ℕ, ◌+◌, ◌<◌, ◌≤◌, ◌^◌, ◌%◌, List, [], ◌∷◌, ◌++◌, length, length-append, get_or, All, refl, sym, ap, ◌∙◌, arith}
 use Rattle.std.specs.Prelude.{decimal}
 use Rattle.std.proofs.lemmas.Fmt.{decimal_by_steps}
@@ -10,7 +10,7 @@ use Rattle.gitobject.specs.declared.types.ObjectType.{ObjectType}
 use Rattle.gitobject.specs.declared.types.ObjectType.TheVariants.{Commit, Tree, Blob, Tag}
 use Rattle.gitobject.proofs.Cutting.{cut_once}
 
--- the second letter of a type's word tells the type
+-- the second letter of a type's name, which differs for each type
 second : ObjectType → ℕ
 second Commit = 111
 second Tree = 114
@@ -46,7 +46,7 @@ seconds_differ Tag Tag e = refl
 pub word_once : (kind other : ObjectType) → type_name kind ≡ type_name other → kind ≡ other
 word_once kind other is = seconds_differ kind other (sym (second_is kind) ∙ ap (λ l. get_or l 1 0) is ∙ second_is other)
 
--- no word has a byte below its letters: no space, no LF
+-- the name of a type has no byte `s` less than the letter `a`, such as a space or LF
 module _ (s : ℕ) (low : s < 97) where
   none : All (λ (b : ℕ). b ≢ s) []
   none = All-nil (λ (b : ℕ). b ≢ s)
@@ -60,7 +60,7 @@ module _ (s : ℕ) (low : s < 97) where
   word_clean Blob = more 98 (108 ∷ 111 ∷ 98 ∷ []) (omega arith) (more 108 (111 ∷ 98 ∷ []) (omega arith) (more 111 (98 ∷ []) (omega arith) (more 98 [] (omega arith) none)))
   word_clean Tag = more 116 (97 ∷ 103 ∷ []) (omega arith) (more 97 (103 ∷ []) (omega arith) (more 103 [] (omega arith) none))
 
--- no digit is NUL
+-- the decimal digits of a number contain no NUL
 pub digits_clean : (n : ℕ) → n < 2 ^ 64 → All (λ b. b ≢ 0) (decimal n)
 digits_clean n small =
     decimal_by_steps (λ n ds. All (λ b. b ≢ 0) ds)
@@ -68,7 +68,7 @@ digits_clean n small =
     (λ n ds h each. All-append (λ b. b ≢ 0) ds ((48 + n % 10) ∷ []) each (All-cons (λ b. b ≢ 0) (48 + n % 10) [] (λ e. omega (arith, e)) (All-nil (λ b. b ≢ 0))))
     n small
 
--- a text is that of one object
+-- a text encodes at most one object of fewer than 2^64 bytes
 pub text_once : TextsAreOne
 text_once kind other body others one two is =
     let words = cut_once 32 (type_name kind) (type_name other) (decimal (length body) ++ 0 ∷ body) (decimal (length others) ++ 0 ∷ others) (word_clean 32 (omega arith) kind) (word_clean 32 (omega arith) other) is in

@@ -1,4 +1,4 @@
-//! Splitting the text of an object into words, lines, and parts up to a byte.
+//! Splitting the text of an object into words and lines, and at the first byte of a given value.
 
 ghost use Rattle.std.specs.Prelude.{◌≡◌, ◌≢◌, ◌++◌, ◌∷◌, ◌<◌, List, ℕ, All, IfSome, MatchOption, length};
 ghost use Rattle.gname.specs.Ids.{Id};

@@ -119,8 +119,7 @@ fn goes_on(text: &[u8]) -> bool
 }
 
 /// Returns the link of a tag to the object that it names. Returns `None` if the bytes do not begin
-/// with an object line, a type line and a tag line. Returns `None` also if there are fewer than 64
-/// bytes.
+/// with an object line, a type line and a tag line, or if there are fewer than 64 bytes.
 pub fn tag_link(body: &[u8]) -> Option<Link>
     ensures { MatchOption result
         ((target : Id) (kind : ObjectType) → ¬ (IsTag body.now target kind))

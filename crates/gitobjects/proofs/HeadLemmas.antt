@@ -1,4 +1,4 @@
--- The beginnings of texts.
+-- The words at the start of texts.
 use Rattle.std.proofs.Common.{◌≡◌, ℕ, ◌+◌, true, false, nat_eq, List, [], ◌∷◌, ◌++◌, length, take, drop, sym, ap, ◌∙◌, arith}
 use Rattle.std.specs.Cmp.Lexicographic.{pointwise}
 use Rattle.std.proofs.lemmas.Bool.{false≢true}
@@ -12,7 +12,7 @@ use Rattle.gitobjects.specs.Heads.{BeginsAsObject, BeginsWith}
 take_front : (a b : List ℕ) → take (length a) (a ++ b) ≡ a
 take_front a b = take-append-le (length a) a b (omega arith) ∙ take_all (length a) a (omega arith)
 
--- what stripping a word says of a text
+-- a text whose first bytes equal a word begins with the word
 pub strips : (word text : List ℕ) → pointwise nat_eq (take (length word) text) word ≡ true → BeginsWith word text
 strips word text same =
     let front = (bytes_eq-Decides (take (length word) text) word).0 same in
@@ -22,7 +22,7 @@ pub strips_not : (word text : List ℕ) → pointwise nat_eq (take (length word)
 strips_not word text differ begins =
     false≢true (sym differ ∙ (bytes_eq-Decides (take (length word) text) word).1 (ap (take (length word)) begins.1 ∙ take_front word begins.0))
 
--- a text that begins with none of the words begins as no object
+-- a text that begins with none of the four type names and a space does not begin like an object
 pub no_object : (text : List ℕ) → ¬ (BeginsWith (codes "commit ") text) → ¬ (BeginsWith (codes "tree ") text) → ¬ (BeginsWith (codes "blob ") text) → ¬ (BeginsWith (codes "tag ") text) → (kind : ObjectType) → ¬ (BeginsAsObject text kind)
 no_object text commit tree blob tag Commit = commit
 no_object text commit tree blob tag Tree = tree

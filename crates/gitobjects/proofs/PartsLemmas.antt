@@ -1,8 +1,8 @@
--- Texts of parts that have a byte after each.
+-- Texts whose parts are each followed by the same byte.
 use Rattle.std.proofs.Common.{◌≡◌, ℕ, List, [], ◌∷◌, ◌++◌, ap, sym, ◌∙◌, append_assoc}
 use Rattle.gitobjects.specs.Parts.{ended_by}
 
--- one more part, and what comes after it
+-- the text of the parts, with one more part and then `rest`
 pub ended_by-push : (byte : ℕ) (parts : List (List ℕ)) (part rest : List ℕ) → ended_by byte (parts ++ part ∷ []) ++ rest ≡ ended_by byte parts ++ (part ++ byte ∷ rest)
 ended_by-push byte [] part rest = append_assoc part (byte ∷ []) rest
 ended_by-push byte (p ∷ parts) part rest =

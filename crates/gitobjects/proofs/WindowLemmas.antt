@@ -1,4 +1,4 @@
--- Parts of parts, and blocks.
+-- Parts of blocks, and the blocks in memory.
 use Rattle.std.proofs.Common.{◌≡◌, ℕ, ◌+◌, ◌<◌, ◌≤◌, List, [], ◌∷◌, ◌++◌, Option, None, Some, length, map, take, drop, set, get_or, ap, sym, ◌∙◌, subst, arith}
 use Rattle.std.proofs.lemmas.List.{drop-append-le, drop-drop, get_or-map, length-append, length-drop, map-set, set-get_or, take-append-drop, take-append-le}
 use Rattle.std.proofs.lemmas.List.Elements.{All-push}
@@ -18,12 +18,12 @@ IsPart-inner (Some all) first offset count start block bytes sum is fits cut lon
     ap (λ n. drop n all) (sym sum) ∙ sym (drop-drop offset first all) ∙ ap (drop offset) whole ∙ drop-append-le offset block R inside in
     cut ∙ sym (take-append-le count (drop offset block) R enough) ∙ ap (take count) (sym back) ∙ ap (λ n. take n (drop start all)) (sym long)
 
--- where an element is replaced by another of the same image, the images stay
+-- replacing an element with another element that has the same image under `f` does not change the list of images
 pub map-set_same : {X Y : Type 0} (f : X → Y) (xs : List X) (i : ℕ) (x y : X) → f y ≡ f (get_or xs i x) → i < length xs → map f (set xs i y) ≡ map f xs
 map-set_same f xs i x y same inside =
     map-set f xs i y ∙ ap (set (map f xs) i) (same ∙ sym (get_or-map f xs i x (f x) inside)) ∙ set-get_or (map f xs) i (f x)
 
--- one block more
+-- the blocks in memory after one more block
 pub AreBlocks-push : {A : Type 0} (packs : List (Option (List ℕ))) (blocks : List (Block A)) (block : Block A) → AreBlocks packs blocks → length blocks < 64 → IsBlock packs block → AreBlocks packs (blocks ++ block ∷ [])
 AreBlocks-push packs blocks block are room is = record {
   few = rw length-append (omega arith);

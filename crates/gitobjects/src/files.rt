@@ -69,8 +69,8 @@ pub trait ObjectFiles {
     /// call.
     fn exists(&self, path: &str) -> Result<bool, Cause>;
 
-    /// Returns the canonical path of a folder: absolute, without symbolic links and dots. Returns
-    /// `None` if there is no such folder. Fails with `Open` if the system refuses the call.
+    /// Returns the canonical path of a folder: absolute, without symbolic links, `.` or `..`.
+    /// Returns `None` if there is no such folder. Fails with `Open` if the system refuses the call.
     fn canonical<A: Allocator + Copy>(
         &self,
         alloc: A,

@@ -56,7 +56,7 @@
 //! # What the contracts do not rule out
 //!
 //! - No contract rules out that [`ObjectReader::read`] returns an object with another id. The
-//!   method trusts the files and does not compute ids. A clause cannot describe the contents of a
+//!   method trusts the files and does not compute ids. A contract cannot describe the contents of a
 //!   system file.
 //! - No contract says which object a whole delta chain produces, or which type
 //!   [`ObjectReader::kind_of`] returns. Each step relies on a contract of `gitpack`.

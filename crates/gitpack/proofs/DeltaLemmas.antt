@@ -1,4 +1,4 @@
--- Deltas, as they are applied.
+-- Applying deltas.
 use Rattle.std.proofs.Common.{◌≡◌, ◌≢◌, ◌==◌, inl, inr, true, eqb-true, Option, None, Some, MatchOption, Result, Ok, Err, IfOk, ◌^◌, ℕ, zero, suc, ◌+◌, ◌-◌, ◌*◌, ◌/◌, ◌%◌, ◌<◌, ◌≤◌, List, [], ◌∷◌, ◌++◌, length, take, drop, refl, sym, ap, subst, ◌∙◌, append_assoc, length-append, arith}
 use Rattle.std.proofs.lemmas.List.{append-nil}
 use Rattle.std.proofs.Math.Nat.{pow-le-pow_right, pow-succ'}
@@ -21,7 +21,7 @@ pub record SameKept (bytes others kept more x y : List ℕ) : Type 0 where
   pub kept_are : kept ≡ more
   pub rest : x ≡ y
 
--- one reading of the kept bytes
+-- the kept bytes can be decoded in only one way
 keeps_once : (bits : ℕ) (bytes others t u x y : List ℕ) → length bytes ≡ length others → Keeps bits bytes t → Keeps bits others u → t ++ x ≡ u ++ y → SameKept bytes others t u x y
 keeps_once bits [] [] t u x y long one two is =
     record { bytes_are = refl; kept_are = one ∙ sym two; rest = sym (ap (λ l. l ++ x) one) ∙ is ∙ ap (λ l. l ++ y) two }
@@ -51,14 +51,14 @@ sparse_once bits count n m t u x y one two is =
     let same = keeps_once bits one.bytes two.bytes t u x y (one.counted ∙ sym two.counted) one.keeps two.keeps is in
     (one.valued ∙ ap number_of same.bytes_are ∙ sym two.valued, same.rest)
 
--- the number of no bytes
+-- the encoding of a number of no bytes is empty
 pub no_sparse_at : (bits count : ℕ) → count ≡ 0 → IsSparse bits count 0 []
 no_sparse_at bits count none = record { bytes = []; counted = sym none; keeps = refl; valued = refl }
 
 pub pow_256 : (n : ℕ) → n ≤ 3 → 256 ^ n ≤ 16777216
 pow_256 n few = pow-le-pow_right {n = 256} (omega arith) few
 
--- where the lowest byte is left out
+-- if the lowest bit of `bits` is not set, the lowest byte of the number is 0 and is not present
 pub sparse_zero : (bits count high : ℕ) (t : List ℕ) → 0 < count → bits % 2 ≡ 0 → IsSparse (bits / 2) (count - 1) high t → IsSparse bits count (256 * high) t
 sparse_zero bits count high t some even is =
     let n = is.counted in let v = is.valued in
@@ -69,7 +69,7 @@ sparse_one bits count low high t some odd is =
     let n = is.counted in let v = is.valued in
     record { bytes = low ∷ is.bytes; counted = omega (arith, n); keeps = inl (omega (arith, odd), t, refl, is.keeps); valued = omega (arith, v) }
 
--- what comes after the lowest byte
+-- if the lowest bit of `bits` is not set, the same text encodes the higher bytes of the number
 pub sparse_rest : (bits count number : ℕ) (t : List ℕ) → 0 < count → bits % 2 ≡ 0 → IsSparse bits count number t → (high : ℕ) × IsSparse (bits / 2) (count - 1) high t
 sparse_rest bits count number t some even is = cases is.bytes is.counted is.keeps
   where
@@ -164,17 +164,17 @@ instructions_once (Insert a) (Insert b) t u x y one two is =
     let both = same_fronts a b x y heads tails in
     let same = both.0 in (cc, both.1)
 
--- what comes after the first instruction
+-- a text begins with at most one instruction
 pub begins_once : (base text : List ℕ) (i j : Instruction) (x y : List ℕ) → BeginsWithInstruction base text i x → BeginsWithInstruction base text j y → (i ≡ j) × (x ≡ y)
 begins_once base text i j x y one two = instructions_once i j one.front two.front x y one.spelt two.spelt (sym one.parts ∙ two.parts)
 
 module _ (base text : List ℕ) (command : ℕ) (after : List ℕ) (parts : text ≡ command ∷ after) where
-  -- a copy that is read
+  -- a copy instruction that was read, and whose range is within the base
   pub copy_found : (o s : ℕ) (t rest part : List ℕ) → IsCopy o s t → command ∷ after ≡ t ++ rest → o + s ≤ length base → part ≡ take s (drop o base)
       → (i : Instruction) × BeginsWithInstruction base text i rest × (part ≡ add_instruction base i)
   copy_found o s t rest part is cut fits same = (Copy o s, record { front = t; spelt = is; fits = fits; parts = parts ∙ cut }, same)
 
-  -- one that does not lie within the base
+  -- a copy instruction whose range extends beyond the base
   pub copy_outside : (o s : ℕ) (t rest : List ℕ) → IsCopy o s t → command ∷ after ≡ t ++ rest → length base < o + s
       → (i : Instruction) (other : List ℕ) → ¬ (BeginsWithInstruction base text i other)
   copy_outside o s t rest is cut out i other b =
@@ -210,12 +210,12 @@ module _ (base text : List ℕ) (command : ℕ) (after : List ℕ) (parts : text
     refl,
   )
 
--- an instruction has a byte
+-- the encoding of an instruction is not empty
 instruction_some : (i : Instruction) (t : List ℕ) → IsInstruction i t → 0 < length t
 instruction_some (Copy o s) t is = let n = ap length is.parts in omega (arith, n)
 instruction_some (Insert b) t is = let n = ap length is.0 in omega (arith, n)
 
--- ---- following them
+-- ---- following the instructions of a delta
 
 pub record Follows (base commands rest body : List ℕ) (size : ℕ) : Type 0 where
   pub within : length body ≤ size
@@ -225,7 +225,7 @@ pub record Follows (base commands rest body : List ℕ) (size : ℕ) : Type 0 wh
 pub begins_following : (base commands : List ℕ) (size : ℕ) → Follows base commands commands [] size
 begins_following base commands size = record { within = omega arith; whole = λ is more h. (is, h); left = λ is made h. (is, made, h, refl) }
 
--- the first of some instructions is the one that is read
+-- if a text begins with the instruction `i`, any instructions that the text encodes begin with `i`
 first_is : (base rest after : List ℕ) (i : Instruction) → BeginsWithInstruction base rest i after
     → (is : List Instruction) (made : List ℕ) → Makes base is rest made → (js : List Instruction) × (more : List ℕ) × Makes base js after more × (made ≡ add_instruction base i ++ more)
 first_is base rest after i b [] made h =
@@ -253,7 +253,7 @@ follows_more base commands rest after body new part size i f b is short grown =
           (r.0, r.1, r.2, l.3 ∙ ap (λ k. body ++ k) r.3 ∙ ap (λ k. body ++ (k ++ r.1)) (sym is) ∙ sym (append_assoc body part r.1) ∙ ap (λ k. k ++ r.1) (sym grown));
     }
 
--- where no instruction comes first
+-- if `rest` is not empty and begins with no valid instruction, no instructions are encoded by `commands`
 pub follows_none : (base commands rest body : List ℕ) (size : ℕ) → Follows base commands rest body size → (length rest ≡ 0 → ⊥)
     → ((i : Instruction) (after : List ℕ) → ¬ (BeginsWithInstruction base rest i after))
     → (is : List Instruction) (made : List ℕ) → ¬ (Makes base is commands made)
@@ -264,7 +264,7 @@ follows_none base commands rest body size f some none is made h =
     no_makes [] more m = some (ap length m.0)
     no_makes (j ∷ js) more m = none j m.0 m.2
 
--- where the next part is too long
+-- if the next instruction adds too many bytes, the instructions do not make an object of `size` bytes
 pub follows_long : (base commands rest after body part : List ℕ) (size : ℕ) (i : Instruction) → Follows base commands rest body size
     → BeginsWithInstruction base rest i after → part ≡ add_instruction base i → size - length body < length part
     → (is : List Instruction) (made : List ℕ) → Makes base is commands made → ¬ (length made ≡ size)
@@ -277,7 +277,7 @@ follows_long base commands rest after body part size i f b is long js made h n =
     let two = length-append part r.1 in
     omega (arith, n, long, inside, k, one, two)
 
--- at the end
+-- if no text remains, the instructions make exactly `body`
 pub follows_end : (base commands rest body : List ℕ) (size : ℕ) → Follows base commands rest body size → rest ≡ []
     → (is : List Instruction) × Makes base is commands body
 follows_end base commands rest body size f nil =

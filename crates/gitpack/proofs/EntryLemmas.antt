@@ -1,4 +1,4 @@
--- The heads of entries, as they are read.
+-- Reading the headers of pack entries.
 use Rattle.std.proofs.Common.{◌≡◌, ℕ, ◌+◌, ◌-◌, ◌*◌, ◌/◌, ◌%◌, ◌<◌, List, [], ◌∷◌, ◌++◌, length, drop, refl, sym, ap, subst, ◌∙◌, append_assoc, length-append, arith}
 use Rattle.std.proofs.Math.Seq.{drop-append_seam}
 use Rattle.gitobject.specs.Types.{pack_number}
@@ -10,7 +10,7 @@ use Rattle.gitpack.specs.declared.entry.EntryForm.{EntryForm}
 use Rattle.gitpack.specs.declared.entry.EntryForm.TheVariants.{Whole, OffsetDelta, RefDelta}
 use Rattle.gitpack.proofs.NumberLemmas.{number_once}
 
--- fronts of one length, and what comes after them
+-- if two texts are equal and their first parts have the same length, both parts are equal
 pub same_fronts : {X : Type 0} (a b x y : List X) → length a ≡ length b → a ++ x ≡ b ++ y → (a ≡ b) × (x ≡ y)
 same_fronts [] [] x y long is = (refl, is)
 same_fronts [] (c ∷ b) x y long is = absurd (omega (arith, long))
@@ -29,7 +29,7 @@ pub record SameTypes (n m s z : ℕ) (t u x y : List ℕ) : Type 0 where
   pub text : t ≡ u
   pub rest : x ≡ y
 
--- bytes begin with one type and size
+-- a byte sequence begins with at most one encoded type and size
 pub types_once : (n m s z : ℕ) (t u x y : List ℕ) → IsTypeAndSize n s t → IsTypeAndSize m z u → t ++ x ≡ u ++ y → SameTypes n m s z t u x y
 types_once n m s z t u x y one two is =
     let both = number_once t u x y one.ends two.ends is in
@@ -66,7 +66,7 @@ kind_once Tag Tree is = absurd (omega (arith, is))
 kind_once Tag Blob is = absurd (omega (arith, is))
 kind_once Tag Tag is = refl
 
--- bytes begin with one base
+-- a byte sequence begins with at most one encoded base
 bases_once : (f g : EntryForm) (n : ℕ) (t u x y : List ℕ) → IsBaseOf f n t → IsBaseOf g n u → t ++ x ≡ u ++ y → (f ≡ g) × (t ≡ u)
 bases_once (Whole k) (Whole l) n t u x y one two is =
     let kinds = kind_once k l (sym one.0 ∙ two.0) in let nil = one.1 in let none = two.1 in (cc, cc)
@@ -97,9 +97,9 @@ heads_once f g s z t u x y one two is =
     let forms = bases_once f g one.number one.back two.back x y one.based other both.rest in
     (forms.0, both.size, one.parts ∙ ap (λ l. l ++ one.back) both.text ∙ ap (λ l. two.front ++ l) forms.1 ∙ sym two.parts)
 
--- ---- reading
+-- ---- reading a header
 
--- where the bytes begin with no type and size
+-- bytes that do not begin with a type and a size do not begin with a header
 pub no_type : (bytes : List ℕ) → ((number size : ℕ) (text rest : List ℕ) → IsTypeAndSize number size text → ¬ (bytes ≡ text ++ rest))
     → (form : EntryForm) (size : ℕ) (rest : List ℕ) → ¬ (BeginsWithHead bytes form size rest)
 no_type bytes none form size rest b =
@@ -107,7 +107,7 @@ no_type bytes none form size rest b =
     none h.number size h.front (h.back ++ rest) h.sized (b.parts ∙ ap (λ l. l ++ rest) h.parts ∙ append_assoc h.front h.back rest)
 
 module _ (bytes after front : List ℕ) (number size : ℕ) (sized : IsTypeAndSize number size front) (parts : bytes ≡ front ++ after) where
-  -- where what comes after the size is no base
+  -- if no base follows the size, the bytes do not begin with a header
   pub no_base : ((form : EntryForm) (text rest : List ℕ) → IsBaseOf form number text → ¬ (after ≡ text ++ rest))
       → (form : EntryForm) (z : ℕ) (rest : List ℕ) → ¬ (BeginsWithHead bytes form z rest)
   no_base none form z rest b =

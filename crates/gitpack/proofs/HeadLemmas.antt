@@ -1,4 +1,4 @@
--- The heads of entries, as they are written.
+-- Writing the headers of pack entries.
 use Rattle.std.proofs.Common.{◌≡◌, ℕ, zero, suc, ◌+◌, ◌-◌, ◌*◌, ◌/◌, ◌%◌, ◌^◌, ◌<◌, ◌≤◌, inl, inr, List, [], ◌∷◌, ◌++◌, length, All, Result, Ok, Err, OnOk, refl, ap, ◌∙◌, append_assoc, length-append, add-one, arith}
 use Rattle.std.proofs.lemmas.List.Elements.{All-head, All-push, All-tail}
 use Rattle.gitpack.specs.Numbers.{IsNumber, IsOffset, high_first, low_first}
@@ -9,7 +9,7 @@ pub on_ok : {T E : Type 0} (r : Result T E) (P Q : Type 0) → (P → Q) → OnO
 on_ok (Ok x) P Q f h = f h
 on_ok (Err e) P Q f h = tt
 
--- the bytes of a number, which are few
+-- `text` has at most `k + 1` bytes if `number` has at most `k + 1` groups of seven bits
 abbrev pub Few : ℕ → List ℕ → Type 0
 Few number text = (k : ℕ) → number < 128 ^ (k + 1) → length text ≤ k + 1
 

@@ -1,4 +1,4 @@
--- The pack index and the frame of a pack.
+-- The pack index, and the header and trailer of a pack.
 use Rattle.std.proofs.Common.{◌≡◌, ℕ, zero, suc, ◌+◌, ◌-◌, ◌<◌, ◌≤◌, ◌≢◌, Bool, true, false, cond, refl, set, eq-eqb, eqb-true, List, [], ◌∷◌, ◌++◌, length, take, drop, get_or, nat_eq, nat_le, sym, ap, subst, ◌∙◌, append_assoc, add-one, arith}
 use Rattle.std.specs.Int.{w32, to_be_bytes, from_be_bytes}
 use Rattle.std.specs.Cmp.Lexicographic.{pointwise}
@@ -18,12 +18,12 @@ use Rattle.gitpack.specs.Indexes.{begins_within, fan_out, ids_within, index_body
 use Rattle.gitpack.specs.declared.index.IndexEntry.{IndexEntry}
 use Rattle.gitpack.specs.steps.FirstBytes.{begins_with, ids_below, ids_beginning}
 
--- ---- the frame
+-- ---- the header and trailer of a pack
 
 pub cut_at : (n : ℕ) (bytes front back : List ℕ) → front ≡ take n bytes → back ≡ drop n bytes → bytes ≡ front ++ back
 cut_at n bytes front back is rest = sym (take-append-drop n bytes) ∙ ap (λ l. l ++ drop n bytes) (sym is) ∙ ap (λ l. front ++ l) (sym rest)
 
--- bytes that were hashed but for the last twenty, and those that come with a piece more
+-- after a piece arrives, hashing `to - from` more bytes extends the hashed bytes to all bytes except the last twenty
 pub hashed_more : (old piece new : List ℕ) (from to : ℕ) → new ≡ old ++ piece → from ≡ length old - 20 → to ≡ length new - 20
     → take from old ++ take (to - from) (drop from new) ≡ take to new
 hashed_more old piece new from to all is end =
@@ -78,7 +78,7 @@ one_more x byte = grind (arith, nat_tests)
 least : (x : ℕ) → ◌≡◌ {A = ℕ} (cond (nat_eq x 0) 1 0) (cond (nat_le x 0) 1 0)
 least x = grind (arith, nat_tests)
 
--- a count, entry by entry
+-- the number of entries that satisfy a test, one entry at a time
 pub counted-cons : (test : IndexEntry → Bool) (e : IndexEntry) (entries : List IndexEntry) → count_by test (e ∷ entries) ≡ cond (test e) 1 0 + count_by test entries
 counted-cons test e entries = sum_by-cons (λ x. cond (test x) 1 0) e entries
 
@@ -92,7 +92,7 @@ with_next byte [] = refl
 with_next byte (e ∷ entries) =
     omega (arith, counted-cons (begins_within byte) e entries, counted-cons (begins_with (suc byte)) e entries, counted-cons (begins_within (suc byte)) e entries, one_more (slice_index e.id 0) byte, with_next byte entries)
 
--- those that begin with a lower byte, and those that begin with this one
+-- the ids that begin with a lower byte or with this byte are the ids whose first byte is at most this byte
 pub ids_up_to : (byte : ℕ) (entries : List IndexEntry) → ids_below byte entries + ids_beginning byte entries ≡ ids_within byte entries
 ids_up_to zero entries = omega (arith, with_least entries)
 ids_up_to (suc byte) entries = with_next byte entries
@@ -100,14 +100,14 @@ ids_up_to (suc byte) entries = with_next byte entries
 pub ids_below-next : (byte : ℕ) (entries : List IndexEntry) → ids_below (byte + 1) entries ≡ ids_within byte entries
 ids_below-next byte entries = ap (λ n. ids_below n entries) (add-one byte)
 
--- at most as many as there are
+-- each count is at most the number of entries
 pub ids_beginning-few : (byte i : ℕ) (entries : List IndexEntry) → ids_beginning byte (take i entries) ≤ length entries
 ids_beginning-few byte i entries = omega (arith, count_by-le-length (begins_with byte) (take i entries), length-take i entries)
 
 pub ids_within-few : (byte : ℕ) (entries : List IndexEntry) → ids_within byte entries ≤ length entries
 ids_within-few byte entries = count_by-le-length (begins_within byte) entries
 
--- one entry more is counted
+-- the counts after one more entry
 module _ (counts : List ℕ) (entries : List IndexEntry) (i first byte : ℕ) (e : IndexEntry) (room : first < length counts) (inside : i < length entries) (at : e ≡ get_or entries i e) (is : first ≡ slice_index e.id 0) where
   grown : List ℕ
   grown = set counts first (get_or counts first 0 + 1)

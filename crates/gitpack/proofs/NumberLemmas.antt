@@ -1,15 +1,15 @@
--- Numbers in bytes of seven bits, as they are read and written.
+-- Reading and writing numbers in groups of seven bits.
 use Rattle.std.proofs.Common.{◌≡◌, inl, inr, ℕ, zero, suc, ◌+◌, ◌-◌, ◌*◌, ◌%◌, ◌^◌, ◌<◌, ◌≤◌, List, [], ◌∷◌, ◌++◌, length, take, get_or, refl, sym, ap, subst, ◌∙◌, length-append, add-one, arith}
 use Rattle.std.proofs.lemmas.List.{take_more, reverse-append, length-take-le}
 use Rattle.std.proofs.Math.Nat.{pow-succ', pow-le-pow_right}
 use Rattle.gitpack.specs.Numbers.{IsNumber, low_first, carries, high_first}
 
--- ---- where a number ends
+-- ---- the end of a number
 
 number_cons : (b c : ℕ) (t u x y : List ℕ) → b ∷ (t ++ x) ≡ c ∷ (u ++ y) → (b ≡ c) × (t ++ x ≡ u ++ y)
 number_cons b c t u x y is = (cc, cc)
 
--- no number begins another
+-- a byte sequence begins with at most one encoded number
 pub number_once : (t u x y : List ℕ) → IsNumber t → IsNumber u → t ++ x ≡ u ++ y → (t ≡ u) × (x ≡ y)
 number_once [] u x y one two is = absurd one
 number_once (b ∷ t) [] x y one two is = absurd two
@@ -33,7 +33,7 @@ number_once (b ∷ t) (c ∷ u) x y one two is =
       ]
     ]
 
--- the bytes up to the first below 128 are a number
+-- the bytes up to and including the first byte below 128 are an encoded number
 cut_number : (bytes : List ℕ) (place : ℕ) → place < length bytes → ((k : ℕ) → k < place → 128 ≤ get_or bytes k 0) → get_or bytes place 0 < 128 → IsNumber (take (suc place) bytes)
 cut_number [] place inside on last = absurd (omega (arith, inside))
 cut_number (b ∷ bytes) zero inside on last = inl (last, refl)
@@ -44,7 +44,7 @@ cut_number (b ∷ bytes) (suc place) inside on last =
 pub number_at : (bytes : List ℕ) (place : ℕ) → place < length bytes → ((k : ℕ) → k < place → 128 ≤ get_or bytes k 0) → get_or bytes place 0 < 128 → IsNumber (take (place + 1) bytes)
 number_at bytes place inside on last = rw add-one (cut_number bytes place inside on last)
 
--- a number has a byte below 128
+-- an encoded number has a byte below 128
 pub number_ends : (text rest : List ℕ) → IsNumber text → (k : ℕ) × (k < length text) × (get_or (text ++ rest) k 0 < 128)
 number_ends [] rest h = absurd h
 number_ends (b ∷ text) rest (inl last) = (0, omega arith, last.0)
@@ -60,7 +60,7 @@ no_number bytes on text rest is parts =
     let low : get_or bytes ends.0 0 < 128 = subst (λ l. get_or l ends.0 0 < 128) (sym parts) ends.2 in
     absurd (omega (arith, high, low))
 
--- a number that is longer than the place of the first byte below 128
+-- if the first `place` bytes are all at least 128, the bytes do not begin with a number of at most `most` bytes
 pub long_number : (bytes : List ℕ) (place most : ℕ) → ((k : ℕ) → k < place → 128 ≤ get_or bytes k 0) → most ≤ place → (text rest : List ℕ) → IsNumber text → length text ≤ most → ¬ (bytes ≡ text ++ rest)
 long_number bytes place most on over text rest is short parts =
     let ends = number_ends text rest is in
@@ -69,7 +69,7 @@ long_number bytes place most on over text rest is short parts =
     let low : get_or bytes ends.0 0 < 128 = subst (λ l. get_or l ends.0 0 < 128) (sym parts) ends.2 in
     absurd (omega (arith, high, low))
 
--- ---- the number with some digits, the lowest first
+-- ---- numbers whose lowest group comes first
 
 pub low_first-push : (bytes : List ℕ) (b : ℕ) → low_first (bytes ++ b ∷ []) ≡ low_first bytes + (b % 128) * 128 ^ length bytes
 low_first-push [] b = omega arith
@@ -90,7 +90,7 @@ pow_56 i h = pow-le-pow_right {n = 128} (omega arith) h
 pub pow_more : (i : ℕ) → 128 ^ (i + 1) ≡ 128 ^ i * 128
 pow_more i = let p = pow-succ' 128 i in rw add-one (omega (arith, p))
 
--- ---- the number with some digits, the highest first
+-- ---- numbers whose highest group comes first
 
 carries_step : (n : ℕ) → 128 ^ suc n + carries n ≡ 128 * carries n + 128
 carries_step zero = refl

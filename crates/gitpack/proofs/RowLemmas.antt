@@ -14,7 +14,7 @@ use Rattle.gitpack.specs.declared.index.IndexEntry.{IndexEntry}
 use Rattle.gitpack.specs.steps.Rows.{AreLeft, AreRows, index_rows, longs_with, short_of}
 use Rattle.gitpack.proofs.IndexLemmas.{counted-cons}
 
--- ---- lists that are cut
+-- ---- splitting lists
 
 pub front_of : (n : ℕ) (a b l x : List ℕ) → l ≡ a ++ b → length a ≡ n → x ≡ take n l → x ≡ a
 front_of n a b l x is long cut = cut ∙ ap (take n) is ∙ take_at a b n long
@@ -31,7 +31,7 @@ both_parts a b c d is long =
     let back = back_of (length c) a b (c ++ d) d (sym is) long (sym (drop_at c d (length c) refl)) in
     (sym front, sym back)
 
--- ---- numbers in bytes
+-- ---- big-endian numbers
 
 pub word : (n : ℕ) (bytes : List ℕ) → n < 2 ^ 32 → bytes ≡ to_be_bytes w32 n → from_be_bytes w32 bytes ≡ n
 word n bytes small is = ap (from_be_bytes w32) is ∙ from_be_bytes-to_be_bytes_4 n small
@@ -39,7 +39,7 @@ word n bytes small is = ap (from_be_bytes w32) is ∙ from_be_bytes-to_be_bytes_
 pub long_word : (n : ℕ) (bytes : List ℕ) → n < 2 ^ 64 → bytes ≡ to_be_bytes w64 n → from_be_bytes w64 bytes ≡ n
 long_word n bytes small is = ap (from_be_bytes w64) is ∙ from_be_bytes-to_be_bytes_8 n small
 
--- ---- how long the tables are
+-- ---- the lengths of the tables
 
 pub length-ids : (lines : List IndexEntry) → All IsLine lines → length (flat_map id_bytes lines) ≡ length lines * 20
 length-ids [] all = refl
@@ -74,7 +74,7 @@ fan_step : (n : ℕ) (lines : List IndexEntry) → fan_out (suc n) lines ≡ fan
 unfolding fan_out
 fan_step n lines = refl
 
--- ---- the last number of the fan-out table counts all lines
+-- ---- the last number of the fan-out table, which counts all entries
 
 is_byte : (x : ℕ) → x < 256 → ◌≡◌ {A = ℕ} (cond (nat_le x 255) 1 0) 1
 is_byte x small = grind (arith, nat_tests)
@@ -100,7 +100,7 @@ counted_tables lines all =
 pub length-front : (lines : List IndexEntry) → length (index_header ++ fan_out 255 lines) ≡ 1028
 length-front lines = omega (arith, length-append index_header (fan_out 255 lines), length-fan 255 lines)
 
--- ---- one line
+-- ---- one entry
 
 pub rows_begin : (ids crcs offsets long_offsets : List ℕ) (longs : ℕ) (e : IndexEntry) (es : List IndexEntry) → AreRows ids crcs offsets long_offsets longs (e ∷ es)
     → offsets ≡ to_be_bytes w32 (short_of longs e) ++ short_offsets (longs_with longs e) es
@@ -126,7 +126,7 @@ pub is_long_one : (b : Bool) (x before short : ℕ) (longs more : List ℕ) → 
 is_long_one true x before short longs more is value parts large = absurd (omega (arith, value, large, below_mark x is))
 is_long_one false x before short longs more is value parts large = parts
 
--- ---- tables are those of one list of lines
+-- ---- at most one list of entries for the same tables
 
 once_by : (a b : Bool) (x y k : ℕ) (r q : List ℕ) → nat_lt x 2147483648 ≡ a → nat_lt y 2147483648 ≡ b → x < 2 ^ 64 → y < 2 ^ 64
     → (if a then x else (2147483648 + k)) ≡ (if b then y else (2147483648 + k))
@@ -181,7 +181,7 @@ lines_once (e ∷ es) (f ∷ fs) i c s l k all every long few one two =
 pub count_fits : (lines : List IndexEntry) → AreEntries lines → length lines < 2 ^ 32
 count_fits lines are = let few = are.few in omega (arith, few)
 
--- ---- a line more is read
+-- ---- reading one more entry
 
 one_of : (read : List IndexEntry) (line : IndexEntry) (rest lines : List IndexEntry) → lines ≡ read ++ line ∷ rest → All IsLine lines → IsLine line
 one_of read line rest lines parts all =
@@ -229,7 +229,7 @@ front_but n a own l x parts long cut = front_of (length l - n) a own l x parts (
 back_but : (n : ℕ) (a own l x : List ℕ) → l ≡ a ++ own → length own ≡ n → x ≡ drop (length l - n) l → x ≡ own
 back_but n a own l x parts long cut = back_of (length l - n) a own l x parts (omega (arith, ap length parts, length-append a own, long)) cut
 
--- the text without its own checksum, its tables and the checksum of the pack, as they are cut
+-- the parts of an index: the text without the index's own checksum, the tables, and the checksum of the pack
 module _ (index : Index) (bytes text tables trailer : List ℕ) (has : HasText index) (is : IsIndex index bytes) (cut : text ≡ take (length bytes - 20) bytes)
     (front : tables ≡ take (length text - 20) text) (back : trailer ≡ drop (length text - 20) text) where
   pub body_is : text ≡ index_body index
@@ -248,7 +248,7 @@ found_lines (Some w) v items lines is found = cc
 pub same_body : (entries lines : List IndexEntry) (one other : Id) → entries ≡ lines → one ≡ other → index_body (record { entries = entries; checksum = one }) ≡ index_body (record { entries = lines; checksum = other })
 same_body entries lines one other same ids = ap (λ es. index_body (record { entries = es; checksum = one })) same ∙ ap (λ id. index_body (record { entries = lines; checksum = id })) ids
 
--- ---- a text is the text of one index
+-- ---- at most one index for the same text
 
 number_of : (lines : List IndexEntry) (bytes : List ℕ) → AreEntries lines → bytes ≡ index_tables lines → from_be_bytes w32 (take 4 (drop 1028 bytes)) ≡ length lines
 number_of lines bytes are is =

@@ -1,4 +1,4 @@
--- The order of the lines of a pack index.
+-- The order of the entries of a pack index.
 use Rattle.std.proofs.Common.{◌≡◌, ◌≢◌, ℕ, zero, suc, ◌+◌, ◌<◌, ◌≤◌, true, false, Bool, not, IsTrue, List, [], ◌∷◌, length, get_or, map, All, Err, ◌⊎◌, inl, inr, refl, sym, ap, ◌∙◌, arith, rules}
 use Rattle.std.specs.Cmp.{IsStrictWeakOrder, IsTotalOrder}
 use Rattle.std.specs.Cmp.Rules.{comparing}
@@ -37,7 +37,7 @@ adjacent_from_sorted entries false h sorted =
     let down = h.2 no_line in
     absurd (false≢true (down ∙ ap not up))
 
--- ---- ids that are the same
+-- ---- equal ids
 
 ids_ordered : IsTotalOrder id_cmp
 ids_ordered = search (comparing, rules)

@@ -7,9 +7,9 @@
 //!   the offset or id of a delta base. A byte sequence begins with at most one entry header
 //!   ([`laws`]), so [`read_head`] reads back each header that [`PackWriter`] writes.
 //! - [`apply_delta`] returns an object if and only if the bytes are a delta of the base, and the
-//!   size of the object is within the limit. In such a delta, both recorded sizes are correct, and
-//!   each copied range is within the base. The object consists of the copied and inserted bytes, in
-//!   order. [`made_size`] returns the size of this object.
+//!   size of the object is within the limit. In a delta of the base, both recorded sizes are
+//!   correct, and each copied range is within the base. The object consists of the copied and
+//!   inserted bytes, in order. [`made_size`] returns the size of this object.
 //! - [`DeltaBase::make_delta`] returns only a delta that makes the target from the base, and whose
 //!   size is within the limit.
 //! - [`PackIndex::read`] returns an index if and only if the bytes are an index of version 2

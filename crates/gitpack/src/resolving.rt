@@ -16,8 +16,8 @@ use gitobject::{ObjectType, id_of};
 use gzlib::Inflater;
 use std::alloc::{AllocError, Allocator};
 
-// The maximum number of deltas in a chain, which is also the maximum of git-fast-import(1),
-// "--depth". The limit bounds the cost of reading the last object of a chain.
+// The maximum number of deltas in a chain, which is also the maximum for `--depth` in
+// git-fast-import(1). The limit bounds the cost of reading the last object of a chain.
 const MAX_DEPTH: usize = 8_191;
 
 // An object to which deltas are applied.

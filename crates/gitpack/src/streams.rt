@@ -23,7 +23,7 @@ pub(crate) struct Inflated<A: Allocator + Copy> {
 }
 
 /// Inflates the stream at the start of `bytes` to exactly `size` bytes, for the entry at position
-/// `number`. Returns `None` if `bytes` ends before the stream.
+/// `number`. Returns `None` if `bytes` ends before the stream does.
 pub(crate) fn inflate<A: Allocator + Copy>(
     alloc: A,
     inflater: &mut Inflater,

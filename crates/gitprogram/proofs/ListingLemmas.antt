@@ -1,4 +1,4 @@
--- The lines of a listing, those of one ref more at a time.
+-- The text of a listing, which grows by the lines of one ref at a time.
 use Rattle.std.proofs.Common.{◌≡◌, ℕ, ◌+◌, ◌≤◌, ◌<◌, List, [], ◌∷◌, ◌++◌, length, take, slice_get, Some, sym, ap, ◌∙◌}
 use Rattle.std.proofs.lemmas.List.{flat_map_more, take_all, take_more}
 use Rattle.std.proofs.lemmas.Option.{get_or_from_slice_get}

@@ -119,8 +119,8 @@ fn find_listed<R: Files, F: ObjectFiles>(
     Ok(found.refs(alloc, rt).read_peeled_refs()?)
 }
 
-/// Reads the objects that refs point to, which is all that ls-refs needs. If a `QuickReader` does
-/// not find an object, this function reads the whole history.
+/// Reads the objects that refs point to, because ls-refs needs no other objects. If a `QuickReader`
+/// does not find an object, this function reads the whole history.
 pub(crate) fn open_shown<F: ObjectFiles>(
     alloc: Global,
     files: &F,

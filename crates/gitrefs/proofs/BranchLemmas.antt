@@ -1,4 +1,4 @@
--- HEAD that points at a branch.
+-- Reading back a HEAD that points at a branch.
 use Rattle.std.proofs.Common.{◌≡◌, ℕ, true, List, [], ◌∷◌, ◌++◌, All, refl}
 use Rattle.std.proofs.lemmas.List.Elements.{All-cons, All-nil}
 use Rattle.gname.specs.Names.{IsRefName, Name}
@@ -6,7 +6,7 @@ use Rattle.gitrefs.specs.LooseRefs.{IsSymrefFile}
 use Rattle.gitrefs.specs.Spaces.{is_space}
 use Rattle.gitrefs.specs.Texts.{branch_text}
 
--- what is written is read as the ref
+-- the written text of a HEAD is the text of a symbolic ref to the branch
 pub branch_reads : (name : Name) (text : List ℕ) → IsRefName name → text ≡ branch_text name → IsSymrefFile text name
 branch_reads name text well_formed is = (
   32 ∷ (name ++ 10 ∷ []),

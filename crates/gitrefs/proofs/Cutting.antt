@@ -1,4 +1,4 @@
--- Texts that are cut in parts.
+-- Splitting texts into parts.
 use Rattle.std.proofs.Common.{◌≡◌, ◌≢◌, ℕ, ◌+◌, ◌<◌, Bool, true, false, nat_eq, inl, inr, List, [], ◌∷◌, ◌++◌, length, take, drop, get_or, All, Option, None, Some, MatchOption, Err, Ok, refl, sym, ap, subst, ◌∙◌, arith}
 use Rattle.std.specs.Prelude.{slice_index}
 use Rattle.std.specs.Borrow.{Bor}
@@ -16,7 +16,7 @@ use Rattle.gname.specs.declared.ids.OidFault.{OidFault}
 use Rattle.gitrefs.specs.Ids.{BeginsWithId}
 use Rattle.gitrefs.specs.Spaces.{BeginsWithoutSpace, EndsWord, IsBlank, is_other, is_space}
 
--- fronts of one length, and what comes after them
+-- if two texts are equal and their first parts have the same length, both parts are equal
 pub same_fronts : {X : Type 0} (a b x y : List X) → length a ≡ length b → a ++ x ≡ b ++ y → (a ≡ b) × (x ≡ y)
 same_fronts [] [] x y long is = (refl, is)
 same_fronts [] (c ∷ b) x y long is = absurd (omega (arith, long))
@@ -29,7 +29,7 @@ same_fronts (c ∷ a) (d ∷ b) x y long is =
     let front = rest.0 in
     (cc, rest.1)
 
--- a text is cut in one way at the first byte of this value
+-- a text can be split at the first byte `s` in only one way
 pub cut_once : (s : ℕ) (x y u v : List ℕ) → All (λ b. b ≢ s) x → All (λ b. b ≢ s) y → x ++ s ∷ u ≡ y ++ s ∷ v → (x ≡ y) × (u ≡ v)
 cut_once s [] [] u v one two is = (refl, cc)
 cut_once s [] (c ∷ y) u v one two is =
@@ -43,11 +43,11 @@ cut_once s (c ∷ x) (d ∷ y) u v one two is =
     let front = rest.0 in
     (cc, rest.1)
 
--- the text does not begin with a byte that passes so
+-- the test `p` of the first byte of the text, if any, does not have the result `c`
 abbrev pub Stops : (ℕ → Bool) → Bool → List ℕ → Type 0
 Stops p c text = (first : ℕ) (more : List ℕ) → text ≡ first ∷ more → p first ≢ c
 
--- a text is cut in one way where its bytes no longer pass a test
+-- a text has only one longest prefix of bytes whose test has the result `c`, and only one rest after this prefix
 pub span_once : (p : ℕ → Bool) (c : Bool) (x y u v : List ℕ) → All (λ b. p b ≡ c) x → All (λ b. p b ≡ c) y → Stops p c u → Stops p c v → x ++ u ≡ y ++ v → (x ≡ y) × (u ≡ v)
 span_once p c [] [] u v one two ends stops is = (refl, is)
 span_once p c [] (b ∷ y) u v one two ends stops is = absurd (ends b (y ++ v) is (All-head (λ b. p b ≡ c) b y two))
@@ -59,7 +59,7 @@ span_once p c (b ∷ x) (d ∷ y) u v one two ends stops is =
     let front = rest.0 in
     (cc, rest.1)
 
--- ---- the first byte of a value
+-- ---- the first byte of a given value
 
 at_front : (front : List ℕ) (b : ℕ) (rest : List ℕ) → get_or (front ++ b ∷ rest) (length front) 0 ≡ b
 at_front [] b rest = refl
@@ -77,7 +77,7 @@ found_first text front b rest is = (
 
 -- ---- the first byte that passes a test
 
--- what the place of that byte says
+-- the index of the first byte that passes the test `p`, or `None` if no byte passes
 abbrev pub FoundAt : (ℕ → Bool) → List ℕ → Option ℕ → Type 0
 FoundAt p text r = MatchOption r (All (λ b. p b ≡ false) text)
     (λ end. (end < length text) × (p (get_or text end 0) ≡ true) × All (λ b. p b ≡ false) (take end text))
@@ -112,7 +112,7 @@ begins_at text end inside other first more is =
 pub blank_from : (text : List ℕ) → All (λ b. is_other b ≡ false) text → IsBlank text
 blank_from text h = λ k d low. not-false (is_space (get_or text k d)) (h k d low)
 
--- ---- a word
+-- ---- a word at the start of a text
 
 take_front : (a b : List ℕ) → take (length a) (a ++ b) ≡ a
 take_front a b = take-append-le (length a) a b (omega arith) ∙ take_all (length a) a (omega arith)
@@ -137,7 +137,7 @@ module _ (text digits rest : List ℕ) (long : length digits ≡ 40) (parts : te
       let same = (law Sha1 digits).1 (Err fault) (Ok id) refused reads in
       cc
 
--- the digits of one id begin a text, and one rest comes after them
+-- a text begins with the digits of at most one id
 pub id_once : (text : List ℕ) (a b : Id) (r q : List ℕ) → BeginsWithId text a r → BeginsWithId text b q → (a ≡ b) × (r ≡ q)
 id_once text a b r q one two =
     let parts = same_fronts one.digits two.digits r q (one.spells.long ∙ sym two.spells.long) (sym one.parts ∙ two.parts) in

@@ -1,4 +1,4 @@
--- The file of a loose ref, as it is read.
+-- Reading the file of a loose ref.
 use Rattle.std.proofs.Common.{◌≡◌, ◌≢◌, ℕ, ◌<◌, ◌==◌, ◌||◌, true, false, inl, inr, List, [], ◌∷◌, ◌++◌, length, All, codes, Ok, Err, refl, sym, ap, subst, ◌∙◌, arith}
 use Rattle.std.proofs.lemmas.Bool.{eqb-true, false_from_ne_true, false≢true, or_cases}
 use Rattle.std.proofs.lemmas.List.{append_cancel_left}
@@ -16,14 +16,14 @@ use Rattle.gitrefs.specs.declared.fault.TextFault.{TextFault}
 use Rattle.gitrefs.specs.declared.fault.TextFault.TheVariants.{Malformed, Memory}
 use Rattle.gitrefs.proofs.Cutting.{Stops, id_once, span_once}
 
--- a fault of one reading is that of another, which leads to it
+-- a fault that is permitted for the reading `A` is also permitted for the reading `B`, if `B` implies `A`
 pub fault_of : (A B : Type 0) → (B → A) → (fault : TextFault) → IsTextFault A fault → IsTextFault B fault
 fault_of A B leads Malformed none = λ b. none (leads b)
 fault_of A B leads Memory none = none
 
--- ---- where white space begins and ends
+-- ---- the start and the end of white space
 
--- a byte above the space is no white space
+-- a byte greater than a space is not white space
 other_above : (b : ℕ) → 32 < b → is_space b ≡ false
 other_above b high = false_from_ne_true (is_space b) (λ space.
     elim (or_cases (b == 9 || b == 10 || b == 13) (b == 32) space) [
@@ -89,9 +89,9 @@ module _ (text before padded word rest : List ℕ) (front : text ≡ before ++ p
   pub bad_name : NamesAreClean → ¬ (IsRefName word) → (name : Name) → ¬ (IsTarget text name)
   bad_name law bad name is = bad (subst IsRefName (sym (target_is law name is).0) is.well_formed)
 
--- ---- the word of a symbolic ref
+-- ---- the word at the start of a symbolic ref
 
--- the letter r is no digit, so a text begins with the word `ref:` or with an id, and not with both
+-- the letter `r` is not a hexadecimal digit, so no text begins both with the word `ref:` and with an id
 no_digit : TextsHaveOneReading → (digits : List ℕ) (id : Id) → ReadsId Sha1 digits (Ok id) → (more : List ℕ) → digits ≢ 114 ∷ more
 no_digit law digits id reads more is =
     let refused : ReadsId Sha1 digits (Err (Digit 0)) = (
@@ -114,7 +114,7 @@ no_id_there law text target is id rest b = first b.digits b.spells.long (sym b.p
         let letter : d ≡ 114 = cc in
         no_digit law (d ∷ digits) id reads digits (ap (λ b. b ∷ digits) letter)
 
--- what a file says that begins with the word
+-- a valid ref file that begins with the word `ref:` names another ref
 pub target_of : TextsHaveOneReading → (text target : List ℕ) → text ≡ codes "ref:" ++ target → IsLooseRefFile text → (name : Name) × IsTarget target name
 target_of law text target begins (inl file) = absurd (no_id_there law text target begins file.0 file.1.0 file.1.1)
 target_of law text target begins (inr file) =

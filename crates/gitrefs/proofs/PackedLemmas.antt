@@ -1,4 +1,4 @@
--- The file packed-refs, as it is read.
+-- Reading the file packed-refs.
 use Rattle.std.proofs.Common.{◌≡◌, ◌≢◌, ℕ, ◌<◌, ◌≤◌, inl, inr, List, [], ◌∷◌, ◌++◌, length, All, codes, filter, Option, None, Some, refl, sym, ap, subst, ◌∙◌, append_assoc, length-append, arith}
 use Rattle.std.proofs.lemmas.List.{append-nil, append_cancel_left}
 use Rattle.std.proofs.lemmas.List.Elements.{filter-append}
@@ -25,7 +25,7 @@ no_line_end text comment after begins is none rest (inl header) =
     none header.0 rest (append_cancel_left (codes "# pack-refs with:") after (header.0 ++ 10 ∷ rest) (sym is ∙ header.1.parts))
 no_line_end text comment after begins is none rest (inr other) = other.1 comment begins
 
--- a text begins with one header
+-- a text begins with at most one header
 header_once : (text a b : List ℕ) → BeginsWithHeader text a → BeginsWithHeader text b → a ≡ b
 header_once text a b (inl one) (inl two) =
     let tails = append_cancel_left (codes "# pack-refs with:") (one.0 ++ 10 ∷ a) (two.0 ++ 10 ∷ b) (sym one.1.parts ∙ two.1.parts) in
@@ -46,7 +46,7 @@ no_header text none file = none file.1.0 file.1.2
 
 -- ---- the line of a ref
 
--- what comes after the id, the space and the name
+-- the parts of a line: the id, the space, the name, and the text after the line
 module _ (text after_id : List ℕ) (id : Id) (begins : BeginsWithId text id after_id) where
   line_parts : (line : PackedLine) (next : List ℕ) (b : BeginsWithRef text line next) → (id ≡ line.id) × (after_id ≡ 32 ∷ (line.name ++ 10 ∷ next))
   line_parts line next b =
@@ -78,7 +78,7 @@ module _ (text after_id : List ℕ) (id : Id) (begins : BeginsWithId text id aft
         follows,
       )
 
-      -- the text after the line is shorter
+      -- the text after the line is shorter than the whole text
       pub line_shorter : (rest : List ℕ) → length rest ≤ length next → length rest < length text
       line_shorter rest low =
           let whole = ap length begins.parts ∙ length-append begins.digits after_id in
@@ -86,7 +86,7 @@ module _ (text after_id : List ℕ) (id : Id) (begins : BeginsWithId text id aft
           let names = ap length cut ∙ length-append name (10 ∷ next) in
           omega (arith, whole, end, names, low)
 
--- ---- the line of `^`
+-- ---- the line of a peeled id
 
 pub no_peeled_id : (text line : List ℕ) → text ≡ codes "^" ++ line → ((id : Id) (rest : List ℕ) → ¬ (BeginsWithId line id rest)) → (peeled : Option Id) (rest : List ℕ) → ¬ (BeginsWithPeeled text peeled rest)
 no_peeled_id text line begins none None rest b = b.1 line begins
@@ -108,7 +108,7 @@ peeled_shorter text line end rest id begins is cut =
     let tail = ap length cut in
     omega (arith, whole, parts, tail)
 
--- one line begins a text, and one rest comes after it
+-- a text begins with at most one line of a peeled id, and only one rest follows
 peeled_once : (text : List ℕ) (a b : Option Id) (r q : List ℕ) → BeginsWithPeeled text a r → BeginsWithPeeled text b q → (a ≡ b) × (r ≡ q)
 peeled_once text None None r q one two = (refl, sym one.0 ∙ two.0)
 peeled_once text None (Some b) r q one two = absurd (one.1 two.0 two.1)
@@ -141,7 +141,7 @@ line_once text a b r q one two =
 
 -- ---- the lines
 
--- the lines so far, and those of the rest
+-- the lines that were read so far, with one more line
 pub lines_more : (text rest after : List ℕ) (done : List PackedLine) (line : PackedLine) → ((more : List PackedLine) → HasPackedLines rest more → HasPackedLines text (done ++ more))
     → BeginsWithLine rest line after → (more : List PackedLine) → HasPackedLines after more → HasPackedLines text ((done ++ line ∷ []) ++ more)
 lines_more text rest after done line goes begins more has =

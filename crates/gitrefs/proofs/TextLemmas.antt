@@ -1,4 +1,4 @@
--- What is written reads back, and names lead down.
+-- Reading back written texts, and the components of ref names.
 use Rattle.std.proofs.Common.{◌≡◌, ◌≢◌, ℕ, ◌<◌, ◌==◌, true, false, not, inl, List, [], ◌∷◌, ◌++◌, length, All, codes, filter, map, Option, None, Some, Ok, Err, refl, sym, ap, subst, ◌∙◌, append_assoc, is_none, slice_index_or, arith}
 use Rattle.std.specs.List.{flat_map, list_all}
 use Rattle.std.proofs.lemmas.Bool.{and_from, false≢true, not-true}
@@ -34,7 +34,7 @@ id_spells formats texts id is =
     let P : Format → Type 0 = λ f. IsIdTextOf f (id_text id) id in
     subst P known.1 (texts id known.0).0
 
--- the sign ^ is no digit
+-- the character `^` is not a hexadecimal digit
 no_sign : TextsHaveOneReading → (digits : List ℕ) (id : Id) → ReadsId Sha1 digits (Ok id) → (more : List ℕ) → digits ≢ 94 ∷ more
 no_sign law digits id reads more is =
     let refused : ReadsId Sha1 digits (Err (Digit 0)) = (
@@ -62,7 +62,7 @@ record IsWritten (line : PackedLine) : Type 0 where
   id : IsIdOf Sha1 line.id
   peeled : (id : Id) → line.peeled ≡ Some id → IsIdOf Sha1 id
 
--- its text
+-- the written text of a line
 abbrev written : PackedLine → List ℕ
 written line = line_text line.name line.id ++ peeled_text line.peeled
 
@@ -128,7 +128,7 @@ module _ (formats : IdsHaveOneFormat) (texts : IdsHaveTexts) (readings : TextsHa
     kept lines each,
   )
 
-  -- the lines of refs
+  -- the written texts of refs are the written texts of their lines
   plain_written : (refs : RefList) → flat_map plain_ref_text refs ≡ flat_map written (map plain_line refs)
   plain_written [] = refl
   plain_written (ref ∷ refs) = rw (plain_written refs) (simp append_assoc)

@@ -1,5 +1,5 @@
--- The text of a loose ref file (gitrepository-layout(5), "refs"; git-symbolic-ref(1)): an id, or `ref: ` and the name
--- of another ref.
+-- The text of a loose ref file (gitrepository-layout(5), "refs"; git-symbolic-ref(1)): an id, or `ref:` and the name of
+-- another ref.
 use Rattle.std.specs.Prelude.{◌≡◌, ◌⊎◌, ℕ, List, ◌++◌, codes}
 use Rattle.gname.specs.Ids.{Id}
 use Rattle.gname.specs.Names.{Name, IsRefName}

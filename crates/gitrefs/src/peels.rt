@@ -30,8 +30,8 @@ impl<A: Allocator + Copy> PackedPeels<A> {
         }
     }
 
-    /// Returns the objects of these refs. The refs must come from a `packed-refs` file that lists
-    /// all peeled ids. Fails only if out of memory.
+    /// Returns the objects that these refs point to, with their peeled objects. The refs must come
+    /// from a `packed-refs` file that lists all peeled ids. Fails only if out of memory.
     pub(crate) fn of_refs(alloc: A, refs: &[PackedRef<A>]) -> Result<PackedPeels<A>, AllocError> {
         let mut peels = Vec::with_capacity(alloc, refs.len())?;
         for packed in refs {

@@ -7,8 +7,8 @@
 //!
 //! # Only tested
 //!
-//! One test runs `--version` (`args`, `stdout`), and so tests that `gitprogram` receives the
-//! runtime. The script `examples/with-git.sh` tests all commands with Git as the peer.
+//! One test runs `--version` (`args`, `stdout`), to check that `gitprogram` receives the runtime.
+//! The script `examples/with-git.sh` tests all commands with Git as the peer.
 //!
 //! # What the contracts do not rule out
 //!

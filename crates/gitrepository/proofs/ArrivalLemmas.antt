@@ -1,4 +1,4 @@
--- Entries that come to a list of entries that were read.
+-- Appending entries to a list of entries that were read.
 use Rattle.std.proofs.Common.{◌≡◌, inl, inr, Bool, true, false, if◌then◌else◌, Result, Ok, Err, OnOk, List, [], ◌∷◌, ◌++◌, All, slice_index_or, refl, ap, sym, subst, ◌∙◌}
 use Rattle.std.specs.Option.{is_some}
 use Rattle.std.proofs.lemmas.List.Elements.{All-push}
@@ -11,11 +11,11 @@ use Rattle.gitobject.specs.declared.types.ObjectType.TheVariants as types
 use Rattle.gobject.specs.declared.node.Entry.{Entry}
 use Rattle.gitrepository.specs.Entries.{IsNamedLeaf, IsRead}
 
--- an id that is held stays so where entries come after the others
+-- an id that a list of entries holds is still held after more entries are appended
 holds_more : {A : Type 0} (old more : List (Entry A)) (a : Id) → Holds old a → Holds (old ++ more) a
 holds_more old more = keeps_held old (old ++ more) (grows_keeps old (old ++ more) (more, refl))
 
--- the last entry is held
+-- a list of entries holds the id of its last entry
 holds_last : {A : Type 0} (old : List (Entry A)) (entry : Entry A) → Holds (old ++ entry ∷ []) entry.id
 holds_last [] entry = ap is_some (node_here entry [] entry.id (is_has_id entry.id entry refl))
 holds_last (first ∷ old) entry =
@@ -24,13 +24,13 @@ holds_last (first ∷ old) entry =
       | inr other ↦ ap is_some (node_there first (old ++ entry ∷ []) entry.id other) ∙ holds_last old entry
     ]
 
--- an id is held once the entry with it came
+-- if a successful call appends the entry with this id, the list holds the id afterwards
 pub holds_pushed : {A V E : Type 0} (old new : List (Entry A)) (entry : Entry A) (a : Id) (result : Result V E) → OnOk result (new ≡ old ++ entry ∷ []) → entry.id ≡ a → OnOk result (Holds new a)
 holds_pushed old new entry a (Ok done) is same =
     subst (λ g. Holds g a) (sym is) (subst (Holds (old ++ entry ∷ [])) same (holds_last old entry))
 holds_pushed old new entry a (Err fault) is same = tt
 
--- an entry that was read stays so where entries come after the others
+-- `IsRead` remains true for an entry after more entries are appended to the list
 pub read_more : {A : Type 0} (old more : List (Entry A)) (entry : Entry A) → IsRead old entry → IsRead (old ++ more) entry
 read_more old more entry (inl object) = inl object
 read_more old more entry (inr named) = inr (record {
@@ -42,11 +42,12 @@ read_more old more entry (inr named) = inr (record {
   held = holds_more old more (id_of types.Tag named.tag) named.held;
 })
 
--- all entries that were read stay so
+-- `IsRead` remains true for all entries of a list after more entries are appended
 all_more : {A : Type 0} (old more : List (Entry A)) → All (IsRead old) old → All (IsRead (old ++ more)) old
 all_more old more all = λ k d inside. read_more old more (slice_index_or old k d) (all k d inside)
 
--- the entries stay read where one more is read, and comes or not
+-- if `IsRead` holds for all entries of a list and for one more entry, it holds for all entries of the new list, whether
+-- or not this entry is appended
 pub reads_pushed : {A : Type 0} (old new : List (Entry A)) (entry : Entry A) (comes : Bool) → new ≡ (if comes then old ++ entry ∷ [] else old) → All (IsRead old) old → IsRead old entry → All (IsRead new) new
 reads_pushed old new entry true is all this =
     subst (λ g. All (IsRead g) g) (sym is)

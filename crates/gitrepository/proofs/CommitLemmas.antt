@@ -14,16 +14,17 @@ use Rattle.gitcommitgraph.specs.Chains.{ListsParents}
 use Rattle.gitcommitgraph.specs.Files as files
 use Rattle.gitrepository.specs.Entries.{IsOfCommit, id_at}
 
--- a commit, where there is one
+-- an arbitrary commit, the default for a position past the last commit
 some_commit : files.Commit
 some_commit = record { id = []; parents = [] }
 
--- the id at a position inside
+-- if the commit at a valid position has this id, `id_at` returns the id
 id_at_is : (commits : List files.Commit) (position : ℕ) (id : Id) → position < length commits → HoldsAt (λ commit. commit.id ≡ id) commits position → id_at commits position ≡ Some id
 id_at_is commits position id inside is =
     ap (option_map (λ commit. commit.id)) (slice_get-get_or commits position some_commit inside) ∙ ap Some (is some_commit)
 
--- the ids of some positions, and of one more
+-- if `ids` are the ids of the commits at the first `i` of these positions, appending the id at the next position gives
+-- the ids at the first `i + 1` positions
 pub ids_pushed : (commits : List files.Commit) (positions : List ℕ) (i position : ℕ) (ids : List Id) (id : Id) → i < length positions → position ≡ get_or positions i position → All (λ p. p < length commits) positions → map (id_at commits) (take i positions) ≡ map Some ids → HoldsAt (λ commit. commit.id ≡ id) commits position → map (id_at commits) (take (i + 1) positions) ≡ map Some (ids ++ id ∷ [])
 ids_pushed commits positions i position ids id more this all named is =
     let inside = subst (λ p. p < length commits) (sym this) (All-get_or (λ p. p < length commits) positions i position more all) in
@@ -33,7 +34,7 @@ ids_pushed commits positions i position ids id more this all named is =
     ∙ ap (λ last. map Some ids ++ last ∷ []) (id_at_is commits position id inside is)
     ∙ sym (map_push Some ids id)
 
--- the entry of the commit at a position
+-- the entry with the id of the commit at a position, and with the ids of its parents, describes this commit
 pub is_of_commit : {A B : Type 0} (commits : List files.Commit) (position : ℕ) (positions : Vec ℕ A) (id : Id) (ids : List Id) → position < length commits → HoldsAt (λ commit. commit.id ≡ id) commits position → HoldsAt (λ commit. ListsParents 64 commit.parents (Some positions)) commits position → map (id_at commits) positions.items ≡ map Some ids → IsOfCommit {A = B} commits (entry_of id (node_of kinds.Commit ids))
 is_of_commit commits position positions id ids inside is lists named =
     record {

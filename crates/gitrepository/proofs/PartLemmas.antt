@@ -1,4 +1,4 @@
--- What was given of a pack, and what is left.
+-- The returned bytes of a pack, and the bytes that remain.
 use Rattle.std.proofs.Common.{◌≡◌, ℕ, ◌+◌, ◌≤◌, Bool, true, false, IsTrue, List, [], ◌++◌, length, take, drop, refl, ap, subst, sym, ◌∙◌, arith, rules}
 use Rattle.std.proofs.lemmas.List.{append_assoc, append-nil, drop_all, take-append-drop, take-append-le, take-take, length-take-le, length-append, drop-drop}
 use Rattle.std.proofs.Math.Seq.{take-append-add}
@@ -13,7 +13,7 @@ use Rattle.gitrepository.proofs.PutLemmas.{HasPut_more, HasPut_none, IsWholePack
 none_left : (given : ℕ) (bytes before text : List ℕ) → length bytes ≤ given → before ++ drop given bytes ≡ text → before ≡ text
 none_left given bytes before text h e = sym (append-nil before) ∙ ap (λ l. before ++ l) (sym (drop_all given bytes h)) ∙ e
 
--- nothing was given of a header
+-- a new pack: the header is built, and no bytes are returned
 pub going_new : {A : Type 0} (pack : Outgoing A) → IsTrue pack.is_whole → pack.is_over ≡ false → pack.given ≡ 0 → pack.put ≡ 0
     → pack.bytes.items ≡ pack_header pack.count → Holds pack.sum pack.bytes.items → IsGoing pack []
 going_new pack whole running none zero header holds =
@@ -25,7 +25,7 @@ going_new pack whole running none zero header holds =
       over = λ is. absurd (search (is, running, rules));
     }
 
--- an entry was put once all was given
+-- once all built bytes are returned, adding an entry preserves `IsGoing` for the same returned bytes
 pub going_put : {A : Type 0} (old new : Outgoing A) (form : EntryForm) (size : ℕ) (stream start hashed : List ℕ) → old.is_over ≡ false
     → length old.bytes.items ≤ old.given → IsTrue new.is_whole → new.is_over ≡ false → new.given ≡ 0 → new.count ≡ old.count
     → new.put ≡ old.put + 1 → start ≡ [] → AddsEntry form size stream start new.bytes.items
@@ -43,7 +43,7 @@ going_put old new form size stream start hashed running none whole still zero co
       over = λ is. absurd (search (is, still, rules));
     }
 
--- the trailer was put once all was given
+-- once all built bytes are returned, adding the trailer preserves `IsGoing` for the same returned bytes
 pub going_finish : {A : Type 0} (old new : Outgoing A) → old.is_over ≡ false → old.put ≡ old.count
     → length old.bytes.items ≤ old.given → IsTrue new.is_whole → new.is_over ≡ true → new.given ≡ 0 → new.count ≡ old.count
     → new.put ≡ old.put → ((m : List ℕ) → Holds old.sum m → new.bytes.items ≡ sha1 m) → GoesOn old new
@@ -66,12 +66,12 @@ given_more given count bytes before out e =
     ∙ ap (λ l. before ++ (take count (drop given bytes) ++ l)) (sym (drop-drop count given bytes))
     ∙ ap (λ l. before ++ l) (take-append-drop count (drop given bytes))
 
--- the front of a buffer to which so many bytes were copied
+-- the first `count` bytes of a buffer after `count` bytes are copied to its front
 pub front : (count : ℕ) (copied bytes others : List ℕ) → length copied ≡ count → copied ≡ take count bytes → take count (copied ++ others) ≡ take count bytes
 front count copied bytes others long same =
     take-append-le count copied others (omega (arith, long)) ∙ ap (take count) same ∙ take-take count count bytes (omega arith)
 
--- some of the rest was given
+-- if the next `count` bytes are returned as `out`, the returned bytes are `before ++ out`
 pub going_given : {A : Type 0} (old new : Outgoing A) (count : ℕ) (out : List ℕ) → new.is_whole ≡ old.is_whole → new.is_over ≡ old.is_over
     → new.count ≡ old.count → new.put ≡ old.put → new.sum ≡ old.sum → new.bytes.items ≡ old.bytes.items
     → new.given ≡ old.given + count → out ≡ take count (drop old.given old.bytes.items)
@@ -87,13 +87,13 @@ going_given old new count out whole over many put sum bytes given e before is =
       over = λ ended. let parts = is.over (sym over ∙ ended) in (rw (many, put) parts.0, rest ∙ parts.1);
     }
 
--- all was given
+-- if the whole pack was returned, the returned bytes are a whole pack
 pub whole_given : {A : Type 0} (pack : Outgoing A) (before : List ℕ) → IsGivenWhole pack → IsGoing pack before → IsWholePack before
 whole_given pack before none is =
     let parts = is.over none.0 in
     IsWholePack_of pack.count pack.put is.text before parts.0 is.entries (none_left pack.given pack.bytes.items before _ none.1 parts.1)
 
--- more was given, after what was given before
+-- the returned bytes, if `count` bytes of `more` are copied to a buffer after its first `filled` bytes
 pub given_step : (filled count : ℕ) (out more post before : List ℕ) → filled ≤ length out → count ≤ length more
     → (before ++ take filled out) ++ take count more ≡ before ++ take (filled + count) (take filled out ++ (more ++ post))
 given_step filled count out more post before h fits =
@@ -107,7 +107,7 @@ pub long_enough : (filled count : ℕ) (out more post : List ℕ) → filled ≤
 long_enough filled count out more post h fits =
     omega (arith, length-append (take filled out) (more ++ post), length-append more post, length-take-le filled out h, fits)
 
--- nothing more was given, and the pack is whole
+-- if the whole pack was returned, and the last call returned no bytes, the bytes returned before are a whole pack
 pub ended : {A : Type 0} (pack : Outgoing A) (count : ℕ) (before out : List ℕ) → count ≡ 0 → IsGivenWhole pack → IsGoing pack (before ++ take count out) → IsWholePack before
 ended pack count before out zero none is =
     subst IsWholePack (ap (λ n. before ++ take n out) zero ∙ append-nil before) (whole_given pack (before ++ take count out) none is)

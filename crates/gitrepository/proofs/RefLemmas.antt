@@ -7,12 +7,12 @@ use Rattle.grefs.specs.RefLists.{RefList, SetsRef}
 use Rattle.gdag.specs.Graphs.{History, Holds}
 use Rattle.gitrepository.specs.Repositories.{AreHeld}
 
--- a ref that is new, or was there
+-- if `P` holds for the new ref and for all old refs, it holds for a ref that is the new ref or an old ref
 one : (P : Name × Id → Type 0) (old : RefList) (new ref : Name × Id) → P new → All P old → (ref ≡ new) ⊎ Contains old ref → P ref
 one P old new ref this all (inl same) = subst P (sym same) this
 one P old new ref this all (inr among) = All-contains P old ref all among
 
--- the refs stay held where one is set to an object of the graph
+-- if the graph holds the object of each ref, this remains true after a ref is set to an object of the graph
 pub AreHeld_set : {A : Type 0} (graph : History A) (old new : RefList) (name : Name) (id : Id) → SetsRef old new name id → Holds graph.entries id → AreHeld graph old → AreHeld graph new
 AreHeld_set graph old new name id sets holds held =
     λ k d inside. one (λ ref. Holds graph.entries ref.1) old (name, id) _ holds held (sets.each k d inside)

@@ -22,11 +22,11 @@ WhereKnown (Some before) (Some after) P = P before after
 WhereKnown None None P = ⊤
 WhereKnown _ _ P = ⊥
 
--- the second state differs from the first by the arrival of exactly these files, in order
+-- between the two states exactly these files arrive in the folder, in this order
 abbrev pub Comes : Folder → Folder → List Arrival → Type 0
 Comes before after files = after.arrivals ≡ before.arrivals ++ files
 
--- the second state equals the first, or differs by the arrival of this file
+-- between the two states no file arrives in the folder, or only this file
 abbrev pub MayCome : Folder → Folder → Arrival → Type 0
 MayCome before after file = (after.arrivals ≡ before.arrivals) ⊎ Comes before after (file ∷ [])
 

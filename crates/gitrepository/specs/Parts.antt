@@ -18,7 +18,7 @@ pub record IsGoing {A : Type 0} (pack : Outgoing A) (given : List ℕ) : Type 0 
   pub going : pack.is_over ≡ false → Holds pack.sum text × (given ++ rest_of pack ≡ text)
   pub over : pack.is_over ≡ true → (pack.put ≡ pack.count) × (given ++ rest_of pack ≡ with_trailer text)
 
--- the call returns no bytes: if certain bytes are all bytes returned before the call, they are also all bytes returned
+-- a call that returns no bytes: if `given` are the bytes returned before the call, they are also the bytes returned
 -- after the call
 abbrev pub GoesOn : {A : Type 0} → Outgoing A → Outgoing A → Type 0
 GoesOn old new = (given : List ℕ) → IsGoing old given → IsGoing new given

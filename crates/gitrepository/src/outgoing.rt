@@ -107,9 +107,10 @@ impl<A: Allocator + Copy> Outgoing<A> {
 
     /// Appends the trailer.
     ///
-    /// Fails with `Count` if the number of entries differs from the header, or the last entry is
-    /// incomplete. Fails with `Count` if the trailer was already appended, or built bytes were not
-    /// yet returned. Fails with `Memory` if out of memory. After a fault the pack is unusable.
+    /// Fails with `Count` if the number of entries differs from the number in the header, or the
+    /// last entry is incomplete. Fails with `Count` if the trailer was already appended, or built
+    /// bytes were not yet returned. Fails with `Memory` if out of memory. After a fault the pack is
+    /// unusable.
     pub(crate) fn finish(&mut self) -> Result<(), RepositoryFault<A>>
         ensures going { OnOk result (GoesOn self.old self.new) }
         ensures left { self.new.left ≡ self.old.left }

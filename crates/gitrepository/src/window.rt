@@ -25,7 +25,7 @@ const BASE_ID: usize = 20;
 // The maximum ratio of the size of a base to the size of its target.
 const MAX_RATIO: usize = 32;
 
-// An object in the window: its id, and the depth of its delta chain.
+// An object in the window: its id, its type, the depth of its delta chain, and its bytes.
 #[derive(Drop)]
 struct Base<A: Allocator + Copy> {
     id: Oid,

@@ -1,4 +1,4 @@
--- Clean texts.
+-- Cleaned texts.
 use Rattle.std.proofs.Common.{◌≡◌, ℕ, Bool, true, false, List, [], ◌∷◌, refl}
 use Rattle.std.specs.Prelude.{All, IsTrue, if◌then◌else◌}
 use Rattle.std.proofs.lemmas.List.{map-append}
@@ -6,7 +6,7 @@ use Rattle.std.proofs.lemmas.List.Elements.{All-cons, All-nil}
 use Rattle.gitwords.specs.Clean.{PiecesAreClean, clean_byte, clean_text, is_shown}
 use Rattle.gitwords.specs.declared.terminal.Shown.{Shown}
 
--- of two that pass, or may not, the one that is taken passes
+-- if `test` accepts `other`, then `test` accepts the selected byte: `b` if `test` accepts `b`, otherwise `other`
 picked : (test : ℕ → Bool) (b other : ℕ) (t : Bool) → test b ≡ t → test other ≡ true → test (if t then b else other) ≡ true
 picked test b other true here there = here
 picked test b other false here there = there

@@ -1,4 +1,4 @@
--- Texts that are cut at a byte.
+-- Texts that are split at a byte.
 use Rattle.std.proofs.Common.{◌≡◌, ◌≢◌, ℕ, ◌+◌, ◌<◌, ◌&&◌, true, inl, inr, refl, List, [], ◌∷◌, ◌++◌, length, take, drop, get_or, All, Option, None, Some, MatchOption, sym, ap, subst, ◌∙◌, lit<, arith}
 use Rattle.std.specs.Borrow.{Bor}
 use Rattle.std.specs.Char.{digit_value}
@@ -13,14 +13,14 @@ use Rattle.std.proofs.lemmas.List.Folds.{list_all-append}
 use Rattle.std.proofs.lemmas.Str.Pattern.{NoCharPasses-char, drop_at_char}
 use Rattle.gitwords.specs.Urls.{IsHost, is_name_byte, max_host}
 
--- ---- one cut
+-- ---- uniqueness of a split
 
--- a byte that is nowhere in a text is not between two parts of it
+-- a text with the byte `s` between two parts does not consist only of other bytes
 pub no_in : (s : ℕ) (front back : List ℕ) → ¬ (All (λ b. b ≢ s) (front ++ s ∷ back))
 no_in s [] back all = All-head (λ b. b ≢ s) s back all refl
 no_in s (b ∷ front) back all = no_in s front back (All-tail (λ b. b ≢ s) b (front ++ s ∷ back) all)
 
--- a text is cut in one way at the first byte of this value
+-- a text can be split at its first byte `s` in only one way
 pub cut_first : (s : ℕ) (x y u v : List ℕ) → All (λ b. b ≢ s) x → All (λ b. b ≢ s) y → x ++ s ∷ u ≡ y ++ s ∷ v → (x ≡ y) × (u ≡ v)
 cut_first s [] [] u v one two is = (refl, cc)
 cut_first s [] (c ∷ y) u v one two is =
@@ -34,7 +34,7 @@ cut_first s (c ∷ x) (d ∷ y) u v one two is =
     let front = rest.0 in
     (cc, rest.1)
 
--- and in one way at the last one
+-- a text can be split at its last byte `s` in only one way
 pub cut_last : (s : ℕ) (x y u v : List ℕ) → All (λ b. b ≢ s) u → All (λ b. b ≢ s) v → x ++ s ∷ u ≡ y ++ s ∷ v → (x ≡ y) × (u ≡ v)
 cut_last s [] [] u v one two is = (refl, cc)
 cut_last s [] (d ∷ y) u v one two is =
@@ -88,7 +88,7 @@ module _ (text rest : List ℕ) (begins : text ≡ 91 ∷ rest) where
 
 -- ---- digits
 
--- decimal digits have no colon
+-- a text of decimal digits contains no colon
 pub numeral_clean : (digits : List ℕ) → AllDigits 10 digits → All (λ b. b ≢ 58) digits
 numeral_clean [] all = All-nil (λ b. b ≢ 58)
 numeral_clean (b ∷ digits) all =
@@ -100,7 +100,7 @@ digits_end : (front : List ℕ) → ¬ (AllDigits 10 (front ++ 93 ∷ []))
 digits_end [] digits = let low = digits.0 in absurd (omega (arith, low))
 digits_end (b ∷ front) digits = digits_end front digits.1
 
--- decimal digits end in no bracket
+-- a text that ends with a bracket does not end with a colon and decimal digits
 pub no_numeral : (front host digits : List ℕ) → IsNumeral 10 digits → ¬ (front ++ 93 ∷ [] ≡ host ++ 58 ∷ digits)
 no_numeral [] [] digits numeral is = let same : ◌≡◌ {A = ℕ} 93 58 = cc in absurd (omega (arith, same))
 no_numeral [] (c ∷ host) digits numeral is = absurd (omega (arith, ap length is, length-append host (58 ∷ digits)))
@@ -109,7 +109,7 @@ no_numeral (b ∷ front) [] digits numeral is =
 no_numeral (b ∷ front) (c ∷ host) digits numeral is =
     let tails : front ++ 93 ∷ [] ≡ host ++ 58 ∷ digits = cc in no_numeral front host digits numeral tails
 
--- a text with a colon and decimal digits after it is no host
+-- a text that ends with a colon and decimal digits is not a host
 pub no_host : (text host digits : List ℕ) → text ≡ host ++ 58 ∷ digits → IsNumeral 10 digits → ¬ (IsHost text)
 no_host text host digits parts numeral (inl name) =
     let both = and_parts (nat_le 1 (length text) && nat_le (length text) max_host) (list_all is_name_byte text) name in

@@ -1,4 +1,4 @@
--- The components of a path and an ending.
+-- The components of a path and of an ending that is appended to the path.
 use Rattle.std.proofs.Common.{◌<◌, ◌≢◌, ◌⊎◌, inl, inr, length, subst, codes, arith, ◌≡◌, ℕ, Bool, true, false, not, List, [], ◌∷◌, ◌++◌, refl, sym, ap, ◌∙◌}
 use Rattle.std.specs.Prelude.{cond, nat_eq}
 use Rattle.std.specs.List.{list_all, onto_first, starts_with}
@@ -9,7 +9,7 @@ use Rattle.gitwords.specs.Served.{IsServedPath, PathsHaveOneReading, StaysBelow,
 use Rattle.gitwords.specs.declared.served.Ending.{Ending}
 use Rattle.gitwords.specs.declared.served.Ending.TheVariants.{DotGit, Itself, BareDotGit, Bare}
 
--- ---- a name, and more
+-- ---- a name followed by other bytes
 
 dotless : (b : ℕ) (part more : List ℕ) (t : Bool) → nat_eq 46 b ≡ t → is_name (b ∷ part) ≡ true → leads_down (b ∷ (part ++ more)) ≡ true
 dotless b part more true dot named =
@@ -23,9 +23,10 @@ down : (part more : List ℕ) → is_name part ≡ true → leads_down (part ++ 
 down [] more named = absurd (false≢true named)
 down (b ∷ part) more named = dotless b part more (nat_eq 46 b) refl named
 
--- ---- the components of two texts, one after the other
+-- ---- the components of two concatenated texts
 
--- the last part of the first list and the first part of the second are one
+-- two lists of components, joined: the last component of the first list and the first component of the second list
+-- become one component
 abbrev glue : List (List ℕ) → List (List ℕ) → List (List ℕ)
 glue [] back = back
 glue (part ∷ []) [] = part ∷ []
@@ -46,7 +47,8 @@ glue-onto_first b (part ∷ []) [] some others = absurd (omega (arith, others))
 glue-onto_first b (part ∷ []) (next ∷ back) some others = refl
 glue-onto_first b (part ∷ other ∷ front) back some others = refl
 
--- a byte more at the front
+-- if `whole` is `front` joined to `back`, this still holds after a byte `b` is added at the front; `t` states whether
+-- `b` is a slash, which begins a new component
 glue_more : (b : ℕ) (front back whole : List (List ℕ)) (t : Bool) → whole ≡ glue front back → 0 < length front → 0 < length back
     → cond t ([] ∷ whole) (onto_first b whole) ≡ glue (cond t ([] ∷ front) (onto_first b front)) back
 glue_more b front back whole true is some others = ap (λ parts. [] ∷ parts) is ∙ glue-slash front back some
@@ -60,7 +62,7 @@ components-append [] back = glue-nil (components back) (some_part back)
 components-append (b ∷ front) back =
     glue_more b (components front) (components back) (components (front ++ back)) (is_slash b) (components-append front back) (some_part front) (some_part back)
 
--- ---- an ending
+-- ---- a path with an ending
 
 name_down : (part : List ℕ) → is_name part ≡ true → leads_down part ≡ true
 name_down part named = subst (λ p. leads_down p ≡ true) (append-nil part) (down part [] named)
@@ -85,13 +87,13 @@ with_ending rest Itself named = ending_down rest [] [] [] refl named refl
 with_ending rest BareDotGit named = ending_down rest (codes ".git/.git") (codes ".git") (codes ".git" ∷ []) refl named refl
 with_ending rest Bare named = ending_down rest (codes ".git") (codes ".git") [] refl named refl
 
--- a path that is served, and an ending, stay below
+-- a served path with an ending appended can't leave the base directory
 pub candidate_stays : (path rest text : List ℕ) (ending : Ending) → IsServedPath path rest → text ≡ rest ++ ending_text ending → StaysBelow text
 candidate_stays path rest text ending served is = subst StaysBelow (sym is) (with_ending rest ending served.names)
 
 -- ---- a slash at the end
 
--- an empty component follows it
+-- the empty component after a slash at the end of a path is not a name
 no_names : (front : List (List ℕ)) → 0 < length front → list_all is_name (glue front ([] ∷ [] ∷ [])) ≡ false
 no_names [] some = absurd (omega (arith, some))
 no_names (part ∷ []) some = and_right (is_name (part ++ [])) (list_all is_name ([] ∷ [])) refl
@@ -101,7 +103,7 @@ no_names (part ∷ other ∷ front) some =
 no_names_before_slash : (rest : List ℕ) → list_all is_name (components (rest ++ 47 ∷ [])) ≡ false
 no_names_before_slash rest = ap (list_all is_name) (components-append rest (47 ∷ [])) ∙ no_names (components rest) (some_part rest)
 
--- two texts that are the same have names in them both, or neither
+-- two equal texts do not differ in whether all their components are names
 differ : (x y : List ℕ) → x ≡ y → list_all is_name (components x) ≡ false → list_all is_name (components y) ≡ true → ⊥
 differ x y same bad named = both_ways (list_all is_name (components x)) bad (subst (λ l. list_all is_name (components l) ≡ true) (sym same) named)
 
@@ -119,12 +121,12 @@ module _ (path rest relative : List ℕ) (begins : path ≡ 47 ∷ rest) (bad : 
   plain same open_end other named (inl is) = differ relative other (sym same ∙ tails other is) bad named
   plain same open_end other named (inr is) = open_end other (tails (other ++ 47 ∷ []) is)
 
-  -- a path without names in it is not served, with a slash at its end or none
+  -- a path with a component that is not a name is not served, with or without a slash at the end of the path
   pub not_served : (rest ≡ relative ++ 47 ∷ []) ⊎ ((rest ≡ relative) × ((front : List ℕ) → rest ≢ front ++ 47 ∷ [])) → (other : List ℕ) → ¬ (IsServedPath path other)
   not_served (inl ends) other served = slashed ends other served.names served.parts
   not_served (inr (same, open_end)) other served = plain same open_end other served.names served.parts
 
--- the path that is left is served
+-- the path consists of a slash, the relative path, and an optional slash at its end
 pub served_parts : (path rest relative : List ℕ) → path ≡ 47 ∷ rest → (rest ≡ relative ++ 47 ∷ []) ⊎ ((rest ≡ relative) × ((front : List ℕ) → rest ≢ front ++ 47 ∷ []))
     → (path ≡ 47 ∷ relative) ⊎ (path ≡ 47 ∷ (relative ++ 47 ∷ []))
 served_parts path rest relative begins (inl ends) = inr (begins ∙ ap (λ l. 47 ∷ l) ends)
@@ -137,7 +139,7 @@ unslashed path other none (inr is) = none (other ++ 47 ∷ []) is
 pub not_slashed : (path : List ℕ) → ((rest : List ℕ) → path ≢ 47 ∷ rest) → (other : List ℕ) → ¬ (IsServedPath path other)
 not_slashed path none other served = unslashed path other none served.parts
 
--- ---- one reading
+-- ---- uniqueness of the relative path
 
 same_rest : (path rest other : List ℕ) → list_all is_name (components rest) ≡ true → list_all is_name (components other) ≡ true
     → (path ≡ 47 ∷ rest) ⊎ (path ≡ 47 ∷ (rest ++ 47 ∷ [])) → (path ≡ 47 ∷ other) ⊎ (path ≡ 47 ∷ (other ++ 47 ∷ [])) → rest ≡ other

@@ -13,9 +13,9 @@ use Rattle.gitwords.specs.declared.fault.Cause.{Cause}
 use Rattle.gitwords.specs.declared.fault.Cause.TheVariants.{Transport, NoPath, BadHost, BadPort, BadPath}
 use Rattle.gitwords.proofs.CutLemmas.{cut_first, cut_last, no_host, no_in, numeral_clean}
 
--- ---- texts that are no URL
+-- ---- texts that are not URLs
 
--- the clause of `strip_prefix` at git://
+-- the contract of `strip_prefix`, applied to the prefix git://
 pub git_begins : (text after : List ℕ) → StripsPrefix (FindsTextPrefix (codes "git://")) text after → text ≡ codes "git://" ++ after
 git_begins text after is = is.1.1 ∙ ap (λ l. codes "git://" ++ l) (sym is.2)
 
@@ -32,7 +32,7 @@ module _ (text after : List ℕ) (begins : text ≡ codes "git://" ++ after) whe
   pub cut_of : (authority path : List ℕ) → (after ≡ authority ++ path) × All (λ b. b ≢ 47) authority × ((rest : List ℕ) × (path ≡ 47 ∷ rest)) → IsCut text authority path
   cut_of authority path parts = record { parts = begins ∙ ap (λ l. codes "git://" ++ l) parts.0; before = parts.1; slash = parts.2 }
 
--- a text is cut in one way
+-- a text can be split into HOST[:PORT] and a path in only one way
 cut_once : (text a p b q : List ℕ) → IsCut text a p → IsCut text b q → (a ≡ b) × (p ≡ q)
 cut_once text a p b q one two =
     let tails : a ++ p ≡ b ++ q = append_cancel_left (codes "git://") (a ++ p) (b ++ q) (sym one.parts ∙ two.parts) in
@@ -53,7 +53,7 @@ module _ (text authority path : List ℕ) (cut : IsCut text authority path) wher
 pub not_path : (path : List ℕ) → is_path_text path ≡ false → ¬ (IsPath path)
 not_path path bad is = both_ways (is_path_text path) bad is.1
 
--- ---- texts that are no HOST[:PORT]
+-- ---- texts that do not have the form HOST[:PORT]
 
 pub no_colon : (text : List ℕ) → All (λ b. b ≢ 58) text → ¬ (IsHost text) → IsNoAuthority text
 no_colon text none whole host port (named, inl alone) = whole (subst IsHost (sym alone.0) named)
@@ -108,7 +108,8 @@ module _ (text front back : List ℕ) (parts : text ≡ front ++ 58 ∷ back) (c
   pub no_listen_host : ¬ (IsHost front) → ¬ (IsListenAddress text)
   no_listen_host bad address = bad (subst IsHost (sym (address_parts address).0) address.names)
 
-  -- the digits after the colon say a port, or none
+  -- the text after a host and a colon decides whether the whole text is a listening address: `b` states whether it
+  -- denotes a number up to 65,535
   pub listens : (b : Bool) → IsHost front → MatchBool b ((port : ℕ) × IsNumber 10 back port × (port ≤ 65_535)) ((port : ℕ) → port ≤ 65_535 → ¬ (IsNumber 10 back port))
       → MatchBool b (IsListenAddress text) (¬ (IsListenAddress text))
   listens true named (port, number, most) = record { host = front; digits = back; port = port; parts = parts; names = named; number = number; most = most }
@@ -117,7 +118,7 @@ module _ (text front back : List ℕ) (parts : text ≡ front ++ 58 ∷ back) (c
 pub no_listen_colon : (text : List ℕ) → All (λ b. b ≢ 58) text → ¬ (IsListenAddress text)
 no_listen_colon text none address = no_in 58 address.host address.digits (subst (All (λ b. b ≢ 58)) address.parts none)
 
--- ---- one reading
+-- ---- uniqueness of host, port and path
 
 same_authority : (text host other : List ℕ) (port number : ℕ) → IsAuthority text host port → IsAuthority text other number → (host ≡ other) × (port ≡ number)
 same_authority text host other port number (named, inl (is, default)) (names, inl (same, standard)) = (sym is ∙ same, default ∙ sym standard)

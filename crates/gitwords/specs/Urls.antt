@@ -104,8 +104,8 @@ pub record HasBadPort (text : List ℕ) : Type 0 where
   pub names : IsHost host
   pub bad : (port : ℕ) → ¬ (IsPort digits port)
 
--- The reasons to refuse a text as a URL: a start other than git://, no slash after the host, or a malformed path, host
--- or port.
+-- The condition under which a text is refused for this cause: the text does not begin with git://, has no slash after
+-- the host, or has a malformed path, host or port.
 abbrev pub IsCause : List ℕ → Cause → Type 0
 IsCause text (Transport transport) = (rest : List ℕ) → ¬ (text ≡ codes "git://" ++ rest)
 IsCause text NoPath = (rest : List ℕ) × (text ≡ codes "git://" ++ rest) × All (λ b. b ≢ 47) rest
@@ -113,7 +113,7 @@ IsCause text BadPath = (authority path : List ℕ) × IsCut text authority path 
 IsCause text BadHost = (authority path : List ℕ) × IsCut text authority path × IsNoAuthority authority
 IsCause text BadPort = (authority path : List ℕ) × IsCut text authority path × HasBadPort authority
 
--- the reason why a text does not have the form HOST[:PORT]
+-- the condition under which this cause explains why a text does not have the form HOST[:PORT]
 abbrev pub IsAuthorityCause : List ℕ → Cause → Type 0
 IsAuthorityCause text BadHost = IsNoAuthority text
 IsAuthorityCause text BadPort = IsNoAuthority text × HasBadPort text

@@ -1,4 +1,4 @@
--- What is written of a reply says it, and each payload fits a packet.
+-- The packets that are written for a reply encode it, and each payload fits into a packet.
 use Rattle.std.proofs.Common.{◌≡◌, ℕ, ◌+◌, ◌≤◌, List, [], ◌∷◌, ◌++◌, length, map, codes, Option, Some, None, inl, refl, sym, ap, subst, ◌∙◌, append_assoc, arith, length-append}
 use Rattle.std.specs.Prelude.{All, IfSome}
 use Rattle.std.proofs.lemmas.List.{length-map, map-append}
@@ -110,7 +110,7 @@ module _ (laws : LawsBelow) where
         few = omega (arith, h.few, unborn_count reply.unborn, length-append first refs, length-map reply.lines ref_payload);
       }
 
-  -- ---- each payload fits a packet
+  -- ---- the lengths of the payloads
 
   symref_short : (symref : Option (List ℕ)) → IfSome symref IsRefName → length (symref_text symref) ≤ 1015
   symref_short None h = omega arith

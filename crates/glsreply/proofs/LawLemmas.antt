@@ -1,4 +1,4 @@
--- Each open list has an ending, and is short.
+-- Each open list of packets can be completed and has a bounded length.
 use Rattle.std.proofs.Common.{◌≡◌, ℕ, ◌<◌, Bool, true, false, List, [], ◌∷◌, ◌++◌, length, ◌==◌, Result, Ok, Err, refl, sym, ap, ◌∙◌, append_assoc, cond}
 use Rattle.std.specs.Prelude.{nat_lt}
 use Rattle.std.proofs.lemmas.Bool.{ltb-true, or_right, cond_both}
@@ -20,20 +20,20 @@ use Rattle.glsreply.proofs.RefTextLemmas.{FormsWell, Well, form_well, line_well,
 use Rattle.glsreply.specs.LsManual.{IsRefText}
 use Rattle.glsreply.proofs.StateLemmas.{GrammarsAreExact, over_push}
 
--- ---- what goes on
+-- ---- packets after which a reply continues
 
 pub goes_within : (count : ℕ) (verdict : Verdict) → within_limit count verdict ≡ Open → (count < max_lines) × (verdict ≡ Open)
 goes_within count Open h = (ltb-true _ _ (room_left (nat_lt count max_lines) h), refl)
 goes_within count verdict h = cc
 
--- a text goes on before the flush, where there is room for it
+-- a reply continues after a data packet only if no flush came before and the text is accepted
 pub data_goes : (format : Format) (ends : Ends) (over : Bool) (count : ℕ) (payload : List ℕ) → judge_at format ends over count (Data payload) ≡ Open
     → (over ≡ false) × (judge_text format count (text payload) ≡ Open)
 unfolding judge_at
 data_goes format ends true count payload h = absurd (let no = open_unless (peer_error payload) (Refused UnexpectedFrame) h in cc)
 data_goes format ends false count payload h = (refl, open_unless (peer_error payload) (judge_text format count (text payload)) h)
 
--- a flush goes on where a response-end is due after it
+-- a reply continues after a flush only if no flush came before and a response-end must follow
 pub flush_goes : (format : Format) (ends : Ends) (over : Bool) (count : ℕ) → judge_at format ends over count Flush ≡ Open
     → (over ≡ false) × (ends ≡ Response)
 unfolding judge_at
@@ -52,7 +52,7 @@ unfolding judge_at
 response_stops format ends true count h = cc
 response_stops format ends false count h = cc
 
--- ---- each open list has an ending
+-- ---- completing an open list
 
 pub over_ends : (format : Format) (ends : Ends) (count : ℕ) → judge_at format ends true count ResponseEnd ≡ Whole
 unfolding judge_at
@@ -124,7 +124,7 @@ data_part format ends false count payload h =
     cond_both (count == 0) (judge_first format (text payload) (first_form (text payload))) (judge_line (line_of format (text payload))) IsPart
     (λ _. first_part format (text payload) (first_form (text payload))) (λ _. line_part (line_of format (text payload))) (not_whole_within count _ within)
 
--- ---- packets are refused for their own sake
+-- ---- rejection because of the content of a packet
 
 of_few : (count : ℕ) (verdict : Verdict) → IsForPacket verdict → IsForPacket (within_limit count verdict)
 of_few count Open h = of_room (nat_lt count max_lines)

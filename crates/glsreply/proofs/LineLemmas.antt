@@ -1,4 +1,4 @@
--- The parts of a text, and what is read of them.
+-- The space-separated parts of a text, and parsing them.
 use Rattle.std.proofs.Common.{◌≡◌, ℕ, ◌+◌, ◌-◌, inl, inr, false, Err, List, [], ◌∷◌, length, take, drop, Some, None, refl, sym, subst, ap, ◌∙◌, arith}
 use Rattle.std.specs.Prelude.{position, Option}
 use Rattle.std.specs.Borrow.{Bor}
@@ -14,7 +14,7 @@ use Rattle.gname.proofs.ListLemmas.{position-None}
 use Rattle.glsreply.specs.RefTexts.{parts_of, unborn_after_head}
 use Rattle.ggrammar.specs.Texts.{is_space}
 
--- a text is cut at its first space
+-- the first part of a text ends at its first space, and the other parts are those of the rest
 pub parts-at : (text : List ℕ) (at : ℕ) → Some at ≡ position is_space text
     → parts_of text ≡ take at text ∷ parts_of (take (length text - (at + 1)) (drop (at + 1) text))
 unfolding parts_of
@@ -40,12 +40,12 @@ parts-some (x ∷ xs) =
       | inr no' ↦ (x ∷ more.0, more.1, slice_split-cons_no is_space x xs no' ∙ ap (onto_first x) more.2)
     ]
 
--- and a part after it where there is a space
+-- two or more parts after `HEAD` are rejected with `BadText`
 pub two_parts : (first text : List ℕ) → Err BadText ≡ unborn_after_head (first ∷ parts_of text)
 unfolding parts_of
 two_parts first text = let h = parts-some text in sym (ap (λ (parts : List (List ℕ)). unborn_after_head (first ∷ parts)) h.2)
 
--- how much is left of a text
+-- the length of the rest of a text plus one, or 0 if there is no rest
 abbrev pub length_left : Option (Bor (List ℕ)) → ℕ
 length_left None = 0
 length_left (Some rest) = length rest.now + 1

@@ -1,4 +1,4 @@
--- Replies of texts that are read are complete lists of the table, and say the same.
+-- A reply whose texts the parser accepts is a complete list of packets for the judge, with the same value.
 use Rattle.std.proofs.Common.{◌≡◌, ℕ, suc, ◌+◌, ◌-◌, ◌<◌, ◌≤◌, Bool, true, false, nat_eq, List, [], ◌∷◌, ◌++◌, length, take, drop, map, ◌==◌, codes, Option, Some, None, Result, Ok, Err, refl, sym, ap, subst, ◌∙◌, append_assoc, append-nil, arith, length-append}
 use Rattle.std.specs.Prelude.{All}
 use Rattle.std.specs.List.{starts_with}
@@ -26,19 +26,19 @@ use Rattle.glsreply.specs.LsReplies.{LsReply, Says, max_lines, is_over, unborn_i
 use Rattle.glsreply.proofs.StateLemmas.{GrammarsAreExact, texts_push, over_push, unborn_is_no_line, unborn_gives_none, ref_lines-cons}
 use Rattle.glsreply.proofs.LawLemmas.{ends_so}
 
--- ---- the replies of the manual, with its grammar of texts in the words of who reads them
+-- ---- the replies of the manual, with the parser in place of the manual's grammar of texts
 
--- the text is read as the line of a ref
+-- the text is parsed as the line of a ref
 abbrev pub SaysRef : Format → List ℕ → Type 0
 SaysRef format line = (ref : RefLine) × (line_of format line ≡ Ok ref)
 
--- an unborn HEAD may come first
+-- the payload that is parsed as the unborn HEAD, or no payload if there is no unborn HEAD
 abbrev pub SaysUnborn : Option (List ℕ) → List (List ℕ) → Type 0
 SaysUnborn None payloads = payloads ≡ []
 SaysUnborn (Some target) payloads =
     (payload : List ℕ) × (payloads ≡ payload ∷ []) × (first_form (text payload) ≡ UnbornForm (Ok target))
 
--- the packets are a reply, and say this
+-- the packets are a reply with this value, if its texts are parsed
 pub record IsReadReply (format : Format) (ends : Ends) (packets : List Packet) (reply : LsReply) : Type 0 where
   pub first : List (List ℕ)
   pub refs : List (List ℕ)
@@ -48,7 +48,7 @@ pub record IsReadReply (format : Format) (ends : Ends) (packets : List Packet) (
   pub few : length (first ++ refs) ≤ max_lines
   pub lines : reply.lines ≡ ref_lines format (map text refs)
 
--- ---- a payload that reports an error is no line
+-- ---- payloads that report an error, none of which is a line
 
 err_text : (rest : List ℕ) → (more : List ℕ) × (text (codes "ERR " ++ rest) ≡ codes "ERR " ++ more)
 err_text [] = ([], refl)
@@ -96,7 +96,7 @@ unborn_is_no_error : (payload : List ℕ) (target : Result (List ℕ) Why) → f
 unborn_is_no_error payload target e =
     no_error (peer_error payload) (λ said h. let no : RefForm ≡ UnbornForm target = sym (error_is_not_unborn payload said h) ∙ e in cc)
 
--- ---- a line of the manual goes on
+-- ---- the verdict on a line of the manual
 
 form_of_ref : (format : Format) (line : List ℕ) (ref : RefLine) → line_of format line ≡ Ok ref → first_form line ≡ RefForm
 form_of_ref format line ref e = by_form (first_form line) refl where
@@ -128,7 +128,7 @@ unborn_goes format ends payload target e =
     data_is format ends false 0 payload refl (unborn_is_no_error payload (Ok target) e)
     ∙ ap (λ (form : FirstForm). within_limit 0 (judge_first format (text payload) form)) e
 
--- ---- the packets of the manual are complete
+-- ---- the completeness of the manual's replies
 
 record IsBody (format : Format) (ends : Ends) (front : List Packet) (count : ℕ) : Type 0 where
   pub goes : IsOpen (judge format ends) front
@@ -167,7 +167,7 @@ texts_sent Plain [] = refl
 texts_sent Response [] = refl
 texts_sent ends (payload ∷ payloads) = ap (λ (texts : List (List ℕ)). text payload ∷ texts) (texts_sent ends payloads)
 
--- what the texts of the manual say
+-- the value that the texts of a reply in the manual encode
 says_unborn : (format : Format) (unborn : Option (List ℕ)) (first refs : List (List ℕ)) → SaysUnborn unborn first → All (SaysRef format) (map text refs)
     → unborn_of (map text (first ++ refs)) ≡ unborn
 says_unborn format None first [] h are = ap (λ (payloads : List (List ℕ)). unborn_of (map text (payloads ++ []))) h

@@ -1,4 +1,5 @@
--- The texts of the manual are read as what they say, and no others are; these are refused for a reason of texts.
+-- The parser accepts exactly the texts that the manual allows, with the same values. Any other text is rejected with
+-- `BadText`, `BadId` or `BadName`.
 use Rattle.std.proofs.Common.{◌≡◌, ℕ, ◌<◌, Bool, true, false, List, [], ◌∷◌, ◌++◌, codes, nat_lt, Option, Some, arith}
 use Rattle.std.proofs.Common.{None, Result, Ok, Err, inl, inr, refl, sym, ap, subst, ◌∙◌, append_assoc, append-nil}
 use Rattle.std.specs.Prelude.{All, IfSome, is_none}
@@ -63,12 +64,12 @@ is_above byte = nat_lt 32 byte
 word_is_clean : (word : List ℕ) → list_all is_above word ≡ true → IsClean word
 word_is_clean word h k d within = ltb-true 32 _ (AllPass-from_list_all is_above word h k d within)
 
--- a word and a clean text
+-- the word of an attribute followed by a clean value has no space
 value_part : (word value : List ℕ) → list_all is_above word ≡ true → IsClean value → HasNoSpace (word ++ value)
 value_part word value h clean =
     clean_has_none (word ++ value) (All-append (λ (byte : ℕ). 32 < byte) word value (word_is_clean word h) clean)
 
--- parts, each after a space
+-- the parts in sequence, each after a space
 abbrev pub spaced : List (List ℕ) → List ℕ
 spaced [] = []
 spaced (part ∷ parts) = 32 ∷ (part ++ spaced parts)
@@ -98,9 +99,9 @@ text_joins : (digits name attributes : List ℕ) → digits ++ codes " " ++ name
 text_joins digits name attributes =
     append_assoc (digits ++ codes " ") name attributes ∙ append_assoc digits (codes " ") (name ++ attributes)
 
--- ---- what a text is refused for
+-- ---- the reasons to reject a text
 
--- the reasons for which a text is refused
+-- the reason is one of the reasons to reject a text
 abbrev pub IsTextFault : Why → Type 0
 IsTextFault why.BadText = Unit {0}
 IsTextFault why.BadId = Unit {0}
@@ -113,7 +114,7 @@ text_fault why.BadId brings h = (refl, tt)
 text_fault why.BadName brings h = (refl, tt)
 text_fault why brings h = absurd h
 
--- a result that is right, or a reason of texts
+-- the result is a value for which `P` is true, or a reason to reject a text
 abbrev pub Well : {X : Type 0} → (X → Type 0) → Result X Why → Type 0
 Well P (Ok x) = P x
 Well P (Err why) = IsTextFault why
@@ -137,7 +138,7 @@ attributes_append format (Ok line) [] more = refl
 attributes_append format (Ok line) (part ∷ parts) more =
     attributes_append format (with_attribute format line (attribute_of part)) parts more
 
--- what follows the word of an attribute
+-- the part is the word of the attribute followed by the attribute's value
 abbrev Spells : List ℕ → Attribute → Type 0
 Spells part (Symref target) = part ≡ codes "symref-target:" ++ target
 Spells part (Peeled digits) = part ≡ codes "peeled:" ++ digits
@@ -153,7 +154,7 @@ attribute_spells part = by_words _ _ refl refl where
   by_words None (Some digits) is also = follows_word (codes "peeled:") part digits also
   by_words None None is also = tt
 
--- ---- what is read of a text of the manual
+-- ---- parsing a text that the manual allows
 
 module _ (laws : TextLaws) (format : Format) where
   digits_clean : (digits id : List ℕ) → IsIdTextOf format digits id → IsClean digits
@@ -161,7 +162,7 @@ module _ (laws : TextLaws) (format : Format) where
       let one = laws.formats format id ((laws.readings format digits).0 id is).1 in
       (laws.digits digits id (subst (λ (f : Format). IsIdTextOf f digits id) (sym one.1) is)).clean
 
-  -- an attribute that is there or not, and how it is read
+  -- the text of an optional attribute: parsing its parts turns the line `before` into the line `after`
   record IsRead (text : List ℕ) (before after : List ℕ → List ℕ → Option (List ℕ) → RefLine) : Type 0 where
     pub parts : List (List ℕ)
     pub same : text ≡ spaced parts
@@ -242,13 +243,14 @@ module _ (laws : TextLaws) (format : Format) where
       ∙ (cond-true (is_name ref.name) (with_attributes format (Ok (with_target None ref.id ref.name None)) more.parts) (Err why.BadName) (is_named ref.name h.is_name)
       ∙ more.said ref.id ref.name))
 
--- ---- what a text is that is read
+-- ---- the texts that the parser accepts
 
 module _ (format : Format) where
   abbrev IsNext : RefLine → RefLine → List ℕ → Type 0
   IsNext line next text = (next.id ≡ line.id) × (next.name ≡ line.name) × AreAttributes format text next.symref next.peeled
 
-  -- without its target the text of attributes is that of the id, and the other way round
+  -- attributes without a target are the text of the peeled id, and attributes without a peeled id are the text of the
+  -- target
   without_target : (text : List ℕ) (peeled : Option (List ℕ)) → (h : AreAttributes format text None peeled) → text ≡ h.leads
   without_target text peeled h = elim h.parts [
     | inl e ↦ e ∙ ap (λ (bytes : List ℕ). bytes ++ h.leads) h.is_target
@@ -348,7 +350,7 @@ module _ (format : Format) where
   pub says_ref_text : (text : List ℕ) (ref : RefLine) → line_of format text ≡ Ok ref → IsRefText format text ref
   says_ref_text text ref e = subst (Well (IsRefText format text)) e (line_well text)
 
-  -- it is a line of a repository with ids of the format
+  -- a line that the parser accepts is valid, and its ids have the format
   symref_formed : (text : List ℕ) (symref : Option (List ℕ)) → IsAttribute IsSymref text symref
       → IfSome symref IsRefName
   symref_formed text None h = tt
@@ -415,7 +417,7 @@ unborn_well (head ∷ parts) =
     (unborn_after_head parts) (after_head_well parts))
     (λ _. tt)
 
--- an unborn HEAD has three parts
+-- an accepted line of an unborn HEAD has three parts: `unborn`, `HEAD` and the target
 abbrev pub FormsWell : List (List ℕ) → FirstForm → Type 0
 FormsWell parts (UnbornForm target) =
     Well (λ target. (parts ≡ codes "unborn" ∷ codes "HEAD" ∷ targets target) × IsRefName target) target
@@ -442,7 +444,7 @@ says_unborn_text text target e =
       h.1,
     )
 
--- ---- what is refused
+-- ---- rejected texts
 
 pub line_refused : (format : Format) (count : ℕ) (text : List ℕ) (why : Why) → Err why ≡ line_of format text
     → IsReason (within_limit count (judge_line (line_of format text))) true why

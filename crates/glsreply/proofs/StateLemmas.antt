@@ -1,4 +1,4 @@
--- What a packet that is accepted adds to what is kept of a reply.
+-- The change of a reader's state by an accepted packet.
 use Rattle.std.proofs.Common.{◌≡◌, ℕ, Bool, true, false, cond, ◌||◌, List, [], ◌∷◌, ◌++◌, length, ◌==◌, codes, Option, Some, None, Result, Ok, Err, inl, inr, refl, sym, ap, ap₂, subst, ◌∙◌, append-nil, arith, append_assoc}
 use Rattle.std.specs.Prelude.{All}
 use Rattle.std.specs.List.{filter_map}
@@ -37,7 +37,7 @@ use Rattle.glsreply.specs.declared.reader.LsReplyReader.{LsReplyReader}
 abbrev pub GrammarsAreExact : Type 0
 GrammarsAreExact = (judge : Judge) → LawsOf judge
 
--- what holds of no packet, and of one packet more of an open list, holds of each open list
+-- induction: `P` is true for each open list if it is true for the empty list and stays true after one more packet
 module _ (judge : Judge) (P : List Packet → Type 0) where
   steps : ((front : List Packet) (packet : Packet) → judge front packet ≡ Open → P front → P (front ++ packet ∷ []))
       → (front back : List Packet) → IsOpen judge (front ++ back) → P front → P (front ++ back)
@@ -62,7 +62,7 @@ unfolding judge_at
 accepted_text format ends true count payload h = absurd (accepted_unless (peer_error payload) (Refused UnexpectedFrame) h)
 accepted_text format ends false count payload h = accepted_unless (peer_error payload) (judge_text format count (text payload)) h
 
--- ---- an unborn HEAD is no line of a ref
+-- ---- the line of an unborn HEAD, which is not the line of a ref
 
 unborn_is_no_id : (format : Format) (parts : List (List ℕ)) → line_with_id format (id_of_text format (codes "unborn")) parts ≡ Err BadId
 unfolding id_of_text
@@ -84,7 +84,7 @@ pub unborn_is_no_line : (format : Format) (line : List ℕ) (target : Result (Li
 unfolding first_form line_of
 unborn_is_no_line format line target e = no_line format (parts_of line) target e
 
--- ---- a text more
+-- ---- one more text
 
 same_state : {over : Bool} {count count' : ℕ} {unborn unborn' : Option (List ℕ)} {lines lines' : List RefLine}
     → count ≡ count' → unborn ≡ unborn' → lines ≡ lines'
@@ -121,7 +121,7 @@ module _ (format : Format) (over : Bool) where
       line_adds (first ∷ texts) line (line_of format line) refl (accepted_within (length (first ∷ texts)) (judge_line (line_of format line)) judged) refl
       ∙ sym (ap (λ (b : Bool). cond b (with_first format (state_at format over (first ∷ texts)) line (first_form line)) (with_line (state_at format over (first ∷ texts)) (line_of format line))) later)
 
--- ---- a packet more
+-- ---- one more packet
 
 pub texts_push : (front : List Packet) (packet : Packet) → texts_of (front ++ packet ∷ []) ≡ texts_of front ++ texts_of (packet ∷ [])
 texts_push front packet = filter_map-append text_in front (packet ∷ [])
@@ -184,7 +184,7 @@ whole_line_texts format ends packets whole =
     (open_induction (judge format ends) (AreLineTexts format) (All-nil (IsLineText format))
     (λ front packet goes h. line_texts_push format ends front packet (subst IsAccepted (sym goes) tt) h) whole.front whole.goes))
 
--- ---- a line has ids of one format
+-- ---- the format of the ids of a line
 
 first_length : (format : Format) (parts : List (List ℕ)) (ref : RefLine) → line_of_parts format parts ≡ Ok ref
     → (first : List ℕ) × (rest : List (List ℕ)) × (parts ≡ first ∷ rest) × (length first ≡ id_text_length format)
@@ -231,7 +231,7 @@ same_ref f g line (inl h) other = unborn_gives_none f line h.0 h.1 ∙ sym (unbo
 same_ref f g line (inr h) (inl other) = unborn_gives_none f line other.0 other.1 ∙ sym (unborn_gives_none g line other.0 other.1)
 same_ref f g line (inr h) (inr other) = ap (λ (format : Format). ref_lines format (line ∷ [])) (one_format f g line h.0 other.0 h.1 other.1)
 
--- lines that are accepted in two formats say the same in both
+-- texts that are accepted in two formats encode the same refs in both formats
 pub same_refs : (f g : Format) (texts : List (List ℕ)) → All (IsLineText f) texts → All (IsLineText g) texts → ref_lines f texts ≡ ref_lines g texts
 same_refs f g [] a b = refl
 same_refs f g (line ∷ texts) a b =
@@ -240,7 +240,7 @@ same_refs f g (line ∷ texts) a b =
     (same_refs f g texts (All-tail (IsLineText f) line texts a) (All-tail (IsLineText g) line texts b))
     ∙ sym (ref_lines-cons g line texts))
 
--- ---- what a reader does with a packet
+-- ---- the effect of a packet on a reader
 
 brings_same : (front : List Packet) (packet : Packet) → brings [] packet ≡ brings front packet
 brings_same front (Data payload) = refl
@@ -275,7 +275,7 @@ module _ {A : Type 0} where
       tt,
     )
 
--- what a reader holds of a complete list is what the list says
+-- after a complete list of packets, the reader holds the reply that the list encodes
 pub says_reply : {A : Type 0} (format : Format) (ends : Ends) (reader : LsReplyReader A) (packets : List Packet)
     → IsWhole (judge format ends) packets → Holds reader packets → (state_in reader).reply ≡ reply_of format packets
 says_reply format ends reader packets whole held =

@@ -1,4 +1,4 @@
--- The texts of the table's complete lists are read.
+-- The parser accepts the texts of a list of packets that is complete for the judge.
 use Rattle.std.proofs.Common.{◌≡◌, ℕ, ◌<◌, ◌≤◌, Bool, true, false, cond, List, [], ◌∷◌, ◌++◌, length, map, ◌==◌, Option}
 use Rattle.std.proofs.Common.{Some, None, Result, Ok, Err, ◌⊎◌, inl, inr, refl, sym, ap, subst, ◌∙◌, append_assoc}
 use Rattle.std.proofs.Common.{arith, suc, ◌+◌, ◌^◌, length-append}
@@ -37,7 +37,7 @@ use Rattle.glsreply.specs.LsManual.{AreRefTexts, IsUnbornFirst, IsLsReply}
 
 -- ---- the payloads before the flush
 
--- an unborn HEAD or none, and lines of refs
+-- the payloads are the line of an unborn HEAD, if there is one, and then lines of refs
 record IsSent (format : Format) (payloads : List (List ℕ)) : Type 0 where
   pub unborn : Option (List ℕ)
   pub first : List (List ℕ)
@@ -51,7 +51,7 @@ sent_none : (format : Format) → IsSent format []
 sent_none format =
     record { unborn = None; first = []; refs = []; parts = refl; is_first = refl; are_refs = All-nil (SaysRef format); few = omega arith }
 
--- a line of a ref more
+-- payloads of an unborn HEAD and refs, extended by the line of one more ref
 sent_ref : (format : Format) (payloads : List (List ℕ)) (payload : List ℕ) → IsSent format payloads → SaysRef format (text payload)
     → length payloads < max_lines → IsSent format (payloads ++ payload ∷ [])
 sent_ref format payloads payload sent ref room = record {
@@ -96,7 +96,7 @@ text_goes format (one ∷ payloads) payload sent h =
 
 -- ---- open lists
 
--- the flush has come where a response-end is due after it
+-- the packets are accepted payloads, and perhaps a flush after which a response-end must follow
 record IsFront (format : Format) (ends : Ends) (front : List Packet) : Type 0 where
   pub payloads : List (List ℕ)
   pub sent : IsSent format payloads
@@ -110,7 +110,7 @@ data_count : (payloads : List (List ℕ)) → length (texts_of (map Data payload
 data_count payloads = ap (λ (texts : List (List ℕ)). length texts) (texts_of-data payloads) ∙ length-map payloads text
 
 module _ (format : Format) (ends : Ends) (front : List Packet) (so : IsFront format ends front) where
-  -- by whether the flush has come
+  -- the form of the packets before the flush, and after it
   before : is_over front ≡ false → front ≡ map Data so.payloads
   before at = elim so.shape [
     | inl e ↦ e
@@ -205,7 +205,7 @@ whole_is_sent : (format : Format) (ends : Ends) (packets : List Packet) → IsWh
 whole_is_sent format ends packets whole =
     subst (IsSentWhole format ends) (sym whole.parts) (last_is format ends whole.front whole.last (open_is_front format ends whole.front whole.goes) whole.ends)
 
--- what such a list says in the manual's words it says in the table's, and packets say one reply
+-- the packets that encode a reply according to the judge are this reply according to the parser
 pub says_manual : GrammarsAreExact → (format : Format) (ends : Ends) (packets : List Packet) (reply : LsReply) → Says format ends packets reply → IsReadReply format ends packets reply
 says_manual laws format ends packets reply says =
     let whole = whole_is_sent format ends packets says.whole in
@@ -222,7 +222,7 @@ says_manual laws format ends packets reply says =
     } in
     subst (IsReadReply format ends packets) ((manual_says laws format ends packets said manual).says ∙ sym says.says) manual
 
--- ---- what is read is well formed
+-- ---- well-formedness of a reply that was read
 
 one_ref : (format : Format) (line : List ℕ) → length (ref_lines format (line ∷ [])) ≤ 1
 one_ref format line = rw (ref_lines-one format line) (at_most_one (line_of format line)) where
@@ -269,7 +269,7 @@ module _ (law : TextsHaveOneReading) (format : Format) where
     by_form (UnbornForm (Err why)) e = omega (arith, few_refs (first ∷ texts))
     by_form RefForm e = omega (arith, few_refs (first ∷ texts))
 
-  -- what a complete list says is a reply that can be written
+  -- a complete list of packets encodes a reply that can be written
   pub reply_formed : (ends : Ends) (packets : List Packet) → IsWhole (judge format ends) packets → IsLsReplyIn format (reply_of format packets)
   reply_formed ends packets whole =
       let sent = whole_is_sent format ends packets whole in
@@ -282,7 +282,7 @@ module _ (law : TextsHaveOneReading) (format : Format) where
         few = omega (arith, few_lines (texts_of packets), long, sent.2.few);
       }
 
--- ---- what the reader answers when a reply has been read
+-- ---- the result of a reader after a complete reply
 
 module _ {A : Type 0} (format : Format) (ends : Ends) (start reader : LsReplyReader A) (bytes : Change) (same : start.format ≡ format) (also : start.ends ≡ ends) where
   abbrev Taken : Format → Ends → Type 0
@@ -306,7 +306,7 @@ module _ {A : Type 0} (format : Format) (ends : Ends) (start reader : LsReplyRea
       subst (IsLsReplyIn format) (sym (says_reply format ends reader taken.lines taken.read.whole taken.held))
       (reply_formed law format ends taken.lines taken.read.whole)
 
--- ---- the replies of the manual are those whose texts are read so
+-- ---- the replies of the manual, and the replies whose texts the parser accepts
 
 one_more : (format : Format) (line : List ℕ) (texts : List (List ℕ)) (ref : RefLine) → line_of format line ≡ Ok ref
     → ref_lines format (line ∷ texts) ≡ ref ∷ ref_lines format texts
@@ -314,7 +314,7 @@ one_more format line texts ref e =
     ref_lines-cons format line texts ∙ ap (λ (refs : List RefLine). refs ++ ref_lines format texts) (ref_lines-one format line ∙ ap refs_in e)
 
 module _ (laws : TextLaws) (format : Format) where
-  -- ---- from the manual's words
+  -- ---- from the manual to the parser
 
   refs_read : (texts : List (List ℕ)) (refs : List RefLine) → AreRefTexts format texts refs → All (SaysRef format) texts × (refs ≡ ref_lines format texts)
   refs_read [] [] h = (All-nil (SaysRef format), refl)
@@ -343,7 +343,7 @@ module _ (laws : TextLaws) (format : Format) where
         lines = refs.1;
       }
 
-  -- ---- and back
+  -- ---- from the parser to the manual
 
   refs_are : (texts : List (List ℕ)) → All (SaysRef format) texts → AreRefTexts format texts (ref_lines format texts)
   refs_are [] all = tt
@@ -373,7 +373,7 @@ module _ (laws : TextLaws) (format : Format) where
   pub say_words : GrammarsAreExact → (ends : Ends) (packets : List Packet) (reply : LsReply) → Says format ends packets reply → IsLsReply format ends packets reply
   say_words grammars ends packets reply h = reply_is ends packets reply (says_manual grammars format ends packets reply h)
 
--- ---- how long a reply is
+-- ---- the number of packets of a reply
 
 count_refs : (format : Format) (texts : List (List ℕ)) (refs : List RefLine) → AreRefTexts format texts refs → length texts ≡ length refs
 count_refs format [] [] h = refl

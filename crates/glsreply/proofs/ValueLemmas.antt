@@ -1,4 +1,4 @@
--- A reply with a line more.
+-- Adding a line to a reply.
 use Rattle.std.proofs.Common.{◌≡◌, ℕ, ◌<◌, true, List, [], ◌∷◌, ◌++◌, Option, Some, None, Result, Ok, Err, refl, sym, ap, subst, ◌∙◌, arith}
 use Rattle.std.specs.Prelude.{All, IfSome}
 use Rattle.std.specs.Option.{option_map_or}
@@ -27,7 +27,7 @@ is_format-same Sha1 = refl
 is_format-same Sha256 = refl
 
 module _ (law : IdsHaveOneFormat) where
-  -- ---- ids that go with each other
+  -- ---- ids of the same format
 
   id_in : (format : Format) (line : RefLine) (id : List ℕ) → format_of line.id ≡ format → has_format_of line id ≡ true → IsId id → IsIdOf format id
   id_in format line id same goes h = subst (λ (f : Format). IsIdOf f id) (same_format (format_of id) (format_of line.id) goes ∙ same) h
@@ -64,7 +64,7 @@ module _ (law : IdsHaveOneFormat) where
       let is = (All-head (IsRefLine other) line lines all).id in
       subst (λ (f : Format). All (IsRefLine f) (line ∷ lines)) (sym (law other line.id is).1 ∙ (law format line.id begins).1) all
 
-  -- a value is a reply in the format of its first id
+  -- a valid reply is valid in the format of its first id
   pub value_in : (reply : LsReply) → IsReplyValue reply → (format : Format) → BeginsIn format reply.lines → IsLsReplyIn format reply
   value_in reply h format begins =
       record { unborn = h.1.unborn; lines = lines_begin h.0 format reply.lines h.1.lines begins; few = h.1.few }

@@ -1,4 +1,4 @@
--- The packets that are written.
+-- The packets that are written for a reply.
 use Rattle.std.proofs.Common.{◌≡◌, ℕ, ◌<◌, ◌≤◌, List, Option, [], ◌∷◌, ◌++◌, length, map, drop, get_or, codes, suc, refl, sym, ap, ◌∙◌, append_assoc, length-append, arith, drop-cons}
 use Rattle.gpkt.specs.Laws.{Fits}
 use Rattle.gpkt.specs.Packets.{Packet, Data, Flush, line_feed}
@@ -17,7 +17,7 @@ unborn_line name = refl
 pub unborn_fits : (name : List ℕ) → length name ≤ max_name → Fits (Data (codes "unborn HEAD symref-target:" ++ (name ++ line_feed ∷ [])))
 unborn_fits name short = let long = length-append name (line_feed ∷ []) in omega (arith, long, short)
 
--- what is to come after some of the lines
+-- the packets that remain to be written: the lines `lines` and the end of the reply
 abbrev pub coming : Ends → List RefLine → List Packet
 coming ends lines = map ref_packet lines ++ Flush ∷ ends_with ends
 
@@ -29,7 +29,7 @@ coming-line ends lines i line inside at =
 pub coming-end : (ends : Ends) (lines : List RefLine) (i : ℕ) → length lines ≤ i → coming ends (drop i lines) ≡ Flush ∷ ends_with ends
 coming-end ends lines i past = ap (coming ends) (drop_all i lines past)
 
--- a reply is an unborn HEAD, where there is one, and what comes after it
+-- the packets of a reply: the line of an unborn HEAD, if there is one, and the packets after that line
 pub reply_parts : (ends : Ends) (reply : LsReply) (unborn : Option (List ℕ)) → unborn ≡ reply.unborn
     → canonical_reply ends reply ≡ unborn_packets unborn ++ coming ends reply.lines
 unfolding canonical_reply

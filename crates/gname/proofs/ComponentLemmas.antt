@@ -1,4 +1,4 @@
--- The rule of components finds the first part between slashes that is not allowed.
+-- The rule of components finds the first forbidden component of a text.
 use Rattle.std.proofs.Common.{◌≡◌, ◌↔◌, ℕ, ◌+◌, ◌-◌, ◌<◌, ◌≤◌, ◌==◌, true, false, inl, inr, List, [], ◌∷◌, ◌++◌, length, take, drop, get_or, slice_index, Option, Some, None, refl, sym, ap, ◌∙◌, subst, arith, append_assoc}
 use Rattle.std.specs.Prelude.{All}
 use Rattle.std.specs.List.{before_first, position_or_len}
@@ -13,9 +13,9 @@ use Rattle.gname.specs.Components.{AllowsComponents, ComesBefore, ComesBehind, C
 use Rattle.gname.proofs.NameLemmas.{KeepsRules-of_name, component_fault_from, component_fault_parts}
 use Rattle.gname.proofs.PlaceLemmas.{IsFirstOf, first_place_is, first_places_are_first}
 
--- ---- where a component begins
+-- ---- the start of a component
 
--- a byte that is a slash
+-- a slash is the byte 47
 slash-is : (b : ℕ) → is_slash b ≡ true → b ≡ 47
 slash-is b h = eqb-true b 47 h
 
@@ -65,7 +65,7 @@ front-part rest =
     let long : length (before_first is_slash rest) ≡ n = omega (arith, length-take n rest, low) in
     sym (take-append-drop n rest) ∙ ap (λ (k : ℕ). take n rest ++ drop k rest) (sym long)
 
--- where a component begins, the bytes up to the next slash are it
+-- if a component can begin at position `at`, the bytes up to the next slash are a component
 pub IsComponent-at : (text : List ℕ) (at : ℕ) → at ≤ length text → begins_component text at ≡ true → IsComponent text at (component_at text at)
 IsComponent-at text at fits begins = record {
   front = take at text;
@@ -77,7 +77,7 @@ IsComponent-at text at fits begins = record {
   behind = behind-ends (drop at text);
 }
 
--- ---- what a component is
+-- ---- uniqueness of components
 
 within : (text : List ℕ) (at : ℕ) (part : List ℕ) (h : IsComponent text at part) → at ≤ length text
 within text at part h =
@@ -110,7 +110,7 @@ ends-at part back clean (inr (more, is)) =
     (λ k low. subst (λ (b : ℕ). is_slash b ≡ false) (sym (get_or_append_left part back 0 k low)) (clean k 0 low))
     (λ inside. ap is_slash byte)
 
--- it begins where the rule looks, and goes on to the next slash
+-- a component begins at the start of the text or after a slash
 begins-of : (text : List ℕ) (at : ℕ) (part : List ℕ) (h : IsComponent text at part) → begins_component text at ≡ true
 begins-of text at part h = begins-from text h.front (part ++ h.back) at h.cut h.begins h.before
 
@@ -132,14 +132,14 @@ unfolding begins_bad_component
 test-from text at part h bad =
     and_from _ _ (begins-of text at part h) (ap is_bad_component (component_at-is text at part h) ∙ bad)
 
--- where the test fails, a component that begins there is allowed
+-- if the test fails at a position, the component that begins at this position is allowed
 allowed : (text : List ℕ) (at : ℕ) (part : List ℕ) → IsComponent text at part → begins_bad_component text at ≡ false → is_bad_component part ≡ false
 allowed text at part h fails =
     false_from_ne_true (is_bad_component part) (λ bad. (let clash = sym (test-from text at part h bad) ∙ fails in cc))
 
--- ---- what the rule finds
+-- ---- the result of the rule
 
--- and where the components that begin at a place are allowed, the test fails
+-- if each component that begins at a position is allowed, the test fails at this position
 passes : (text : List ℕ) (at : ℕ) → at ≤ length text → ((part : List ℕ) → IsComponent text at part → is_bad_component part ≡ false)
     → begins_bad_component text at ≡ false
 passes text at fits good = false_from_ne_true (begins_bad_component text at) (λ bad.
@@ -158,7 +158,7 @@ first-bad text at fits here before =
       earlier = λ k other h low. allowed text k other h (before k low);
     }
 
--- what is found, where a fault of components is at the place that was found
+-- if the search found no position, all components of the text are allowed
 allows-none : (text : List ℕ) (o : Option ℕ) → IsFirstOf (begins_bad_component text) (length text) o → option_map Component o ≡ None
     → AllowsComponents text
 allows-none text None found is = λ at part h. allowed text at part h (found at (within text at part h))

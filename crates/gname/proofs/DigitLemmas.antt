@@ -1,4 +1,4 @@
--- The table of digit pairs.
+-- The table of digit pairs and the table of digit values.
 use Rattle.std.proofs.Common.{◌≡◌, ℕ, ◌*◌, ◌+◌, ◌/◌, ◌%◌, ◌<◌, ◌==◌, ◌&&◌, Bool, true, ◌∙◌, List, map, slice_index, Option, Some, None, Ok, unwrap_or, refl, ap, arith}
 use Rattle.std.specs.Cmp.{first_so, second_so}
 use Rattle.std.specs.List.{list_all, range_with_len}
@@ -7,13 +7,13 @@ use Rattle.std.proofs.lemmas.List.Sums.{AllPass-from_list_all}
 use Rattle.std.proofs.lemmas.Bool.{eqb-true}
 use Rattle.hex.specs.Hex.{hex_digit_value, lower_digits, pair_value}
 
--- the table has the digits of a byte at its place
+-- whether the table has the two digits of the byte at position `2 * byte`
 abbrev has_pair : List ℕ → ℕ → Bool
 has_pair table byte =
     slice_index table (2 * byte) == slice_index lower_digits (byte / 16)
     && slice_index table (2 * byte + 1) == slice_index lower_digits (byte % 16)
 
--- it has those of every byte
+-- whether the table has the two digits of each byte from 0 to 255
 abbrev pub has_pairs : List ℕ → Bool
 has_pairs table = list_all (has_pair table) (range_with_len 0 256)
 
@@ -27,7 +27,7 @@ pair_at table whole byte low =
     let both : has_pair table byte ≡ true = rw place at here in
     (eqb-true _ _ (first_so _ _ both), eqb-true _ _ (second_so _ _ both))
 
--- the value of a digit, and 255 of another byte
+-- the value of a digit, or 255 for a byte that is not a digit
 abbrev pub worth : ℕ → ℕ
 worth byte = unwrap_or (hex_digit_value byte) 255
 
@@ -35,7 +35,7 @@ is_worth : (found : Option ℕ) → unwrap_or found 255 < 16 → found ≡ Some 
 is_worth None small = absurd (omega (arith, small))
 is_worth (Some value) small = refl
 
--- a table of all values has the one of a digit at its place
+-- in a table of the values of all bytes, an element less than 16 is the value of the digit at that position
 pub value_in : (table : List ℕ) → table ≡ map worth (range_with_len 0 256) → (byte : ℕ) → byte < 256
     → slice_index table byte < 16 → hex_digit_value byte ≡ Some (slice_index table byte)
 value_in table is byte low small =
@@ -43,7 +43,7 @@ value_in table is byte low small =
     ap (λ (t : List ℕ). slice_index t byte) is ∙ get_or-map-range_with_len worth 0 256 byte byte 0 low (omega arith) in
     rw here (is_worth (hex_digit_value byte) (rw here at small))
 
--- two digits make a byte
+-- the value of a pair of digits, computed from the values of both digits
 pub pair_read : (high low i h l : ℕ) → hex_digit_value high ≡ Some h → hex_digit_value low ≡ Some l
     → pair_value high low i ≡ Ok (h * 16 + l)
 pair_read high low i h l first second = rw (first, second) refl

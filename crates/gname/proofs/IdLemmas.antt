@@ -1,4 +1,4 @@
--- Facts on object ids and their texts.
+-- Facts about object ids and their texts.
 use Rattle.std.proofs.Common.{◌≡◌, ◌≢◌, ℕ, ◌+◌, ◌*◌, ◌%◌, ◌<◌, ◌≤◌, true, inl, inr, List, length, take, Result, Ok, Err, IsErrAnd, refl, sym, ap, ◌∙◌, arith}
 use Rattle.std.specs.List.{AllPass}
 use Rattle.std.specs.Result.{result_unwrap_or}
@@ -31,7 +31,7 @@ format_of-id Sha256 id h = rw h.long refl
 pub ids_have_one_format : (format : Format) (id : List ℕ) → IsIdOf format id → IsId id × (format_of id ≡ format)
 ids_have_one_format format id h = let same = format_of-id format id h in (rw same h, same)
 
--- what a text spells is an id
+-- the id that a text encodes is valid
 pub IsIdOf-of_text : (format : Format) (text id : List ℕ) → IsIdTextOf format text id → IsIdOf format id
 IsIdOf-of_text format text id h =
     let parts = decode_of-ok text id h.spells in
@@ -41,21 +41,21 @@ IsIdOf-of_text format text id h =
 AllPass-of_id_text : (text id : List ℕ) → decode_of text ≡ Ok id → AllPass is_hex_digit text
 AllPass-of_id_text text id h = (decode_of-ok text id h).1
 
--- the text of an id in lower case reads back, and so does the one in upper case
+-- the text of an id, in lower case or in upper case, encodes that id
 pub ids_have_texts : (id : List ℕ) → IsId id → IsIdText (id_text id) id × IsIdText (upper_id_text id) id
 ids_have_texts id h = (
   record { long = length-encode_with lower_digits id ∙ ap (λ n. 2 * n) h.long; spells = decode_of-encode_lower id h.bytes },
   record { long = length-encode_with upper_digits id ∙ ap (λ n. 2 * n) h.long; spells = decode_of-encode_upper id h.bytes },
 )
 
--- a text spells one id
+-- a text encodes at most one id
 one_decoding : (text a b : List ℕ) → decode_of text ≡ Ok a → decode_of text ≡ Ok b → a ≡ b
 one_decoding text a b h k = ap (λ (r : Result (List ℕ) FromHexError). result_unwrap_or r a) (sym h ∙ k)
 
 pub texts_spell_one_id : (text a b : List ℕ) → IsIdText text a → IsIdText text b → a ≡ b
 texts_spell_one_id text a b h k = one_decoding text a b h.spells k.spells
 
--- the error of a result, or d
+-- the error of a result, or `d` if the result is not an error
 abbrev err_or : FromHexError → Result (List ℕ) FromHexError → FromHexError
 err_or d (Ok x) = d
 err_or d (Err e) = e
@@ -64,7 +64,7 @@ wrong_length : (format : Format) (text : List ℕ) (e found : FromHexError) → 
     → id_fault_of found ≡ Length → e ≡ found → ReadsId format text (Err (id_fault_of e))
 wrong_length format text e found other is same = rw (same, is) other
 
--- of any other text the fault is its length, or its first bad digit
+-- if a text does not encode an id, the fault is a wrong length or the first bad digit
 pub ReadsId-err : (format : Format) (text : List ℕ) (e : FromHexError) → decode_sized text (id_length format) ≡ Err e
     → ReadsId format text (Err (id_fault_of e))
 ReadsId-err format text e h =
@@ -85,19 +85,19 @@ ReadsId-err format text e h =
           ]
     ]
 
--- the same, of the reading's error as `?` passes it on
+-- the same for the result of a function that converts the error with `?`
 pub id_is_refused : (format : Format) (text : List ℕ) (e : FromHexError) (r : Result (List ℕ) OidFault)
     → Err e ≡ decode_sized text (id_length format) → IsErrAnd r (λ fault. fault ≡ id_fault_of e) → ReadsId format text r
 id_is_refused format text e (Ok id) h is = absurd is
 id_is_refused format text e (Err fault) h is = rw is (ReadsId-err format text e (sym h))
 
--- ---- one reading
+-- ---- uniqueness of the result of parsing
 
--- a text of digits has no bad one
+-- a text of hexadecimal digits has no bad digit
 no_bad_digit : (text : List ℕ) (at : ℕ) → AllPass is_hex_digit text → IsFirstBadDigit text at → ⊥
 no_bad_digit text at digits bad = cc (sym (digits at 0 bad.inside) ∙ bad.bad)
 
--- no bad digit stands before the first
+-- the first bad digit is not before another first bad digit
 not_before : (text : List ℕ) (a b : ℕ) → IsFirstBadDigit text a → IsFirstBadDigit text b → a < b → ⊥
 not_before text a b first other low =
     let taken = length-take b text in
@@ -112,7 +112,7 @@ one_place text a b first other =
       | inr (inr high) ↦ absurd (not_before text b a other first high)
     ]
 
--- each text has one reading
+-- parsing a text has at most one result
 ReadsId-one : (format : Format) (text : List ℕ) (a b : Result (List ℕ) OidFault)
     → ReadsId format text a → ReadsId format text b → a ≡ b
 ReadsId-one format text (Ok a) (Ok b) h k = ap Ok (one_decoding text a b h.0.spells k.0.spells)
@@ -130,7 +130,7 @@ pub texts_have_one_reading : (format : Format) (text : List ℕ)
     × ((a b : Result (List ℕ) OidFault) → ReadsId format text a → ReadsId format text b → a ≡ b)
 texts_have_one_reading format text = (λ id h. (h, IsIdOf-of_text format text id h), ReadsId-one format text)
 
--- a hexadecimal digit is above the space
+-- a hexadecimal digit is greater than 32, the byte of a space
 hex_digit_clean : (b : ℕ) → is_hex_digit b ≡ true → 32 < b
 hex_digit_clean b h = grind (arith, nat_tests)
 

@@ -1,4 +1,4 @@
--- Facts on ref names and prefixes.
+-- Facts about ref names and prefixes.
 use Rattle.std.proofs.Common.{◌≡◌, ◌≢◌, ℕ, ◌<◌, ◌≤◌, Bool, true, false, ◌||◌, cond, List, length, Option, Some, None, refl, arith}
 use Rattle.std.specs.Prelude.{All, codes, nat_eq}
 use Rattle.std.specs.Cmp.Lexicographic.{pointwise}
@@ -14,7 +14,7 @@ use Rattle.gname.specs.Names.{IsPrefix, IsRefName, at_brace, bad_byte, begins_ba
 use Rattle.gname.specs.Components.{PassesEarlierRules}
 use Rattle.gname.specs.Laws.{IsClean, NameFacts, PrefixFacts}
 
--- ---- a list of rules none of which finds a fault
+-- ---- rules that find no fault
 
 option_or-None : {X : Type 0} (a b : Option X) → option_or a b ≡ None → (a ≡ None) × (b ≡ None)
 option_or-None None b h = (refl, h)
@@ -24,7 +24,7 @@ option_map-None : {X Y : Type 0} (f : X → Y) (o : Option X) → option_map f o
 option_map-None f None h = refl
 option_map-None f (Some x) h = cc h
 
--- what these rules say of a ref name
+-- the first five rules find no fault in the text
 pub record KeepsRules (text : List ℕ) : Type 0 where
   pub some : empty text ≡ None
   pub within : too_long text ≡ None
@@ -42,7 +42,7 @@ KeepsRules-of_name text h = record {
   components = grind arith;
 }
 
--- ---- what single rules say
+-- ---- facts about single rules
 
 empty-None : (text : List ℕ) → empty text ≡ None → 0 < length text
 unfolding empty
@@ -52,7 +52,7 @@ too_long-None : (text : List ℕ) → too_long text ≡ None → length text ≤
 unfolding too_long
 too_long-None text h = grind (arith, nat_tests)
 
--- a byte that is not bad is above the space
+-- a byte that is not forbidden is greater than 32, the byte of a space
 good_byte : (b : ℕ) → is_bad_byte b ≡ false → 32 < b
 unfolding is_bad_byte
 good_byte b h = grind (arith, nat_tests)
@@ -79,7 +79,7 @@ other_root true below h differs = absurd (differs refl)
 other_root false true h differs = refl
 other_root false false h differs = cc h
 
--- a name at the root is HEAD
+-- a text that rule 3 allows is HEAD or begins with refs/
 below-of_root : (text : List ℕ) → not_ref text ≡ None → text ≢ head_name → starts_with nat_eq text (codes "refs/") ≡ true
 unfolding not_ref
 below-of_root text h differs =
@@ -104,16 +104,16 @@ prefixes_are_clean text h =
     let b = option_or-None (bad_byte text) _ a.1 in
     record { within = too_long-None text a.0; clean = clean-of_bytes text b.0; bytes = bad_byte-None text b.0 }
 
--- the bound and the bytes alone
+-- the length of a ref name is within the limit
 pub name_within : (text : List ℕ) → IsRefName text → length text ≤ max_name
 name_within text h = (names_are_clean text h).within
 
 pub name_clean : (text : List ℕ) → IsRefName text → IsClean text
 name_clean text h = (names_are_clean text h).clean
 
--- ---- which faults the rules find
+-- ---- the faults that the rules find
 
--- whether the fault that is found, if one is, passes a test
+-- whether a fault was found that passes the test
 abbrev finds : (NameFault → Bool) → Option NameFault → Bool
 finds test None = false
 finds test (Some fault) = test fault
@@ -135,7 +135,7 @@ is_other Memory = true
 is_other (Component at) = true
 is_other _ = false
 
--- no rule but that of the components finds its fault or that memory is missing
+-- only the rule of components finds `Component`, and none of the other rules finds `Memory`
 others_find : (text : List ℕ) → (finds is_other (empty text) ≡ false) × (finds is_other (too_long text) ≡ false)
     × (finds is_other (not_ref text) ≡ false) × (finds is_other (bad_byte text) ≡ false)
     × (finds is_other (double_dot text) ≡ false) × (finds is_other (at_brace text) ≡ false) × (finds is_other (end text) ≡ false)
@@ -146,7 +146,7 @@ component_finds : (text : List ℕ) → finds is_memory (component text) ≡ fal
 unfolding component
 component_finds text = finds-map is_memory Component _ (λ at. refl)
 
--- no rule finds that memory is missing
+-- no rule reports out of memory
 pub rules_never_report_memory : (text : List ℕ) → (name_fault text ≢ Some Memory) × (prefix_fault text ≢ Some Memory)
 unfolding name_fault prefix_fault
 rules_never_report_memory text =
@@ -154,7 +154,7 @@ rules_never_report_memory text =
     let parts = component_finds text in
     (λ same. grind arith, λ same. grind arith)
 
--- the fault of a component is that of a text where the rules before find none, and the rule of the components finds it
+-- if the fault of a text is `Component`, no earlier rule finds a fault and the rule of components finds this fault
 pub component_fault_parts : (text : List ℕ) (at : ℕ) → name_fault text ≡ Some (Component at) → PassesEarlierRules text × (component text ≡ Some (Component at))
 unfolding name_fault
 component_fault_parts text at h = let others = others_find text in grind arith

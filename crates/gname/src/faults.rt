@@ -1,4 +1,5 @@
-//! The faults of ref names and prefixes, and the rows of faults that several crates share.
+//! The faults of ref names and prefixes, and the numbers and names of faults that several crates
+//! share.
 
 ghost use Rattle.std.specs.Prelude.{◌≡◌, Some};
 ghost use Rattle.gname.specs.Faults.{name_fault_row, name_fault_text};

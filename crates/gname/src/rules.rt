@@ -10,7 +10,7 @@ use memchr::{memchr, memmem};
 /// The maximum length of a ref name or a prefix in bytes.
 pub const MAX_NAME: usize = 1_000;
 
-/// Checks that a text is a ref name, or fails with its first fault.
+/// Checks that a text is a ref name. Otherwise fails with the first fault of the text.
 #[tactic(auto, unfolding(crate::specs::Names::name_fault))]
 pub(crate) fn check_name(text: &[u8]) -> Result<(), NameFault>
     ensures { Finds name_fault text.now result }
@@ -25,7 +25,7 @@ pub(crate) fn check_name(text: &[u8]) -> Result<(), NameFault>
     check_end(text)
 }
 
-/// Checks that a text is a prefix, or fails with its first fault.
+/// Checks that a text is a prefix of ref names. Otherwise fails with the first fault of the text.
 #[tactic(auto, unfolding(crate::specs::Names::prefix_fault))]
 pub(crate) fn check_prefix(text: &[u8]) -> Result<(), NameFault>
     ensures { Finds prefix_fault text.now result }

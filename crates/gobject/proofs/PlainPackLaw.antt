@@ -1,4 +1,4 @@
--- A plain pack has one reading, bytes have one bad line at most, and nothing is lost.
+-- A plain pack has one list of entries, bytes have at most one bad line, and a list reads back from its pack.
 use Rattle.std.proofs.Common.{ap₂, ◌≡◌, ◌⊎◌, inl, inr, ℕ, ◌+◌, List, [], ◌∷◌, ◌++◌, length, decimal, map, refl, ap, sym, subst, ◌∙◌, append_assoc, arith}
 use Rattle.std.specs.List.{All}
 use Rattle.std.proofs.lemmas.List.Elements.{All-append, All-cons, All-head, All-nil, All-tail}
@@ -17,7 +17,7 @@ use Rattle.gobject.proofs.PlainPackLines.{IsPart-nil, IsPart-id, IsPart-letter, 
 use Rattle.gobject.proofs.PlainPackFronts.{end_no_node}
 
 module _ (digits_law : IdTextsAreDigits) (one_law : TextsSpellOneId) where
-  -- ---- what a line says
+  -- ---- the contents of a line
 
   IsInLine-ids : (text : List ℕ) (ids : List (List ℕ)) → IsIdsText text ids → IsInLine text
   IsInLine-ids text [] h = subst IsInLine (sym h) (IsInLine-part [] IsPart-nil)
@@ -25,12 +25,12 @@ module _ (digits_law : IdTextsAreDigits) (one_law : TextsSpellOneId) where
       let spaced = IsInLine-cons 32 (h.0 ++ h.1) (λ is. omega arith) (IsInLine-append h.0 h.1 (IsInLine-part h.0 (IsPart-id digits_law h.0 id h.3)) (IsInLine-ids h.1 ids h.4)) in
       subst IsInLine (sym h.2) spaced
 
-  -- so is the line of an entry
+  -- the line of an entry has no line feed
   IsInLine-node : {A : Type 0} (text : List ℕ) (entry : Entry A) → IsNodeText text entry → IsInLine text
   IsInLine-node text entry h =
       subst IsInLine (sym h.1) (IsInLine-cons (letter entry.node.kind) h.0 ((IsPart-letter entry.node.kind 0).1) (IsInLine-ids h.0 (ids_of entry) h.2))
 
-  -- and the end
+  -- the last line of a pack has no line feed
   IsInLine-end : (n : ℕ) → IsInLine (end_text n)
   IsInLine-end n =
       IsInLine-append (101 ∷ 110 ∷ 100 ∷ []) (32 ∷ decimal n) (IsInLine-part (101 ∷ 110 ∷ 100 ∷ []) IsPart-end)
@@ -41,7 +41,7 @@ module _ (digits_law : IdTextsAreDigits) (one_law : TextsSpellOneId) where
   letter_one Tag Tag h = refl
   letter_one _ _ h = absurd (omega arith)
 
-  -- a line is that of one entry
+  -- a line is the line of at most one entry
   IsNodeText-one : {A : Type 0} (text : List ℕ) (a b : Entry A) → IsNodeText text a → IsNodeText text b → a ≡ b
   IsNodeText-one {A} text a b h k =
       let whole : letter a.node.kind ∷ h.0 ≡ letter b.node.kind ∷ k.0 = sym h.1 ∙ k.1 in
@@ -75,11 +75,11 @@ module _ (digits_law : IdTextsAreDigits) (one_law : TextsSpellOneId) where
       (All-append IsInLine h.nodes (end_text (length list) ∷ []) (nodes_in_line h.nodes list h.each)
       (All-cons IsInLine (end_text (length list)) [] (IsInLine-end (length list)) (All-nil IsInLine))))
 
-  -- some lines go on with others, where these texts follow
+  -- the list `others` begins with `lines`, and the text `x` consists of the further lines and the text `y`
   abbrev GoesOn : List (List ℕ) → List ℕ → List (List ℕ) → List ℕ → Type 0
   GoesOn lines x others y = (more : List (List ℕ)) × (others ≡ lines ++ more) × (x ≡ text_of more ++ y)
 
-  -- of two lists of lines at the front of a text one goes on with the other
+  -- if a text begins with two lists of lines, one of the lists begins with the other
   lines_meet : (lines others : List (List ℕ)) (x y : List ℕ) → All IsInLine lines → All IsInLine others
       → text_of lines ++ x ≡ text_of others ++ y → GoesOn lines x others y ⊎ GoesOn others y lines x
   lines_meet [] others x y here there same = inl (others, refl, same)
@@ -93,15 +93,15 @@ module _ (digits_law : IdTextsAreDigits) (one_law : TextsSpellOneId) where
         | inr h ↦ inr (h.0, ap₂ (λ (l : List ℕ) (ls : List (List ℕ)). l ∷ ls) parts.0 h.1, h.2)
       ]
 
-  -- no line is nothing
+  -- a line is never empty, because it ends with a line feed
   no_more : (more : List (List ℕ)) (x : List ℕ) → text_of more ++ x ≡ [] → (more ≡ []) × (x ≡ [])
   no_more [] x same = (refl, same)
   no_more ([] ∷ more) x same = cc same
   no_more ((byte ∷ first) ∷ more) x same = cc same
 
-  -- ---- what comes in a pack
+  -- ---- packs with the same beginning
 
-  -- two packs of which one begins the other have the same entries, and nothing follows
+  -- if a pack begins with the lines of another pack, both have the same entries and the same lines
   same_nodes : {A : Type 0} (nodes front more : List (List ℕ)) (list read : List (Entry A)) (n m : ℕ) → AreNodeTexts nodes list → AreNodeTexts front read
       → nodes ++ end_text n ∷ [] ≡ (front ++ end_text m ∷ []) ++ more → (list ≡ read) × (more ≡ [])
   same_nodes [] [] more [] [] n m h k same = let nothing : [] ≡ more = cc in (refl, sym nothing)
@@ -125,9 +125,9 @@ module _ (digits_law : IdTextsAreDigits) (one_law : TextsSpellOneId) where
       let rest : h.nodes ++ end_text (length list) ∷ [] ≡ (k.nodes ++ end_text (length read) ∷ []) ++ more = cc in
       same_nodes h.nodes k.nodes more list read (length list) (length read) h.each k.each rest
 
-  -- ---- one reading
+  -- ---- uniqueness of the entries
 
-  -- bytes are a pack of one list
+  -- bytes are the pack of at most one list
   pub packs_have_one_reading : {A : Type 0} (bytes : List ℕ) (a b : List (Entry A)) → IsPack bytes a → IsPack bytes b → a ≡ b
   packs_have_one_reading bytes a b h k =
       elim (lines_meet h.lines k.lines [] [] (pack_in_line h.lines a h.are) (pack_in_line k.lines b k.are)
@@ -136,9 +136,10 @@ module _ (digits_law : IdTextsAreDigits) (one_law : TextsSpellOneId) where
         | inr on ↦ (same_packs h.lines k.lines on.0 a b h.are k.are on.1).0
       ]
 
-  -- ---- a bad line
+  -- ---- bad lines
 
-  -- reading stops after these lines: they begin a pack, and no line that follows them does with them
+  -- reading stops after `lines`: some pack begins with these lines, but no pack begins with these lines and the next
+  -- line
   record Stops (A : Type 0) (bytes : List ℕ) (at : ℕ) : Type 0 where
     lines : List (List ℕ)
     rest : List ℕ
@@ -152,7 +153,7 @@ module _ (digits_law : IdTextsAreDigits) (one_law : TextsSpellOneId) where
   begins_in_line : {A : Type 0} (lines : List (List ℕ)) → BeginsPack A lines → All IsInLine lines
   begins_in_line lines h = All-front lines h.more (pack_in_line (lines ++ h.more) h.list h.are)
 
-  -- a bad line is the one after those
+  -- reading stops before a bad line
   Stops-of : {A : Type 0} (bytes : List ℕ) (at : ℕ) → IsBadLine A bytes at → Stops A bytes at
   Stops-of {A} bytes at (lines, place, begins, inl w) =
       let P : List ℕ → Type 0 = λ t. BeginsPack A (lines ++ t ∷ []) in
@@ -178,7 +179,7 @@ module _ (digits_law : IdTextsAreDigits) (one_law : TextsSpellOneId) where
         place = place;
       }
 
-  -- where reading stops, it does not go on
+  -- no pack begins with the lines before the stop and one more line of the bytes
   stops_here : {A : Type 0} (bytes : List ℕ) (at : ℕ) (s : Stops A bytes at) (others : List (List ℕ)) (text : List ℕ) (more : List (List ℕ)) (y : List ℕ)
       → BeginsPack A others → others ≡ s.lines ++ text ∷ more → s.rest ≡ text_of (text ∷ more) ++ y → ⊥
   stops_here {A} bytes at s others text more y h is rest =
@@ -211,7 +212,7 @@ module _ (digits_law : IdTextsAreDigits) (one_law : TextsSpellOneId) where
       ends (first ∷ more) whole same =
           stops_here bytes at s h.lines first more [] (record { list = list; more = []; are = subst P (sym (append-nil h.lines)) h.are }) whole same
 
-  -- bytes have one bad line at most
+  -- bytes have at most one bad line
   pub bad_lines_have_one_place : {A : Type 0} (bytes : List ℕ) (a b : ℕ) → IsBadLine A bytes a → IsBadLine A bytes b → a ≡ b
   bad_lines_have_one_place {A} bytes a b h k =
       let f : Stops A bytes a = Stops-of bytes a h in
@@ -243,7 +244,7 @@ module _ (texts_law : IdsHaveTexts) (digits_law : IdTextsAreDigits) (one_law : T
   AreNodeTexts-image [] h = tt
   AreNodeTexts-image (entry ∷ list) h = (IsNodeText-image entry (All-head HasIds entry list h), AreNodeTexts-image list (All-tail HasIds entry list h))
 
-  -- the text of a list is a pack of it
+  -- the text of a list is a pack of this list
   IsPack-image : {A : Type 0} (list : List (Entry A)) → All HasIds list → IsPack (pack_text list) list
   unfolding pack_text
   IsPack-image list h =
@@ -255,7 +256,7 @@ module _ (texts_law : IdsHaveTexts) (digits_law : IdTextsAreDigits) (one_law : T
   no_fault bytes list (index_faults.Bad at) h k = absurd (packs_have_no_bad_line digits_law one_law bytes at list h k)
   no_fault bytes list index_faults.Other h k = absurd k
 
-  -- plain packs lose nothing
+  -- the packer and indexer of plain packs are lossless
   pub loses_nothing : (A : Type 0) → LosesNothing {A = A} (λ list pack. pack ≡ pack_text list)
       (λ list. PackRefuses (pack_text list)) (λ bytes list. IsPack bytes list) (λ bytes. IndexRefuses A bytes) (λ list. pack_text list)
   loses_nothing A = record {

@@ -23,7 +23,7 @@ use Rattle.gobject.specs.steps.PlainPackReading.{NoId, format_of_digits, separat
 
 -- ---- parts
 
--- a part of no byte
+-- the empty part
 pub IsPart-nil : IsPart []
 IsPart-nil = λ at. (λ is. absurd (omega arith), λ is. absurd (omega arith))
 
@@ -35,7 +35,7 @@ pub IsPart-append : (a b : List ℕ) → IsPart a → IsPart b → IsPart (a ++ 
 IsPart-append [] b h k = k
 IsPart-append (byte ∷ a) b h k = IsPart-cons byte (a ++ b) (h 0).0 (h 0).1 (IsPart-append a b (λ at. h (suc at)) k)
 
--- a digit of an id is no separator
+-- a hexadecimal digit is not a separator
 hex_other : (byte : ℕ) → is_hex_digit byte ≡ true → (byte ≢ 32) × (byte ≢ 10)
 hex_other byte h = (λ is. false≢true (rw is at h), λ is. false≢true (rw is at h))
 
@@ -50,19 +50,19 @@ IsPart-id law text id h = λ at.
 pub length-id-most : (digits id : List ℕ) → IsIdText digits id → length digits ≤ 64
 length-id-most text id h = let few = few_digits (format_of id) in omega (arith, h.long, few)
 
--- the number of digits gives the format
+-- the number of digits of an id determines the format
 format_of_digits-length : (format : Format) → format_of_digits (id_text_length format) ≡ format
 format_of_digits-length Sha1 = refl
 format_of_digits-length Sha256 = refl
 
--- what is refused as an id of the format that has as many digits is that of none
+-- if a text is refused as an id of the format with this number of digits, the text is not the text of any id
 pub no_id_of_fault : IdTextsAreDigits → (text : List ℕ) (fault : OidFault) → ReadsId (format_of_digits (length text)) text (Err fault) → NoId text
 no_id_of_fault law text Length h = λ id spelt.
     let same : format_of_digits (length text) ≡ format_of id = ap format_of_digits spelt.long ∙ format_of_digits-length (format_of id) in
     h (spelt.long ∙ ap id_text_length (sym same))
 no_id_of_fault law text (Digit at) h = λ id spelt. false≢true (sym h.1.bad ∙ (law text id spelt).digits at 0 h.1.inside)
 
--- and what is read as one is the text of that id
+-- if a text is read as an id, the text encodes this id
 pub id_text_of_read : IdsHaveOneFormat → (format : Format) (text id : List ℕ) → ReadsId format text (Ok id) → IsIdText text id
 id_text_of_read law format text id h =
     rw ((law format id h.1).1) h.0
@@ -74,7 +74,7 @@ letter_other Tag = (λ is. omega arith, λ is. omega arith)
 pub IsPart-letter : (kind : Kind) → IsPart (letter kind ∷ [])
 IsPart-letter kind = IsPart-cons (letter kind) [] (letter_other kind).0 (letter_other kind).1 IsPart-nil
 
--- the letter of a kind does not begin the end
+-- the letter of a kind is not `e`, the first letter of the last line
 pub letter_no_end : (kind : Kind) → letter kind ≢ 101
 letter_no_end Commit = λ is. omega arith
 letter_no_end Tag = λ is. omega arith
@@ -84,7 +84,7 @@ glyph_other upper true d = (λ is. omega arith, λ is. omega arith)
 glyph_other true false d = (λ is. omega arith, λ is. omega arith)
 glyph_other false false d = (λ is. omega arith, λ is. omega arith)
 
--- digits of a number: no separator, and not more than were to be written
+-- the digits of a number: no separators, and at most `most` digits
 record AreDigits (most : ℕ) (text : List ℕ) : Type 0 where
   is : IsPart text
   few : length text ≤ most
@@ -105,7 +105,7 @@ AreDigits-decimal : (n : ℕ) → AreDigits 64 (decimal n)
 unfolding digits
 AreDigits-decimal n = AreDigits-onto 64 0 10 n [] (record { is = IsPart-nil; few = omega arith })
 
--- nor is one of a number
+-- the digits of a number contain no separator
 pub IsPart-decimal : (n : ℕ) → IsPart (decimal n)
 IsPart-decimal n = (AreDigits-decimal n).is
 
@@ -132,7 +132,7 @@ not_separator : (s : Separator) (byte : ℕ) → (byte ≢ 32) × (byte ≢ 10) 
 not_separator Space byte h is = h.0 is
 not_separator LineFeed byte h is = h.1 is
 
--- the first part of a text is one, and so are what ends it and what follows
+-- the first part of a text, its separator and the rest of the text are unique
 pub part_one : (a b : List ℕ) (s t : Separator) (x y : List ℕ) → IsPart a → IsPart b
     → a ++ separator_byte s ∷ x ≡ b ++ separator_byte t ∷ y → (a ≡ b) × (s ≡ t) × (x ≡ y)
 part_one [] [] s t x y h k same =
@@ -147,7 +147,7 @@ part_one (c ∷ a) (d ∷ b) s t x y h k same =
     let parts = part_one a b s t x y (λ at. h (suc at)) (λ at. k (suc at)) others in
     (ap (λ byte. byte ∷ a) first ∙ ap (λ (text : List ℕ). d ∷ text) parts.0, parts.1, parts.2)
 
--- a text without separators at the front of another is not longer than its first part
+-- if a text begins with bytes without separators, these bytes are not longer than the first part of the text
 pub part_long : (a b : List ℕ) (s : Separator) (x y : List ℕ) → IsPart a → a ++ x ≡ b ++ separator_byte s ∷ y → length a ≤ length b
 part_long [] b s x y h same = omega arith
 part_long (c ∷ a) [] s x y h same = let first : c ≡ separator_byte s = cc in absurd (not_separator s c (h 0) first)
@@ -156,7 +156,7 @@ part_long (c ∷ a) (d ∷ b) s x y h same =
     let shorter = part_long a b s x y (λ at. h (suc at)) others in
     omega arith
 
--- and it is not the whole of that text
+-- a text that has a separator is not a single part
 pub part_none : (a b : List ℕ) (s : Separator) (y : List ℕ) → IsPart a → a ≡ b ++ separator_byte s ∷ y → ⊥
 part_none [] [] s y h same = cc
 part_none [] (d ∷ b) s y h same = cc
@@ -165,7 +165,7 @@ part_none (c ∷ a) (d ∷ b) s y h same = let others : a ≡ b ++ separator_byt
 
 -- ---- lines
 
--- a text of one part is in one line
+-- a text without separators has no line feed
 pub IsInLine-part : (text : List ℕ) → IsPart text → IsInLine text
 IsInLine-part text h = λ at. (h at).1
 
@@ -177,14 +177,14 @@ pub IsInLine-append : (a b : List ℕ) → IsInLine a → IsInLine b → IsInLin
 IsInLine-append [] b h k = k
 IsInLine-append (byte ∷ a) b h k = IsInLine-cons byte (a ++ b) (h 0) (IsInLine-append a b (λ at. h (suc at)) k)
 
--- a line with its line feed is not
+-- a text that contains a line and its line feed is not within one line
 pub not_in_line : (a x : List ℕ) → IsInLine (line a ++ x) → ⊥
 not_in_line a x h =
     let at_end : get_or (line a ++ x) (length a) 0 ≡ 10 =
     ap (λ (text : List ℕ). get_or text (length a) 0) (append_assoc a (10 ∷ []) x) ∙ get_or-append_seam a 10 x 0 in
     h (length a) at_end
 
--- a text is in one line, or begins with one
+-- a text has no line feed, or begins with a line and its line feed
 pub first_line : (text : List ℕ) → IsInLine text ⊎ ((first : List ℕ) × (rest : List ℕ) × (text ≡ line first ++ rest) × IsInLine first)
 first_line [] = inl (IsInLine-part [] IsPart-nil)
 first_line (byte ∷ text) =
@@ -197,7 +197,7 @@ first_line (byte ∷ text) =
           ]
     ]
 
--- two lines at the front of a text are one, and what follows them is the same
+-- the first line of a text and the rest of the text are unique
 pub line_parts : (a b x y : List ℕ) → IsInLine a → IsInLine b → line a ++ x ≡ line b ++ y → (a ≡ b) × (x ≡ y)
 line_parts [] [] x y h k same = (refl, let rests : x ≡ y = cc in rests)
 line_parts [] (c ∷ b) x y h k same = let first : c ≡ 10 = cc in absurd (k 0 first)
@@ -208,13 +208,13 @@ line_parts (c ∷ a) (d ∷ b) x y h k same =
     let parts = line_parts a b x y (λ at. h (suc at)) (λ at. k (suc at)) others in
     (ap (λ byte. byte ∷ a) first ∙ ap (λ (text : List ℕ). d ∷ text) parts.0, parts.1)
 
--- the text of some lines and of others
+-- the text of two lists of lines
 pub text_of-append : (lines more : List (List ℕ)) → text_of (lines ++ more) ≡ text_of lines ++ text_of more
 text_of-append [] more = refl
 text_of-append (first ∷ lines) more =
     ap (λ (text : List ℕ). line first ++ text) (text_of-append lines more) ∙ sym (append_assoc (line first) (text_of lines) (text_of more))
 
--- some lines, one more, and what follows
+-- the text of some lines, one more line and the rest
 pub text_of-push : (lines : List (List ℕ)) (text rest : List ℕ) → text_of (lines ++ text ∷ []) ++ rest ≡ text_of lines ++ (line text ++ rest)
 text_of-push lines text rest =
     ap (λ (front : List ℕ). front ++ rest) (text_of-append lines (text ∷ []) ∙ ap (λ (last : List ℕ). text_of lines ++ last) (append-nil (line text)))
@@ -222,7 +222,7 @@ text_of-push lines text rest =
 
 -- ---- ids
 
--- what ends the first of some ids, and what follows it
+-- the separator after the first of some ids, and the text after this separator
 pub id_follows : (digits others : List ℕ) (ids : List (List ℕ)) (end : Separator) (rest : List ℕ) → IsIdsText others ids
     → (first : Separator) × (after : List ℕ) × ((digits ++ others) ++ separator_byte end ∷ rest ≡ digits ++ separator_byte first ∷ after)
 id_follows digits others [] end rest h =
@@ -230,7 +230,7 @@ id_follows digits others [] end rest h =
 id_follows digits others (id ∷ ids) end rest h =
     (Space, (h.0 ++ h.1) ++ separator_byte end ∷ rest, ap (λ (t : List ℕ). (digits ++ t) ++ separator_byte end ∷ rest) h.2 ∙ append_assoc digits (32 ∷ h.0 ++ h.1) (separator_byte end ∷ rest))
 
--- the first of some ids is one, and what follows it is the same
+-- the digits of the first id and the text after these digits are unique
 ids_first : (d e o p : List ℕ) (a b : List (List ℕ)) (s t : Separator) (x y : List ℕ) → IsPart d → IsPart e → IsIdsText o a → IsIdsText p b
     → (d ++ o) ++ separator_byte s ∷ x ≡ (e ++ p) ++ separator_byte t ∷ y
     → (d ≡ e) × (o ++ separator_byte s ∷ x ≡ p ++ separator_byte t ∷ y)
@@ -243,7 +243,7 @@ ids_first d e o p a b s t x y d_is e_is h k same =
     ∙ append_assoc d p (separator_byte t ∷ y) in
     (one.0, append_cancel_left d (o ++ separator_byte s ∷ x) (p ++ separator_byte t ∷ y) moved)
 
--- ids up to the end of a line are those of one list
+-- the ids up to the end of a line form at most one list
 pub IsIdsText-one : IdTextsAreDigits → TextsSpellOneId → (text other : List ℕ) (a b : List (List ℕ)) (x y : List ℕ) → IsIdsText text a → IsIdsText other b
     → text ++ 10 ∷ x ≡ other ++ 10 ∷ y → a ≡ b
 IsIdsText-one law one text other [] [] x y h k same = refl
@@ -257,7 +257,7 @@ IsIdsText-one law one text other (i ∷ a) (j ∷ b) x y h k same =
     let others : a ≡ b = IsIdsText-one law one h.1 k.1 a b x y h.4 k.4 f.1 in
     ap (λ id. id ∷ a) (one h.0 i j h.3 spelt) ∙ ap (λ ids. j ∷ ids) others
 
--- where the ids of a line go on, an id follows
+-- if a space follows some ids of a line, the text of another id comes next
 pub ids_rest : IdTextsAreDigits → (text other : List ℕ) (a b : List (List ℕ)) (x y : List ℕ) → IsIdsText text a → IsIdsText other b
     → text ++ 32 ∷ x ≡ other ++ 10 ∷ y
     → (digits : List ℕ) × (id : List ℕ) × IsIdText digits id × (end : Separator) × (after : List ℕ) × (x ≡ digits ++ separator_byte end ∷ after)
@@ -274,7 +274,7 @@ ids_rest law text other (i ∷ a) (j ∷ b) x y h k same =
     let f = ids_first h.0 k.0 h.1 k.1 a b Space LineFeed x y (IsPart-id law h.0 i h.3) (IsPart-id law k.0 j k.3) h.4 k.4 inner in
     ids_rest law h.1 k.1 a b x y h.4 k.4 f.1
 
--- one more id after some
+-- the text of some ids and one more id
 pub IsIdsText-push : (front digits id : List ℕ) (ids : List (List ℕ)) → IsIdsText front ids → IsIdText digits id
     → IsIdsText (front ++ 32 ∷ digits) (ids ++ id ∷ [])
 IsIdsText-push front digits id [] h spelt =

@@ -1,4 +1,4 @@
--- Reading a plain pack part by part: what is read stays right, and what is refused is a bad line.
+-- Reading a plain pack part by part: the state matches the bytes that were read, and a refused part is in a bad line.
 use Rattle.std.proofs.Common.{ap₂, ◌≡◌, ◌≢◌, ◌⊎◌, ⊎_elim, inl, inr, ℕ, ◌+◌, ◌≤◌, ◌<◌, List, [], ◌∷◌, ◌++◌, length, length-append, codes, decimal, refl, ap, sym, subst, ◌∙◌, append_assoc, arith}
 use Rattle.std.proofs.lemmas.List.{append-nil}
 use Rattle.gname.specs.Ids.{IsIdText}
@@ -17,9 +17,9 @@ use Rattle.gobject.specs.steps.PlainPackReading.{line_number}
 use Rattle.gobject.proofs.PlainPackFronts.{AreNodeTexts-length, IsFront, MayCome, BeginsPack-front, IsFront-pack, comes_next, whole_no_front}
 use Rattle.gobject.proofs.PlainPackLines.{IsPart-id, IsPart-letter, letter_no_end, IsPart-end, IsPart-decimal, IsPart-header, length-decimal-most, length-id-most, part_one, part_long, part_none, first_line, text_of-push, id_follows, ids_rest, IsIdsText-push}
 
--- ---- one part more
+-- ---- one more part
 
--- one more line of an entry
+-- the lines of some entries and the line of one more entry
 AreNodeTexts-push : {A : Type 0} (nodes : List (List ℕ)) (text : List ℕ) (list : List (Entry A)) (entry : Entry A) → AreNodeTexts nodes list
     → IsNodeText text entry → AreNodeTexts (nodes ++ text ∷ []) (list ++ entry ∷ [])
 AreNodeTexts-push [] text [] entry h one = (one, tt)
@@ -27,7 +27,7 @@ AreNodeTexts-push (first ∷ nodes) text (other ∷ list) entry h one = (h.0, Ar
 AreNodeTexts-push [] text (other ∷ list) entry h one = absurd h
 AreNodeTexts-push (first ∷ nodes) text [] entry h one = absurd h
 
--- the line of an entry up to its own id
+-- the line of an entry without parents
 IsNodeText-first : (A : Type 0) (opening part id : List ℕ) (kind : Kind) → opening ≡ letter kind ∷ 32 ∷ [] → IsIdText part id
     → IsNodeText (opening ++ part) (entry_of {A = A} id (node_of kind []))
 IsNodeText-first A opening part id kind opens spelt =
@@ -35,7 +35,7 @@ IsNodeText-first A opening part id kind opens spelt =
     ap (λ (o : List ℕ). o ++ part) opens ∙ ap (λ (p : List ℕ). letter kind ∷ 32 ∷ p) (sym (append-nil part)) in
     (32 ∷ part ++ [], whole, (part, [], refl, spelt, refl))
 
--- and with one more parent
+-- the line of an entry with one more parent
 IsNodeText-parent : {A : Type 0} (opening node part id : List ℕ) (entry : Entry A) → opening ≡ node ++ 32 ∷ [] → IsNodeText node entry
     → IsIdText part id → IsNodeText (opening ++ part) (with_parent entry id)
 IsNodeText-parent opening node part id entry opens h spelt =
@@ -43,7 +43,7 @@ IsNodeText-parent opening node part id entry opens h spelt =
     ap (λ (o : List ℕ). o ++ part) opens ∙ append_assoc node (32 ∷ []) part ∙ ap (λ (n : List ℕ). n ++ 32 ∷ part) h.1 in
     (h.0 ++ 32 ∷ part, whole, IsIdsText-push h.0 part id (ids_of entry) h.2 spelt)
 
--- a part is read in its line
+-- reading a part that a space ends
 part_in_line : {A : Type 0} (next after : Next A) (list new : List (Entry A)) (before part : List ℕ) (h : HasRead next list before)
     → AreLines after new h.front → IsOpening after ((h.opening ++ part) ++ 32 ∷ []) → HasRead after new (before ++ (part ++ 32 ∷ []))
 part_in_line next after list new before part h lines opens = record {
@@ -54,7 +54,7 @@ part_in_line next after list new before part h lines opens = record {
   opens = opens;
 }
 
--- and at its end
+-- reading a part that a line feed ends
 part_at_end : {A : Type 0} (next after : Next A) (list new : List (Entry A)) (before part : List ℕ) (h : HasRead next list before)
     → AreLines after new (h.front ++ (h.opening ++ part) ∷ []) → IsOpening after [] → HasRead after new (before ++ (part ++ 10 ∷ []))
 part_at_end next after list new before part h lines opens =
@@ -67,7 +67,7 @@ part_at_end next after list new before part h lines opens =
       opens = opens;
     }
 
--- an id of an entry is read
+-- reading an id of an entry
 HasRead-id : {A : Type 0} (next after : Next A) (list new : List (Entry A)) (entry : Entry A) (end : Separator) (before part : List ℕ)
     (h : HasRead next list before) → ((nodes : List (List ℕ)) × (h.front ≡ header ∷ nodes) × AreNodeTexts nodes list)
     → IsNodeText (h.opening ++ part) entry → EndsId list entry end after new
@@ -79,7 +79,7 @@ HasRead-id next after list new entry LineFeed before part h (nodes, begins, each
     rw (e.0, e.1) (part_at_end next Word list (list ++ entry ∷ []) before part h
     (nodes ++ text ∷ [], ap (λ (f : List (List ℕ)). f ++ text ∷ []) begins, AreNodeTexts-push nodes text list entry each node) refl)
 
--- a part that may come next is read
+-- reading a part that is allowed next
 pub HasRead-part : {A : Type 0} (next after : Next A) (list new : List (Entry A)) (before part : List ℕ) (end : Separator) → HasRead next list before
     → Leads next list part end after new → HasRead after new (before ++ (part ++ separator_byte end ∷ []))
 HasRead-part {A} Header after list new before part LineFeed h l =
@@ -103,12 +103,12 @@ HasRead-part Count after list new before part LineFeed h l =
     }) refl)
 HasRead-part _ after list new before part end h l = grind arith
 
--- a list with one more is not empty
+-- a list with one more element is not empty
 one_more : {X : Type 0} (xs : List X) (x : X) → xs ++ x ∷ [] ≢ []
 one_more [] x = λ e. cc
 one_more (y ∷ xs) x = λ e. cc
 
--- after an entry with one more parent, which is kept, comes a space or a line feed
+-- the entry has contents to store: a space ends its text and the entry has a parent, or a line feed ends its text
 Keeps : {A : Type 0} → Separator → Entry A → Type 0
 Keeps end entry = ((separator_byte end ≡ 32) × (entry.node.parents ≢ [])) ⊎ (separator_byte end ≡ 10)
 
@@ -117,7 +117,7 @@ unfolding Keeps
 parent_kept Space entry id = inl (refl, one_more entry.node.parents id)
 parent_kept LineFeed entry id = inr refl
 
--- an entry, or its beginning with a parent, is there to be kept
+-- bytes with the line of an entry, or with the beginning of such a line up to a parent, contain an entry to store
 TakesMemory-id : {A : Type 0} (list : List (Entry A)) (entry : Entry A) (before : List ℕ) (front : List (List ℕ)) (opening part : List ℕ) (end : Separator) (more : List ℕ)
     → before ≡ text_of front ++ opening → (nodes : List (List ℕ)) → front ≡ header ∷ nodes → AreNodeTexts nodes list → IsNodeText (opening ++ part) entry
     → Keeps end entry → TakesMemory A ((before ++ (part ++ separator_byte end ∷ [])) ++ more)
@@ -148,7 +148,7 @@ TakesMemory-part (Parent entry) list before part end more h k =
     TakesMemory-id list (with_parent entry k.0) before h.front h.opening part end more h.parts h.lines.0 h.lines.1 h.lines.2 (IsNodeText-parent h.opening h.opens.0 part k.0 entry h.opens.1 h.opens.2 k.1) (parent_kept end entry k.0)
 TakesMemory-part _ list before part end more h k = grind arith
 
--- a pack that has ended is read
+-- the bytes of a complete pack are a pack of the entries that were read
 pub pack_is_read : {A : Type 0} (next : Next A) (list : List (Entry A)) (before part : List ℕ) → HasRead next list before → next ≡ Nothing → part ≡ []
     → IsPack (before ++ part) list
 pack_is_read {A} next list before part h is none =
@@ -158,10 +158,10 @@ pack_is_read {A} next list before part h is none =
     ap₂ (λ (b p : List ℕ). b ++ p) (read.parts ∙ ap (λ (o : List ℕ). front ++ o) read.opens ∙ append-nil front) none ∙ append-nil front in
     record { lines = read.front; whole = whole; are = read.lines }
 
--- ---- what may follow
+-- ---- the parts and lines that are allowed next
 
 module _ (digits_law : IdTextsAreDigits) where
-  -- a text begins with a part that may come next
+  -- the text begins with a part that is allowed next
   record Follows {A : Type 0} (next : Next A) (list : List (Entry A)) (text : List ℕ) : Type 0 where
     part : List ℕ
     end : Separator
@@ -178,7 +178,7 @@ module _ (digits_law : IdTextsAreDigits) where
   ends_id list entry Space = (Parent entry, list, (refl, refl))
   ends_id list entry LineFeed = (Word, list ++ entry ∷ [], (refl, refl))
 
-  -- what may stand in a line after those of so many entries
+  -- a line that may come after the lines of `n` entries: the line of an entry, or the last line
   abbrev MayStand : Type 0 → ℕ → List ℕ → Type 0
   MayStand A n text = ((entry : Entry A) × IsNodeText text entry) ⊎ (text ≡ end_text n)
 
@@ -255,7 +255,7 @@ module _ (digits_law : IdTextsAreDigits) where
   next_parts whole front text rest more parts split =
       parts ∙ ap (λ (r : List ℕ). text_of front ++ r) split ∙ sym (text_of-push front text more)
 
-  -- where no line that may come begins the rest, the line is bad
+  -- if the rest of the bytes does not begin with an allowed line, the next line is bad
   bad_line : {A : Type 0} (whole : List ℕ) (front : List (List ℕ)) (rest : List ℕ) (at : ℕ) → whole ≡ text_of front ++ rest → IsFront A front
       → ((t more : List ℕ) → MayCome A front t → rest ≡ line t ++ more → ⊥) → at ≡ length front + 1 → IsBadLine A whole at
   bad_line {A} whole front rest at parts before none place =
@@ -273,7 +273,7 @@ module _ (digits_law : IdTextsAreDigits) where
       ] in
       (front, place, BeginsPack-front A front before, why)
 
-  -- in the first line
+  -- a bad first line
   bad_first : {A : Type 0} (whole : List ℕ) (front : List (List ℕ)) (rest : List ℕ) → whole ≡ text_of front ++ rest → front ≡ []
       → ((t more : List ℕ) → t ≡ header → rest ≡ line t ++ more → ⊥) → IsBadLine A whole 1
   bad_first {A} whole front rest parts is none =
@@ -281,7 +281,7 @@ module _ (digits_law : IdTextsAreDigits) where
       let count = ap (λ (f : List (List ℕ)). length f) is in
       bad_line whole front rest 1 parts (subst P (sym is) tt) (λ t more may same. let Q : List (List ℕ) → Type 0 = λ f. MayCome A f t in none t more (subst Q is may) same) (omega (arith, count))
 
-  -- in a line after those of some entries
+  -- a bad line after the lines of some entries
   bad_next : {A : Type 0} (whole : List ℕ) (front nodes : List (List ℕ)) (list : List (Entry A)) (rest : List ℕ) → whole ≡ text_of front ++ rest
       → front ≡ header ∷ nodes → AreNodeTexts nodes list → ((t more : List ℕ) → MayStand A (length list) t → rest ≡ line t ++ more → ⊥)
       → IsBadLine A whole (length list + 2)
@@ -293,7 +293,7 @@ module _ (digits_law : IdTextsAreDigits) where
       bad_line whole front rest (length list + 2) parts (subst P (sym is) (refl, (list, each)))
       (λ t more may same. let Q : List (List ℕ) → Type 0 = λ f. MayCome A f t in none t more (stands t (subst Q is may)) same) (omega (arith, count, long))
 
-  -- where no part that may come next begins the rest, the line is bad
+  -- if the rest of the bytes does not begin with an allowed part, the line is bad
   bad_part : {A : Type 0} (next : Next A) (list : List (Entry A)) (before x whole : List ℕ) → HasRead next list before → whole ≡ before ++ x
       → (next ≡ Nothing → x ≡ [] → ⊥) → (Follows next list x → ⊥) → IsBadLine A whole (line_number next (length list))
   bad_part Header list before x whole h is goes none =
@@ -335,7 +335,7 @@ module _ (digits_law : IdTextsAreDigits) where
   not_nil [] byte x h = cc
   not_nil (c ∷ a) byte x h = cc
 
-  -- a part that may not come next makes its line bad, whatever follows
+  -- a part that is not allowed next makes its line bad, regardless of the bytes that follow
   pub IsBadLine-part : {A : Type 0} (next : Next A) (list : List (Entry A)) (before part : List ℕ) (end : Separator) (more : List ℕ)
       → HasRead next list before → IsPart part → NeverLeads next list part end
       → IsBadLine A ((before ++ (part ++ separator_byte end ∷ [])) ++ more) (line_number next (length list))
@@ -345,7 +345,7 @@ module _ (digits_law : IdTextsAreDigits) where
       let one = part_one part f.part end f.end more f.rest is f.is f.parts in
       never f.after f.new (rw (← one.0, ← one.1) at f.leads))
 
-  -- so does one that is too long
+  -- a part of more than 64 bytes makes its line bad, regardless of the bytes that follow
   pub IsBadLine-long : {A : Type 0} (next : Next A) (list : List (Entry A)) (before part more : List ℕ) → HasRead next list before → IsPart part
       → 64 < length part → IsBadLine A ((before ++ part) ++ more) (line_number next (length list))
   IsBadLine-long next list before part more h is long =
@@ -358,7 +358,7 @@ module _ (digits_law : IdTextsAreDigits) where
       some [] lt none = absurd (omega arith)
       some (byte ∷ p) lt none = cc
 
-  -- and so does the end of the input, but where the pack has ended
+  -- the end of the input makes the line bad, unless the pack is complete
   pub bad_line_at_end : {A : Type 0} (next : Next A) (list : List (Entry A)) (before part : List ℕ) → HasRead next list before → IsPart part
       → (next ≡ Nothing → part ≡ [] → ⊥) → IsBadLine A (before ++ part) (line_number next (length list))
   bad_line_at_end next list before part h is goes =

@@ -10,7 +10,7 @@ use Rattle.gobject.specs.declared.plain_pack.feed.PlainFeed.{PlainFeed}
 abbrev pub IsPart : List ℕ → Type 0
 IsPart text = (at : ℕ) → (slice_index text at ≢ 32) × (slice_index text at ≢ 10)
 
--- ---- the bytes that were read
+-- ---- the bytes of the parts that were read
 
 -- the complete lines before the line that contains the next part
 abbrev pub AreLines : {A : Type 0} → Next A → List (Entry A) → List (List ℕ) → Type 0
@@ -25,7 +25,7 @@ IsOpening (Parent entry) text = (node : List ℕ) × (text ≡ node ++ 32 ∷ []
 IsOpening Count text = text ≡ codes "end "
 IsOpening _ text = text ≡ []
 
--- the bytes before the next part
+-- the bytes that were read before the part `next`, with the entries of the complete lines
 pub record HasRead {A : Type 0} (next : Next A) (list : List (Entry A)) (bytes : List ℕ) : Type 0 where
   pub front : List (List ℕ)
   pub opening : List ℕ

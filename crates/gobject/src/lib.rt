@@ -24,13 +24,13 @@
 //!
 //! # What the contracts do not rule out
 //!
-//! No contract rules out that a call that makes a copy reports out of memory at any time. The same
-//! is true of writing a list whose text is not too long, and of reading bytes that contain an
-//! entry. If an entry or a parent precedes a bad line, reading can report out of memory instead of
-//! the bad line. No contract says which allocator of the given type provides the memory of a copy.
-//! No contract bounds the time or the memory of a call. No contract rules out that formatting a
-//! fault returns `fmt::Error` even if every write succeeds. No contract says what formatting writes
-//! with options, such as a width.
+//! The contracts allow a call that makes a copy to report out of memory at any time. The same is
+//! true of writing a list whose text is not too long, and of reading bytes that contain an entry.
+//! If an entry or a parent precedes a bad line, reading can report out of memory instead of the bad
+//! line. No contract says which allocator of the given type provides the memory of a copy. No
+//! contract bounds the time or the memory of a call. No contract rules out that formatting a fault
+//! returns `fmt::Error` even if every write succeeds. No contract says what formatting writes with
+//! options, such as a width.
 //!
 //! This crate has no tests of its own. The program `conformance` reads and writes packs, whole and
 //! in pieces, and makes each allocation fail in turn.

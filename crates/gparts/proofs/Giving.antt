@@ -1,11 +1,11 @@
--- What is given of a pack that was made whole.
+-- The parts that are returned of a pack that was built completely.
 use Rattle.std.proofs.Common.{◌≡◌, ◌<◌, ◌+◌, ◌-◌, ℕ, List, ◌++◌, length, take, drop, min, sym, ap, ◌∙◌, subst, arith, length-append, length-drop, take-append-drop}
 use Rattle.std.proofs.lemmas.Grind.{common_steps}
 use Rattle.std.proofs.lemmas.List.{drop-drop, nil_from_length}
 use Rattle.std.proofs.Math.Seq.{take-append_seam}
 use Rattle.gparts.specs.steps.Whole.{TakesSome}
 
--- the bytes of a slice that reaches to the end
+-- a slice from offset `given` to the end of the pack has all bytes after the first `given`
 to_end : (pack : List ℕ) (given : ℕ) → take (length pack - given) (drop given pack) ≡ drop given pack
 to_end pack given = grind (arith, common_steps, length-drop given pack)
 

@@ -21,8 +21,8 @@ pub record MayGive {A : Type 0} (packs : Packs A) (list : List (Entry A)) (pack 
 abbrev pub given_by : {A K : Type 0} → (K → Packs A) → K → Packs A
 given_by packs packer = MayGive (packs packer)
 
--- The bytes of a complete pack are a pack that may be returned for the list. Each fault is one that `fails` permits for
--- the list. At most `max_parts` bytes are returned.
+-- If no fault occurs, the returned bytes are a pack that may be returned for the list. Each fault is one that `fails`
+-- permits for the list. At most `max_parts` bytes are returned.
 pub record Begins {A : Type 0} (packs : Packs A) (fails : PackFails A) (list : List (Entry A)) (gives : Gives)
     (most : ℕ) : Type 0 where
   pub whole : (bytes : List ℕ) → gives bytes None → MayGive packs list bytes

@@ -5,7 +5,7 @@ ghost use Rattle.gparts.specs.Parts.{max_parts};
 
 use crate::parts::MAX_PARTS;
 
-/// Proves that [`MAX_PARTS`](crate::MAX_PARTS) is the limit of the specs.
+/// Proves that [`MAX_PARTS`](crate::MAX_PARTS) is the limit `max_parts` of `specs/Parts.antt`.
 pub fn limits()
     ensures { MAX_PARTS ≡ max_parts }
 {}

@@ -3,8 +3,8 @@
 //! # Proved
 //!
 //! - The parts that a [`PartPacker`] returns, in order, form a pack of the entries. The pack has at
-//!   most [`MAX_PARTS`] bytes, which is the limit of the specs ([`laws`]). A packer fails only
-//!   with a fault that its `pack_fails` permits.
+//!   most [`MAX_PARTS`] bytes, which is the limit in `specs/Parts.antt` (see [`laws`]). A packer
+//!   fails only with a fault that its `pack_fails` permits.
 //! - A [`WholePack`] turns any packer of `gobject` into a [`PartPacker`], with the same packs and
 //!   faults. Its packs have at most `gname::MAX_PACK` bytes.
 //! - No call panics, overflows or reads out of bounds, and each call returns.

@@ -1,4 +1,4 @@
--- What payloads say by their first bytes.
+-- The side band of a payload, which its first byte selects.
 use Rattle.std.proofs.Common.{◌≡◌, ℕ, Bool, true, false, if◌then◌else◌, ◌==◌, List, [], ◌∷◌, length, Result, Ok, Err, refl, sym, ap, ◌∙◌, arith}
 use Rattle.std.proofs.lemmas.Bool.{eqb-true}
 use Rattle.gpkt.specs.Bands.{BandPacket, Data, Progress, Fatal, band_at, band_form, band_payload, data_band, progress_band, fatal_band, BandIsRead, BandIsPayload}
@@ -23,7 +23,8 @@ band_is_read (Fatal bytes) = refl
 ok_same : (x y : BandPacket) → ◌≡◌ {A = Result BandPacket BandFault} (Ok x) (Ok y) → x ≡ y
 ok_same x y h = cc
 
--- the three tests, and what the first that holds says of the byte
+-- if the tests `a`, `b` and `c` of the byte `first` select a band, `first` followed by `bytes` is the payload of this
+-- band
 tests_tell : (a b c : Bool) (first : ℕ) (bytes : List ℕ) (band : BandPacket)
     → (a ≡ true → first ≡ data_band) → (b ≡ true → first ≡ progress_band) → (c ≡ true → first ≡ fatal_band)
     → (if a then Ok (Data bytes) else if b then Ok (Progress bytes) else if c then Ok (Fatal bytes) else Err BadBand) ≡ Ok band

@@ -1,4 +1,4 @@
--- What a reader's call leaves after a fault.
+-- The outcome of a call to a packet reader that fails.
 use Rattle.std.proofs.Common.{◌≡◌, ℕ, List, Bool, true, false, Option, Err, subst}
 use Rattle.gpkt.specs.Change.{change_of}
 use Rattle.gpkt.specs.PacketReading.{Reader, Reads, IsReaderAfter, HasRead, IsReadFault}

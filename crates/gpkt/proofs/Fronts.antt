@@ -1,4 +1,4 @@
--- What is read of bytes, and that each front has a packet or a reason.
+-- Reading a packet: the bytes determine the outcome, and nonempty bytes begin with a packet or are rejected.
 use Rattle.std.proofs.Common.{◌≡◌, ℕ, zero, suc, ◌+◌, ◌<◌, ◌≤◌, ◌⊎◌, List, [], ◌∷◌, ◌++◌, length, take, drop, Option, Some, None, Result, Ok, Err, refl, sym, ap, ◌∙◌, inl, inr, arith, length-append, length-take-le, take-append-drop, append_assoc}
 use Rattle.gpkt.specs.Laws.{IsOfBytes, OneFault, OneOutcome, SpellsAtFront, EveryFront}
 use Rattle.gpkt.specs.PacketReading.{NoPacket, Gives}
@@ -9,14 +9,14 @@ use Rattle.gpkt.proofs.Readings.{one_reading_lem, refused_lem, has_four_bytes_le
 
 -- ---- one outcome
 
--- two numbers that the same digits stand for
+-- two numbers that the same digits encode are equal
 same_number : (digits : List ℕ) (a b : ℕ) → number_of digits ≡ Some a → number_of digits ≡ Some b → a ≡ b
 same_number digits a b p q = some_value a b (sym p ∙ q)
 
 no_number : {X : Type 0} (digits : List ℕ) (n : ℕ) → number_of digits ≡ None → number_of digits ≡ Some n → X
 no_number digits n p q = cc (p, q)
 
--- what is left after a fault that comes of the bytes
+-- the bytes that remain unread after a fault that the bytes cause
 abbrev rest_after : PacketFault → List ℕ → List ℕ
 rest_after Truncated old = []
 rest_after _ old = drop 4 old
@@ -42,7 +42,8 @@ line_has_bytes : (line : Packet) (old front new : List ℕ) → old ≡ front ++
 line_has_bytes line old front new split four =
     let all : length old ≡ length front + length new = ap length split ∙ length-append front new in omega arith
 
--- digits that announce more bytes than are left
+-- if bytes with four valid digits are truncated, the digits announce more bytes than there are, but not too many for a
+-- packet
 cut_number : (bytes : List ℕ) (n : ℕ) → NoPacket Truncated bytes → 4 ≤ length bytes → number_of (take 4 bytes) ≡ Some n
     → (n ≤ max_packet) × (length bytes < n)
 cut_number bytes n h four number =
@@ -123,7 +124,7 @@ one_outcome_lem old new after (Err fault) (Err other) h k fits also =
     let q = fault_of_bytes other old after k also in
     same_fault old new after fault other (one_fault_lem fault other old p.0 q.0) p.1 q.1
 
--- ---- every front
+-- ---- the front of every byte sequence
 
 below_or_not : (a b : ℕ) → (a < b) ⊎ (b ≤ a)
 below_or_not a zero = inr (omega arith)
@@ -133,7 +134,7 @@ below_or_not (suc a) (suc b) = elim (below_or_not a b) [ inl p ↦ inl (omega ar
 abbrev Front : List ℕ → Type 0
 Front bytes = SpellsAtFront bytes ⊎ ((fault : PacketFault) × NoPacket fault bytes)
 
--- as many bytes as the digits announce
+-- bytes begin with a data packet if they have at least the length that their digits announce
 data_packet : (bytes : List ℕ) (len : ℕ) → number_of (take 4 bytes) ≡ Some (len + 4) → len + 4 ≤ max_packet → len + 4 ≤ length bytes
     → SpellsAtFront bytes
 data_packet bytes len number fits all =

@@ -1,4 +1,4 @@
--- Packets read, and bytes written, one after the other.
+-- Consecutive reads of packets, and consecutive writes of bytes.
 use Rattle.std.proofs.Common.{ℕ, Bool, List, [], ◌∷◌, ◌++◌, Option, Some, None, Ok, Err, refl, sym, ap, ◌∙◌, append_assoc, append-nil}
 use Rattle.std.proofs.KnownBytes.{Appends-trans, Appends-kept, Keeps-trans}
 use Rattle.std.proofs.lemmas.Bool.{false≢true}
@@ -30,7 +30,7 @@ reads_next (Some old) (Some mid) None lines line p q = absurd q
 reads_next (Some old) (Some mid) (Some new) lines line p (front, parted, spelt) =
     reads_join (Some old) (Some mid) (Some new) lines (line ∷ []) p (front, parted, (front, [], sym (append-nil front), spelt, refl))
 
--- bytes that were known and are kept are known
+-- if bytes are known and a call does not change them, they are known after the call
 pub IsSome-kept : (a b : Option (List ℕ)) → Keeps a b → IsSome a → IsSome b
 IsSome-kept None b kept known = absurd (false≢true known)
 IsSome-kept (Some x) None kept known = absurd kept

@@ -1,4 +1,4 @@
--- What bytes spell, and in how many ways.
+-- The packets that bytes encode: bytes begin with at most one encoded packet.
 use Rattle.std.proofs.Common.{◌≡◌, ℕ, zero, suc, ◌+◌, ◌-◌, ◌<◌, ◌≤◌, List, [], ◌∷◌, ◌++◌, length, take, drop, Some, Result, Ok, Err, refl, sym, ap, ◌∙◌, subst, inl, inr, arith, append_assoc, append-nil, length-append}
 use Rattle.std.proofs.lemmas.List.Elements.{All-head, All-tail}
 use Rattle.std.specs.Int.{w16, to_be_bytes}
@@ -53,7 +53,7 @@ announced Flush = 0
 announced Delim = 1
 announced ResponseEnd = 2
 
--- the packet of a number and a payload
+-- the packet whose digits encode the number, with this payload if it is a data packet
 abbrev packet_from : ℕ → List ℕ → Packet
 packet_from zero payload = Flush
 packet_from (suc zero) payload = Delim
@@ -78,7 +78,7 @@ announced-not_three : (line : Packet) → announced line ≡ 3 → ⊥
 announced-not_three (Data payload) h = omega arith
 announced-not_three _ h = omega arith
 
--- the four digits, and what follows them
+-- the two parts of an encoded packet: its four digits, and its payload
 record Parts (line : Packet) (bytes : List ℕ) : Type 0 where
   digits : List ℕ
   split : bytes ≡ digits ++ payload_of line
@@ -95,7 +95,7 @@ parts_of line bytes h =
 pub some_value : (a b : ℕ) → Some a ≡ Some b → a ≡ b
 some_value a b h = cc
 
--- ---- one reading
+-- ---- at most one packet at the front
 
 parts_same : (line other : Packet) (front next rest after : List ℕ) → Parts line front → Parts other next → front ++ rest ≡ next ++ after
     → (line ≡ other) × (front ≡ next) × (rest ≡ after)
@@ -120,7 +120,7 @@ has_four_bytes_lem line bytes s =
     let len : length bytes ≡ length p.digits + length (payload_of line) = ap length p.split ∙ length-append p.digits (payload_of line) in
     let four = p.four in omega arith
 
--- ---- a refusal
+-- ---- rejected bytes
 
 front_number : (line : Packet) (bytes front rest : List ℕ) → Parts line front → front ++ rest ≡ bytes → number_of (take 4 bytes) ≡ Some (announced line)
 front_number line bytes front rest p same =
@@ -156,7 +156,7 @@ refused_parts _ line bytes front rest h same p = absurd h
 pub refused_lem : RefusedIsNoPacket
 refused_lem fault line bytes front rest h same s = refused_parts fault line bytes front rest h same (parts_of line front s)
 
--- ---- the canonical spelling
+-- ---- the canonical encoding
 
 pub canonical_spells_lem : CanonicalSpells
 unfolding number_of hex_on_literals

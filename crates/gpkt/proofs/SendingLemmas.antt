@@ -1,4 +1,4 @@
--- What is written and passed on, one after the other.
+-- The written and flushed bytes of consecutive calls to a sink.
 use Rattle.std.proofs.Common.{◌≡◌, ℕ, Bool, List, [], ◌++◌, Option, Some, None, refl, sym, ap, subst, ◌∙◌, append-nil}
 use Rattle.std.proofs.KnownBytes.{Appends-trans}
 use Rattle.std.specs.Io.KnownBytes.{Appends, Keeps}
@@ -33,7 +33,7 @@ appends_to old xs None b is h = cc
 appends_to old xs (Some ps) None is h = absurd h
 appends_to old xs (Some ps) (Some qs) is h = let same : ps ≡ old = cc in cc
 
--- where it is known what was passed on, it goes on from there
+-- if the known flushed bytes are `old` and stay flushed, the flushed bytes after the call begin with `old`
 pub passes_on_from : (old : List ℕ) (b c : Option (List ℕ)) → b ≡ Some old
     → KeepsPassed (record { old = b; new = c }) → (more : List ℕ) × (c ≡ Some (old ++ more))
 passes_on_from old None c is h = cc
@@ -43,10 +43,10 @@ passes_on_from old (Some qs) (Some rs) is h = let same : qs ≡ old = cc in (h.0
 pub is_some : (a b : Option (List ℕ)) → a ≡ b → IsSome b → IsSome a
 is_some a b same known = subst IsSome (sym same) known
 
--- ---- one after the other
+-- ---- consecutive calls
 
 module _ {W : Type 0} (contents passed_on : W → Option (List ℕ)) (is_down : W → Bool) where
-  -- what is written next, and passed on
+  -- if one call writes and flushes `xs` and the next call `ys`, the two calls write and flush `xs ++ ys`
   pub passes_join : (a b c : W) (xs ys : List ℕ) → Passes (output_of contents passed_on is_down a b) xs
       → Passes (output_of contents passed_on is_down b c) ys → Passes (output_of contents passed_on is_down a c) (xs ++ ys)
   passes_join a b c xs ys first next = record {
@@ -57,7 +57,7 @@ module _ {W : Type 0} (contents passed_on : W → Option (List ℕ)) (is_down : 
     up = next.up;
   }
 
-  -- what is due next, of which a beginning is written
+  -- if one call writes and flushes `xs` and the next call fails after a prefix of `due`, the two calls do both
   pub fails_after : (a b c : W) (xs due : List ℕ) → Passes (output_of contents passed_on is_down a b) xs
       → SendsSome (output_of contents passed_on is_down b c) due
       → KeepsPassed (output_of contents passed_on is_down b c).passed_on
@@ -75,7 +75,7 @@ module _ {W : Type 0} (contents passed_on : W → Option (List ℕ)) (is_down : 
     down = next.down;
   }
 
-  -- nothing more is written
+  -- if one call writes and flushes `xs` and the next call writes nothing, the two calls write and flush `xs`
   pub passes_still : (a b c : W) (xs : List ℕ) → Passes (output_of contents passed_on is_down a b) xs
       → IsUnwritten (output_of contents passed_on is_down b c) → Passes (output_of contents passed_on is_down a c) xs
   passes_still a b c xs first still = record {

@@ -1,4 +1,4 @@
--- The steps of reading a packet, joined.
+-- The result of reading a packet, from the results of reading its digits and its payload.
 use Rattle.std.proofs.Common.{◌≡◌, ℕ, ◌+◌, ◌<◌, ◌≤◌, List, ◌++◌, length, take, drop, Option, Some, None, Ok, Err, refl, sym, ap, ◌∙◌, inl, inr, append_assoc, append-nil, arith, subst, length-append}
 use lib.Seq.{drop_at, take_at}
 use Rattle.gpkt.specs.Change.{Change}
@@ -14,7 +14,7 @@ change old new = record { old = old; new = new }
 
 -- ---- the four digits
 
--- a fact of the number that the first four bytes stand for
+-- a fact about the number that the consumed digits encode is true for the first four bytes of the input
 digits_known : (P : Option ℕ → Type 0) (old new : List ℕ) → (digits : List ℕ) × (old ≡ digits ++ new) × (length digits ≡ 4) × P (number_of digits)
     → (4 ≤ length old) × P (number_of (take 4 old)) × (new ≡ drop 4 old)
 digits_known P old new (digits, front, len, holds) =
@@ -25,7 +25,7 @@ digits_known P old new (digits, front, len, holds) =
       sym (ap (drop 4) front ∙ drop_at digits new 4 len),
     )
 
--- ---- a reading that ends in the digits
+-- ---- a read that fails at the digits
 
 refused_known : (old new : List ℕ) (fault : PacketFault) → ReadsHead (change (Some old) (Some new)) (Err fault) → Gives old new (Err fault)
 refused_known old new BadDigits h = let r = digits_known (λ n. n ≡ None) old new h in ((r.0, r.1), r.2)
@@ -51,7 +51,7 @@ Reads-from_refused None new fault h = tt
 Reads-from_refused (Some old) None fault h = refused_lost old fault h
 Reads-from_refused (Some old) (Some new) fault h = refused_known old new fault h
 
--- ---- a reading that ends in the payload
+-- ---- a read that reaches the payload
 
 module _ (len : ℕ) (payload : List ℕ) (sized : length payload ≡ len) where
   IsPartialPacket-payload : (digits bytes : List ℕ) → length digits ≡ 4 → number_of digits ≡ Some (len + 4) → len ≤ max_payload → length bytes < len → IsPartialPacket (digits ++ bytes)
@@ -86,7 +86,7 @@ module _ (len : ℕ) (payload : List ℕ) (sized : length payload ≡ len) where
   Spells-payload : (digits : List ℕ) → number_of digits ≡ Some (len + 4) → len ≤ max_payload → Spells (Data payload) (digits ++ payload)
   Spells-payload digits announced fits = (digits, refl, announced ∙ ap (λ n. Some (n + 4)) (sym sized), omega arith)
 
-  -- the payload stands at the front of the buffer
+  -- after the digits and the payload are read, the payload is at the front of the buffer
   pub Reads-from_payload : (old mid new : Option (List ℕ)) (rest : List ℕ) → ReadsHead (change old mid) (Ok (Some (head.Data len)))
       → ReadsPayload (change mid new) (Ok tt) payload → Reads (change old new) (Ok (Some (Data (take len (payload ++ rest)))))
   Reads-from_payload None mid new rest head h = tt

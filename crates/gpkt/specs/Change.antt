@@ -2,12 +2,12 @@
 use Rattle.std.specs.Prelude.{Option, MatchOption, ⊤}
 use Rattle.gpkt.specs.Packets.{Bytes}
 
--- the bytes of a source or sink before and after a call, each if known
+-- the bytes of a source or sink before a call and after it; `None` means that the bytes are unknown
 pub record Change : Type 0 where
   pub old : Option Bytes
   pub new : Option Bytes
 
--- the known bytes of a source or sink in an old state and in a new state
+-- the bytes that `bytes_of` returns for the old state and for the new state of a source or sink
 abbrev pub change_of : {D : Type 0} → (D → Option Bytes) → D → D → Change
 change_of bytes_of old new = record { old = bytes_of old; new = bytes_of new }
 

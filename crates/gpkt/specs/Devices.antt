@@ -7,7 +7,7 @@ use Rattle.gpkt.specs.Packets.{Bytes}
 abbrev pub TakesSome : {E : Type 0} → Result ℕ E → Bytes → Type 0
 TakesSome result bytes = 0 < length bytes → IfOk result (λ count. 0 < count)
 
--- a call to a source or sink that has failed before fails again
+-- a call fails if the source or sink had failed before the call
 abbrev pub AnswersDown : {A E : Type 0} → Bool → Result A E → Type 0
 AnswersDown was_down result = IsTrue was_down → IsErr result
 
@@ -19,7 +19,7 @@ PassesAll written passed_on = IsSome passed_on.old → passed_on.new ≡ written
 abbrev pub KeepsPassed : Change → Type 0
 KeepsPassed passed_on = WhereKnown passed_on (λ old new. (more : Bytes) × (new ≡ old ++ more))
 
--- a source or sink that wraps a reader or writer, and whether the source or sink has failed
+-- a source or sink that wraps another value: the wrapped value, and whether the source or sink has failed
 pub record Device (X : Type 0) : Type 0 where
   pub inner : X
   pub down : Bool

@@ -130,8 +130,8 @@ module _
         (old mid new : Writer W) (bytes more : Bytes) (result : Result Unit WriteFault) → Writes old mid (Ok tt) bytes
         → Writes mid new result more → result ≢ Err write_fault.Payload → Writes old new result (bytes ++ more)
 
-    -- unless a payload is too long, a failed write of some bytes has the outcome of a failed write of the same bytes
-    -- followed by more bytes
+    -- unless the fault is `Payload`, a failed write of `bytes` has the outcome of a failed write of `bytes` followed by
+    -- `more`
     abbrev pub FailsOfMore : Type 0
     FailsOfMore =
         (old new : Writer W) (bytes more : Bytes) (fault : WriteFault) → Writes old new (Err fault) bytes

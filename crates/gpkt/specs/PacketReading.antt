@@ -24,7 +24,7 @@ IsPartialPacket bytes =
     (length bytes < digit_count)
     ⊎ ((announced : ℕ) × AnnouncesAtFront bytes announced × (announced ≤ max_packet) × (length bytes < announced))
 
--- the reason why the rest of the input does not begin with an encoded packet
+-- the fault is the reason why the bytes do not begin with an encoded packet
 abbrev pub NoPacket : PacketFault → Bytes → Type 0
 NoPacket BadDigits bytes = (digit_count ≤ length bytes) × (number_of (take digit_count bytes) ≡ None)
 NoPacket Reserved bytes = AnnouncesAtFront bytes reserved_len

@@ -42,7 +42,7 @@ impl PacketFault {
         self.fault_row().1
     }
 
-    /// Returns the row of the fault in the table: its number and its name.
+    /// Returns the number and the name of the fault.
     pub fn fault_row(&self) -> (u32, &'static str)
         ensures { (result.0, result.1.now) ≡ packet_fault_row self.now }
     {
@@ -100,7 +100,8 @@ pub enum WriteFault {
     /// The payload, with its line feed if any, has more than 65,516 bytes. Nothing is written, and
     /// the writer stays usable.
     Payload,
-    /// The sink failed in this call. A call that writes a packet wrote only a part of it.
+    /// The sink failed in this call. If the call writes a packet, it wrote only a part of the
+    /// packet.
     Io,
 }
 
@@ -119,7 +120,7 @@ impl WriteFault {
         self.fault_row().1
     }
 
-    /// Returns the row of the fault in the table: its number and its name.
+    /// Returns the number and the name of the fault.
     pub fn fault_row(&self) -> (u32, &'static str)
         ensures { (result.0, result.1.now) ≡ write_fault_row self.now }
     {
@@ -169,7 +170,7 @@ impl BandFault {
         self.fault_row().1
     }
 
-    // Returns the row of the fault in the table: its number and its name.
+    // Returns the number and the name of the fault.
     fn fault_row(&self) -> (u32, &'static str)
         ensures { (result.0, result.1.now) ≡ band_fault_row self.now }
     {

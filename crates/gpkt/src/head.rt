@@ -114,7 +114,8 @@ fn read_payload<S: Source>(source: &mut S, payload: &mut [u8]) -> Result<(), Pac
     }
 }
 
-/// Reads exactly one packet. The payload is at the front of `buffer`.
+/// Reads one packet, and its payload into the front of `buffer`. Returns `None` at the end of the
+/// input.
 pub(crate) fn read_into<S: Source>(
     source: &mut S,
     buffer: &mut [u8],

@@ -2,11 +2,11 @@
 //! written to sinks, and the side bands of a payload (gitprotocol-pack(5), "Packfile Data").
 //!
 //! A packet starts with four hexadecimal digits. The digits `0000` announce a flush, `0001` a
-//! delimiter, and `0002` a response-end. Any other digits are the length of a data packet, and the
-//! length includes the digits. [`PacketReader`] reads packets from a [`Source`]. [`PacketWriter`]
-//! writes packets to a [`Sink`], and [`write_all`] writes any bytes. [`FromRead`] and [`ToWrite`]
-//! borrow std's readers and writers as sources and sinks. [`memory`] defines sources and sinks in
-//! memory. [`band_of`] decodes the side band of a payload.
+//! delimiter, and `0002` a response-end. Any other valid digits are the length of a data packet,
+//! and the length includes the digits. [`PacketReader`] reads packets from a [`Source`].
+//! [`PacketWriter`] writes packets to a [`Sink`], and [`write_all`] writes any bytes. [`FromRead`]
+//! and [`ToWrite`] borrow std's readers and writers as sources and sinks. [`memory`] defines
+//! sources and sinks in memory. [`band_of`] decodes the side band of a payload.
 //!
 //! # Proved
 //!
@@ -16,8 +16,9 @@
 //!   which bytes are consumed (`HasRead` in `specs/PacketReading.antt`, which uses `Spells` and
 //!   `NoPacket`).
 //! - For any source, a reader that has failed returns `Failed` and reads nothing. After any fault,
-//!   the reader counts as failed. A call that reads reports `Io` exactly when the source has failed
-//!   afterwards. A payload has at most 65,516 bytes. Only the constructor reports `Memory`.
+//!   the reader has failed. If the reader had not failed before a call, the call reports `Io`
+//!   exactly when the source has failed after it. A payload has at most 65,516 bytes. Only the
+//!   constructor reports `Memory`.
 //! - A successful write appends exactly the canonical encoding, if the written bytes are known. A
 //!   write reports `Payload` exactly when the payload is too long for a packet, and then changes
 //!   nothing. After `Io`, a proper prefix of the encoding was written. A writer that has failed

@@ -13,7 +13,7 @@ use std::rt::{Clock, Env, Files};
 
 const USAGE: &[u8] = b"gitv2: usage\n";
 
-// The exit status of a call whose arguments do not match the usage.
+// The exit status if the arguments do not match the usage.
 const WRONG_USAGE: u8 = 2;
 
 /// Runs `gitv2` with the arguments of the runtime, over its files, standard streams and sockets.

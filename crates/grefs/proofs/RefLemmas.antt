@@ -1,4 +1,4 @@
--- Refs in order: what a search finds, and what an edit at that position does.
+-- Refs in order: the result of a search, and the effect of an edit at the position that was found.
 use Rattle.std.proofs.Common.{ap₂, ◌≡◌, ◌≢◌, ℕ, zero, suc, ◌<◌, ◌≤◌, List, [], ◌∷◌, ◌++◌, length, get_or, set, Bool, true, false, cond, Option, Some, None, Result, Ok, Err, MatchResult, ◌⊎◌, inl, inr, ◌+◌, refl, sym, ◌∙◌, ap, subst, arith, take, drop, ◌-◌}
 use Rattle.std.proofs.lemmas.List.Elements.{All-append, All-contains_itself, All-head, All-tail, All-weaker, All-take, All-drop, All-cons, All-set, All-nil}
 use Rattle.std.proofs.lemmas.Cmp.{nat_list_cmp_total, alike_right}
@@ -62,7 +62,7 @@ ref_at-skip ref refs name h = rw h refl
 pub ref_at-hit : (ref : List ℕ × List ℕ) (refs : RefList) (name : List ℕ) → bytes_eq ref.0 name ≡ true → ref_at (ref ∷ refs) name ≡ Some ref.1
 ref_at-hit ref refs name h = rw h refl
 
--- HEAD is no ref
+-- HEAD is not a ref name below refs/
 head_not_below : IsBelowRefs head_name → ⊥
 head_not_below h = let below = h.below in cc
 
@@ -92,12 +92,12 @@ pub none_above : (refs : RefList) (name : List ℕ) → AllByRecursion (λ y. or
 none_above [] name all = refl
 none_above (ref ∷ refs) name all = ref_at-skip ref refs name (higher_differs name ref.0 all.0) ∙ none_above refs name all.1
 
--- refs whose look-ups are equal are the same
+-- lists of refs with equal look-ups are equal
 
 abbrev AreAlike : RefList → RefList → Type 0
 AreAlike a b = (name : List ℕ) → ref_at a name ≡ ref_at b name
 
--- a name below all of some refs is in no refs like them
+-- if `others` has no ref with the name of `ref`, the look-ups of this name in both lists differ
 unlike : (ref : List ℕ × List ℕ) (refs others : RefList) → ref_at others ref.0 ≡ None → ref_at (ref ∷ refs) ref.0 ≡ ref_at others ref.0 → ⊥
 unlike ref refs others none same = let there = ref_at-hit ref refs ref.0 (bytes_eq-itself ref.0) in let clash = sym there ∙ same ∙ none in cc
 
@@ -145,7 +145,7 @@ alike_same (x ∷ a) (y ∷ b) here there alike =
     alike_met x a b y (order x.0 y.0) refl here there alike
     (λ tails. alike_same a b (sorted_tail order x.0 (keys_of a) here) (sorted_tail order y.0 (keys_of b) there) tails)
 
--- ---- what is at a position
+-- ---- look-ups after a search
 
 pub ref_at-gap : (refs : RefList) (name : List ℕ) (place : ℕ) → IsStrictlySortedBy order (keys_of refs) → IsGap refs name place → ref_at refs name ≡ None
 ref_at-gap [] name zero sorted gap = refl
@@ -200,7 +200,7 @@ not_both x y z differ xz yz =
     let fact = (bytes_eq-Decides x y).1 same in
     let clash : true ≡ false = sym fact ∙ differ in cc
 
--- what the look-ups read after it
+-- after a set, a look-up of `name` returns `id`, and every other look-up returns the same result as before
 abbrev Reads : RefList → RefList → List ℕ → List ℕ → Type 0
 Reads old new name id = (other : List ℕ) → ref_at new other ≡ cond (bytes_eq name other) (Some id) (ref_at old other)
 
@@ -225,7 +225,7 @@ reads_set (ref ∷ refs) name id (suc place) found other =
     ∙ swapped (bytes_eq ref.0 other) (bytes_eq name other) (Some ref.1) (Some id) (ref_at refs other) (not_both ref.0 name other (lower_differs ref.0 name found.0))
     ∙ ap (λ o. cond (bytes_eq name other) (Some id) o) (sym (ref_at-cons ref refs other))
 
--- the refs of the new list are the one that was set and some of the old
+-- the ref is the one that was set, or a ref of the old list
 abbrev OneOr : RefList → List ℕ → List ℕ → List ℕ × List ℕ → Type 0
 OneOr old name id ref = (ref ≡ (name, id)) ⊎ Contains old ref
 
@@ -266,7 +266,7 @@ keys_set [] name id place found = absurd found
 keys_set (ref ∷ refs) name id zero found = ap (λ key. key ∷ keys_of refs) (sym found)
 keys_set (ref ∷ refs) name id (suc place) found = ap (λ keys. ref.0 ∷ keys) (keys_set refs name id place found.1)
 
--- refs stay refs
+-- an edited list of refs is valid
 
 pub refs_insert : (refs : RefList) (name id : List ℕ) (place : ℕ) → IsRefs refs → IsBelowRefs name → length refs < max_refs → IsGap refs name place → IsRefs (insert refs place (name, id))
 refs_insert refs name id place valid this room gap = record {
@@ -337,7 +337,7 @@ searched name refs sorted (Err place) inside parted =
 pub refs_none : IsRefs []
 refs_none = record { names = All-nil (λ (ref : List ℕ × List ℕ). IsBelowRefs ref.0); ascending = sorted_none; few = omega arith }
 
--- ---- a ref after all others
+-- ---- a ref that sorts after all others
 
 pub gap_last : (refs : RefList) (name : List ℕ) → AreBelow refs name → IsGap refs name (length refs)
 gap_last [] name below = tt
@@ -356,7 +356,7 @@ tail_last ref second refs last here =
     let e : suc (suc (length refs)) - 1 ≡ suc (suc (length refs) - 1) = omega arith in
     subst (λ n. slice_get (ref ∷ (second ∷ refs)) n ≡ Some last) e here
 
--- all are below a name where the last one is
+-- if the last name sorts before a name, all names of the list sort before this name
 last_below : (refs : RefList) (last : List ℕ × List ℕ) (name : List ℕ) → slice_get refs (length refs - 1) ≡ Some last → IsStrictlySortedBy order (keys_of refs) → order last.0 name ≡ Less → AreBelow refs name
 last_below [] last name here sorted below = tt
 last_below (ref ∷ []) last name here sorted below = (subst (λ (r : List ℕ × List ℕ). order r.0 name ≡ Less) (sym (same_Some ref last here)) below, tt)
@@ -374,14 +374,14 @@ lower_less : (o : Ordering) → is_lt o ≡ true → o ≡ Less
 lower_less Less h = refl
 lower_less _ h = cc
 
--- what the comparison of the last name with another says
+-- the comparison of the last name with a name decides whether all names sort before it
 pub last_decides : (refs : RefList) (last : List ℕ × List ℕ) (name : List ℕ) (r : Bool) → slice_get refs (length refs - 1) ≡ Some last → IsRefs refs → r ≡ is_lt (order last.0 name) → (r ≡ true → AreBelow refs name) × (AreBelow refs name → r ≡ true)
 last_decides refs last name r here valid e = (
   λ yes_lower. last_below refs last name here valid.ascending (lower_less (order last.0 name) (sym e ∙ yes_lower)),
   λ below. e ∙ ap is_lt (below_last refs last name here below),
 )
 
--- ---- each ref could come next after those before it
+-- ---- each ref could be appended to the refs before it
 
 name_at : (front : RefList) (x : List ℕ × List ℕ) (back : RefList) → All (λ ref. IsBelowRefs ref.0) (front ++ x ∷ back) → IsBelowRefs x.0
 name_at [] x back all = All-head (λ (ref : List ℕ × List ℕ). IsBelowRefs ref.0) x back all

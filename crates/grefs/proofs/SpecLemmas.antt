@@ -1,4 +1,4 @@
--- Facts on the texts of refspecs.
+-- Facts about the texts of refspecs.
 use Rattle.std.proofs.Common.{◌≡◌, ◌≢◌, ℕ, ◌+◌, ◌<◌, Bool, true, false, ◌==◌, nat_lt, List, [], ◌∷◌, ◌++◌, length, take, drop, get_or, None, Some, Result, Ok, Err, refl, sym, ap, ◌∙◌, subst, arith, append_assoc}
 use Rattle.std.proofs.lemmas.List.{append_cancel_right, take_at, drop_at, length-append, get_or_at, get_or_append_left, take-append-drop, drop_more}
 use Rattle.std.proofs.lemmas.Bool.{lt-ltb, ne_eqb, eqb-true, false≢true}
@@ -19,7 +19,7 @@ use Rattle.grefs.specs.declared.refspec.fault.SpecFault.TheVariants.{BadSpec, Me
 use Rattle.grefs.specs.Refspecs.{Refspec, AreSides, IsRefspec, IsSpec, IsStem, OneReading, Reads, force_text, side_text, sides_text}
 use Rattle.grefs.specs.steps.Parsing.{HasSides, HasTexts, IsRest, is_colon}
 
--- a text with more bytes than a name has is too long for one, and that comes first
+-- the first fault of a text with more than `max_name` bytes is `TooLong`
 pub too_long_name : (text : List ℕ) → max_name < length text → name_fault text ≡ Some TooLong
 unfolding name_fault empty too_long
 too_long_name text long =
@@ -27,9 +27,9 @@ too_long_name text long =
     let over : nat_lt max_name (length text) ≡ true = lt-ltb max_name (length text) long in
     rw (some, over) refl
 
--- ---- the bytes of sides
+-- ---- the bytes of a source and of a destination
 
--- no byte of a name is a bad one
+-- a byte that is not forbidden differs from a forbidden byte
 not_bad : (bad : ℕ) → is_bad_byte bad ≡ true → (b : ℕ) → is_bad_byte b ≡ false → nat_eq b bad ≡ false
 not_bad bad is b good = ne_eqb b bad (λ same. false≢true (sym good ∙ ap is_bad_byte same ∙ is))
 
@@ -68,7 +68,7 @@ no_star law name front valid ends =
     let no : nat_eq 42 42 ≡ false = subst P is last in
     cc no
 
--- what is below refs/ begins so
+-- a text that begins with refs/ consists of refs/ and the rest
 pub below_begins : (text : List ℕ) → starts_with nat_eq text (codes "refs/") ≡ true → text ≡ codes "refs/" ++ drop 5 text
 below_begins text below = (starts_is Decides-eqb text (codes "refs/") true (sym below)).0 refl
 
@@ -96,18 +96,18 @@ after front back b at place =
     let split : front ++ b ∷ back ≡ (front ++ b ∷ []) ++ back = sym (append_assoc front (b ∷ []) back) in
     ap (λ (l : List ℕ). drop (at + 1) l) split ∙ drop_at (front ++ b ∷ []) back (at + 1) (omega (arith, place, length-append front (b ∷ [])))
 
--- a refspec's parts are those that are given
+-- a refspec is the record of its four fields
 pub same_spec : (spec : Refspec) (forced pattern : Bool) (source destination : List ℕ) → spec.forced ≡ forced → spec.pattern ≡ pattern → spec.source ≡ source → spec.destination ≡ destination
     → spec ≡ record { forced = forced; pattern = pattern; source = source; destination = destination }
 same_spec spec forced pattern source destination f p s d = rw (← f, ← p, ← s, ← d) refl
 
--- where reading is for P, it is for Q, where these are the same
+-- if P and Q are equivalent, a result of parsing by P is also a result of parsing by Q
 pub reads_same : (P Q : Refspec → Type 0) → ((spec : Refspec) → P spec → Q spec) → ((spec : Refspec) → Q spec → P spec) → (result : Result Refspec SpecFault) → Reads P result → Reads Q result
 reads_same P Q there back (Ok spec) reads = there spec reads
 reads_same P Q there back (Err BadSpec) reads = λ spec is. reads spec (back spec is)
 reads_same P Q there back (Err Memory) reads = (reads.0, there reads.0 reads.1)
 
--- a text after its plus, where it has one, is read as the text is
+-- a text is parsed by parsing the text after its optional `+`
 by_front : (forced : Bool) (text rest : List ℕ) → text ≡ force_text forced ++ rest
     → ((spec : Refspec) → IsSpec text spec → (spec.forced ≡ forced) × (rest ≡ sides_text spec))
     → (result : Result Refspec SpecFault) → Reads (IsRest forced rest) result → Reads (IsSpec text) result
@@ -120,7 +120,7 @@ by_front forced text rest is parts =
     })
     (λ spec read. (let here = parts spec read in record { force = here.0; written = here.1; sides = read.sides }))
 
--- a text with a plus at its front
+-- parsing a text that begins with `+`
 pub with_plus : NamesAreClean → (text rest : List ℕ) → text ≡ 43 ∷ rest → (result : Result Refspec SpecFault)
     → Reads (IsRest true rest) result → Reads (IsSpec text) result
 with_plus law text rest is =
@@ -132,7 +132,7 @@ with_plus law text rest is =
     by_force spec sides false written =
         absurd (no_plus law spec.pattern spec.source spec.destination _ rest sides (sym written))
 
--- and one without
+-- parsing a text that does not begin with `+`
 pub without_plus : NamesAreClean → (text : List ℕ) → ((rest : List ℕ) → text ≢ codes "+" ++ rest)
     → (result : Result Refspec SpecFault) → Reads (IsRest false text) result → Reads (IsSpec text) result
 without_plus law text none = by_front false text text refl (λ spec read. by_force spec spec.forced read.written)
@@ -142,7 +142,7 @@ without_plus law text none = by_front false text text refl (λ spec read. by_for
     by_force spec true written = absurd (none (sides_text spec) written)
     by_force spec false written = (refl, written)
 
--- the first colon of a refspec's sides is the one between them
+-- the first colon of a refspec is the colon between its source and its destination
 pub colon_at : NamesAreClean → (spec : Refspec) → IsRefspec spec → (text : List ℕ) → text ≡ sides_text spec → position is_colon text ≡ Some (length (side_text spec.pattern spec.source))
 colon_at law spec sides text written =
     let front : List ℕ = side_text spec.pattern spec.source in
@@ -155,7 +155,7 @@ colon_at law spec sides text written =
     let inside : nat_lt (length front) (length (front ++ 58 ∷ back)) ≡ true = lt-ltb _ _ (omega (arith, length-append front (58 ∷ back))) in
     rw (written, at, inside) refl
 
--- a text with a first colon there is what stands before it, the colon, and what stands after it
+-- a text consists of the bytes before its first colon, the colon, and the bytes after it
 pub split_at_colon : (text : List ℕ) (at : ℕ) → position is_colon text ≡ Some at → text ≡ take at text ++ (codes ":" ++ drop (at + 1) text)
 split_at_colon text at is =
     let facts = position-Some is_colon text at 0 is in
@@ -192,7 +192,7 @@ without_colon law forced text none spec read = none-some _ (sym none ∙ colon_a
 
 -- ---- patterns and names
 
--- the sides of a pattern, or of none, are read as their texts are
+-- a source and a destination, with or without `*`, are parsed by parsing them without `*`
 by_sides : (forced pattern : Bool) (source destination stem other : List ℕ) → source ≡ side_text pattern stem
     → destination ≡ side_text pattern other
     → ((p : Bool) (a b : List ℕ) → source ≡ side_text p a → destination ≡ side_text p b → AreSides p a b
@@ -221,7 +221,7 @@ both_stars law forced source destination stem other from to =
         (refl, s, d, (subst IsStem s sides.0, subst IsStem d sides.1))
     by_pattern false a b f t sides = absurd (no_star law a stem sides.0 (sym f ∙ from))
 
--- the texts of two sides are no patterns
+-- a source and a destination that do not both end in `*` are not a pattern
 pub not_both_stars : (forced : Bool) (source destination : List ℕ) → ((a b : List ℕ) → source ≡ a ++ codes "*" → destination ≡ b ++ codes "*" → ⊥) → (result : Result Refspec SpecFault)
     → Reads (HasSides forced false source destination) result → Reads (HasTexts forced source destination) result
 not_both_stars forced source destination none =
@@ -232,7 +232,7 @@ not_both_stars forced source destination none =
     by_pattern true a b f t sides = absurd (none a b f t)
     by_pattern false a b f t sides = (refl, sym f, sym t, (subst IsRefName (sym f) sides.0, subst IsBelowRefs (sym t) sides.1))
 
--- ---- one reading
+-- ---- uniqueness of the refspec
 
 same_force : NamesAreClean → (a b : Refspec) → IsRefspec a → IsRefspec b → (f h : Bool) → force_text f ++ sides_text a ≡ force_text h ++ sides_text b → (f ≡ h) × (sides_text a ≡ sides_text b)
 same_force law a b left right true true same = (refl, (cc same))
@@ -252,7 +252,7 @@ same_text false false d e is same = same
 same_text true false d e is same = absurd (false≢true (sym is))
 same_text false true d e is same = absurd (false≢true is)
 
--- two lists that are cut at the same position have the same parts
+-- equal lists that are split at the same position have equal parts
 same_parts : (a b c d : List ℕ) → length a ≡ length c → a ++ 58 ∷ b ≡ c ++ 58 ∷ d → (a ≡ c) × (b ≡ d)
 same_parts a b c d long same =
     let front : a ≡ c = sym (take_at a (58 ∷ b) (length a) refl) ∙ ap (λ (l : List ℕ). take (length a) l) same ∙ take_at c (58 ∷ d) (length a) (sym long) in

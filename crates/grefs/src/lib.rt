@@ -23,9 +23,9 @@
 //!
 //! # What the contracts do not rule out
 //!
-//! No contract rules out that a call that adds a new name or makes a copy reports out of memory at
-//! any time. No contract says which allocator `Refs::copy_in` uses. No contract bounds the time or
-//! the memory of a call.
+//! The contracts allow a call that adds a new name or makes a copy to report out of memory at any
+//! time. No contract says which allocator `Refs::copy_in` uses. No contract bounds the time or the
+//! memory of a call.
 //!
 //! No contract rules out that formatting a fault returns `fmt::Error` even if every write succeeds.
 //!

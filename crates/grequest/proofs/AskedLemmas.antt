@@ -1,4 +1,4 @@
--- Requests that ask the same, and what one argument more adds to what a request asks.
+-- Requests with equal contents, and the contents of a request after one more argument.
 use Rattle.std.proofs.Common.{◌≡◌, ℕ, List, [], ◌∷◌, ◌++◌, refl, ap, ◌∙◌, append-nil}
 use Rattle.std.specs.Option.{option_to_list}
 use Rattle.gname.specs.declared.formats.Format.{Format}
@@ -12,7 +12,7 @@ use Rattle.grequest.specs.steps.Building.{HaveSameIds}
 use Rattle.grequest.specs.steps.RequestState.{with_ls_argument, with_fetch_argument}
 use Rattle.grequest.proofs.FlagLemmas.{flags_more, flags_same, ls_has_each, fetch_has_each}
 
--- ---- the same is asked, part by part
+-- ---- equality of contents, part by part
 
 pub same_ls : {a b : LsRefsAsked} → a.agent ≡ b.agent → a.flags ≡ b.flags → a.prefixes ≡ b.prefixes → a ≡ b
 same_ls agent flags prefixes = λ i. record { agent = agent i; flags = flags i; prefixes = prefixes i }

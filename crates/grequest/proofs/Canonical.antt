@@ -1,4 +1,4 @@
--- What is written of a request asks it, and each payload fits a packet.
+-- The packets that are written for a request encode it, and each payload fits into a packet.
 use Rattle.std.proofs.Common.{◌≡◌, ℕ, ◌+◌, ◌≤◌, Bool, true, false, List, [], ◌∷◌, ◌++◌, length, map, codes, inl, inr, Option, Some, None, refl, sym, ap, subst, ◌∙◌, append_assoc, arith}
 use Rattle.std.specs.Prelude.{All, nat_le}
 use Rattle.std.specs.List.{list_all}
@@ -80,7 +80,7 @@ command_request limits format command agent packets texts asked e able are few r
       asks = asks ∙ sym (λ i. asked_by_command format command (read i) (back i));
     }
 
--- counts of lists one after the other
+-- the maximum length of two concatenated lists
 count_both : (xs ys : List (List ℕ)) (m n : ℕ) → length xs ≤ m → length ys ≤ n → length (xs ++ ys) ≤ m + n
 count_both xs ys m n a b = omega (arith, length-append xs ys)
 
@@ -126,9 +126,9 @@ canonical_is_request spelt limits format Empty h = inl (refl, refl)
 canonical_is_request spelt limits format (Ls asked) h = inr (ls_request limits format asked h)
 canonical_is_request spelt limits format (Fetches asked) h = inr (fetch_request spelt limits format asked h)
 
--- ---- each payload fits a packet
+-- ---- the lengths of the payloads
 
--- no text is longer
+-- the maximum length of a text that is written
 abbrev longest : ℕ
 longest = 1011
 
@@ -165,7 +165,7 @@ request_fits format command agent packets texts e able short =
     (All-cons Fits Delim _ (omega arith)
     (All-append Fits _ _ (fit_texts packets texts e short) (All-cons Fits Flush [] (omega arith) (All-nil Fits)))))
 
--- so are the flags
+-- the texts of the flags are short
 abbrev is_short_row : {F : Type 0} → F × List ℕ → Bool
 is_short_row row = nat_le (length row.1) longest
 

@@ -1,4 +1,4 @@
--- Facts on tables of flags.
+-- Facts about tables of flags.
 use Rattle.std.proofs.Common.{◌≡◌, ℕ, ◌||◌, Bool, true, false, cond, List, [], ◌∷◌, ◌++◌, refl, sym, ap, ◌∙◌, true≢false}
 use Rattle.std.proofs.Math.Bool.{or-false, or-true}
 use Rattle.std.specs.Prelude.{IsTrue}
@@ -21,7 +21,7 @@ use Rattle.grequest.specs.Asked.{same_ls_flag, same_fetch_flag}
 -- ---- two tests on the flags of a table
 
 module _ {F : Type 0} (p q : F → Bool) where
-  -- they agree at each row
+  -- the two tests agree on the flag of each row
   abbrev pub agree : Table F → Bool
   agree table = list_all (λ row. beq (p row.0) (q row.0)) table
 
@@ -38,20 +38,20 @@ module _ {F : Type 0} (p q : F → Bool) where
   where_same (row ∷ rows) same =
       and_from (beq (p row.0) (q row.0)) (agree rows) ((booleans_Decides _ _).1 (λ i. (same i).0)) (where_same rows (λ i. (same i).1))
 
-  -- so the same flags pass both
+  -- the two tests agree on the flags of all rows exactly if the same flags pass them
   pub agree_same : (table : Table F) (b : Bool) → agree table ≡ b
       → (IsTrue b → flags_where table p ≡ flags_where table q) × (flags_where table p ≡ flags_where table q → IsTrue b)
   agree_same table true e = (λ h. same_where table e, λ same. refl)
   agree_same table false e = (λ h. absurd (true≢false (sym h)), λ same. sym e ∙ where_same table same)
 
--- ---- one flag more
+-- ---- one more flag
 
 or_is_cond : (before here : Bool) → (before || here) ≡ cond here true before
 or_is_cond before true = or-true before
 or_is_cond before false = or-false before
 
 module _ {F : Type 0} (same : F → F → Bool) (table : Table F) where
-  -- a flag is among those that pass a test exactly where it passes
+  -- a flag is in the set of the flags that pass a test exactly if it passes the test
   abbrev pub HasEach : Type 0
   HasEach = (passes : F → Bool) (flag : F) → has_flag same table (flags_where table passes) flag ≡ passes flag
 
@@ -63,7 +63,7 @@ module _ {F : Type 0} (same : F → F → Bool) (table : Table F) where
   pub where_same_as : (p q : F → Bool) → ((flag : F) → p flag ≡ q flag) → flags_where table p ≡ flags_where table q
   where_same_as p q each = λ i. flags_where table (λ flag. each flag i)
 
--- the flags that are among some texts, and among these and a text of this form
+-- the flags that occur among some texts, and among these texts followed by `line`
 module _ {F X : Type 0} (same : F → F → Bool) (table : Table F) (form_of : List ℕ → X) (is_it : F → X → Bool)
     (texts : List (List ℕ)) (line : List ℕ) (form : X) (is : form_of line ≡ form) where
   abbrev among : F → List (List ℕ) → Bool
@@ -86,7 +86,7 @@ module _ {F X : Type 0} (same : F → F → Bool) (table : Table F) (form_of : L
   flags_same none =
       where_same_as same table _ _ (λ flag. among_more flag ∙ ap (λ b. among flag texts || b) (none flag) ∙ or-false _)
 
--- ---- each flag is in its table; the case after the first is for all others
+-- ---- the flags of each command, all of which are in its table
 
 pub one_ls_flag : (a b : LsRefsFlag) → same_ls_flag a b ≡ true → a ≡ b
 one_ls_flag = same_true the_ls_flags tt

@@ -1,4 +1,4 @@
--- Reading a request. The state after some packets takes exactly the packets that may follow them. A request is missing
+-- Reading a request. The state after some packets accepts exactly the packets that may follow them. A request is missing
 -- exactly if the input is empty.
 use Rattle.std.proofs.Common.{◌≡◌, Bool, List, [], ◌∷◌, ◌++◌, codes, Result, Ok, Err, refl, sym, ap, subst, ◌∙◌, ℕ, ◌<◌}
 use Rattle.std.proofs.Common.{length, map, Option, Some, None, inl, inr, arith}
@@ -39,7 +39,7 @@ brings_is : (front : List Packet) (packet : Packet) → packet_brings (place_of 
 brings_is front (Data payload) = refl
 brings_is front _ = refl
 
--- what is kept after a packet that the judge accepts
+-- the state of reading after a packet that the judge accepts
 holds_more : (old new : RequestSoFar) (front : List Packet) (packet : Packet) → HoldsPackets old front → new.format ≡ old.format
     → IsAccepted (judge old.limits old.format front packet) → new.state ≡ with_packet old.format old.state packet → HoldsPackets new (front ++ packet ∷ [])
 holds_more old new front packet held same taken adds =
@@ -61,7 +61,7 @@ takes_after old new front packet (Err why) held same taken = (
   tt,
 )
 
--- ---- the judges of requests of the two formats differ
+-- ---- the judges for the two object formats, which differ
 
 -- a request that names no format
 abbrev unnamed : List Packet
@@ -85,7 +85,7 @@ format_of_judge one other Sha1 Sha256 same = absurd (differ one other same)
 format_of_judge one other Sha256 Sha1 same = absurd (differ other one (sym same))
 format_of_judge one other Sha256 Sha256 same = refl
 
--- ---- the limits, the format, and what was asked
+-- ---- the limits, the format, and the contents of the request
 
 abbrev IsStart : Limits → Format → RequestSoFar → Type 0
 IsStart limits format reading = reading ≡ record { limits = limits; format = format; state = state_of format [] }
@@ -94,7 +94,7 @@ judge_of_start : (limits : Limits) (format : Format) (reading : RequestSoFar) �
     → judge reading.limits reading.format ≡ judge limits format
 judge_of_start limits format reading start = ap (λ (r : RequestSoFar). judge r.limits r.format) start
 
--- the format stays with the judge
+-- the object format is unchanged if the judge is unchanged
 pub format_of_later : (limits : Limits) (format : Format) (first reading : RequestSoFar) → IsStart limits format first
     → judge reading.limits reading.format ≡ judge first.limits first.format → reading.format ≡ format
 format_of_later limits format first reading start same =
@@ -103,7 +103,7 @@ format_of_later limits format first reading start same =
 lines_ask : (format : Format) (reading : RequestSoFar) (lines : List Packet) → HoldsPackets reading lines → reading.format ≡ format → reading.state.asked ≡ asked_by_lines format lines
 lines_ask format reading lines held same = ap (λ (state : State). state.asked) held ∙ ap (λ (f : Format). asked_by_lines f lines) same
 
--- the whole list that a reader takes says what the reader holds
+-- a complete list of packets that a reader accepted encodes the contents that the reader holds
 pub read_says : (limits : Limits) (format : Format) (first reading : RequestSoFar) (lines : List Packet) (asked : Asked)
     → IsStart limits format first → judge reading.limits reading.format ≡ judge first.limits first.format
     → IsWhole (judge first.limits first.format) lines → HoldsPackets reading lines → asked ≡ reading.state.asked
@@ -113,7 +113,7 @@ read_says limits format first reading lines asked start same whole held is = rec
   asks = is ∙ lines_ask format reading lines held (format_of_later limits format first reading start same);
 }
 
--- the lists of a request of the manual are within its limits
+-- the lists of a request that the manual allows are within the limits
 lists_within : (limits : Limits) (format : Format) (command : Command) (capabilities arguments : List (List ℕ))
     → AreFew limits format command arguments → IsWithin limits (asked_by_command format command capabilities arguments)
 lists_within limits format LsRefs capabilities arguments few = few
@@ -126,10 +126,10 @@ asked_within limits format lines asked (inr h) =
     subst (IsWithin limits) (sym h.asks)
     (lists_within limits format h.command (map text h.capabilities) (map text h.arguments) h.few)
 
--- ---- a request that is missing
+-- ---- an input without a request
 
 module _ (four : HasFourBytes) (limits : Limits) (format : Format) where
-  -- no packet is read of nothing
+  -- no packet is read from an empty input
   no_packet : (bytes new : List ℕ) (packet : Packet) → bytes ≡ [] → Reads (known_bytes bytes new) (Ok (Some packet)) → ⊥
   no_packet bytes new packet empty read =
       let long = ap length read.1 ∙ length-append read.0 new in
@@ -137,7 +137,7 @@ module _ (four : HasFourBytes) (limits : Limits) (format : Format) where
       let some = four packet read.0 read.2 in
       omega (arith, long, none, some)
 
-  -- nor is a packet refused for what its bytes are
+  -- the packet reader does not reject an empty input because of its bytes
   no_fault : (bytes new : List ℕ) (fault : PacketFault) → bytes ≡ [] → IsOfBytes (why.Line fault) → Reads (known_bytes bytes new) (Err fault) → ⊥
   no_fault bytes new packet_fault.TooLong empty certain read = let none : length bytes ≡ 0 = ap length empty in omega (arith, none, read.0.1.0)
   no_fault bytes new packet_fault.Io empty certain read = certain
@@ -145,7 +145,7 @@ module _ (four : HasFourBytes) (limits : Limits) (format : Format) where
   no_fault bytes new packet_fault.Memory empty certain read = read
   no_fault bytes new fault empty certain read = let none : length bytes ≡ 0 = ap length empty in omega (arith, none, read.0.0)
 
-  -- so nothing but the end comes at once
+  -- before the first packet of an empty input, the end of the input is the only reason that its bytes can cause
   no_reason : (bytes new : List ℕ) (reason : Why) → bytes ≡ [] → IsOfBytes reason → (reason ≡ why.Ended → ⊥)
       → IsReasonAfter (judge limits format) brings [] (known_bytes bytes new) reason → ⊥
   no_reason bytes new (why.Line fault) empty certain later h = no_fault bytes new fault empty certain h
@@ -153,7 +153,7 @@ module _ (four : HasFourBytes) (limits : Limits) (format : Format) where
   no_reason bytes new why.Memory empty certain later h = certain
   no_reason bytes new reason empty certain later h = no_packet bytes new h.0 empty h.1
 
-  -- the empty input begins with no packets, and leaves nothing
+  -- an empty input encodes the empty list of packets, and no bytes remain
   left_of_nothing : (front : List Packet) (bytes spelling mid : List ℕ) → bytes ≡ [] → bytes ≡ spelling ++ mid → SpellsAll front spelling
       → (front ≡ []) × (mid ≡ [])
   left_of_nothing [] bytes spelling mid empty parts spelt =
@@ -169,7 +169,7 @@ module _ (four : HasFourBytes) (limits : Limits) (format : Format) where
       let some = four line spelt.0 spelt.3 in
       absurd (omega (arith, long, front, none, some))
 
-  -- where the bytes between are known
+  -- the bytes of an empty input cause no fault but the end of the input before the first packet
   no_refusal : (front : List Packet) (bytes new : List ℕ) (between : Option (List ℕ)) (fault : MessageFault) → bytes ≡ [] → IsOfBytes fault.why
       → (fault.why ≡ why.Ended → 0 < fault.frame) → fault.frame ≡ length front → ReadsPackets (record { old = Some bytes; new = between }) front
       → IsReasonAfter (judge limits format) brings front (record { old = between; new = Some new }) fault.why → ⊥

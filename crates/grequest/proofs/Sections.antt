@@ -1,5 +1,5 @@
--- The sections of a request: which texts a capability list and a list of arguments may have, and which text more the
--- judge takes after them.
+-- The sections of a request: the texts that a capability list and a list of arguments may have, and the next text that
+-- the judge accepts.
 use Rattle.std.proofs.Common.{◌≡◌, ℕ, ◌+◌, ◌<◌, ◌≤◌, ◌==◌, Bool, true, false, cond, List, [], ◌∷◌, ◌++◌, length, Option, Some, None, refl, sym, ap, subst, ◌∙◌, arith}
 use Rattle.std.specs.Option.{option_to_list}
 use Rattle.std.specs.Prelude.{All, is_none, is_some, nat_lt}
@@ -34,7 +34,7 @@ pub is_none-None : {X : Type 0} (o : Option X) → is_none o ≡ true → o ≡ 
 is_none-None None e = refl
 is_none-None (Some x) e = cc
 
--- how many a text more adds to what texts give
+-- the number of values in some texts, after one more text
 count_push : {Y Z : Type 0} (form_of : List ℕ → Y) (give : Y → Option Z) (lines : List (List ℕ)) (line : List ℕ)
     (form : Y) → form_of line ≡ form → length (filter_map (λ text. give (form_of text)) (lines ++ line ∷ []))
     ≡ length (filter_map (λ text. give (form_of text)) lines) + length (option_to_list (give form))
@@ -61,7 +61,7 @@ pub record AreCapabilities (format : Format) (lines : List (List ℕ)) : Type 0 
 pub AreCapabilities-nil : (format : Format) → AreCapabilities format []
 AreCapabilities-nil format = record { are = All-nil (λ line. IsCapability format (capability_form line)); one_agent = omega arith; one_format = omega arith }
 
--- the judge takes the text after these
+-- the judge accepts a capability of this form after the capabilities `lines`
 abbrev pub TakesCapability : Format → Command → List (List ℕ) → List (List ℕ) → CapabilityForm → Type 0
 TakesCapability format command lines arguments form = judge_capability format (state_at format (InCapabilities command) lines arguments) form ≡ Open
 
@@ -115,7 +115,7 @@ AreCapabilities-parts format command lines arguments line h =
       capability_taken format command lines arguments line (capability_form line) refl parts.1 h.one_agent h.one_format,
     )
 
--- each is an agent or a format
+-- there are no more capabilities than agents and object formats, since each capability is one of these
 pub counted : (format : Format) (lines : List (List ℕ)) → All (λ line. IsCapability format (capability_form line)) lines → length lines ≤ length (agents lines) + length (formats lines)
 counted format [] h = omega arith
 counted format (line ∷ lines) h =
@@ -159,7 +159,7 @@ AreFew-nil limits format Fetch = (omega arith, omega arith)
 pub AreArguments-nil : (limits : Limits) (format : Format) (command : Command) → AreArguments limits format command []
 AreArguments-nil limits format command = record { are = All-nil (IsArgument format command); few = AreFew-nil limits format command; room = omega arith }
 
--- the judge takes the text after these
+-- the judge accepts the argument `line` after the arguments `lines`
 abbrev pub TakesArgument : Limits → Format → Command → List (List ℕ) → List (List ℕ) → List ℕ → Type 0
 TakesArgument limits format command capabilities lines line = judge_argument limits format command (state_at format (InArguments command) capabilities lines) line ≡ Open
 
@@ -167,7 +167,7 @@ room_for : (b : Bool) → b ≡ true → if_room b ≡ Open
 room_for true e = refl
 room_for false e = cc
 
--- an argument of which only so many are taken
+-- an argument of a kind that has a maximum number
 module _ (test : Bool) (lines before : List (List ℕ)) (limit : ℕ) (why : Why) where
   few_found : cond test (of_few (length lines) before limit) (Refused why) ≡ Open
       → (test ≡ true) × (length lines < max_arguments) × (length before < limit)
@@ -182,7 +182,7 @@ module _ (test : Bool) (lines before : List (List ℕ)) (limit : ℕ) (why : Why
       opens_if test (of_few (length lines) before limit) why h
       (room_for _ (and_from _ _ (lt-ltb (length lines) max_arguments room) (lt-ltb (length before) limit few)))
 
--- what the judge finds of one argument more: its form, room, and room of its kind
+-- the facts about an accepted argument: it is well-formed, and there is room for it and for its kind
 record Found (kind : Type 0) (is : Type 0) (lines : List (List ℕ)) : Type 0 where
   form : is
   room : length lines < max_arguments
@@ -206,7 +206,7 @@ ls_taken limits lines (RefPrefix prefix) h room few =
     few_taken (is_none (prefix_fault prefix)) lines (prefixes lines) (max_prefixes limits) BadName (ap is_none h) room (omega (arith, few))
 ls_taken limits lines UnknownLsArgument h room few = absurd h
 
--- so many wants and haves are there
+-- after this argument, the numbers of wants and haves are within their limits
 abbrev FewIds : Limits → Format → List (List ℕ) → FetchArgument → Type 0
 FewIds limits format lines form =
     (length (wants format lines) + length (option_to_list (want_value format form)) ≤ max_wants limits)

@@ -1,4 +1,4 @@
--- What an open request is: nothing yet, a command and its capabilities, or these, a delimiter and arguments.
+-- The form of an open request: no packets, or a command and its capabilities, perhaps with a delimiter and arguments.
 use Rattle.std.proofs.Common.{◌≡◌, ℕ, ◌+◌, ◌≤◌, suc, List, [], ◌∷◌, ◌++◌, length, map, codes, ◌⊎◌, inl, inr, refl, sym, ap, subst, ◌∙◌, append_assoc, append-nil, arith}
 use Rattle.std.proofs.lemmas.List.{length-append, length-map, map_push}
 use Rattle.gpkt.specs.Packets.{Packet, Data, Flush, Delim, ResponseEnd, text}
@@ -22,7 +22,7 @@ use Rattle.grequest.proofs.Verdicts.{flush-never_open, names_format, named-taken
 
 -- ---- lists that grow
 
--- what holds of a list, and of a list with one more where it holds of the list, holds of each list that begins so
+-- induction: if `P` is true for `xs` and stays true for each element that is appended, it is true for `xs ++ ys`
 pub by_pushes : {X : Type 0} (P : List X → Type 0) → ((xs : List X) (x : X) → P xs → P (xs ++ x ∷ [])) → (xs ys : List X) → P xs → P (xs ++ ys)
 by_pushes P step xs [] h = subst P (sym (append-nil xs)) h
 by_pushes P step xs (y ∷ ys) h = subst P (append_assoc xs (y ∷ []) ys) (by_pushes P step (xs ++ y ∷ []) ys (step xs y h))
@@ -33,7 +33,7 @@ by_pushes P step xs (y ∷ ys) h = subst P (append_assoc xs (y ∷ []) ys) (by_p
 abbrev pub listing : List ℕ → List (List ℕ) → List Packet
 listing first capabilities = Data first ∷ map Data capabilities
 
--- and a delimiter and arguments
+-- a command, its capabilities, a delimiter and arguments
 abbrev pub arguing : List ℕ → List (List ℕ) → List (List ℕ) → List Packet
 arguing first capabilities arguments = Data first ∷ (map Data capabilities ++ Delim ∷ map Data arguments)
 
@@ -45,7 +45,7 @@ arguing-push first capabilities arguments line =
     ap (λ (xs : List Packet). Data first ∷ xs)
     (append_assoc (map Data capabilities) (Delim ∷ map Data arguments) (Data line ∷ []) ∙ ap (λ (xs : List Packet). map Data capabilities ++ Delim ∷ xs) (sym (map_push Data arguments line)))
 
--- ---- what they come to
+-- ---- the section and the texts after these packets
 
 place-arguments : (command : Command) (arguments : List (List ℕ)) → place_after next_place (InArguments command) (map Data arguments) ≡ InArguments command
 place-arguments command [] = refl
@@ -63,7 +63,7 @@ same_at : (format : Format) {place place' : RequestPlace} {capabilities capabili
     → state_at format place capabilities arguments ≡ state_at format place' capabilities' arguments'
 same_at format place capabilities arguments = λ i. state_at format (place i) (capabilities i) (arguments i)
 
--- capabilities stay in their section, whatever follows
+-- packets of capabilities do not change the section, whatever packets follow
 module _ (command : Command) (rest : List Packet) where
   place_over : (capabilities : List (List ℕ)) → place_after next_place (InCapabilities command) (map Data capabilities ++ rest)
       ≡ place_after next_place (InCapabilities command) rest
@@ -109,7 +109,7 @@ state_of-arguing format command first capabilities arguments is =
     (ap (λ xs. map text capabilities ++ xs) (no_capabilities-there command arguments) ∙ append-nil (map text capabilities))
     (arguments-there command arguments)
 
--- ---- what an open request is
+-- ---- the form of an open request
 
 pub record IsListed (format : Format) (front : List Packet) : Type 0 where
   pub command : Command
@@ -208,13 +208,13 @@ shape_push limits format front packet (inl e) goes =
 shape_push limits format front packet (inr (inl h)) goes = listed_push limits format front packet h goes
 shape_push limits format front packet (inr (inr h)) goes = argued_push limits format front packet h goes
 
--- an open list is one of these
+-- each open list of packets has one of these forms
 pub shape_of_open : ((j : Judge) → LawsOf j) → (limits : Limits) (format : Format) (front : List Packet) → IsOpen (judge limits format) front → Shape limits format front
 shape_of_open laws limits format front =
     by_pushes (λ (xs : List Packet). IsOpen (judge limits format) xs → Shape limits format xs)
     (λ xs x before opened. shape_push limits format xs x (before ((laws (judge limits format)).front xs (x ∷ []) opened)) (opened.each xs x [] refl)) [] front (λ _. inl refl)
 
--- ---- and each of these is open
+-- ---- lists of these forms, all of which are open
 
 first_open : (limits : Limits) (format : Format) (command : Command) (first : List ℕ) → text first ≡ codes "command=" ++ command_name command → judge limits format [] (Data first) ≡ Open
 unfolding capability_texts argument_texts
@@ -266,9 +266,9 @@ arguing-is_open laws limits format command first capabilities arguments is are n
     subst (IsOpen (judge limits format)) (arguing-push first capabilities xs x) (exact.goes_on _ (Data x) (before parts.0) goes))
     [] arguments (λ _. start)
 
--- ---- how long it gets
+-- ---- the length of an open request
 
--- a command, two capabilities, a delimiter and the arguments at most
+-- an open request has at most a command, two capabilities, a delimiter, and the maximum number of arguments
 bounded : (limits : Limits) (format : Format) (front : List Packet) → Shape limits format front
     → length front ≤ max_arguments + 4
 bounded limits format front (inl e) = let none : length front ≡ 0 = ap length e in omega arith

@@ -1,4 +1,4 @@
--- What a packet that is taken adds to what the packets before it come to.
+-- The change of the state of reading by an accepted packet.
 use Rattle.std.proofs.Common.{◌≡◌, ℕ, Bool, true, false, List, [], ◌∷◌, ◌++◌, length, refl, sym, ap, subst, ◌∙◌, append-nil}
 use Rattle.std.specs.Prelude.{is_none}
 use Rattle.std.specs.Option.{option_to_list}
@@ -24,7 +24,7 @@ use Rattle.grequest.specs.steps.RequestState.{with_command, with_agent, with_cap
 use Rattle.grequest.specs.steps.RequestState.{with_packet}
 use Rattle.grequest.proofs.AskedLemmas.{ls_refs_asked-push, fetch_asked-push}
 
--- ---- what a packet more does to the place, and to the texts of each section
+-- ---- the section, and the texts of each section, after one more packet
 
 place_of-push : (front : List Packet) (packet : Packet)
     → place_of (front ++ packet ∷ []) ≡ next_place (place_of front) packet
@@ -40,7 +40,7 @@ argument_texts-push : (front : List Packet) (packet : Packet)
 unfolding argument_texts
 argument_texts-push front packet = collect-push next_place argument_there First front packet
 
--- ---- the state of a place and of the texts so far
+-- ---- the state in a section, after some texts
 
 abbrev pub state_at : Format → RequestPlace → List (List ℕ) → List (List ℕ) → State
 state_at format place capabilities arguments = record {
@@ -53,7 +53,7 @@ state_at format place capabilities arguments = record {
 same_state : {a b : State} → a.place ≡ b.place → a.format_lines ≡ b.format_lines → a.argument_lines ≡ b.argument_lines → a.asked ≡ b.asked → a ≡ b
 same_state place formats arguments asked = λ i. record { place = place i; format_lines = formats i; argument_lines = arguments i; asked = asked i }
 
--- no packet leads back to the first place
+-- no packet leads back to the section `First`
 never_first : (place : RequestPlace) (lines : List Packet) → place_after next_place place lines ≡ First → place ≡ First
 never_first First lines e = refl
 never_first (InCapabilities command) (Delim ∷ lines) e = let no : InArguments command ≡ First = never_first (InArguments command) lines e in cc
@@ -103,7 +103,7 @@ pub formats-push : (capabilities : List (List ℕ)) (line : List ℕ) (form : Ca
 formats-push capabilities line form is =
     filter_map-push (λ text. format_value (capability_form text)) capabilities line _ (ap format_value is)
 
--- what is asked, with these agents
+-- the contents of a request, with the agent from the list `named`
 asked_with_agents : Format → Command → List (List ℕ) → List (List ℕ) → List (List ℕ) → Asked
 asked_with_agents format LsRefs named capabilities arguments = Ls (record (ls_refs_asked capabilities arguments) { agent = first_of named })
 asked_with_agents format Fetch named capabilities arguments = Fetches (record (fetch_asked format capabilities arguments) { agent = first_of named })
@@ -135,7 +135,7 @@ pub agent_of-by : (format : Format) (command : Command) (capabilities arguments 
 agent_of-by format LsRefs capabilities arguments = refl
 agent_of-by format Fetch capabilities arguments = refl
 
--- a capability is taken only where it is the first
+-- a capability is accepted only if it is the first of its kind
 pub once-first : (is_first : Bool) (verdict : Verdict) → IsAccepted (once is_first verdict) → is_first ≡ true
 once-first true verdict h = refl
 once-first false verdict h = absurd h
@@ -171,7 +171,7 @@ argument_adds format Fetch capabilities arguments line =
 
 -- ---- a packet
 
--- the state with the texts that a packet gives
+-- the state after the packet, with its section and its text
 state_more : Format → RequestPlace → List (List ℕ) → List (List ℕ) → Packet → State
 state_more format place capabilities arguments packet =
     state_at format (next_place place packet) (capabilities ++ capability_there place packet) (arguments ++ argument_there place packet)
@@ -219,7 +219,7 @@ state_of-more format front packet =
     ∙ ap (λ (xs : List (List ℕ)). state_at format (next_place (place_of front) packet) xs (argument_texts (front ++ packet ∷ []))) (capability_texts-push front packet)
     ∙ ap (λ (xs : List (List ℕ)). state_at format (next_place (place_of front) packet) (capability_texts front ++ capability_there (place_of front) packet) xs) (argument_texts-push front packet)
 
--- a packet that is taken adds this
+-- an accepted packet changes the state as `with_packet` states
 pub state_of-push : (limits : Limits) (format : Format) (front : List Packet) (packet : Packet)
     → IsAccepted (judge limits format front packet)
     → state_of format (front ++ packet ∷ []) ≡ with_packet format (state_of format front) packet

@@ -1,4 +1,4 @@
--- Facts on the texts of a request's packets, and on the forms that they have.
+-- Facts about the texts of a request's packets, and about the kinds of the texts.
 use Rattle.std.proofs.Common.{◌≡◌, ℕ, ◌+◌, ◌&&◌, Bool, true, false, cond, List, [], ◌∷◌, ◌++◌, take, drop, codes, ◌⊎◌, inl, inr, Option, Some, None, refl, sym, ap, subst, ◌∙◌, suc, zero, arith}
 use Rattle.std.proofs.lemmas.Grind.{common_steps}
 use Rattle.std.proofs.lemmas.Slice.Eq.{bytes_eq-Decides}
@@ -23,7 +23,7 @@ is_word-same word line e = (bytes_eq-Decides line word).1 e
 
 -- ---- texts
 
--- a line feed at the end is no part of the text
+-- a line feed at the end is not part of the text
 pub text_of_line : (words : List ℕ) → text (words ++ 10 ∷ []) ≡ words
 text_of_line words = grind (arith, common_steps)
 
@@ -40,7 +40,7 @@ error_front : (payload words more : List ℕ) → payload ≡ words ++ 10 ∷ []
 error_front payload [] more e at = absurd (let no : 10 ∷ [] ≡ first_of_error ∷ more = sym e ∙ at in let same : 10 ≡ first_of_error = cc in omega arith)
 error_front payload (x ∷ words) more e at = (words, (let no : x ∷ (words ++ 10 ∷ []) ≡ first_of_error ∷ more = sym e ∙ at in let same : x ≡ first_of_error = cc in cc))
 
--- the text of an error begins as the error
+-- the text of a payload that reports an error begins with the first byte of `ERR `
 error_text : (payload said : List ℕ) → peer_error payload ≡ Some said → (rest : List ℕ) × (text payload ≡ first_of_error ∷ rest)
 error_text payload said e =
     let more = drop 1 (codes "ERR ") ++ said in
@@ -51,7 +51,7 @@ no_error_by : (payload : List ℕ) (said : Option (List ℕ)) → peer_error pay
 no_error_by payload None e other = refl
 no_error_by payload (Some said) e other = let h = error_text payload said e in absurd (other h.0 h.1)
 
--- a payload whose text begins otherwise reports no error
+-- a payload whose text does not begin with this byte reports no error
 pub no_error : (payload : List ℕ) → ((rest : List ℕ) → text payload ≡ first_of_error ∷ rest → ⊥) → peer_error payload ≡ None
 no_error payload other = no_error_by payload (peer_error payload) refl other
 
@@ -90,7 +90,7 @@ named_form Fetch = refl
 pub command_form-line : (line : List ℕ) (command : Command) → line ≡ codes "command=" ++ command_name command → command_form line ≡ Known command
 command_form-line line command e = ap command_form e ∙ named_form command
 
--- an error is no command
+-- the text of a command does not begin with the first byte of `ERR `
 pub command_no_error : (line : List ℕ) (command : Command) → line ≡ codes "command=" ++ command_name command → (rest : List ℕ) → line ≡ first_of_error ∷ rest → ⊥
 command_no_error line LsRefs e rest at = let same : 99 ≡ first_of_error = (let no : codes "command=ls-refs" ≡ first_of_error ∷ rest = sym e ∙ at in cc) in omega arith
 command_no_error line Fetch e rest at = let same : 99 ≡ first_of_error = (let no : codes "command=fetch" ≡ first_of_error ∷ rest = sym e ∙ at in cc) in omega arith
@@ -102,7 +102,7 @@ one_key format true object a o h = inl refl
 one_key format false true a o h = inr refl
 one_key format false false a o h = absurd h
 
--- no key begins as an error
+-- the key of a capability does not begin with the first byte of `ERR `
 key_no_error : (format : Format) (capability : Capability) (rest : List ℕ) → capability.key ≡ first_of_error ∷ rest → IsCapability format (known_capability capability) → ⊥
 key_no_error format capability rest at h =
     elim (one_key format (is_word (codes "agent") capability.key) (is_word (codes "object-format") capability.key) (agent_with capability.value) (format_with capability.value) h) [

@@ -1,4 +1,4 @@
--- What the judge of requests says of a packet: why it is refused, and that a flush alone ends a request.
+-- The verdicts of the judge of requests: the reasons to reject a packet, and the flush as the only end of a request.
 use Rattle.std.proofs.Common.{◌≡◌, ℕ, ◌==◌, ◌&&◌, Bool, true, false, cond, subst, List, length, ◌≤◌, Option, None, refl}
 use Rattle.std.proofs.Common.{sym, ap, ◌∙◌, arith}
 use Rattle.std.specs.Prelude.{is_none, is_some, nat_lt}
@@ -33,7 +33,7 @@ use Rattle.grequest.proofs.StateLemmas.{state_at}
 
 -- ---- texts
 
--- a text, or a delimiter, goes on with the request, or is refused for its own sake
+-- the verdict on a text or a delimiter: the request continues, or the packet is rejected because of its content
 abbrev pub IsForText : Verdict → Type 0
 IsForText Open = Unit {0}
 IsForText Whole = ⊥
@@ -119,14 +119,14 @@ of_packet limits format state ResponseEnd = tt
 pub refuses_packets : (limits : Limits) (format : Format) → RefusesPackets (judge limits format)
 refuses_packets limits format front packet = of_packet limits format (state_of format front) packet
 
--- ---- the peer's errors come first
+-- ---- the precedence of the peer's errors
 
--- a text that goes on is one of its place
+-- if a request continues after a data packet, the verdict on its text in this section is `Open`
 pub text-open : (limits : Limits) (format : Format) (state : State) (payload : List ℕ) → judge_at limits format state (Data payload) ≡ Open → judge_text limits format state.place state (text payload) ≡ Open
 unfolding judge_at
 text-open limits format state payload e = open_unless (peer_error payload) _ e
 
--- and a text of its place goes on, unless it reports an error
+-- if the verdict on a text in this section is `Open` and its packet reports no error, the request continues
 pub open-text : (limits : Limits) (format : Format) (state : State) (payload : List ℕ) → peer_error payload ≡ None → judge_text limits format state.place state (text payload) ≡ Open → judge_at limits format state (Data payload) ≡ Open
 unfolding judge_at
 open-text limits format state payload none e = ap (λ (said : Option (List ℕ)). unless_error said (judge_text limits format state.place state (text payload))) none ∙ e
@@ -174,7 +174,7 @@ is_named false why verdict taken e never = refl
 pub at_one : (n : ℕ) → n ≤ 1 → (n ≡ 0 → ⊥) → n ≡ 1
 at_one n one some = omega arith
 
--- comes where the format is named, or need not be
+-- if the end of the capabilities is not rejected, the object format is named or need not be named
 pub names_format : (format : Format) (command : Command) (lines arguments : List (List ℕ)) (verdict : Verdict) → ((why : Why) → Refused why ≡ verdict → ⊥) → length (formats lines) ≤ 1
     → unless_unnamed format (state_at format (InCapabilities command) lines arguments) verdict ≡ verdict → NamesFormat format lines
 names_format Sha1 command lines arguments verdict never one e = one
@@ -191,7 +191,7 @@ pub named-taken : (format : Format) (command : Command) (lines arguments : List 
 named-taken Sha1 command lines arguments verdict h = refl
 named-taken Sha256 command lines arguments verdict h = unless-named (length (formats lines) == 0) _ verdict (ne_eqb (length (formats lines)) 0 (λ e. omega (arith, h, e)))
 
--- ---- only a flush ends
+-- ---- the flush as the only end of a request
 
 pub ends-flush : (limits : Limits) (format : Format) (state : State) (packet : Packet) → judge_at limits format state packet ≡ Whole → packet ≡ Flush
 unfolding judge_at

@@ -1,5 +1,5 @@
--- Complete requests: each open request can be ended, and has had no more packets than can be counted; and the requests
--- that the judge accepts are those of the manual, and they ask the same.
+-- Complete requests. Each open request can be completed and has a bounded number of packets. The judge accepts exactly
+-- the requests of the manual, with the same contents.
 use Rattle.std.proofs.Common.{◌≡◌, ℕ, ◌+◌, ◌<◌, ◌≤◌, ◌^◌, ◌==◌, Bool, List, [], ◌∷◌, ◌++◌, length, map, codes, inl, inr}
 use Rattle.std.proofs.Common.{refl, sym, ap, ◌∙◌, append_assoc, arith, ◌⊎◌, subst, append-nil}
 use Rattle.std.proofs.lemmas.Bool.{cases_eq, eq-eqb, ne_eqb}
@@ -27,12 +27,12 @@ use Rattle.grequest.specs.Manual.{NamesFormat, IsCommandRequest, IsRequest}
 use Rattle.grequest.proofs.Texts.{command_line, command_form-line}
 use Rattle.grequest.proofs.Sections.{AreCapabilities, AreArguments, AreArguments-nil}
 
--- ---- a flush ends it
+-- ---- completing a request by a flush
 
 ended_by_flush : (limits : Limits) (format : Format) (front : List Packet) → IsOpen (judge limits format) front → judge limits format front Flush ≡ Whole → Begins (judge limits format) front
 ended_by_flush limits format front opened ends = (Flush ∷ [], record { front = front; last = Flush; parts = refl; goes = opened; ends = ends })
 
--- or another packet and a flush
+-- an open request can be completed by another packet and a flush, if the judge accepts both
 ended_by_two : ((j : Judge) → LawsOf j) → (limits : Limits) (format : Format) (front : List Packet) (packet : Packet) → IsOpen (judge limits format) front → judge limits format front packet ≡ Open → judge limits format (front ++ packet ∷ []) Flush ≡ Whole
     → Begins (judge limits format) front
 ended_by_two laws limits format front packet opened goes ends =
@@ -66,7 +66,7 @@ named_ends limits command lines =
     judge-flush limits Sha256 (with_capability (state_at Sha256 (InCapabilities command) lines []) (ObjectFormat (codes "sha256")))
     ∙ unless-named (length (formats lines) + 1 == 0) WrongFormat Whole (ne_eqb (length (formats lines) + 1) 0 (λ e. omega arith))
 
--- ---- each open request
+-- ---- completing each open request
 
 listed_ends : ((j : Judge) → LawsOf j) → (limits : Limits) (format : Format) (front : List Packet) → IsOpen (judge limits format) front → IsListed format front → Begins (judge limits format) front
 listed_ends laws limits Sha1 front opened h =
@@ -95,14 +95,14 @@ ends_by_shape laws limits format front opened (inr (inr h)) = ended_by_flush lim
 pub HasEndings-judge : ((j : Judge) → LawsOf j) → (limits : Limits) (format : Format) → HasEndings (judge limits format)
 HasEndings-judge laws limits format front opened = ends_by_shape laws limits format front opened (shape_of_open laws limits format front opened)
 
--- ---- how many packets
+-- ---- the number of packets
 
 pub open_is_short : ((j : Judge) → LawsOf j) → (limits : Limits) (format : Format) (front : List Packet) → IsOpen (judge limits format) front → length front < 2 ^ 60
 open_is_short laws limits format front opened = omega (arith, open_is_bounded laws limits format front opened)
 
 -- ---- the flush at the end
 
--- it adds nothing to what is asked
+-- a flush that ends a request does not change its contents
 asked_by_lines-flush : (limits : Limits) (format : Format) (front : List Packet) → judge limits format front Flush ≡ Whole → asked_by_lines format (front ++ Flush ∷ []) ≡ asked_by_lines format front
 unfolding with_packet
 asked_by_lines-flush limits format front ends =
@@ -171,7 +171,7 @@ manual_from_judge laws limits format lines asked h =
 
 -- ---- from the manual to the judge
 
--- an open list and a flush say what they ask
+-- an open list and a final flush encode a request with the contents of the list
 says : (limits : Limits) (format : Format) (lines front : List Packet) (asked : Asked) → lines ≡ front ++ Flush ∷ [] → IsOpen (judge limits format) front → judge limits format front Flush ≡ Whole → asked ≡ asked_by_lines format front → Says limits format lines asked
 says limits format lines front asked parts goes ends asks = record {
   whole = record { front = front; last = Flush; parts = parts; goes = goes; ends = ends };

@@ -1,4 +1,4 @@
--- The packets that are still to be written of a request.
+-- The packets of a request that remain to be written.
 use Rattle.std.proofs.Common.{◌≡◌, ℕ, ◌+◌, ◌<◌, ◌≤◌, Bool, false, List, [], ◌∷◌, ◌++◌, length, map, drop, get_or, codes, Option, Some, None, sym, ap, ◌∙◌, suc, add-one, append_assoc}
 use Rattle.std.proofs.Math.Seq.{drop-cons}
 use Rattle.gpkt.specs.Packets.{Packet, Delim, Flush}
@@ -15,7 +15,7 @@ use Rattle.grequest.specs.Asked.{LsRefsAsked, FetchAsked, fetch_has, fetch_with}
 use Rattle.grequest.specs.WellFormed.{IsAgent}
 use Rattle.grequest.proofs.WrittenArguments.{word_value_is_short}
 
--- ---- the next of some packets
+-- ---- the next packet to write
 
 drop_next : {X : Type 0} (values : List X) (at : ℕ) (value : X) → at < length values → value ≡ get_or values at value
     → drop at values ≡ value ∷ drop (at + 1) values
@@ -30,7 +30,7 @@ module _ {X : Type 0} (line : X → Packet) where
   pub list_first : (values lent : List X) (rest : List Packet) → lent ≡ values → map line values ++ rest ≡ map line lent ++ rest
   list_first values lent rest is = ap (λ xs. map line xs ++ rest) (sym is)
 
--- the flags of the rows that are left
+-- the packets of the flags in the rows from `at` on: the packet of the first of these rows, then the others
 pub flags_next : {F : Type 0} (number : F → ℕ) (kept : List Bool) (rows : List (F × Bor (List ℕ))) (at : ℕ) (row : F × Bor (List ℕ)) (word : List ℕ) (is_set : Bool)
     → at < length rows → row ≡ get_or rows at row → word ≡ row.1.now → is_set ≡ flag_at number kept row.0
     → flags_packets (table_in (drop at rows)) (flags_at number (table_in (drop at rows)) kept)
@@ -43,7 +43,7 @@ flags_next number kept rows at row word is_set inside is same set =
 pub flag_first : (word : List ℕ) (is_set lent : Bool) (rest : List Packet) → lent ≡ is_set → flag_packets word is_set ++ rest ≡ flag_packets word lent ++ rest
 flag_first word is_set lent rest is = ap (λ (b : Bool). flag_packets word b ++ rest) (sym is)
 
--- ---- the arguments one after the other
+-- ---- the arguments in sequence
 
 pub ls_arguments_first : (asked : LsRefsAsked) → ls_argument_packets asked ++ Flush ∷ []
     ≡ flags_packets ls_flags asked.flags ++ (map prefix_packet asked.prefixes ++ Flush ∷ [])
@@ -62,7 +62,7 @@ fetch_arguments_first asked =
 pub flags_first : {F : Type 0} (table : Table F) (flags lent : FlagsOf table) (rest : List Packet) → lent ≡ flags → flags_packets table flags ++ rest ≡ flags_packets table lent ++ rest
 flags_first table flags lent rest is = ap (λ (f : FlagsOf table). flags_packets table f ++ rest) (sym is)
 
--- ---- before the arguments
+-- ---- the packets before the arguments
 
 pub head_first : (format : Format) (command : Command) (agent lent : Option (List ℕ)) (arguments rest : List Packet) → lent ≡ agent
     → arguments ++ Flush ∷ [] ≡ rest
@@ -73,7 +73,7 @@ head_first format command agent lent arguments rest is flat =
     (ap (λ (xs : List Packet). (agent_packets lent ++ format_packets format) ++ Delim ∷ xs) flat
     ∙ sym (append_assoc (agent_packets lent ++ format_packets format) (Delim ∷ []) rest))
 
--- an agent fits a packet
+-- an agent has at most `max_capability` bytes
 pub agent_is_short : (agent : Option (List ℕ)) (value : List ℕ) → IsAgent agent → agent ≡ Some value → length value ≤ max_capability
 agent_is_short None value word is = cc
 agent_is_short (Some other) value word is = rw (let same : value ≡ other = cc in same) (word_value_is_short other word)

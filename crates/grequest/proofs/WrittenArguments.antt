@@ -1,4 +1,4 @@
--- What the capabilities, the ids and the arguments say that are written of a request.
+-- The contents that the written capabilities, ids and arguments of a request encode.
 use Rattle.std.proofs.Common.{◌≡◌, ℕ, ◌≤◌, Bool, true, List, [], ◌∷◌, ◌++◌, length, codes, Option, Some, None, refl}
 use Rattle.std.proofs.Common.{sym, ap, subst, ◌∙◌, arith, ◌&&◌, ◌||◌, false, cond, map}
 use Rattle.std.specs.Prelude.{All, position, nat_lt, nat_le, is_some, IsSome}
@@ -83,7 +83,7 @@ pub format_form : capability_form (codes "object-format=" ++ format_name Sha256)
 unfolding capability_form capability_of is_key is_value
 format_form = refl
 
--- what the capabilities say
+-- the written capabilities are valid, contain no agent but `agent`, and name the format as required
 pub record Capable (format : Format) (agent : Option (List ℕ)) : Type 0 where
   pub are : All (λ line. IsCapability format (capability_form line)) (capability_words format agent)
   pub named : agents (capability_words format agent) ≡ option_to_list agent
@@ -120,7 +120,7 @@ capable Sha256 (Some value) h =
 
 -- ---- ids
 
--- the text of an id spells it in its format
+-- the text of an id encodes this id in its format
 abbrev pub AreSpelt : Type 0
 AreSpelt = (format : Format) (id : List ℕ) → IsIdOf format id → IsIdTextOf format (id_text id) id
 
@@ -138,7 +138,7 @@ known_ls flag (KnownLsFlag other) h = ap KnownLsFlag (sym (one_ls_flag flag othe
 known_ls flag (RefPrefix prefix) h = cc
 known_ls flag UnknownLsArgument h = cc
 
--- the text of each row is read as its flag
+-- the text of each row is parsed as the flag of the row
 is_ls_row : LsRefsFlag × List ℕ → Bool
 is_ls_row row = is_ls_flag row.0 (ls_argument row.1)
 
@@ -159,7 +159,7 @@ pub prefix_form : (prefix : List ℕ) → ls_argument (prefix_text prefix) ≡ R
 unfolding ls_argument after_word
 prefix_form prefix = refl
 
--- what the arguments say
+-- the written arguments are valid, and encode the flags and the prefixes of the request
 pub record SaysLs (format : Format) (asked : LsRefsAsked) : Type 0 where
   pub are : All (IsArgument format LsRefs) (ls_texts asked)
   pub flags : ls_flags_among (ls_texts asked) ≡ asked.flags
@@ -225,7 +225,7 @@ pub have_form : (id : List ℕ) → fetch_argument (have_text id) ≡ Have (id_t
 unfolding fetch_argument after_word
 have_form id = refl
 
--- the flags but done, and done, are the flags
+-- a flag is set exactly if it is set among the flags other than `done`, or is `done` and set
 with_done : (asked : FetchAsked) (flag : FetchFlag) (is : Bool) → same_fetch_flag flag Done ≡ is
     → (cond is false (fetch_has asked flag) || (fetch_has asked Done && is)) ≡ fetch_has asked flag
 with_done asked flag true is = and-true (fetch_has asked Done) ∙ ap (fetch_has asked) (sym (one_fetch_flag flag Done is))

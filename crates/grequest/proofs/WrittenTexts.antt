@@ -1,4 +1,4 @@
--- The texts of a written request: its flags and its values, with their packets and what they say.
+-- The texts of a written request, for its flags and its values: their packets and their contents.
 use Rattle.std.proofs.Common.{◌≡◌, ℕ, ◌≤◌, ◌&&◌, ◌||◌, Bool, true, false, List, [], ◌∷◌, ◌++◌, length, map, Option}
 use Rattle.std.proofs.Common.{Some, None, refl, sym, ap, ◌∙◌, append-nil, arith, codes}
 use Rattle.std.specs.Prelude.{All}
@@ -37,7 +37,7 @@ texts_of_lines (words ∷ texts) = λ i. text_of_line words i ∷ texts_of_lines
 
 -- ---- lists of texts
 
--- a flag's text, where the flag is set
+-- the text of a flag if the flag is set, otherwise no text
 abbrev pub flag_texts : List ℕ → Bool → List (List ℕ)
 flag_texts word false = []
 flag_texts word true = word ∷ []
@@ -46,7 +46,7 @@ pub flag_lines : (word : List ℕ) (is_set : Bool) → flag_packets word is_set 
 flag_lines word false = refl
 flag_lines word true = refl
 
--- lists of packets one after the other, and their texts
+-- two concatenated lists of packets are the packets of the concatenated texts
 pub joined : {front back : List Packet} (texts more : List (List ℕ)) → front ≡ map text_packet texts → back ≡ map text_packet more → front ++ back ≡ map text_packet (texts ++ more)
 joined texts more e f = (λ i. e i ++ f i) ∙ sym (map-append text_packet texts more)
 
@@ -54,7 +54,7 @@ pub flag_count : (word : List ℕ) (is_set : Bool) → length (flag_texts word i
 flag_count word false = omega arith
 flag_count word true = omega arith
 
--- a flag's text passes a test where it is set
+-- the text of a flag is written and passes a test exactly if the flag is set and its text passes the test
 pub flag_among : (p : List ℕ → Bool) (word : List ℕ) (is_set passes : Bool) → p word ≡ passes → list_any p (flag_texts word is_set) ≡ (is_set && passes)
 flag_among p word false passes is = refl
 flag_among p word true passes is = or-false (p word) ∙ is
@@ -96,7 +96,7 @@ All-imply P Q step xs h k d lt = step _ (h k d lt)
 
 -- ---- the flags of a table
 
--- what is among the texts of a flag and of those after it
+-- Boolean equation: a flag occurs among the texts of the first row or of the rows after it
 among_both : (here all any same : Bool) → (same ≡ true → here ≡ all) → ((here && same) || (all && any)) ≡ (all && (same || any))
 among_both true true any true is = refl
 among_both false false any true is = refl
@@ -139,7 +139,7 @@ module _ {F : Type 0} where
 
     module _ (same : F → F → Bool) (one : (a b : F) → same a b ≡ true → a ≡ b) (says : F → List ℕ → Bool)
         (shows : (row : F × List ℕ) (flag : F) → test row ≡ true → says flag row.1 ≡ same flag row.0) where
-      -- a flag is among the texts where it is set, and in the table
+      -- a flag occurs among the texts exactly if it is set and is in the table
       pub flags_said : (table : Table F) (passes : F → Bool) (flag : F) → list_all test table ≡ true
           → list_any (says flag) (flags_texts table (flags_where table passes)) ≡ (passes flag && list_any (λ row. same flag row.0) table)
       flags_said [] passes flag h = none (passes flag)

@@ -1,5 +1,5 @@
 -- The texts of a request's packets (gitprotocol-v2(5), "Command Request", "ls-refs", "fetch"): the kind and the value
--- of each text. There are tables for commands, for capabilities and for the arguments of each command.
+-- of each text. A text is a command, a capability or an argument of a command.
 use Rattle.std.specs.Prelude.{Bool, [], ◌∷◌, codes, if◌then◌else◌, Option, Some, None}
 use Rattle.std.specs.Str.{bytes_eq}
 use Rattle.gpkt.specs.Packets.{Bytes}

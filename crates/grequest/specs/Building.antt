@@ -1,4 +1,4 @@
--- The initial values for building a request.
+-- Requests that are being built, with their limits, and their initial contents.
 use Rattle.std.specs.Prelude.{false, [], None}
 use Rattle.gname.specs.declared.formats.Format.{Format}
 use Rattle.ggrammar.specs.declared.limits.Limits.{Limits}

@@ -157,7 +157,7 @@ text_brings (InCapabilities command) line = capability_brings (capability_form l
 text_brings (InArguments LsRefs) line = ls_argument_brings (ls_argument line)
 text_brings (InArguments Fetch) line = fetch_argument_brings (fetch_argument line)
 
--- the packet's contents are stored: the packet is an agent, a prefix, a want or a have
+-- whether the contents of the packet are stored, which is true for an agent, a prefix, a want and a have
 abbrev pub brings : List Packet → Packet → Bool
 brings lines (Data payload) = text_brings (place_of lines) (text payload)
 brings lines _ = false

@@ -28,7 +28,7 @@ pub fn limits_are_the_constants()
 {}
 
 /// Proves that a list of packets is read as a request exactly if Git's manual and the limits allow
-/// the list. Its meaning is the one that the manual states (gitprotocol-v2(5), "Command Request",
+/// the list. The list has the meaning that the manual states (gitprotocol-v2(5), "Command Request",
 /// "ls-refs" and "fetch").
 pub fn manual()
     ensures { (limits : Limits) (format : Format)

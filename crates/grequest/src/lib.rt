@@ -14,7 +14,7 @@
 //! - Every [`LsRefsRequest`] and every [`FetchRequest`] is well-formed and within its limits. `new`
 //!   gives the default limits of 64 prefixes, 1,024 wants and 4,096 haves. `within` takes other
 //!   limits. A limit above 2^30 counts as 2^30, so that all values fit into one request. A call
-//!   with an ill-formed value fails with `BadText`. Otherwise a call that would exceed a limit
+//!   with a malformed value fails with `BadText`. Otherwise a call that would exceed a limit
 //!   fails with `Limit`, and a call that runs out of memory fails with `Memory`. Each fault reports
 //!   packet position 0, and the request is unchanged.
 //! - [`FetchRequest::is_direct`] returns whether the request has `done` or no haves. The reply to
@@ -36,7 +36,7 @@
 //!
 //! # Only tested
 //!
-//! Calls succeed if there is enough memory, although the contracts do not state it.
+//! Calls succeed if there is enough memory, although the contracts do not state this.
 //!
 //! # What the contracts do not rule out
 //!

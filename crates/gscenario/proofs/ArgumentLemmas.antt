@@ -1,4 +1,4 @@
--- The words after the first of a line.
+-- The arguments of a line: all its words but the first.
 use Rattle.std.proofs.Common.{◌≡◌, ◌∙◌, ℕ, List, [], ◌∷◌, ◌++◌, Option, None, Some, Result, Ok, Err, MatchOption}
 use Rattle.std.proofs.Common.{MatchResult, sym, ap, subst, append_assoc}
 use Rattle.std.specs.List.{AllZip}
@@ -12,7 +12,7 @@ use Rattle.gscenario.specs.steps.Reading.{NoArguments}
 use Rattle.gscenario.specs.declared.event.Event.TheVariants as event
 use Rattle.gscenario.specs.declared.command.EventWord.TheVariants as command
 
--- ---- no event of a command has these arguments
+-- ---- words that are not the arguments of a command
 
 module _ {A : Type 0} (words : List (List ℕ)) where
   pub no_serve : ((number : ℕ) → IsOneNumber words number → ⊥) → NoArguments A command.Serve words
@@ -47,7 +47,7 @@ module _ {A : Type 0} (words : List (List ℕ)) where
   no_client_ref none (event.ClientRef name id) of are = none name id are
   no_client_ref none _ of are = cc of
 
--- a text that is refused as a refspec is none
+-- a text that is refused with `BadSpec` does not encode a refspec
 pub bad_spec : (text : List ℕ) (fault : SpecFault) → Reads (IsSpec text) (Err fault) → fault ≡ BadSpec
     → (spec : Refspec) → ¬ (IsSpec text spec)
 bad_spec text fault reads is = subst (λ (f : SpecFault). Reads (IsSpec text) (Err f)) is reads
@@ -84,9 +84,9 @@ pub no_second_count : (words : List (List ℕ)) (text bytes : List ℕ) → word
 no_second_count words text bytes at none number count are =
     none count (subst (λ (t : List ℕ). IsCount t count) (two_same are.0 are.1 text bytes words are.2 at).1 are.4)
 
--- ---- words that are read one after the other
+-- ---- words that are read one after another
 
--- some of the words were read, and these are left
+-- the words before `left` were read, and encode the values of `read`
 pub record ReadsEach {Y : Type 0} (R : List ℕ → Y → Type 0) (words left : List (List ℕ)) (read : List Y) : Type 0 where
   pub done : List (List ℕ)
   pub parts : words ≡ done ++ left

@@ -13,9 +13,9 @@ use Rattle.gscenario.specs.declared.command.EventWord.TheVariants as command
 use Rattle.std.specs.Prelude.{codes, if◌then◌else◌}
 use Rattle.std.specs.Str.{bytes_eq}
 
--- ---- a line
+-- ---- the command and the end of a line
 
--- the command that a word spells
+-- the command that a word names, or `ClientRef` for any other word
 abbrev named : List ℕ → EventWord
 named text =
     if bytes_eq text (codes "begin") then command.Begin
@@ -53,7 +53,7 @@ same_command c d same = sym (named_back c) ∙ ap named same ∙ named_back d
 line_then : (here after : List ℕ) → line here ++ after ≡ here ++ 10 ∷ after
 line_then here after = append_assoc here (10 ∷ []) after
 
--- of two texts that begin with lines, which are followed by the same, the lines are the same
+-- if two equal texts begin with lines, these lines are equal, and so are the texts after them
 pub same_lines : (one other rest more : List ℕ) → IsInLine one → IsInLine other → one ++ 10 ∷ rest ≡ other ++ 10 ∷ more
     → (one ≡ other) × (rest ≡ more)
 same_lines one other rest more h k same =
@@ -71,7 +71,7 @@ unended (b ∷ text) (c ∷ other) rest inside same = unended text other rest (�
 module _ {A : Type 0} where
   -- ---- the lines
 
-  -- the text was read up to what is left
+  -- the lines of the text before `left` were read, and encode the events; `number` is the number of the next line
   pub record ReadsLines (text left : List ℕ) (events : List (Event A)) (number : ℕ) : Type 0 where
     pub front : List ℕ
     pub parts : text ≡ front ++ left
@@ -103,7 +103,7 @@ module _ {A : Type 0} where
 
   module _ (text left here after : List ℕ) (events : List (Event A)) (number : ℕ)
       (reads : ReadsLines text left events number) (split : (left ≡ line here ++ after) × IsInLine here) where
-    -- the next line is that of no event
+    -- if the next line does not encode an event, it is the first malformed line
     pub stops_at : (found : Option (Event A)) → found ≡ None → MatchOption found (IsNoLine A here) (IsLineOf here)
         → IsWrongLine A text number
     stops_at found none is = record {
@@ -117,7 +117,7 @@ module _ {A : Type 0} where
       at = reads.at;
     }
 
-    -- the next line is that of an event
+    -- reading a next line that encodes an event
     pub goes_on : (now : List (Event A)) (event : Event A) (found : Option (Event A)) → found ≡ Some event
         → MatchOption found (IsNoLine A here) (IsLineOf here) → now ≡ events ++ event ∷ []
         → ReadsLines text after now (number + 1)
@@ -137,7 +137,7 @@ module _ {A : Type 0} where
           few = omega (arith, reads.few, long, length-append here (10 ∷ []));
         }
 
-    -- it is out of memory for the next line
+    -- if the next line begins with a command, the event of this line can need memory
     pub takes_memory : BeginsWithCommand here → TakesMemory A text
     takes_memory begins = record {
       front = reads.front;
@@ -150,7 +150,7 @@ module _ {A : Type 0} where
       begins = begins;
     }
 
-  -- ---- what is wrong is no scenario
+  -- ---- texts with a malformed line
 
   begins_no_event : (left here after : List ℕ) (event : Event A) → BeginsWrong A left → left ≡ here ++ 10 ∷ after
       → IsInLine here → IsLineOf here event → ⊥
@@ -185,7 +185,7 @@ module _ {A : Type 0} where
       wrong_after wrong.front wrong.rest wrong.events events wrong.before wrong.wrong
       (subst (λ (t : List ℕ). IsScenario t events) wrong.parts is)
 
-  -- ---- one line is the first that is wrong
+  -- ---- uniqueness of the first malformed line
 
   same_count : (front left other rest : List ℕ) (events others : List (Event A)) → IsScenario front events
       → BeginsWrong A left → IsScenario other others → BeginsWrong A rest → front ++ left ≡ other ++ rest

@@ -1,4 +1,4 @@
--- A text is that of one list of events.
+-- A text encodes at most one list of events.
 use Rattle.std.proofs.Common.{◌≡◌, ◌∙◌, inl, inr, ℕ, ◌<◌, ◌^◌, List, [], ◌∷◌, Ok, Err, refl, sym, ap₂, subst, arith}
 use Rattle.std.proofs.lemmas.Fmt.{decimal_injective, decimal_is_IsNumeral}
 use Rattle.std.specs.List.{AllZip}
@@ -28,7 +28,7 @@ use Rattle.gscenario.proofs.LineLemmas.{same_command, same_lines, unended_none}
 number_one : (text : List ℕ) (m n : ℕ) → IsNumber text m → IsNumber text n → m ≡ n
 number_one text m n h k = decimal_injective m n (omega (arith, h.1)) (omega (arith, k.1)) (sym h.0 ∙ k.0)
 
--- `all` is no number
+-- the word `all` is not a decimal number
 all_no_number : (n : ℕ) → n < 2 ^ 63 → codes "all" ≡ decimal n → ⊥
 all_no_number n few is =
     let digits = subst (IsNumeral 10) (sym is) (decimal_is_IsNumeral n (omega (arith, few))).0 in
@@ -41,7 +41,7 @@ count_one text m n (inl h) (inr k) = absurd (all_no_number m h.1 (sym k.0 ∙ h.
 count_one text m n (inr h) (inl k) = absurd (all_no_number n k.1 (sym h.0 ∙ k.0))
 count_one text m n (inr h) (inr k) = h.1 ∙ sym k.1
 
--- one digit is no byte
+-- the text `-` does not encode bytes in hexadecimal
 dash_no_bytes : (text bytes : List ℕ) → text ≡ codes "-" → decode_of text ≡ Ok bytes → ⊥
 dash_no_bytes text bytes dash is =
     let odd : Err OddLength ≡ Ok bytes = subst (λ (t : List ℕ). decode_of t ≡ Ok bytes) dash is in

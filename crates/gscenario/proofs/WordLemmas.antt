@@ -19,7 +19,7 @@ no_space : (byte : ℕ) (text : List ℕ) → ¬ ((byte == 32) ≡ true)
     → words_of (byte ∷ text) ≡ with_byte byte (words_of text)
 no_space byte text other = ap (choice byte (words_of text)) (off (byte == 32) other)
 
--- without a space a line is one word
+-- a line without a space is a single word
 pub words_whole : (text : List ℕ) → Nowhere (Passes (is_byte 32) text) 0 (length text) → words_of text ≡ text ∷ []
 words_whole [] none = refl
 words_whole (byte ∷ text) none =
@@ -35,7 +35,7 @@ words_at (byte ∷ text) (suc end) none inside is =
     no_space byte text (none 0 (omega arith) (omega arith))
     ∙ ap (with_byte byte) (words_at text end (λ k low high. none (suc k) (omega arith) (omega arith)) (omega arith) is)
 
--- a slice from a position to the end is all that follows it
+-- the slice of a text from position `n` to the end is the text without its first `n` bytes
 pub rest_of : (n : ℕ) (text : List ℕ) → take (length text - n) (drop n text) ≡ drop n text
 rest_of n text = ap (λ k. take k (drop n text)) (sym (length-drop n text)) ∙ take-length (drop n text)
 

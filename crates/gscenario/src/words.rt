@@ -75,7 +75,8 @@ pub(crate) fn two_words(tail: &[u8]) -> Option<(&[u8], &[u8])>
     }
 }
 
-/// Returns the number that a word encodes, if it is below 2^63 and has no leading zeros.
+/// Returns the number that a word encodes, if the number is below 2^63 and the word has no leading
+/// zeros.
 pub(crate) fn number_of(text: &[u8]) -> Option<usize>
     ensures { MatchOption result (((number : ℕ) → IsNumber text.now number → ⊥))
         (IsNumber text.now) }

@@ -1,4 +1,4 @@
--- A connection, request by request, and what the packer answered in it.
+-- The requests of a connection one by one, and the packer's last result.
 use Rattle.std.proofs.Common.{◌≡◌, ℕ, ◌<◌, ◌+◌, ◌++◌, List, [], ◌∷◌, Bool, Option, Some, None, IfSome, Result, Err}
 use Rattle.std.proofs.Common.{refl, sym, ap, subst, ◌∙◌, inl, inr, append_assoc, append-nil, length-append, arith}
 use Rattle.std.proofs.Common.{false}
@@ -39,7 +39,7 @@ use Rattle.gserve.specs.declared.connection.End.TheVariants as end
 use Rattle.gserve.specs.declared.exchange.ExchangeEnd.TheVariants as exchange
 use Rattle.gpkt.proofs.SendingLemmas.{fails_after, passes_join, passes_still}
 
--- ---- what is written
+-- ---- the written packets
 
 talk_none : (format : Format) (ends : Ends) → advert_packets format ≡ talk format ends []
 unfolding talk
@@ -56,7 +56,7 @@ talk_more joins format ends turns turn =
     ∙ ap canonical_all (append_assoc (advert_packets format) (flat_map replies turns) (replies turn)
     ∙ ap (λ (xs : List Packet). advert_packets format ++ xs) (sym last))
 
--- what is sent of the advertisement
+-- writing the advertised capabilities is writing the advertisement
 pub sent_advert : {E : Type 0} (format : Format) (capabilities : List Capability) (output : Output) (result : Result (Unit {0}) E)
     → capabilities ≡ advertisement format → PassesPackets output result (canonical_advert capabilities)
     → PassesPackets output result (advert_packets format)
@@ -64,7 +64,7 @@ unfolding advert_packets
 sent_advert format capabilities output result is sent =
     subst (λ (said : List Capability). PassesPackets output result (canonical_advert said)) is sent
 
--- ---- what is read
+-- ---- the requests that were read
 
 module _ {A : Type 0} (server : Server A) (packs : Packs A) where
   turns_none : ReadsNone → (bytes : Option (List ℕ)) → ReadsTurns server packs (record { old = bytes; new = bytes }) []
@@ -83,7 +83,7 @@ module _ {A : Type 0} (server : Server A) (packs : Packs A) where
         each = All-push (IsTurn server packs) turns turn before.each is;
       }
 
--- whether the source was down before plays no part
+-- these predicates do not depend on whether the source had failed before
 module _ {A : Type 0} (server : Server A) (packs : Packs A) (fails : PackFails A) (ends : Ends) (read : Change) (was before down : Bool) where
   pub moved_empty : ReadsEmpty server.graph.format (record { read = read; was_down = was; is_down = down })
       → ReadsEmpty server.graph.format (record { read = read; was_down = before; is_down = down })
@@ -104,7 +104,7 @@ module _ {A : Type 0} (server : Server A) (packs : Packs A) (fails : PackFails A
   moved_due due (reply turn h) = reply turn (record { lines = h.lines; is_turn = h.is_turn; up = h.up })
   moved_due due (refusal cause h) = refusal cause (moved_refused cause h)
 
--- ---- from request to request
+-- ---- from one request to the next
 
 pub none_is_answered : (ended : ExchangeEnd) → end_after ended ≡ None → ended ≡ exchange.Answered
 none_is_answered exchange.Answered is = refl
@@ -113,7 +113,7 @@ none_is_answered _ is = cc
 module _ {A S W : Type 0} (server : Server A) (packs : Packs A) (fails : PackFails A) (ends : Ends)
     (remaining : S → Option (List ℕ)) (source_down : S → Bool)
     (contents passed_on : W → Option (List ℕ)) (sink_down : W → Bool) where
-  -- the advertisement is passed on, and nothing is read
+  -- after the advertisement is flushed, and before anything is read, no request is answered
   pub answered_none : ReadsNone → (s : S) (a b : W)
       → Passes (output_of contents passed_on sink_down a b) (canonical_all (advert_packets server.graph.format))
       → HasAnswered server packs fails ends (input_of remaining source_down s s) (output_of contents passed_on sink_down a b) 0
@@ -125,7 +125,7 @@ module _ {A S W : Type 0} (server : Server A) (packs : Packs A) (fails : PackFai
     up = λ more. absurd (omega (arith, more));
   }
 
-  -- one request more is answered
+  -- one more answered request increments the number of answered requests
   pub answered_more : CanonicalJoins → ReadsJoin → (r s t : S) (a b c : W) (requests : ℕ)
       → HasAnswered server packs fails ends (input_of remaining source_down r s) (output_of contents passed_on sink_down a b) requests
       → Exchanges server packs fails ends (input_of remaining source_down s t) (output_of contents passed_on sink_down b c) exchange.Answered
@@ -139,7 +139,7 @@ module _ {A S W : Type 0} (server : Server A) (packs : Packs A) (fails : PackFai
     up = λ more. read.up;
   }
 
-  -- these requests are answered, and then this is left
+  -- the requests answered so far, and a rest of the input that satisfies `Last`
   conversed : (r s t : S) (a b : W) (requests : ℕ) (Last : Input → Type 0)
       → (before : HasAnswered server packs fails ends (input_of remaining source_down r s) (output_of contents passed_on sink_down a b) requests)
       → Last (rest_of (input_of remaining source_down r t) (remaining s))
@@ -151,14 +151,14 @@ module _ {A S W : Type 0} (server : Server A) (packs : Packs A) (fails : PackFai
     last = last;
   }
 
-  -- as many requests are answered as may be
+  -- the connection ends after the maximum number of requests
   pub answered_all : (r s : S) (a b : W)
       → HasAnswered server packs fails ends (input_of remaining source_down r s) (output_of contents passed_on sink_down a b) max_requests
       → Serves server packs fails ends (input_of remaining source_down r s) (output_of contents passed_on sink_down a b) max_requests end.Ended
   answered_all r s a b before =
       (before.turns, conversed r s s a b max_requests (HasEnded max_requests) before (inr (refl, refl, before.up (omega arith))), before.passed)
 
-  -- a connection ends with an exchange
+  -- an exchange after which the connection does not continue ends the connection
   ended_as : (r s t : S) (a b c : W) (requests : ℕ) (ended : ExchangeEnd)
       → HasAnswered server packs fails ends (input_of remaining source_down r s) (output_of contents passed_on sink_down a b) requests
       → Exchanges server packs fails ends (input_of remaining source_down s t) (output_of contents passed_on sink_down b c) ended
@@ -202,7 +202,7 @@ module _ {A S W : Type 0} (server : Server A) (packs : Packs A) (fails : PackFai
 
   -- ---- before the first request
 
-  -- the packet of a refusal stands in the advertisement's place
+  -- the error packet of a refusal replaces the advertisement
   pub refused_first : (s : S) (a b : W) (cause : ServeFault) (last : End)
       → CannotBegin (input_of remaining source_down s s) cause → RefusesFirst cause (output_of contents passed_on sink_down a b) last
       → Serves server packs fails ends (input_of remaining source_down s s) (output_of contents passed_on sink_down a b) 0 last
@@ -216,7 +216,7 @@ module _ {A S W : Type 0} (server : Server A) (packs : Packs A) (fails : PackFai
   unread : (s : S) → IsUnread (input_of remaining source_down s s)
   unread s = record { read = refl; down = refl }
 
-  -- there is no advertisement
+  -- if the advertisement is not sent, the connection ends
   pub not_advertised : (s : S) (a b : W) (last : End)
       → Advertises server.graph.format (output_of contents passed_on sink_down a b) (Err last)
       → Serves server packs fails ends (input_of remaining source_down s s) (output_of contents passed_on sink_down a b) 0 last
@@ -226,7 +226,7 @@ module _ {A S W : Type 0} (server : Server A) (packs : Packs A) (fails : PackFai
       inr (advert_packets server.graph.format, refl, advert (unread s), h.0, h.1)
   not_advertised s a b last h = absurd h
 
-  -- there is no buffer
+  -- if there is no memory for the reader's buffer, the connection ends
   pub no_buffer : (s : S) (a b : W) (cause : PacketFault) (last : End) → cause ≡ NoBuffer
       → RefusesFirst (serve.Reader cause) (output_of contents passed_on sink_down a b) last
       → Serves server packs fails ends (input_of remaining source_down s s) (output_of contents passed_on sink_down a b) 0 last
@@ -234,7 +234,7 @@ module _ {A S W : Type 0} (server : Server A) (packs : Packs A) (fails : PackFai
       refused_first s a b (serve.Reader cause) last
       (subst (λ (f : PacketFault). CannotBegin (input_of remaining source_down s s) (serve.Reader f)) (sym is) (unread s)) h
 
--- ---- what the packer answered, by how an exchange or a connection ended
+-- ---- the packer's last result at the end of an exchange or a connection
 
 pub refused_packing : (fault : ServeFault) (output : Output) (ended : ExchangeEnd) (answered : Packing)
     → ReportsRefusal fault output ended → answered ≡ packing_of_fault fault → ReportsPacking ended answered
@@ -242,7 +242,7 @@ refused_packing fault output (exchange.Refused reported) answered h is = is ∙ 
 refused_packing fault output exchange.WriteFailed answered h is = tt
 refused_packing fault output _ answered h is = absurd h
 
--- a connection goes on after an answer alone
+-- if the connection continues after an exchange, the packer has not failed
 pub goes_on_well : (ended : ExchangeEnd) (answered : Packing) → end_after ended ≡ None → ReportsPacking ended answered
     → has_failed answered ≡ false
 goes_on_well exchange.Answered answered is h = h

@@ -1,11 +1,11 @@
--- The packet of an error that reports a fault.
+-- The error packet that reports a fault.
 use Rattle.std.proofs.Common.{◌≡◌, ℕ, List, [], ◌∷◌, ◌++◌, codes, ap}
 use Rattle.ggrammar.specs.Texts.{text_packet}
 use Rattle.ganswer.specs.declared.fault.ServeFault.{ServeFault}
 use Rattle.gserve.specs.Refusals.{err_packets, err_text}
 use Rattle.gserve.specs.GitConnections.{error_packets}
 
--- with the fault's text it is the fault's packet
+-- the error packet with the text of a fault is the error packet of this fault
 pub err_line : (text : List ℕ) (fault : ServeFault) → text ≡ err_text fault → error_packets text ≡ err_packets fault
 unfolding err_packets
 err_line text fault said = ap (λ (bytes : List ℕ). text_packet (codes "ERR " ++ bytes) ∷ []) said

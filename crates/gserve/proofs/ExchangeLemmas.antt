@@ -1,4 +1,4 @@
--- From the steps of an exchange to the whole.
+-- The steps of an exchange, and the whole exchange.
 use Rattle.std.proofs.Common.{◌≡◌, ◌≢◌, ◌<◌, List, Bool, false, Result, Ok, Err, refl, sym, subst, arith}
 use Rattle.std.specs.Prelude.{OnOk}
 use Rattle.gpkt.specs.Sending.{Input, Output, IsUp, IsUnread, Passes}
@@ -27,7 +27,7 @@ use Rattle.gserve.specs.Refusals.{err_packets}
 use Rattle.gserve.specs.declared.exchange.ExchangeEnd.{ExchangeEnd}
 use Rattle.gserve.specs.declared.exchange.ExchangeEnd.TheVariants as end
 
--- ---- a reply
+-- ---- replies
 
 module _ {A : Type 0} (server : Server A) (packs : Packs A) where
   asks_for_refs : (asked : Asked) (answer : Reply) → answer ≢ Nothing → Answers server packs asked answer → asked ≢ Empty
@@ -36,7 +36,7 @@ module _ {A : Type 0} (server : Server A) (packs : Packs A) where
   asks_for_refs asked answer other h = λ is. cc
 
 module _ {A : Type 0} (server : Server A) (packs : Packs A) (fails : PackFails A) (ends : Ends) (output : Output) where
-  -- an answer is sent
+  -- a call that sends an answer replies to the request
   replied_by : {E : Type 0} (asked : Asked) (answer : Reply) (result : Result (Unit {0}) E) → asked ≢ Empty
       → Answers server packs asked answer → PassesPackets output result (reply_packets ends answer)
       → Replies server packs fails ends asked output (end_of_reply result)
@@ -51,7 +51,7 @@ module _ {A : Type 0} (server : Server A) (packs : Packs A) (fails : PackFails A
       subst (λ (e : ExchangeEnd). Replies server packs fails ends asked output e) (sym is)
       (replied_by asked answer result (asks_for_refs server packs asked answer other answers) answers sent)
 
-  -- a refusal is reported
+  -- a call that reports a refusal replies to the request
   pub refused_reply : (asked : Asked) (fault : ServeFault) (ended : ExchangeEnd) → Declines server fails asked fault
       → ReportsRefusal fault output ended → Replies server packs fails ends asked output ended
   refused_reply asked fault (end.Refused reported) refuses h =
@@ -60,21 +60,21 @@ module _ {A : Type 0} (server : Server A) (packs : Packs A) (fails : PackFails A
   refused_reply asked fault end.WriteFailed refuses h = (err_packets fault, refusal fault refuses, h.0, h.1)
   refused_reply asked fault _ refuses h = absurd h
 
--- ---- the whole
+-- ---- the whole exchange
 
--- no request that was read is refused as if it had not been
+-- a request that was read is never refused with a fault of reading
 never_reading : {A : Type 0} (server : Server A) (fails : PackFails A) (asked : Asked) (cause : MessageFault)
     → Declines server fails asked (serve.Request cause) → ⊥
 never_reading server fails (Fetches asked) cause h = h
 never_reading server fails asked cause h = h
 
 module _ {A : Type 0} (server : Server A) (packs : Packs A) (fails : PackFails A) (ends : Ends) (input : Input) (output : Output) where
-  -- a request that is read and not answered is refused
+  -- a request that is read but not answered is refused
   refused_to_answer : (cause : ServeFault) → RefusesToAnswer server fails input cause → IsRefused server fails input cause
   refused_to_answer (serve.Request cause) h = absurd (never_reading server fails h.asked cause h.declines)
   refused_to_answer cause h = h
 
-  -- a request that asks this was read, and the source is well
+  -- the server has read the request `asked`, and the source has not failed
   record Took (asked : Asked) : Type 0 where
     packets : List Packet
     lines : ReadsPackets input.read packets
@@ -126,7 +126,7 @@ module _ {A : Type 0} (server : Server A) (packs : Packs A) (fails : PackFails A
   exchanged_by asked (end.Refused cause) took h = (refuses_it asked took cause h.0, h.1)
   exchanged_by asked end.WriteFailed took h = (h.0, due_of asked took h.0 h.1, h.2, h.3)
 
-  -- a request was read, and replied to
+  -- reading a request and replying to it is an exchange
   pub exchanged : (format : Format) → format ≡ server.graph.format → (asked : Asked) (ended : ExchangeEnd)
       → ReadsMessage (judge profile format) (Says profile format) input.read asked → IsUp input
       → Replies server packs fails ends asked output ended → Exchanges server packs fails ends input output ended
@@ -138,7 +138,7 @@ module _ {A : Type 0} (server : Server A) (packs : Packs A) (fails : PackFails A
         up = up;
       }) h
 
-  -- reading was refused, and that was reported
+  -- refusing to read a request and reporting the refusal is an exchange
   pub reading_refused : (cause : MessageFault) (ended : ExchangeEnd) → RefusesToRead server.graph.format input cause
       → ReportsRefusal (serve.Request cause) output ended → Exchanges server packs fails ends input output ended
   reading_refused cause (end.Refused reported) refused h =
@@ -148,13 +148,13 @@ module _ {A : Type 0} (server : Server A) (packs : Packs A) (fails : PackFails A
       (err_packets (serve.Request cause), due_refusal (serve.Request cause) refused, h.0, h.1)
   reading_refused cause _ refused h = absurd h
 
--- how an exchange ends whose reply was sent, and that the writer goes on then
+-- if an exchange ends with `Answered`, its reply was sent successfully
 pub goes_on_by : {E : Type 0} {P : Type 0} (sent : Result (Unit {0}) E) (how : ExchangeEnd) → how ≡ end_of_reply sent
     → OnOk sent P → how ≡ end.Answered → P
 goes_on_by (Ok done) how is holds answered = holds
 goes_on_by (Err fault) how is holds answered = absurd cc
 
--- why reading was refused, from what the reader says
+-- if the reader of a request fails, the server refuses to read the request
 pub refused_to_read : (format own : Format) → format ≡ own → (input : Input) (cause : MessageFault) (failed : Bool) → failed ≡ false
     → ((front : List Packet) × ReadsRefused (judge profile format) brings front input.read cause)
     → IsReadFailure failed input.is_down cause.why → (cause.why ≡ EndedEarly → 0 < cause.frame)
@@ -166,7 +166,7 @@ refused_to_read format own same input cause failed ready refused source begun = 
   begun = λ is zero. let more : 0 < cause.frame = begun is in omega arith;
 }
 
--- ---- without a buffer
+-- ---- no memory for the reader's buffer
 
 pub refused_at_once : (input : Input) (output : Output) (cause : PacketFault) (ended : ExchangeEnd) → cause ≡ NoBuffer → IsUnread input
     → ReportsRefusal (serve.Reader cause) output ended → RefusesAtOnce input output ended

@@ -1,4 +1,4 @@
--- What is written and passed on, one after the other, and the text of a refusal.
+-- Writing packets and then flushing them, and the text of a refusal.
 use Rattle.std.proofs.Common.{◌≡◌, ℕ, ◌≤◌, Bool, false, List, [], ◌∷◌, ◌++◌, length, codes, Option, Result}
 use Rattle.std.proofs.Common.{Ok, Err, ap, length-append, arith}
 use Rattle.std.specs.Prelude.{IsErrAnd}
@@ -21,7 +21,7 @@ use Rattle.gpkt.specs.declared.fault.PacketFault.TheVariants as line
 use Rattle.ggrammar.specs.declared.fault.Why.TheVariants as why
 use Rattle.ganswer.specs.declared.fault.ServeFault.TheVariants as serve
 
--- ---- the packet of a refusal
+-- ---- the error packet of a refusal
 
 pub err_line : (text : List ℕ) (fault : ServeFault) → text ≡ err_text fault
     → (Data (codes "ERR " ++ (text ++ line_feed ∷ [])) ∷ []) ≡ err_packets fault
@@ -32,9 +32,9 @@ pub err_fits : (text : List ℕ) → length text ≤ max_err_text → Fits (Data
 err_fits text short = simp length-append (omega arith)
 
 module _ {W : Type 0} (contents passed_on : W → Option (List ℕ)) (is_down : W → Bool) (loans : W → List ℕ) where
-  -- ---- a write, and a push after it
+  -- ---- a write followed by a flush
 
-  -- what was written by a writer that had not failed was passed on
+  -- a successful write followed by a flush satisfies `PassesPackets`
   pub passed_pushed : PushesWritten contents passed_on is_down loans → (a b c : Writer W) (packets : List Packet)
       (result : Result (Unit {0}) WriteFault) → WritesPackets contents passed_on is_down loans a b (Ok tt) packets
       → HasPushed contents passed_on is_down loans b c result
@@ -44,7 +44,7 @@ module _ {W : Type 0} (contents passed_on : W → Option (List ℕ)) (is_down : 
   passed_pushed pushes a b c packets (Err fault) wrote pushed =
       push_fails contents passed_on is_down loans pushes a b c packets fault wrote pushed
 
-  -- a write that failed, and whose fault is answered
+  -- a failed write whose fault is returned satisfies `PassesPackets`
   pub passed_failed : (a b : Writer W) (packets : List Packet) (fault : WriteFault) (result : Result (Unit {0}) WriteFault)
       → a.failed ≡ false → WritesPackets contents passed_on is_down loans a b (Err fault) packets
       → IsErrAnd result (λ other. other ≡ fault) → PassesPackets (output_of contents passed_on is_down a.sink b.sink) result packets
@@ -52,7 +52,7 @@ module _ {W : Type 0} (contents passed_on : W → Option (List ℕ)) (is_down : 
   passed_failed a b packets fault (Err other) ready wrote answered =
       write_fails contents passed_on is_down loans a b packets fault ready wrote
 
--- ---- what a client reads of a fault is short
+-- ---- the length of a refusal's text
 
 line_is_short : (fault : PacketFault) → length (line_phrase fault) ≤ max_phrase
 line_is_short line.Memory = omega arith

@@ -1,4 +1,4 @@
--- A connection with known bytes and devices that are well is a conversation over the bytes.
+-- A connection whose bytes are known, and whose source and sink do not fail, is a conversation over these bytes.
 use Rattle.std.proofs.Common.{◌≡◌, ℕ, ◌<◌, ◌++◌, List, [], length, Bool, false, Option, Some, None, Ok, refl, sym}
 use Rattle.std.proofs.Common.{subst, ◌∙◌, inl, inr, append-nil, ◌≤◌, ◌+◌, ◌∷◌, All, Err, ap, ap₂, append_assoc, arith}
 use Rattle.std.proofs.lemmas.Bool.{false≢true}
@@ -43,7 +43,7 @@ use Rattle.gdag.specs.Graphs.{Holds}
 use Rattle.gwalk.proofs.Tagging.{none_held}
 use Rattle.ganswer.proofs.LawLemmas.{none_absent}
 
--- ---- what is left is known
+-- ---- known unread bytes
 
 lines_left : (old : List ℕ) (new : Option (List ℕ)) (lines : List Packet)
     → ReadsPackets (record { old = Some old; new = new }) lines → (rest : List ℕ) × (new ≡ Some rest)
@@ -75,16 +75,16 @@ module _ {A : Type 0} (server : Server A) (fails : PackFails A) (old : List ℕ)
   refused_left (serve.Request cause) h = reading_left (judge profile server.graph.format) h.front old new cause h.refused
   refused_left cause h = lines_left old new h.packets h.lines
 
--- ---- the turns, and what stops them
+-- ---- the requests, and the end of the conversation
 
--- an input of which both ends are known, and whose source is well
+-- an input whose bytes before and after reading are known, and whose source has not failed
 settled : (Last : Input → Type 0) (input : Input) (left rest : List ℕ) → input.read.new ≡ Some rest → IsUp input
     → Last (rest_of input (Some left)) → Last (record { read = known_bytes left rest; was_down = input.was_down; is_down = false })
 settled Last input left rest is up h =
     subst (λ (down : Bool). Last (record { read = known_bytes left rest; was_down = input.was_down; is_down = down })) up
     (subst (λ (new : Option (List ℕ)). Last (record { read = record { old = Some left; new = new }; was_down = input.was_down; is_down = input.is_down })) is h)
 
--- turns are held of known bytes, where what holds of the rest stops them
+-- the requests that were read are a conversation over the known bytes, if the rest of the input ends the conversation
 holds : {A : Type 0} (server : Server A) (packs : Packs A) (fails : PackFails A) (ends : Ends) (input : Input) (bytes written : List ℕ)
     (requests : ℕ) (turns : List Turn) (Last : Input → Type 0) (ended : End) → input.read.old ≡ Some bytes
     → Converses server packs input requests turns Last
@@ -151,14 +151,14 @@ serving_is_talking packs fails server ends input output requests (end.Refused ca
     (canonical_all (err_packets cause), passes, inr (cannot input bytes cause begins, refl))
 serving_is_talking packs fails server ends input output requests end.WriteFailed bytes serves is up well = absurd (well refl)
 
--- ---- the bytes of a client say what is written to it, where each request has one answer
+-- ---- the output that the client's bytes determine, if each request has at most one answer
 
--- each request has one answer at most
+-- each request has at most one answer
 abbrev HasOneAnswer : {A : Type 0} → Server A → Packs A → Type 0
 HasOneAnswer server packs =
     (asked : Asked) (one other : Reply) → Answers server packs asked one → Answers server packs asked other → one ≡ other
 
--- ---- ids that are held, and the first that is not
+-- ---- the first id that the server does not hold
 
 one_absent : {A : Type 0} (g : List (Entry A)) (front others : List (List ℕ)) (a b : List ℕ) (rest after : List (List ℕ))
     → All (Holds g) front → All (Holds g) others → node_at g a ≡ None → node_at g b ≡ None
@@ -175,7 +175,7 @@ no_wants : (a : List ℕ) (front rest : List (List ℕ)) → [] ≡ front ++ a �
 no_wants a [] rest same = cc
 no_wants a front rest same = cc
 
--- ---- why a request is not answered, but for the server's own faults
+-- ---- the reason to refuse a request, other than the server's own faults
 
 module _ {A : Type 0} (server : Server A) (packs : Packs A) (fails : PackFails A) where
   one_fetch_fault : (asked : FetchAsked) (cause reason : ServeFault) → FetchRefuses server fails asked cause
@@ -196,7 +196,7 @@ module _ {A : Type 0} (server : Server A) (packs : Packs A) (fails : PackFails A
   one_fault (Fetches asked) cause reason h k own other = one_fetch_fault asked cause reason h k own other
   one_fault asked cause reason h k own other = absurd h
 
-  -- what is answered is not refused
+  -- a request that has an answer is refused only because of the server's own fault
   answered_fetch : (asked : FetchAsked) (answer : Reply) (cause : ServeFault) → Answers server packs (Fetches asked) answer
       → FetchRefuses server fails asked cause → ¬ IsOwnFault cause → ⊥
   answered_fetch asked (Fetch reply) serve.NoWants h k own = h.can.some k
@@ -210,9 +210,9 @@ module _ {A : Type 0} (server : Server A) (packs : Packs A) (fails : PackFails A
   answered_not_refused (Fetches asked) answer cause h k own = answered_fetch asked answer cause h k own
   answered_not_refused asked answer cause h k own = k
 
--- ---- refusals for a reason in the bytes
+-- ---- refusals for a reason that the bytes determine
 
--- the reason is in the bytes where the source is well and it was not out of memory
+-- the bytes determine the reason, if the source has not failed and memory did not run out
 of_bytes : (cause : Why) → IsReadFailure false false cause → ¬ (cause ≡ why.Memory) → IsOfBytes cause
 of_bytes (why.Line line.Io) h other = absurd (false≢true h.1)
 of_bytes (why.Line line.Failed) h other = absurd (false≢true h)
@@ -234,7 +234,7 @@ module _ {A : Type 0} (server : Server A) (fails : PackFails A) where
   refusal_of bytes rest (serve.NotOurs id) own h = answering (serve.NotOurs id) own h
   refusal_of bytes rest cause own h = absurd (own tt)
 
--- ---- one request at the front of some bytes
+-- ---- one request at the start of the bytes
 
 front_of : (bytes rest : List ℕ) (lines : List Packet) → ReadsPackets (known_bytes bytes rest) lines → IsFront lines bytes rest
 front_of bytes rest lines h = record { front = h.0; parts = h.1; spelt = h.2 }
@@ -247,20 +247,20 @@ module _ (format : Format) (laws : LawsOfBytes (judge profile format)) (meaning 
       let same = laws.no_other lines others bytes rest after says.whole (front_of bytes rest lines read) (record { whole = asks.whole; bytes = next }) in
       (same.0, same.1, meaning lines other one (subst (λ (packets : List Packet). Says profile format packets other) same.0 asks) says)
 
-  -- a request is not refused as it is read
+  -- if the bytes begin with a request, reading does not refuse the bytes
   not_unread : (bytes rest after : List ℕ) (lines : List Packet) (asked : Asked) (cause : MessageFault)
       → ReadsPackets (known_bytes bytes rest) lines → Says profile format lines asked → IsOfBytes cause.why
       → RefusesToRead format (input_of_bytes bytes after) cause → ⊥
   not_unread bytes rest after lines asked cause read says certain h =
       laws.refused brings h.front lines bytes after rest cause h.refused certain (front_of bytes rest lines read) says.whole
 
-  -- nor is it missing
+  -- if the bytes begin with a request, the bytes are not empty
   not_missing : (bytes rest : List ℕ) (lines : List Packet) (asked : Asked) → ReadsPackets (known_bytes bytes rest) lines
       → Says profile format lines asked → bytes ≡ [] → ⊥
   not_missing bytes rest lines asked read says none =
       laws.ended lines bytes [] rest (none, refl) (front_of bytes rest lines read) says.whole
 
-  -- where there are no bytes, none is refused as it is read
+  -- reading does not refuse empty bytes
   none_unread : (bytes after : List ℕ) (cause : MessageFault) → IsOfBytes cause.why
       → RefusesToRead format (input_of_bytes bytes after) cause → bytes ≡ [] → ⊥
   none_unread bytes after cause certain h none =
@@ -268,11 +268,11 @@ module _ (format : Format) (laws : LawsOfBytes (judge profile format)) (meaning 
       let read = is.1 none in
       absurd cc
 
--- ---- what stops a conversation
+-- ---- the end of a conversation
 
 module _ {A : Type 0} (packs : Packs A) (fails : PackFails A) (server : Server A) (laws : LawsOfBytes (judge profile server.graph.format))
     (meaning : OneMeaning (Says profile server.graph.format)) (missing : IsMissingWhereEmpty profile server.graph.format) where
-  -- a request that is there is not refused but as it is answered, and then it asks the same
+  -- if the bytes begin with a request, a refusal of the bytes is a refusal to answer this request
   refusal_asks : (bytes rest after : List ℕ) (lines : List Packet) (asked : Asked) (cause : ServeFault)
       → ReadsPackets (known_bytes bytes rest) lines → Says profile server.graph.format lines asked → Refusal server fails bytes after cause
       → Declines server fails asked cause × ¬ IsOwnFault cause
@@ -292,7 +292,7 @@ module _ {A : Type 0} (packs : Packs A) (fails : PackFails A) (server : Server A
       let next = refusal_asks bytes rest after h.packets h.asked other h.lines h.says k in
       one_fault server packs fails h.asked cause other h.declines next.0 own next.1
 
-  -- the bytes are not empty where a request is refused
+  -- empty bytes are not refused
   none_refused : (bytes after : List ℕ) (cause : ServeFault) → Refusal server fails bytes after cause → bytes ≡ [] → ⊥
   none_refused bytes after fault (reading cause certain h) none =
       none_unread server.graph.format laws meaning missing bytes after cause certain h none
@@ -300,7 +300,7 @@ module _ {A : Type 0} (packs : Packs A) (fails : PackFails A) (server : Server A
       not_missing server.graph.format laws meaning missing bytes after h.packets h.asked h.lines h.says none
 
   module _ (ends : Ends) where
-    -- a lone flush is not refused
+    -- a lone flush packet is not refused
     closed_refused : (n : ℕ) (bytes : List ℕ) (cause : ServeFault) → Stops server fails n bytes end.Closed
         → Stops server fails n bytes (end.Refused cause) → ¬ IsOwnFault cause → ⊥
     closed_refused n bytes cause (room, rest, h) (more, after, k) own =
@@ -340,7 +340,7 @@ module _ {A : Type 0} (packs : Packs A) (fails : PackFails A) (server : Server A
     at_most n bytes end.WriteFailed h = absurd h
     at_most n bytes _ h = omega (arith, h.0)
 
-    -- a request that is answered does not stop it
+    -- an answered request does not end the conversation
     goes_on : (n : ℕ) (bytes rest : List ℕ) (turn : Turn) (ended : End) → n < max_requests
         → ReadsPackets (known_bytes bytes rest) turn.request → IsTurn server packs turn → Stops server fails n bytes ended
         → ¬ EndsByOwnFault ended → ⊥
@@ -355,9 +355,9 @@ module _ {A : Type 0} (packs : Packs A) (fails : PackFails A) (server : Server A
         answered_not_refused server packs fails turn.asked turn.answer cause is.answers refused.0 own
     goes_on n bytes rest turn end.WriteFailed below read is h own = h
 
-    -- ---- turn by turn
+    -- ---- comparing conversations request by request
 
-    -- the first of some turns, and the others
+    -- the first turn of a list, and the other turns
     record Splits (bytes left : List ℕ) (turn : Turn) (turns : List Turn) : Type 0 where
       mid : List ℕ
       read : ReadsPackets (known_bytes bytes mid) turn.request
@@ -382,7 +382,7 @@ module _ {A : Type 0} (packs : Packs A) (fails : PackFails A) (server : Server A
         ap (λ (r : List Packet). turn_with r t.asked t.answer) (sym request)
         ∙ ap₂ (λ (a : Asked) (r : Reply). turn_with u.request a r) (sym asked) (sym answer)
 
-    -- the same turn is first
+    -- two turns that begin the same bytes are equal
     one_turn : HasOneAnswer server packs → (bytes rest after : List ℕ) (t u : Turn) → ReadsPackets (known_bytes bytes rest) t.request
         → IsTurn server packs t → ReadsPackets (known_bytes bytes after) u.request → IsTurn server packs u → (t ≡ u) × (after ≡ rest)
     one_turn answers bytes rest after t u read is next are =
@@ -426,7 +426,7 @@ module _ {A : Type 0} (packs : Packs A) (fails : PackFails A) (server : Server A
         first.later later h k own other in
         (ap (λ (x : Turn). x ∷ turns) same.0 ∙ ap (λ (xs : List Turn). u ∷ xs) all.0, all.1)
 
-    -- ---- the whole
+    -- ---- the whole conversation
 
     one_talk : HasOneAnswer server packs → SpellingsSplit → (bytes one other : List ℕ) (ended last : End)
         → HoldsTurns server packs fails ends bytes one ended → HoldsTurns server packs fails ends bytes other last
@@ -436,7 +436,7 @@ module _ {A : Type 0} (packs : Packs A) (fails : PackFails A) (server : Server A
         h.read k.read h.stops k.stops own next in
         (h.all ∙ (ap₂ (λ (t : List Turn) (e : End). talk_bytes server.graph.format ends t ++ canonical_all (last_packets e)) all.0 all.1 ∙ sym k.all), all.1)
 
-    -- it is out of memory at the start
+    -- if memory runs out at the start, the conversation ends because of the server's own fault
     begins : (bytes written : List ℕ) (ended : End) → HoldsNone bytes written ended → ¬ EndsByOwnFault ended → ⊥
     begins bytes written (end.Refused (serve.Request cause)) h own = h.0
     begins bytes written (end.Refused serve.NoWants) h own = h.0

@@ -21,7 +21,7 @@ use Rattle.gserve.specs.declared.connection.End.TheVariants as end
 abbrev pub input_of_bytes : Bytes → Bytes → Input
 input_of_bytes bytes rest = record { read = known_bytes bytes rest; was_down = false; is_down = false }
 
--- the last packets of a conversation: the error packet, if it ends with a refusal
+-- the last packets of a conversation: the error packet if the conversation ends with a refusal, otherwise none
 abbrev pub last_packets : End → List Packet
 last_packets (end.Refused fault) = err_packets fault
 last_packets _ = []

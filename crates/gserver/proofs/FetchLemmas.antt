@@ -1,4 +1,4 @@
--- What is said of a fetch that was begun is its answer.
+-- The packets of a begun fetch are a reply to the fetch request.
 use Rattle.std.proofs.Common.{◌≡◌, ℕ, inl, inr, Bool, true, false, List, [], ◌∷◌, ◌++◌, map, Option, Some, None, codes, refl, sym, ap, ◌∙◌, subst, append-nil, append_assoc}
 use Rattle.gname.specs.Ids.{Id}
 use Rattle.gobject.specs.declared.node.Entry.{Entry}
@@ -17,7 +17,7 @@ use Rattle.gserver.specs.Fetching.{SaysFetch}
 use Rattle.gserver.specs.PackSaying.{SaysPack}
 use Rattle.gserver.specs.Saying.{EndsPack, SaysEnd, SaysFirst, SaysSection, fatal_packet}
 
--- ---- the one list of packets
+-- ---- the canonical packets of a reply
 
 acks_list : (ends : Ends) (ids : List Id) (said rest : List Packet)
     → said ≡ (heading_packet ∷ nak_if_none (map ack_packet ids)) ++ rest → rest ≡ Flush ∷ ends_with ends
@@ -46,7 +46,7 @@ ready_list ends ids pack =
     ∙ ap (λ l. heading_packet ∷ l)
     (sym (append_assoc (map ack_packet ids) (ready_packet ∷ Delim ∷ text_packet (codes "packfile") ∷ (map data_packet (pieces pack) ++ Flush ∷ [])) (ends_with ends)))
 
--- ---- the answer
+-- ---- the reply
 
 module _ {A : Type 0} (server : Server A) (packs : Packs A) (fails : PackFails A) (asked : FetchAsked) (ends : Ends) (goes_on : Bool)
     (can : CanServe server asked) where
@@ -62,7 +62,7 @@ module _ {A : Type 0} (server : Server A) (packs : Packs A) (fails : PackFails A
   })
 
   module _ (list : List (Entry A)) (sent : IsSent server asked list) (gives : Gives) (most : ℕ) (begins : Begins packs fails list gives most) where
-    -- the section of a pack, after these packets
+    -- the packets `front`, followed by the section of a pack, satisfy `SaysFetch`
     after : (front : List Packet) (due : IsPackDue server asked) (reply : Bytes → FetchReply)
         → ((pack : Bytes) → MayGive packs list pack → FetchAnswer server (MayGive packs) asked (reply pack))
         → ((pack : Bytes) → front ++ section (map data_packet (pieces pack)) ends ≡ canonical_reply ends (reply pack))

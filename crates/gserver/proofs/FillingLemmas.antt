@@ -1,4 +1,4 @@
--- A packet is filled with the next bytes of a pack.
+-- Filling a packet with the next bytes of a pack.
 use Rattle.std.specs.Prelude.{MatchResult, Result, Ok, Err}
 use Rattle.std.proofs.Common.{◌≡◌, ◌<◌, ◌≤◌, ◌+◌, ◌-◌, ℕ, List, [], ◌∷◌, ◌++◌, length, take, drop, map, Some, None, refl, sym, ap, ◌∙◌, subst, arith, append-nil, append_assoc, length-append, length-drop}
 use Rattle.std.proofs.lemmas.Grind.{common_steps}
@@ -18,9 +18,9 @@ use Rattle.gserver.specs.declared.filling.Piece.TheVariants as piece
 take_all : (l : List ℕ) (n : ℕ) → n ≡ length l → take n l ≡ l
 take_all l n is = grind (arith, common_steps)
 
--- ---- one part
+-- ---- one part of a pack
 
--- a buffer whose end was written
+-- writing the end of a buffer keeps its first `from` bytes
 behind : (out sub : List ℕ) (from : ℕ) → from < length out → length sub ≡ length out - from
     → put_mid from (length out - from) out sub ≡ take from out ++ sub
 behind out sub from room size =
@@ -58,7 +58,7 @@ puts_result old most_old new most_new from before sub (Ok count) room size given
     puts_part old most_old new most_new from count before sub room size given
 puts_result old most_old new most_new from before sub (Err fault) room size given = given
 
--- ---- all
+-- ---- the whole buffer
 
 pub none_filled : (gives : Gives) (most : ℕ) (out : List ℕ) → IsFilled gives most gives most 0 out
 none_filled gives most out = record {
@@ -102,7 +102,7 @@ full_filled first most_first new most_new count out filled full = record {
   whole = λ less. absurd (omega (arith, less, full));
 }
 
--- ---- a piece
+-- ---- one piece of a pack
 
 module _ (old : Gives) (most_old : ℕ) (new : Gives) (most_new : ℕ) (buffer out put : List ℕ) where
   pub none_said : (count : ℕ) → Fills old most_old new most_new count buffer → count ≡ 0 → length buffer ≡ max_band
@@ -119,7 +119,7 @@ module _ (old : Gives) (most_old : ℕ) (new : Gives) (most_new : ℕ) (buffer o
     },
   )
 
-  -- the piece is the front of the buffer
+  -- the piece consists of the first `count` bytes of the buffer
   spelt : (count : ℕ) → put ≡ out ++ canonical (Data ((1 ∷ []) ++ take count buffer))
       → put ≡ out ++ canonical_all (data_packet (take count buffer) ∷ [])
   spelt count is = is ∙ ap (λ l. out ++ l) (sym (append-nil (canonical (data_packet (take count buffer)))))

@@ -1,4 +1,4 @@
--- An advertisement, packet by packet.
+-- An advertisement that is sent packet by packet.
 use Rattle.std.proofs.Common.{◌≡◌, ◌<◌, ◌≤◌, ◌+◌, ◌-◌, ℕ, true, ◌⊎◌, inl, inr, List, [], ◌∷◌, ◌++◌, length, map, drop, Some, None, refl, sym, ap, ap₂, ◌∙◌, subst, append-nil, add-one, drop-cons, get_or, arith, length-drop}
 use Rattle.std.specs.List.{slice_get}
 use Rattle.std.proofs.lemmas.List.{nil_from_length}
@@ -44,7 +44,7 @@ module _ (capabilities : List Capability) (at : ℕ) where
       let within = slice_get_within capabilities at capability (sym found) in
       omega (arith, within, form.few)
 
-  -- ---- what is said
+  -- ---- queuing the packets of the advertisement
 
   pub capability_said : (capability : Capability) (words before out : Bytes) → Some capability ≡ slice_get capabilities at
       → words ≡ capability_text capability → out ≡ before ++ canonical (Data (words ++ [] ++ line_feed ∷ []))

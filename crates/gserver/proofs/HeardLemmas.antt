@@ -1,4 +1,4 @@
--- What is heard is a message of one of two kinds.
+-- A message to a server is a first line or a request.
 use Rattle.std.proofs.Common.{◌<◌, ℕ, List, length}
 use Rattle.gpkt.specs.Packets.{Packet}
 use Rattle.ggrammar.specs.Grammar.{HasEndings, IsOpen}

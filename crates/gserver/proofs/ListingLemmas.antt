@@ -1,4 +1,4 @@
--- The refs that a request asks for, line by line.
+-- The reply to an ls-refs request, sent line by line.
 use Rattle.std.proofs.Common.{◌≡◌, ◌<◌, ◌≤◌, ◌+◌, ℕ, Bool, true, false, List, [], ◌∷◌, ◌++◌, length, map, drop, refl, sym, ap, ◌∙◌, subst, arith, length-drop}
 use Rattle.std.proofs.lemmas.List.{nil_from_length}
 use Rattle.gpkt.specs.Packets.{Bytes, Packet, Flush, ResponseEnd, canonical, canonical_all}
@@ -18,7 +18,7 @@ use Rattle.gserver.specs.steps.RefLines.{SaysLines, SaysRefAt}
 use Rattle.gserver.specs.steps.Stepping.{Advances, PutsSome}
 use Rattle.gserver.proofs.StepLemmas.{last_one, puts_one}
 
--- the last packet of a reply
+-- queuing the last packet of a reply
 ended : (goes_on : Bool) (packet : Packet) (old new : May) (steps_old steps_new : ℕ) (before out : Bytes)
     → out ≡ before ++ canonical packet → old (packet ∷ []) goes_on
     → Advances old new steps_old steps_new before out (said_at_end goes_on)
@@ -26,7 +26,7 @@ ended true packet old new steps_old steps_new before out is all = last_one packe
 ended false packet old new steps_old steps_new before out is all = last_one packet old false before out is all
 
 module _ {A : Type 0} (server : Server A) (asked : LsRefsAsked) (ends : Ends) (goes_on : Bool) where
-  -- the lines of some refs, and then those of more
+  -- after the lines of `refs` are queued, the lines of `more` and the end of the reply remain
   lines_said : (refs more : RefList) (steps_old steps_new : ℕ) (before out : Bytes) → SaysLines server asked refs before out
       → steps_new < steps_old
       → PutsSome (SaysRefs server asked ends goes_on (refs ++ more)) (SaysRefs server asked ends goes_on more) steps_old steps_new before out
@@ -76,9 +76,9 @@ module _ {A : Type 0} (server : Server A) (asked : LsRefsAsked) (ends : Ends) (g
       subst (λ (refs : RefList). PutsSome (SaysRefs server asked ends goes_on refs) (SaysRefs server asked ends goes_on (drop (at + 1) server.refs))
       (steps_of_listing server (next.Ref at)) (steps_of_listing server (next.Ref (at + 1))) before out) (sym says.1.1) some
 
-  -- ---- the end
+  -- ---- the end of the reply
 
-  -- no ref is left
+  -- if no ref remains, the flush packet followed by `rest` completes the reply
   over : (at : ℕ) (rest : List Packet) (goes : Bool) → length server.refs ≤ at → rest ≡ ends_with ends → goes ≡ goes_on
       → SaysRefs server asked ends goes_on (drop at server.refs) (Flush ∷ rest) goes
   over at rest goes past is so =

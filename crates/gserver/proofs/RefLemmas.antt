@@ -1,4 +1,4 @@
--- The lines of refs, as they are said.
+-- Queuing the lines of refs.
 use Rattle.std.proofs.Common.{◌≡◌, ◌<◌, ◌+◌, ℕ, List, [], ◌∷◌, ◌++◌, length, map, drop, Option, Some, codes, refl, sym, ap, ap₂, ◌∙◌, subst, append-nil, add-one, drop-cons, get_or}
 use Rattle.std.specs.List.{slice_get}
 use Rattle.std.proofs.lemmas.List.Elements.{All-nil}

@@ -34,7 +34,7 @@ use Rattle.gserver.specs.declared.side.ServerSide.{ServerSide}
 use Rattle.gserver.specs.declared.reply.ServerReply.{ServerReply}
 use Rattle.gserver.specs.steps.Answering.{AnswersOf, IsRefusal}
 
--- ---- how many messages are left
+-- ---- the number of remaining messages
 
 pub fewer_left : {R : Type 0} (old new : Option R) (before after : ℕ) → IsSome old → IsSome new
     → after ≡ min (before + 1) max_requests
@@ -57,22 +57,22 @@ no_value (Some one) h = absurd (cc h)
 pub some_same : {T : Type 0} (x y : T) → Some x ≡ Some y → x ≡ y
 some_same x y h = cc h
 
--- an answer, or the packet of an error for another reason
+-- an answer or a refusal also satisfies weaker conditions on its packets or on its text
 pub either_so : {Says Other : Type 0} {Why Because : Bytes → Type 0} (said : List Packet) (goes : Bool)
     → (Says → Other) → ((text : Bytes) → Why text → Because text) → Says ⊎ Refuses Why said goes → Other ⊎ Refuses Because said goes
 either_so said goes follows reason (inl h) = inl (follows h)
 either_so said goes follows reason (inr h) = inr (record { text = h.text; why = reason h.text h.why; all = h.all; ended = h.ended })
 
--- a pack that is not followed by a request is the last
+-- if no further request is accepted, the reply to a fetch request ends the dialogue
 pub fetch_is_last : {A : Type 0} (server : Server A) (packs : Packs A) (fails : PackFails A) (asked : FetchAsked) (ends : Ends) (goes_on : Bool)
     (said : List Packet) (goes : Bool) → goes_on ≡ false → SaysFetch server packs fails asked ends goes_on said goes → goes ≡ false
 fetch_is_last server packs fails asked ends goes_on said goes off (inl says) = says.goes_so ∙ off
 fetch_is_last server packs fails asked ends goes_on said goes off (inr says) = says.ended
 
 module _ {A R P : Type 0} (server_of : R → Server A) (gives : R → P → Gives) where
-  -- ---- what an answer says
+  -- ---- the packets of an answer
 
-  -- a reply says no more than this after which the dialogue goes on only where it may
+  -- if `goes_on` is false, the packets that `Says` permits may also end the dialogue
   abbrev EndsWhereItMay : Bool → (List Packet → Bool → Type 0) → Type 0
   EndsWhereItMay goes_on Says = goes_on ≡ false → (said : List Packet) (goes : Bool) → Says said goes → Says said false
 
@@ -89,7 +89,7 @@ module _ {A R P : Type 0} (server_of : R → Server A) (gives : R → P → Give
   answered_so Says Why (Err text) goes_on result why is ends said goes may =
       let r = is.refuses said goes may in inr (record { text = text; why = why; all = r.0; ended = r.1 })
 
-  -- where a fault is kept nothing more is heard
+  -- an answer satisfies `Quiet`, or it ends the dialogue
   pub quiet_so : (Quiet : Type 0) (answered : Result (ServerReply A R P) Bytes) (goes_on : Bool) (result : Answer (ServerReply A R P))
       → OnOk answered Quiet → AnswersOf server_of gives answered goes_on result
       → (said : List Packet) (goes : Bool) → MayAnswer (may_of server_of gives) result said goes → Quiet ⊎ (goes ≡ false)
@@ -100,7 +100,7 @@ module _ {A R P : Type 0} (server_of : R → Server A) (gives : R → P → Give
       → (said : List Packet) (goes : Bool) → MayAnswer (may_of server_of gives) result said goes → Quiet ⊎ (goes ≡ false)
   refused_quietly Quiet text result is said goes may = inr (is.refuses said goes may).1
 
-  -- ---- where a dialogue goes on
+  -- ---- answers after which the dialogue continues
 
   pub went_on : (Holds : Type 0) (answered : Result (ServerReply A R P) Bytes) (goes_on : Bool) (result : Answer (ServerReply A R P))
       (reply : ServerReply A R P) → IfOk answered (λ reply. Holds) → AnswersOf server_of gives answered goes_on result
@@ -109,7 +109,7 @@ module _ {A R P : Type 0} (server_of : R → Server A) (gives : R → P → Give
   went_on Holds (Ok made) false result reply ok is same = absurd (cc (sym is ∙ same))
   went_on Holds (Err text) goes_on result reply ok is same = absurd (is.last reply same)
 
-  -- ---- the replies
+  -- ---- the end of the dialogue after each kind of reply
 
   pub greets_on : (Finds : Result R Bytes → Type 0) (new : Option R) → EndsWhereItMay true (Greets server_of Finds new)
   greets_on Finds new off said goes says = absurd (cc off)
@@ -134,7 +134,7 @@ module _ {A R P : Type 0} (server_of : R → Server A) (gives : R → P → Give
 
 -- ---- the answers to messages
 
--- requests of one format are not judged as those of another
+-- the grammars of requests in different object formats differ
 whole_is_not_refused : ¬ (Whole ≡ Refused why.Format)
 whole_is_not_refused h = absurd (cc h)
 
@@ -148,7 +148,7 @@ judged_format limits given Sha256 Sha256 h = refl
 judged_format limits given Sha1 Sha256 h = absurd (formats_differ limits given h)
 judged_format limits given Sha256 Sha1 h = absurd (formats_differ given limits (sym h))
 
--- a first line is not judged as a request
+-- the grammar of a first line is not the grammar of a request
 first_is_no_request : (limits : Limits) (format : Format) → ¬ (hello.judge ≡ request.judge limits format)
 unfolding judge_at capability_texts command_form after_word
 first_is_no_request limits Sha1 h = never_open [] (Data (codes "command=fetch")) (ap (λ (judge : Judge). judge [] (Data (codes "command=fetch"))) h)

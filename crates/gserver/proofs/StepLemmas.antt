@@ -1,4 +1,4 @@
--- A step of saying a reply.
+-- One step of a reply.
 use Rattle.std.proofs.Common.{◌≡◌, ◌<◌, ◌≤◌, ◌+◌, ℕ, Bool, true, false, List, [], ◌∷◌, ◌++◌, length, drop, map, Option, Some, None, codes, refl, sym, ap, ap₂, ◌∙◌, subst, arith, append-nil, length-drop, add-one, drop-cons, get_or}
 use Rattle.std.proofs.lemmas.List.{nil_from_length}
 use Rattle.gname.specs.Ids.{Id}
@@ -19,7 +19,7 @@ use Rattle.gserver.specs.declared.filling.Piece.TheVariants as piece
 use Rattle.gserver.specs.declared.said.Rest.{Rest}
 use Rattle.gserver.specs.declared.said.Rest.TheVariants as rest
 
--- ---- packets that are put
+-- ---- queued packets
 
 one_spelt : (packet : Packet) (before out : Bytes) → out ≡ before ++ canonical packet
     → out ≡ before ++ canonical_all (packet ∷ [])
@@ -54,7 +54,7 @@ last_one packet old goes before out is all = record {
   all = all;
 }
 
--- the id at a position is the first of those from there on
+-- the ids from index `at` are the id at `at`, followed by the later ids
 pub ids_from : (ids lent : List Id) (at : ℕ) (id : Id) → lent ≡ ids → at < length lent → id ≡ get_or lent at id
     → drop at ids ≡ id ∷ drop (at + 1) ids
 ids_from ids lent at id same less is =
@@ -65,7 +65,7 @@ pub no_ids_from : (ids lent : List Id) (at : ℕ) → lent ≡ ids → length le
 no_ids_from ids lent at same past =
     subst (λ l. drop at l ≡ []) same (nil_from_length (drop at lent) (omega (arith, length-drop at lent, past)))
 
--- the end of what is said of a pack, with a packet before it
+-- `EndsPack` still holds with one more packet at the front
 ended_after : (ends : Ends) (goes_on : Bool) (packet : Packet) (packets : List Packet) (end : Option PackFault)
     (said : List Packet) (goes : Bool) → EndsPack ends goes_on packets end said goes
     → EndsPack ends goes_on (packet ∷ packets) end (packet ∷ said) goes
@@ -194,7 +194,7 @@ module _ (A : Type 0) {R P : Type 0} (gives : R → P → Gives) (most : R → P
       last_one (fatal_packet fault) _ false before put (is ∙ ap (λ o. o ++ canonical (fatal_packet fault)) says.0)
       (record { packets = []; end = Some fault; pack = says.1; ended = (refl, refl) })
 
--- ---- the end
+-- ---- the end of a reply
 
 module _ (A : Type 0) {R P : Type 0} (gives : R → P → Gives) (most : R → P → ℕ) (ends : Ends) where
   pub response_ended : (goes_on : Bool) (before out : Bytes) → out ≡ before ++ canonical ResponseEnd

@@ -1,10 +1,10 @@
--- The words of an error.
+-- The text of an error packet.
 use Rattle.std.proofs.Common.{◌≡◌, ◌≤◌, ◌+◌, ◌-◌, ℕ, List, ◌++◌, length, take, min, sym, ap, ◌∙◌, arith}
 use Rattle.std.proofs.lemmas.List.{take_min}
 use Rattle.std.proofs.Math.Seq.{take-append-add}
 use Rattle.gserver.specs.ErrTexts.{max_text}
 
--- words are cut where there is no more room
+-- appended words are cut off at the maximum length of the text
 pub added : (old text words new : List ℕ) → old ≡ text → length text ≤ max_text
     → new ≡ text ++ take (min (max_text - length text) (length words)) words → new ≡ take max_text (old ++ words)
 added old text words new view few is =

@@ -26,7 +26,7 @@ pub record SaysFirst (front : List Packet) (May_rest : May) (said : List Packet)
   pub then : May_rest rest goes
 
 module _ (ends : Ends) (goes_on : Bool) where
-  -- the flush packet, followed by the response-end packet if each reply ends with a response-end
+  -- the flush packet that ends a reply, followed by a response-end packet if each reply ends with one
   abbrev pub SaysEnd : May
   SaysEnd said goes = (said ≡ Flush ∷ ends_with ends) × (goes ≡ goes_on)
 

@@ -1,4 +1,4 @@
--- What is asked for, refspec by refspec and line by line, and which asks are the first for their refs.
+-- The requested ref updates, refspec by refspec and line by line, and the first update for each ref.
 use Rattle.std.proofs.Common.{◌≡◌, ◌≢◌, ◌↔◌, ℕ, ◌+◌, ◌<◌, true, false, if◌then◌else◌, List, [], ◌∷◌, ◌++◌, length}
 use Rattle.std.proofs.Common.{get_or, map, filter, take, drop, All, Contains, Ok, refl, sym, ap, subst, append_assoc}
 use Rattle.std.proofs.Common.{arith, ◌∙◌}
@@ -27,7 +27,7 @@ use Rattle.gsession.specs.Asking.{AreNamed, ask_of, asked_of, asks_by, asks_by_a
 use Rattle.gsession.specs.Laws.{AsksAreOfLines, FirstIsAsked, IsAskOf, IsFirstFor, LeadsElsewhere}
 
 module _ {A : Type 0} where
-  -- ---- asks of more lines, and of more refspecs
+  -- ---- updates for more lines, and for more refspecs
 
   pub asks_by-append : (spec : Refspec) (xs ys : List RefLine)
       → asks_by {A = A} spec (xs ++ ys) ≡ asks_by spec xs ++ asks_by spec ys
@@ -39,13 +39,13 @@ module _ {A : Type 0} where
       → asks_by_all {A = A} (specs ++ more) lines ≡ asks_by_all specs lines ++ asks_by_all more lines
   asks_by_all-append lines specs more = flat_map-append (λ spec. asks_by {A = A} spec lines) specs more
 
-  -- ---- more asks
+  -- ---- adding requested updates
 
   with_asks-append : (asks xs ys : List (Ask A)) → with_asks asks (xs ++ ys) ≡ with_asks (with_asks asks xs) ys
   with_asks-append asks [] ys = refl
   with_asks-append asks (x ∷ xs) ys = with_asks-append (with_ask asks x) xs ys
 
-  -- what holds of each ask still does with more of which it holds
+  -- a property of all updates of two lists holds for all updates of the combined list
   asks_more : (P : Ask A → Type 0) (asks more : List (Ask A)) → All P asks → All P more → All P (with_asks asks more)
   asks_more P asks [] all new = all
   asks_more P asks (ask ∷ more) all new =
@@ -56,16 +56,16 @@ module _ {A : Type 0} where
       ])
       (All-tail P ask more new)
 
-  -- these asks were added to the old ones, and each is for a ref name
+  -- the updates `more` were added to the old updates, and each is for a valid ref name
   abbrev pub HasAdded : List (Ask A) → List (Ask A) → List (Ask A) → Type 0
   HasAdded old more new = (new ≡ with_asks old more) × AreNamed more
 
-  -- a line that the refspec does not match adds nothing
+  -- a line that the refspec does not match adds no update
   pub adds_none : (spec : Refspec) (line : RefLine) (old new : List (Ask A)) → matches spec line.name ≡ false
       → new ≡ old → HasAdded old (asks_by spec (line ∷ [])) new
   adds_none spec line old new e same = rw e (same, All-nil (λ (ask : Ask A). IsRefName ask.name))
 
-  -- and any other the ask for its destination, which is a ref name
+  -- a line that the refspec matches adds the update for its destination, which is a valid ref name
   pub adds_one : (spec : Refspec) (line : RefLine) (name : List ℕ) (old new : List (Ask A))
       → matches spec line.name ≡ true → Owns name_fault (destination_of spec line.name) (Ok name)
       → new ≡ with_ask old (record { name = name; id = line.id; forced = spec.forced })
@@ -77,7 +77,7 @@ module _ {A : Type 0} where
         All-cons P (ask_of spec line) [] owns.1 (All-nil P),
       )
 
-  -- a refspec can take a line exactly where what it asks for of the line is for a ref name
+  -- the updates for a line are for valid ref names exactly if its destination is one, or the refspec does not match
   pub named_line : (spec : Refspec) (line : RefLine)
       → (matches spec line.name ≡ true → IsRefName (destination_of spec line.name))
       ↔ AreNamed {A = A} (asks_by spec (line ∷ []))
@@ -90,7 +90,7 @@ module _ {A : Type 0} where
       ))
       (λ e. rw e (λ is. All-nil P, λ named yes. absurd (false≢true yes)))
 
-  -- of the asks that lines or refspecs give: those up to a position, and those at it
+  -- the updates for the first `i` lines or refspecs, and for the line or refspec at index `i`
   module _ {X : Type 0} (f : List X → List (Ask A)) (joins : (xs ys : List X) → f (xs ++ ys) ≡ f xs ++ f ys)
       (xs : List X) (i : ℕ) (x : X) (low : i < length xs) (at : x ≡ get_or xs i x) (one : List (Ask A))
       (is_one : f (x ∷ []) ≡ one) where
@@ -119,7 +119,7 @@ module _ {A : Type 0} where
         (Contains-append_right (f (take i xs)) (one ++ rest) _
         (Contains-append_left one rest _ (Contains-get_or one k d low)))
 
-  -- ---- of which refspecs and lines asks are
+  -- ---- the refspec and the line of a requested update
 
   asks_of_spec : (specs : List Refspec) (lines : List RefLine) (spec : Refspec) → Contains specs spec
       → All (IsAskOf {A = A} specs lines) (asks_by spec lines)
@@ -155,13 +155,13 @@ module _ {A : Type 0} where
       subst (λ (ask : Ask A). IsIdOf format ask.id) (sym of.is)
       (All-contains (IsRefLine format) lines of.line are of.told).id)
 
-  -- ---- the first ask for a ref
+  -- ---- the first update for a ref
 
-  -- something is asked of the ref
+  -- an update of this ref is requested
   abbrev HasAsk : List (Ask A) → List ℕ → Type 0
   HasAsk asks name = (ask : Ask A) × Contains asks ask × (ask.name ≡ name)
 
-  -- each ask is for another ref
+  -- no requested update is for this ref
   abbrev AreElsewhere : List ℕ → List (Ask A) → Type 0
   AreElsewhere name asks = All (λ ask. ask.name ≢ name) asks
 
@@ -202,7 +202,7 @@ module _ {A : Type 0} where
       (λ e. subst NamesDiffer (sym (with_ask_there A asks x e)) differ)
       (λ e. subst NamesDiffer (sym (with_ask_new A asks x e)) (differ_push A asks x differ e)))
 
-  -- the first ask for a ref counts
+  -- the first update for a ref is kept
   first_counts : (front : List (Ask A)) (ask : Ask A) (back : List (Ask A)) → AreElsewhere ask.name front
       → Contains (with_asks [] (front ++ ask ∷ back)) ask
   first_counts front ask back others =
@@ -215,7 +215,7 @@ module _ {A : Type 0} where
       rw (with_asks-append [] front (ask ∷ back))
       (keeps_all (with_ask mid ask) back ask (rw (with_ask_new A mid ask none) (Contains-push mid ask)))
 
-  -- what comes before the ask of a refspec and a line, that ask, and the rest
+  -- the updates before the one for `spec` and `line`, this update, and the later updates
   all_parts : (before : List Refspec) (spec : Refspec) (after : List Refspec) (above : List RefLine) (line : RefLine)
       (below : List RefLine) → matches spec line.name ≡ true
       → asks_by_all {A = A} (before ++ spec ∷ after) (above ++ line ∷ below)
@@ -225,7 +225,7 @@ module _ {A : Type 0} where
       asks_by_all-append (above ++ line ∷ below) before (spec ∷ after)
       ∙ rw (asks_by-append spec above (line ∷ below), e) (simp append_assoc)
 
-  -- no ask of these refspecs and lines is for a ref to which none of them leads
+  -- if no refspec maps a line to this ref, no requested update is for this ref
   by_specs : (name : List ℕ) (specs : List Refspec) (lines : List RefLine) (asks : List (Ask A))
       → All (IsAskOf specs lines) asks → All (λ spec. All (LeadsElsewhere name spec) lines) specs
       → AreElsewhere name asks

@@ -5,7 +5,7 @@ use Rattle.std.proofs.Math.Nat.{min-eq_left}
 use Rattle.std.proofs.Math.Pow.{pow_mono}
 use Rattle.gsession.specs.Requesting.{batch_size}
 
--- the sizes up to 256, as a table
+-- the batch sizes for the default maximum of 256, as a table
 abbrev pub default_size : ℕ → ℕ
 default_size rounds =
     if rounds == 0 then 16

@@ -1,5 +1,5 @@
--- How often a session asks for objects: the graph on which it began, the ids that were offered, which request is the
--- last, and how many there were.
+-- The number of requests for objects of a session: the graph with which the session began, the offered ids, the last
+-- request, and the count of requests.
 use Rattle.std.proofs.Common.{◌≡◌, ◌⊎◌, ℕ, ◌+◌, ◌≤◌, ◌==◌, true, List, [], ◌∷◌, ◌++◌, length, All, Contains}
 use Rattle.std.proofs.Common.{bytes_eq, Some, None, Ok, Err, inl, inr, refl, sym, ap, ap₂, ◌∙◌, arith, length-append}
 use Rattle.std.specs.List.{IsDistinct}
@@ -36,7 +36,7 @@ use Rattle.gsession.proofs.CallLemmas.{does, due_idle, kept}
 use Rattle.gsession.proofs.CommonLemmas.{all_distinct, all_of_members, joined_once}
 use Rattle.gsession.proofs.NextLaws.{batch_once, batch_unsent}
 
--- ---- what can't be
+-- ---- requests, stages and empty lists
 
 same_fetch : (one other : FetchAsked) → Some (Fetches one) ≡ Some (Fetches other) → one ≡ other
 same_fetch one other same = cc
@@ -52,7 +52,7 @@ unfolding IsDistinct
 none_once = tt
 
 module _ {A : Type 0} where
-  -- ---- the graph on which a session began
+  -- ---- the graph with which a session began
 
   pub began_stays_on : BeganStays A → (indexes : Indexes A) (index_fails : IndexFails)
       → BeganStaysOn indexes index_fails
@@ -114,7 +114,7 @@ module _ {A : Type 0} where
   none_follows g old new (Err (Repo (repo.Graph graph.Memory))) last is = absurd (last_due old last is.0)
   none_follows g old new (Err _) last is = absurd is
 
-  -- ---- the count
+  -- ---- the count of requests
 
   pub begins_counted : BeginsCounted A
   begins_counted r refspecs limit ends session is =
@@ -172,7 +172,7 @@ module _ {A : Type 0} where
       let few : length s.sent ≤ held = counted g s.tips s.sent held parents counts is.once began.sent in
       omega (arith, is.few)
 
-  -- ---- the ids that requests named
+  -- ---- the offered ids
 
   idle_offered : (s : SessionState A) → s.pending ≡ None → All (Contains s.sent) s.commons → AreOffered s
   idle_offered s none commons =

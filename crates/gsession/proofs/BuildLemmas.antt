@@ -1,4 +1,4 @@
--- Making a request: what is added to it, and when one is due.
+-- Making a request: the ids and prefixes that are added to it, and the conditions for making it.
 use Rattle.std.proofs.Common.{◌≡◌, ℕ, ◌+◌, ◌<◌, ◌≤◌, true, false, cond, List, [], ◌∷◌, ◌++◌, length, length-append}
 use Rattle.std.proofs.Common.{Option, Some, None, Result, Ok, Err, MatchResult, map, take, get_or}
 use Rattle.std.proofs.Common.{nat_lt, All, refl, sym, ap, subst, ◌∙◌, arith}
@@ -23,7 +23,7 @@ use Rattle.gsession.specs.declared.stage.Stage.{Stage}
 use Rattle.gsession.specs.declared.stage.Stage.TheVariants.{Listing, Fetching, Settling, Over}
 use Rattle.gsession.specs.steps.Calls.{with_prefix}
 
--- each of the ids has the format
+-- each of the ids has the object format
 pub fits : (format other : Format) (ids : List (List ℕ)) (i : ℕ) (id : List ℕ) → All (IsIdOf format) ids
     → i < length ids → id ≡ get_or ids i id
     → other ≡ format → has_format other id ≡ true
@@ -31,7 +31,7 @@ fits format other ids i id are low at same =
     let is : IsIdOf format id = subst (IsIdOf format) (sym at) (are i id low) in
     eq-eqb (length id) (id_length other) (is.long ∙ ap id_length (sym same))
 
--- there is room for each of the ids after the others
+-- a request has room for each of the ids after the old ids
 pub has_room : (old now ids : List (List ℕ)) (i max : ℕ) → now ≡ old ++ take i ids → i < length ids
     → length old + length ids ≤ max → nat_lt (length now) max ≡ true
 has_room old now ids i max is low few =
@@ -41,14 +41,14 @@ has_room old now ids i max is low few =
 
 -- ---- prefixes
 
--- the distinct ids of a list with one more
+-- the distinct ids of a list with one more id
 distinct_more : (xs : List (List ℕ)) (a : List ℕ) → distinct_of (xs ++ a ∷ []) ≡ with_prefix (distinct_of xs) a
 distinct_more xs a =
     new_ids-append [] xs (a ∷ [])
     ∙ elim (is_in (distinct_of xs) a) as (λ b. distinct_of xs ++ cond b [] (a ∷ [])
     ≡ cond b (distinct_of xs) (distinct_of xs ++ a ∷ [])) [ true ↦ append-nil (distinct_of xs) | false ↦ refl ]
 
--- a prefix more at most
+-- adding a prefix increases the number of prefixes by at most one
 pub with_prefix_few : (prefixes : List (List ℕ)) (prefix : List ℕ)
     → length (with_prefix prefixes prefix) ≤ length prefixes + 1
 with_prefix_few prefixes prefix =
@@ -57,7 +57,7 @@ with_prefix_few prefixes prefix =
       | false ↦ omega (arith, length-append prefixes (prefix ∷ []))
     ]
 
--- the distinct prefixes of the refspecs up to a position, and of the one at it
+-- the distinct prefixes of the first `i` refspecs and of the next refspec
 pub prefixes_more : (specs : List Refspec) (i : ℕ) (spec : Refspec) → i < length specs → get_or specs i spec ≡ spec
     → distinct_of (map (λ s. s.source) (take (i + 1) specs))
     ≡ with_prefix (distinct_of (map (λ s. s.source) (take i specs))) spec.source
@@ -68,13 +68,13 @@ prefixes_more specs i spec low at =
     ∙ distinct_more (map (λ s. s.source) (take i specs)) spec.source
 
 module _ {A : Type 0} where
-  -- ---- which request is due
+  -- ---- the next request
 
   pub none_waits : (p : Option (Request A)) → is_some p ≡ false → option_map asked_by_request p ≡ None
   none_waits None none = refl
   none_waits (Some request) none = absurd (false≢true (sym none))
 
-  -- none is due while one waits
+  -- no request can be made while a request is open
   pub one_waits : (stage : Stage) (p : Option (Request A)) → is_some p ≡ true
       → is_due stage (option_map asked_by_request p) ≡ false
   one_waits stage None some = absurd (false≢true some)
@@ -83,14 +83,14 @@ module _ {A : Type 0} where
   one_waits Settling (Some request) some = refl
   one_waits Over (Some request) some = refl
 
-  -- a request for objects is the next one while objects are fetched
+  -- in the stage `Fetching`, the next request is the request for objects with this batch
   pub fetches_next : (s new : SessionState A) (g : List (Entry A)) (asked : Asked) (batch : List (List ℕ))
       → s.stage ≡ Fetching → IsBatch s g batch → asked ≡ Fetches (fetch_request s.options s.wants s.commons batch)
       → new ≡ waiting_for s asked batch → MakesNext s g new asked
   fetches_next s new g asked batch stage batched is after =
       (batch, subst (λ (a : Asked). IsNext s g a batch) (sym is) (stage, refl, batched), after)
 
-  -- the request that was made is the one that was due; or out of memory
+  -- if a request can be made, the result is the next request or out of memory
   pub made_next : (old new : SessionState A) (g : List (Entry A)) (result : Result (Request A) (ClientFault A))
       → is_due old.stage old.pending ≡ true
       → MatchResult result (λ request. MakesNext old g new (asked_by_request request))

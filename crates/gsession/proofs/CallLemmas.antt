@@ -1,4 +1,4 @@
--- What a call did to a session, in a few forms; and what every call leaves as it is.
+-- The possible effects of a call on a session, and the fields that every call keeps.
 use Rattle.std.proofs.Common.{◌≡◌, ◌⊎◌, Bool, true, List, [], All, Contains, Option, None, Result, Ok}
 use Rattle.std.proofs.Common.{Err, inl, inr, refl, sym, ap, ◌∙◌}
 use Rattle.std.specs.Prelude.{◌||◌, ◌==◌, length}
@@ -33,14 +33,14 @@ use Rattle.gsession.specs.declared.taken.LsTaken.{LsTaken}
 use Rattle.gsession.specs.declared.taken.Taken.{Taken}
 use Rattle.gsession.specs.declared.taken.Taken.TheVariants.{Round, PackTaken}
 
--- ---- a request is due while refs or objects are to be asked for
+-- ---- the stages in which a request can be made
 
 pub due_idle : (st : Stage) (p : Option Asked) → is_due st p ≡ true → (p ≡ None) × ((st ≡ Listing) ⊎ (st ≡ Fetching))
 due_idle Listing None due = (refl, inl refl)
 due_idle Fetching None due = (refl, inr refl)
 due_idle _ _ due = absurd (false≢true due)
 
--- ---- a reply to a request with `done` has a pack
+-- ---- the pack in the reply to a request with `done`
 
 pub done_direct : (asked : FetchAsked) → fetch_has asked Done ≡ true → is_direct asked ≡ true
 done_direct asked done = ap (λ (b : Bool). b || length asked.haves == 0) done
@@ -49,7 +49,7 @@ pub says_pack : (reading : Reading) (lines : List Packet) (reply : FetchReply) �
     → reply ≡ reply_of reading lines → HasPack reply
 says_pack reading lines reply direct says = rw (says, direct) tt
 
--- ---- what each call did
+-- ---- the effect of each call
 
 module _ {A : Type 0} where
   fault_does : (g : List (Entry A)) (old new : SessionState A) (fault : ClientFault A) → new ≡ after_fault old fault
@@ -108,9 +108,9 @@ module _ {A : Type 0} where
     does old new (took_reply after change result is) = reply_does old change new after result is
     does old new (settled after result is) = settle_does old new after result is
 
-  -- ---- what every call leaves as it is
+  -- ---- the fields that every call keeps
 
-  -- what stays where no objects are asked for
+  -- the fields that a call keeps unless it requests objects
   abbrev pub IsKept : SessionState A → SessionState A → Type 0
   IsKept old new = record {
     format : new.format ≡ old.format;
@@ -123,7 +123,7 @@ module _ {A : Type 0} where
     rounds : new.rounds ≡ old.rounds;
   }
 
-  -- a request for objects is made where none waited
+  -- the call makes a request for objects, and no request was open before
   abbrev pub AsksObjects : List (Entry A) → SessionState A → SessionState A → Type 0
   AsksObjects g old new = (asked : FetchAsked) × (old.pending ≡ None) × MakesNext old g new (Fetches asked)
 

@@ -1,4 +1,4 @@
--- Ids of a session: the distinct ones of a list, what is offered, and which are connected.
+-- The ids of a session: distinct ids, offered ids and connected ids.
 use Rattle.std.proofs.Common.{◌≡◌, ◌≢◌, ◌↔◌, ℕ, ◌+◌, ◌<◌, ◌≤◌, Bool, true, false, true≢false, if◌then◌else◌, not, arith}
 use Rattle.std.proofs.Common.{List, [], ◌∷◌, ◌++◌, length, get_or, All, Contains, Option, Some, None, bytes_eq}
 use Rattle.std.proofs.Common.{inl, inr, refl, sym, ap, subst, append_assoc, ◌∙◌}
@@ -40,7 +40,7 @@ use Rattle.gsession.specs.steps.Calls.{FitsBatch}
 
 -- ---- lists
 
--- what holds of each id of a list holds of each of others that are all in it
+-- a property of all ids of a list holds for each id that the list contains
 pub all_of_members : (P : List ℕ → Type 0) (list ids : List (List ℕ)) → All P list → All (Contains list) ids → All P ids
 all_of_members P list ids all in_it = λ k d low. All-contains P list (get_or ids k d) all (in_it k d low)
 
@@ -49,7 +49,7 @@ all_distinct law P ids all = λ k d low.
     let a = get_or (distinct_of ids) k d in
     All-contains P ids a all (((law ids).same a).0 (Contains-get_or (distinct_of ids) k d low))
 
--- something stands at each position of a list
+-- a list has an item at each index below its length
 pub none_inside : {X : Type 0} (xs : List X) (i : ℕ) → i < length xs → slice_get xs i ≢ None
 none_inside xs i low empty =
     elim (slice_get_cases xs i).1 [
@@ -57,9 +57,9 @@ none_inside xs i low empty =
       | inr past ↦ omega (arith, past.0)
     ]
 
--- ---- lists without repeats
+-- ---- lists of distinct ids
 
--- the first id of such a list is none of the others
+-- the first id of a list of distinct ids differs from each of the others
 pub apart_head : (y : List ℕ) (ys : List (List ℕ)) (a : List ℕ) → IsDistinct bytes_eq (y ∷ ys) → Contains ys a → ¬ (y ≡ a)
 apart_head y ys a once there same =
     let P : List ℕ → Type 0 = λ z. bytes_eq y z ≡ false in
@@ -83,21 +83,21 @@ joined_once xs (y ∷ ys) once also apart =
 
 -- ---- the batch
 
--- it is the whole offer where there is room for that
+-- the batch is the whole offer if the offer fits into a request
 pub batch_room : (limits : Limits) (commons offer : List (List ℕ)) → length commons + length offer ≤ max_haves limits
     → offer ≡ batch_of limits commons offer
 batch_room limits commons offer room =
     ap (λ (b : Bool). if b then offer else []) (sym (le-leb (length commons + length offer) (max_haves limits) room))
 
--- and else it is empty
+-- the batch is empty if the offer does not fit into a request
 pub batch_none : (limits : Limits) (commons offer : List (List ℕ)) → max_haves limits < length commons + length offer
     → [] ≡ batch_of limits commons offer
 batch_none limits commons offer over =
     ap (λ (b : Bool). if b then offer else []) (sym (lt-leb (length commons + length offer) (max_haves limits) over))
 
--- ---- which ids are connected
+-- ---- connected ids
 
--- what `is_none` answers
+-- `is_none` is the negation of `is_some`
 pub none_by : {X : Type 0} (found : Option X) (answer : Bool) → is_some found ≡ not answer → is_none found ≡ answer
 none_by None true e = refl
 none_by None false e = absurd (true≢false (sym e))
@@ -105,7 +105,7 @@ none_by (Some x) true e = absurd (true≢false e)
 none_by (Some x) false e = refl
 
 module _ {A : Type 0} where
-  -- a marked id
+  -- an id with a mark is connected
   pub known_connected : PositionsAreNodes A → (g : List (Entry A)) (marks : List Bool) (a : List ℕ) (place : ℕ) → IdsDiffer g
       → AreConnected g marks
       → position_of g a ≡ Some place → slice_index_or marks place false ≡ true → IsConnected g a
@@ -115,7 +115,7 @@ module _ {A : Type 0} where
       subst (λ b. IsConnected g b) (ap (λ (e : Entry A). e.id)
       (same_Some entry.0 (entry_of a stands.0) (sym entry.1 ∙ stands.1))) entry.2
 
-  -- a walk from one id
+  -- an id is connected exactly if a walk from it finds no missing id
   pub connected_unless_missing : (g : List (Entry A)) (a : List ℕ) (found : Option (List ℕ)) → Misses g (a ∷ []) found
       → IsTrue (is_none found) ↔ IsConnected g a
   connected_unless_missing g a None connected = (λ _. All-head (IsConnected g) a [] connected, λ _. refl)
@@ -124,13 +124,13 @@ module _ {A : Type 0} where
       let path : Reaches g a b = subst (λ c. Reaches g c b) (only_one a from.0 from.1) from.2 in
       (λ none. absurd (true≢false (sym none)), λ connected. absurd (true≢false (sym (connected b path) ∙ ap is_some lost.1)))
 
-  -- an id that is not held
+  -- an id that the graph does not hold is not connected
   pub unheld_not_connected : (g : List (Entry A)) (a : List ℕ) (held : Bool) → IsTrue held ↔ Holds g a → held ≡ false
       → IsTrue false ↔ IsConnected g a
   unheld_not_connected g a held is out =
       (λ none. absurd (true≢false (sym none)), λ connected. absurd (true≢false (sym (is.1 (connected a here)) ∙ out)))
 
-  -- the wants have the format of the asks
+  -- the wants have the object format of the requested updates
   pub want_ids : DistinctAreOnce → (g : List (Entry A)) (asks : List (Ask A)) (wants : List (List ℕ))
       → AreWants g asks wants
       → (format : Format) → All (λ (ask : Ask A). IsIdOf format ask.id) asks → All (IsIdOf format) wants
@@ -138,7 +138,7 @@ module _ {A : Type 0} where
       chosen_all (λ a. ¬ (IsConnected g a)) (IsIdOf format) (distinct_of (asked_ids asks)) wants are
       (all_distinct law (IsIdOf format) (asked_ids asks) (All-map (IsIdOf format) (λ (ask : Ask A). ask.id) asks ids))
 
-  -- so the tips have the format of the graph
+  -- the tips have the object format of the graph
   pub tip_ids : DistinctAreOnce → PositionsAreNodes A → (g : History A) (ids : List (List ℕ)) → IsGraph g
       → All (IsConnected g.entries) ids → All (IsIdOf g.format) (distinct_of ids)
   tip_ids law places g ids is connected =
@@ -147,7 +147,7 @@ module _ {A : Type 0} where
 
   -- ---- offered ids
 
-  -- an id of the format leads to held ids of the format alone, whatever the format of the graph
+  -- an id of an object format reaches only held ids of this format, whatever the format of the graph
   reached_id : PositionsAreNodes A → IdsHaveOneFormat → (format : Format) (g : History A) (a b : List ℕ) → IsGraph g
       → IsIdOf format a → Holds g.entries b → Reaches g.entries a b → IsIdOf format b
   reached_id places one format g a b is id held here = id

@@ -1,5 +1,4 @@
--- What is wanted, what decides the session after a reply, what a reply does to a repository, and sessions that are
--- over.
+-- The wants, the state of a session after a reply, the effect of a reply on the repository, and sessions that are over.
 use Rattle.std.proofs.Common.{◌≡◌, ◌<◌, ℕ, Bool, true, List, length, get_or, Option, Some, None}
 use Rattle.std.proofs.Common.{Ok, Err, inl, inr, refl, sym, ap, subst, ◌∙◌}
 use Rattle.std.specs.Prelude.{IsSome}
@@ -44,7 +43,7 @@ use Rattle.gsession.proofs.BoundLemmas.{none_follows}
 use Rattle.gsession.proofs.CallLemmas.{done_direct, says_pack}
 use Rattle.gdag.proofs.Growing.{grows_none, inserts_grows}
 
--- the same bytes are one message
+-- the same bytes encode only one message
 one_message : {M : Type 0} (judge : Judge) (brings : List Packet → Packet → Bool) (Says : Meaning M)
     → ReadsExactly judge brings Says → (bytes left also : List ℕ) (one other : M)
     → ReadsMessage judge Says (known_bytes bytes left) one → ReadsMessage judge Says (known_bytes bytes also) other → other ≡ one
@@ -60,7 +59,7 @@ module _ {A : Type 0} where
   held_or_not None twice = absurd (twice (λ held. false≢true held))
   held_or_not (Some node) twice = refl
 
-  -- what can't fail to be connected is connected
+  -- an id that is not unconnected is connected
   connected_or_not : (g : List (Entry A)) (a : List ℕ) → ¬ (¬ (IsConnected g a)) → IsConnected g a
   connected_or_not g a twice b path = held_or_not (node_at g b) (λ lost. twice (λ connected. lost (connected b path)))
 
@@ -85,7 +84,7 @@ module _ {A : Type 0} where
             ];
       }
 
-  -- ---- the reply to ls-refs
+  -- ---- the ls-refs reply
 
   same_lines : (old one other : SessionState A) (g : List (Entry A)) (reply : LsReply) (taken : LsTaken A)
       → TakesLines old g reply one taken → TakesLines old g reply other taken → one ≡ other
@@ -105,7 +104,7 @@ module _ {A : Type 0} where
       (subst (λ (r : LsReply). TakesLines old g r other taken) same takes_too.1.2)
   listing_is_decided exactly old one other g bytes left also (Err fault) takes takes_too = takes.1 ∙ sym takes_too.1
 
-  -- ---- the reply to fetch
+  -- ---- the fetch reply
 
   one_asked : (s : SessionState A) (one other : FetchAsked) → Awaits s one → Awaits s other → other ≡ one
   one_asked s one other waits also =

@@ -1,4 +1,4 @@
--- How a session begins, and its next request: what is offered in it, and that there is one.
+-- The beginning of a session, and its next request: the batch, the options, and the uniqueness of the request.
 use Rattle.std.proofs.Common.{◌≡◌, ◌⊎◌, ◌∙◌, ℕ, ◌+◌, true, false, List, [], ◌∷◌, length, All, Contains, bytes_eq}
 use Rattle.std.proofs.Common.{nat_le, if◌then◌else◌, inl, inr, Result, Ok, Err, refl, sym, ap, ap₂, get_or}
 use Rattle.std.specs.List.{IsDistinct}
@@ -27,7 +27,7 @@ use Rattle.gsession.proofs.CommonLemmas.{all_distinct}
 module _ {A : Type 0} where
   -- ---- a batch
 
-  -- what holds of each id that may be offered
+  -- if each id that the session may offer satisfies `P`, each id of the batch satisfies `P`
   batch_has : OffersAreExact A → (P : List ℕ → Type 0) (g : List (Entry A)) (s : SessionState A)
       (batch : List (List ℕ)) → IsBatch s g batch
       → ((a : List ℕ) → ¬ (Contains s.sent a) → SomeReaches g s.tips a → P a) → All P batch
@@ -54,7 +54,7 @@ module _ {A : Type 0} where
         | false ↦ tt
       ])
 
-  -- ---- each request offers something new
+  -- ---- a new id in each request
 
   new_id : (s : SessionState A) (asked : FetchAsked) (batch : List (List ℕ))
       → asked ≡ fetch_request s.options s.wants s.commons batch → All (λ a. ¬ (Contains s.sent a)) batch
@@ -86,7 +86,7 @@ module _ {A : Type 0} where
 
   -- ---- the options
 
-  -- a session without options begins as it does by default
+  -- beginning a session with the default options is beginning a session without options
   pub begins_plain : (r : RepoState A) (refspecs : List Refspec) (limit : ℕ) (ends : Ends)
       (result : Result (SessionState A) (ClientFault A)) → BeginsWith r refspecs limit ends no_options result
       → Begins r refspecs limit ends result
@@ -96,7 +96,7 @@ module _ {A : Type 0} where
   pub options_are_asked : OptionsAreAsked A
   options_are_asked g old new asked made = rw made.1.1 (record { ofs_delta = refl; progress = refl })
 
-  -- ---- there is one next request
+  -- ---- the uniqueness of the next request
 
   one_request : OffersAreExact A → (s : SessionState A) (g : List (Entry A)) (asked also : Asked)
       (batch other : List (List ℕ)) → IsNext s g asked batch → IsNext s g also other
@@ -117,9 +117,9 @@ module _ {A : Type 0} where
       let same = one_request exact old g asked also made.0 too.0 made.1 too.1 in
       (same.0, made.2 ∙ ap₂ (waiting_for old) same.0 same.1 ∙ sym too.2)
 
-  -- ---- the graph on which a session began
+  -- ---- the graph with which a session began
 
-  -- each tip is connected
+  -- each tip is connected, if the repository is connected
   pub tips_are_connected : DistinctAreOnce → (r : RepoState A) → IsConnectedRepo r
       → All (IsConnected r.graph.entries) (distinct_of (values_of r.refs))
   tips_are_connected once r whole = all_distinct once (IsConnected r.graph.entries) (values_of r.refs) whole.connected_refs

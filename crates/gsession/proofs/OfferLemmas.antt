@@ -1,4 +1,4 @@
--- What a session keeps of its walk: after its next request, and after a reply of acknowledgments.
+-- The walk of a session after its next request, and after a reply with only acknowledgments.
 use Rattle.std.proofs.Common.{◌≡◌, ◌∙◌, ℕ, List, [], ◌∷◌, ◌++◌, Contains, Option, None, Some, IfSome, Result, Ok, Err}
 use Rattle.std.proofs.Common.{MatchResult, OnOk, inl, inr, refl, sym}
 use Rattle.std.proofs.Common.{ap, subst, append-nil, append_assoc, bytes_eq}
@@ -24,7 +24,7 @@ use Rattle.gsession.specs.declared.stage.Stage.TheVariants.{Listing}
 use Rattle.gsession.proofs.CommonLemmas.{apart_head}
 use Rattle.gsession.proofs.SessionLemmas.{listing_fetches}
 
--- ---- distinct ids are their own distinct ids
+-- ---- lists of distinct ids
 
 apart : (xs ys : List (List ℕ)) (a : List ℕ) → IsDistinct bytes_eq (xs ++ a ∷ ys) → Contains xs a → ⊥
 apart [] ys a once there = nothing_in_nil a there
@@ -56,7 +56,7 @@ module _ {A : Type 0} where
   asked_refs s new g (Fetches asked) (Some offers) stage made are =
       absurd (listing_fetches (sym stage ∙ made.1.0))
 
-  -- the same of a call that makes it
+  -- the walk also remains valid after the call that makes the request for refs
   pub listing_offers : (s new : SessionState A) (g : List (Entry A)) (result : Result (Request A) (ClientFault A))
       (offers : Option (Offers A)) → s.stage ≡ Listing
       → MatchResult result (λ request. MakesNext s g new (asked_by_request request))

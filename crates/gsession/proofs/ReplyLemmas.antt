@@ -1,4 +1,4 @@
--- Taking a reply, step by step.
+-- Accepting or rejecting a reply, step by step.
 use Rattle.std.proofs.Common.{◌≡◌, ◌≤◌, ℕ, Bool, List, ◌++◌, length, All, Contains, Option, None, Result, Ok, Err, inr}
 use Rattle.std.proofs.Common.{MatchResult, refl, sym, ap, subst, true≢false, arith, ◌∙◌}
 use Rattle.std.specs.Option.{option_map}
@@ -43,7 +43,7 @@ use Rattle.gsession.specs.declared.taken.Taken.{Taken}
 use Rattle.gsession.specs.declared.taken.Taken.TheVariants.{Round, PackTaken}
 use Rattle.gsession.proofs.CommonLemmas.{all_distinct, all_of_members}
 
--- ---- replies by their heads
+-- ---- replies and their acknowledgments
 
 pub acks_reply : (reply : FetchReply) (ids : List (List ℕ)) → head.Acks ids ≡ head_of reply → reply ≡ Acks ids
 acks_reply (Acks also) ids same = cc
@@ -72,7 +72,7 @@ are_commons s asked acks list law opened named is =
     })
 
 module _ {A : Type 0} where
-  -- ---- a reply to ls-refs
+  -- ---- the ls-refs reply
 
   refs_fault : (s : SessionState A) (g : List (Entry A)) (change : Change) (reply : LsReply) (fault : ClientFault A)
       → AwaitsRefs s → ReadsRefs s change reply
@@ -90,7 +90,7 @@ module _ {A : Type 0} where
   refs_answer old g change reply new (Err fault) waits reads answers =
       (refs_fault old g change reply fault waits reads answers.0, answers.1)
 
-  -- how it leaves the reader
+  -- the state of the reader after an ls-refs reply
   pub refs_leaves : {S : Type 0} (is_down : S → Bool) (was now : Reader S) (old : SessionState A)
       (g : List (Entry A)) (reply : LsReply) (new : SessionState A) (result : Result (LsTaken A) (ClientFault A))
       → LeavesReader {M = Unit {0}} is_down was now (Ok tt) → AnswersRefs old g reply new result
@@ -102,9 +102,9 @@ module _ {A : Type 0} where
       ((leaves.0, leaves.2), leaves.1, λ failed. absurd (true≢false (sym failed ∙ leaves.0)))
   refs_leaves is_down was now old g reply new (Err _) leaves answers = leaves
 
-  -- ---- a reply to fetch
+  -- ---- the fetch reply
 
-  -- the session with those common ids, made of what it was before, where no request waits any more
+  -- clearing the open request and storing the common ids gives the session `after_acks`
   pub acked : (stage : Stage) (now : Option (Request A)) (was s : SessionState A) (acks list : List (List ℕ))
       → now ≡ None → was ≡ s → list ≡ distinct_of (s.commons ++ acks)
       → record was { stage = stage; pending = option_map asked_by_request now; commons = list }
@@ -115,7 +115,7 @@ module _ {A : Type 0} where
       ∙ ap (λ (o : SessionState A). record o { stage = stage; pending = None; commons = list }) same
       ∙ ap (λ (l : List (List ℕ)). record s { stage = stage; pending = None; commons = l }) is
 
-  -- why an acknowledged id that the request did not name is not taken
+  -- an acknowledged id that is not a have is a reason to reject the acknowledgments
   pub strange_acks : (haves acks : List (List ℕ)) (fault : ClientFault A) → IsStrangeAck haves acks fault
       → IsAcksFault haves acks fault
   strange_acks haves acks (StrangeAck id) is = is
@@ -140,7 +140,7 @@ module _ {A : Type 0} where
     takes_grow old repo_old reply new repo_new (PackTaken added) takes =
         inserts_grows repo_old.graph.format repo_old.graph.entries takes.2.0 repo_new.graph.entries takes.2.2.adds.1
 
-    -- the objects only grow, whatever is answered
+    -- the graph only gains objects, whatever the result of reading the reply
     pub reply_grows : (old : SessionState A) (repo_old : RepoState A) (change : Change) (new : SessionState A)
         (repo_new : RepoState A) (result : Result Taken (ClientFault A))
         → AnswersReply indexes index_fails old repo_old change new repo_new result
@@ -175,7 +175,7 @@ module _ {A : Type 0} where
     graph_fault haves s reply graph.Memory named has refuses = (named, λ _. (refuses.0, refuses.1))
     graph_fault haves s reply _ named has refuses = (named, has, refuses)
 
-    -- ---- acknowledgments alone
+    -- ---- replies with only acknowledgments
 
     pub acks_answer : (haves acks : List (List ℕ)) (old : SessionState A) (s : RepoState A) (reply : FetchReply)
         (new : SessionState A) (result : Result Taken (ClientFault A))
@@ -195,7 +195,7 @@ module _ {A : Type 0} where
       refl,
     )
 
-    -- ---- a reply that was read
+    -- ---- the result of reading a complete reply
 
     read_fault : (s : SessionState A) (repo_old : RepoState A) (change : Change) (asked : FetchAsked)
         (reply : FetchReply) (fault : ClientFault A)
@@ -218,7 +218,7 @@ module _ {A : Type 0} where
     read_answer old repo_old change asked reply new repo_new (Err fault) waits reads answers =
         (read_fault old repo_old change asked reply fault waits reads answers.0, answers.1, answers.2)
 
-    -- how it leaves the reader
+    -- the state of the reader after a fetch reply
     pub read_leaves : {S : Type 0} (is_down : S → Bool) (was now : Reader S) (haves : List (List ℕ))
         (old : SessionState A) (repo_old : RepoState A) (reply : FetchReply) (new : SessionState A)
         (repo_new : RepoState A) (result : Result Taken (ClientFault A))

@@ -1,4 +1,4 @@
--- Sessions from call to call: what stays true of a session when some of its parts change.
+-- The invariants of a session, which every call preserves.
 use Rattle.std.proofs.Common.{◌≡◌, ◌≢◌, ℕ, ◌+◌, ◌≤◌, ◌==◌, false, List, [], ◌∷◌, ◌++◌, length}
 use Rattle.std.proofs.Common.{All, Option, Some, None, refl, sym, ap, subst, arith, length-append, ◌∙◌}
 use Rattle.std.specs.List.{IsDistinct}
@@ -18,7 +18,7 @@ use Rattle.gsession.specs.declared.options.PackOptions.{PackOptions}
 use Rattle.gsession.specs.declared.stage.Stage.{Stage}
 use Rattle.gsession.specs.declared.stage.Stage.TheVariants.{Listing, Fetching, Settling}
 
--- ---- the stage and the request that waits
+-- ---- the stage and the open request
 
 pub listing_fetches : Listing ≡ Fetching → ⊥
 listing_fetches same = cc
@@ -26,13 +26,13 @@ listing_fetches same = cc
 pub settling_fetches : Settling ≡ Fetching → ⊥
 settling_fetches same = cc
 
--- a request for refs waits before any for objects was made
+-- if a request for refs is open, the session has made no request for objects
 ls_waits : {A : Type 0} (s : SessionState A) (st : Stage) (asked : LsRefsAsked) → FitsStage s st (Some (Ls asked))
     → s.rounds ≡ 0
 ls_waits s Listing asked fits = fits
 ls_waits s _ asked fits = absurd fits
 
--- a request for objects waits as it was made, while objects are fetched
+-- an open request for objects satisfies `IsOpenFetch`, and the stage is `Fetching`
 fetch_waits : {A : Type 0} (s : SessionState A) (st : Stage) (asked : FetchAsked)
     → FitsStage s st (Some (Fetches asked)) → (st ≡ Fetching) × IsOpenFetch s asked
 fetch_waits s Fetching asked fits = (refl, fits)
@@ -42,9 +42,9 @@ pub open_fetch : {A : Type 0} (s : SessionState A) (asked : FetchAsked) → IsSe
     → IsOpenFetch s asked
 open_fetch s asked is waits = (fetch_waits s s.stage asked (subst (FitsStage s s.stage) waits is.stage)).1
 
--- ---- beginning and ending
+-- ---- the beginning of a session
 
--- with empty lists
+-- a new session, whose lists are empty, satisfies the invariants
 pub begun : {A : Type 0} (s : SessionState A) → length s.refspecs ≤ max_specs → All (IsIdOf s.format) s.tips
     → s.wants ≡ [] → s.commons ≡ [] → s.sent ≡ []
     → s.stage ≡ Listing → s.pending ≡ None → s.rounds ≡ 0 → IsSession s
@@ -61,9 +61,9 @@ begun s few ids wants commons sent stage pending rounds = record {
   stage = rw (stage, pending) rounds;
 }
 
--- ---- the request that waits
+-- ---- the open request
 
--- another one, or none, in its place
+-- replacing the open request by an equal one preserves the invariants
 pub waits : {A : Type 0} (s : SessionState A) (now next : Option (Request A)) → now ≡ next
     → IsSession (record s { pending = option_map asked_by_request next }) → IfSome next (IsOfFormat s.format)
     → IsSession (record s { pending = option_map asked_by_request now }) × IfSome now (IsOfFormat s.format)
@@ -71,13 +71,13 @@ waits s now next same is format = rw same (is, format)
 
 -- ---- requests
 
--- a batch with ids makes the ids that were offered more
+-- a batch that is not empty increases the number of offered ids
 more_sent : (n : ℕ) (sent batch : List (List ℕ)) → length batch == 0 ≡ false → n ≤ length sent
     → n + 1 ≤ length (sent ++ batch)
 more_sent n sent [] some few = absurd (cc)
 more_sent n sent (id ∷ batch) some few = omega (arith, few, length-append sent (id ∷ batch))
 
--- a request that is not direct has a batch
+-- a request with haves and without `done` has a batch that is not empty
 has_batch : (options : PackOptions) (wants commons batch : List (List ℕ))
     → is_direct (fetch_request options wants commons batch) ≡ false → length batch == 0 ≡ false
 has_batch options wants commons [] direct = direct
@@ -111,13 +111,13 @@ objects_asked s batch sent p is stage pending fits waits more =
 
 -- ---- replies
 
--- objects are fetched where some are wanted, and else it is time to settle
+-- the stage after an ls-refs reply fits a session that has made no request for objects
 fits_wants : {A : Type 0} (s : SessionState A) (wants : List (List ℕ)) → s.rounds ≡ 0
     → FitsStage s (stage_for wants) None
 fits_wants s [] none = tt
 fits_wants s (want ∷ wants) none = omega (arith, none)
 
--- objects are fetched only where some are wanted
+-- if the stage after an ls-refs reply is `Fetching`, there are wants
 some_wants : (wants : List (List ℕ)) → stage_for wants ≡ Fetching → wants ≢ []
 some_wants [] fetching = absurd (settling_fetches fetching)
 some_wants (want ∷ wants) fetching = λ none. cc

@@ -164,7 +164,7 @@ CommonsAreHaves {A} indexes index_fails =
 
 -- ---- the repository
 
--- the graph only gained objects, and format, refs and marks are unchanged
+-- the graph only gained objects, and the format, the refs and the marks are unchanged
 pub record OnlyGrows {A : Type 0} (old new : RepoState A) : Type 0 where
   pub grows : Grows old.graph.entries new.graph.entries
   pub format : new.graph.format ≡ old.graph.format
@@ -179,7 +179,7 @@ TakingOnlyGrows {A} indexes index_fails =
 
 -- ---- a session that is over
 
--- A session that is over rejects an advertisement and does not change.
+-- a session that is over rejects an advertisement and does not change
 abbrev pub OverHearsNone : Type 0 → Type 0
 OverHearsNone A =
     (old new : SessionState A) (capabilities : List Capability) (result : Result (Unit {0}) (ClientFault A))

@@ -70,7 +70,7 @@ FitsStage s Settling None = Unit {0}
 FitsStage s Over None = Unit {0}
 FitsStage s _ _ = ⊥
 
--- the common ids are distinct ids of the format, and fit into one request with these limits
+-- the common ids are distinct ids of this object format, and fit into one request with these limits
 pub record AreCommons (limits : Limits) (format : Format) (commons : List Id) : Type 0 where
   pub ids : All (IsIdOf format) commons
   pub few : length commons ≤ max_haves limits

@@ -48,7 +48,7 @@ pub record IsFirstStrange (haves acks : List Id) (id : Id) : Type 0 where
 abbrev pub after_acks : {A : Type 0} → SessionState A → Stage → List Id → SessionState A
 after_acks s stage acks = record s { stage = stage; pending = None; commons = distinct_of (s.commons ++ acks) }
 
--- the graph gains the objects of a list, and refs and marks are unchanged
+-- the graph gains the objects of a list, and the refs and the marks are unchanged
 pub record InsertsAll {A : Type 0} (old : RepoState A) (entries : List (Entry A)) (new : RepoState A) (added : ℕ)
     : Type 0 where
   pub adds : Adds old.graph entries new.graph (Ok added)

@@ -1,4 +1,4 @@
--- Lines, one more at a time, and lines that are printed.
+-- Texts that grow by one line at a time, and the printed lines of faults.
 use Rattle.std.proofs.Common.{◌≡◌, ℕ, ◌+◌, ◌≤◌, ◌<◌, List, [], ◌∷◌, ◌++◌, length, take, get_or, codes, sym, ap, subst, ◌∙◌}
 use Rattle.std.proofs.lemmas.List.{flat_map_more, take_all, take_more}
 use Rattle.std.specs.List.{flat_map}
@@ -29,27 +29,27 @@ module _ {X : Type 0} (line : X → List ℕ) (xs : List X) (place : ℕ) where
 
 -- ---- faults
 
--- a wrong line is reported
+-- if `fault` is a malformed line of the scenario and that line is reported, then `fault` is reported
 pub prints_scenario : (errors : Output) (fault : ScenarioFault) (line : ℕ) → fault ≡ scenario.Scenario line → Prints errors (wrong_line line)
     → Prints errors (scenario_line fault)
 prints_scenario errors fault line same h = subst (λ (f : ScenarioFault). Prints errors (scenario_line f)) (sym same) h
 
--- and that it was out of memory
+-- if `fault` is out of memory and the line for out of memory is printed, then `fault` is reported
 pub prints_no_memory : (errors : Output) (fault : ScenarioFault) → fault ≡ scenario.Memory → Prints errors (codes "gitv2: fault 91 Memory\n")
     → Prints errors (scenario_line fault)
 prints_no_memory errors fault same h = subst (λ (f : ScenarioFault). Prints errors (scenario_line f)) (sym same) h
 
--- the id that two objects have is reported
+-- if `fault` is a disagreement about `id` and this disagreement is reported, then `fault` is reported
 pub prints_disagreement : (errors : Output) (fault : WorldFault) (id : List ℕ) → fault ≡ world.Disagree id → Prints errors (disagreement id)
     → Prints errors (world_line fault)
 prints_disagreement errors fault id same h = subst (λ (f : WorldFault). Prints errors (world_line f)) (sym same) h
 
--- and that there are two formats
+-- if `fault` is a difference in object formats and the line for two formats is printed, then `fault` is reported
 pub prints_two_formats : (errors : Output) (fault : WorldFault) → fault ≡ world.TwoFormats → Prints errors (codes "gitv2: fault 97 TwoFormats\n")
     → Prints errors (world_line fault)
 prints_two_formats errors fault same h = subst (λ (f : WorldFault). Prints errors (world_line f)) (sym same) h
 
 module _ {A : Type 0} (errors : Output) (fault : SimulationFault A) where
-  -- each kind of fault is reported by its own line
+  -- if the line for a fault equal to `fault` is printed, then the line for `fault` is printed
   pub prints_fault : (same : SimulationFault A) → fault ≡ same → Prints errors (simulation_fault_line same) → Prints errors (simulation_fault_line fault)
   prints_fault other same h = subst (λ (f : SimulationFault A). Prints errors (simulation_fault_line f)) (sym same) h

@@ -1,4 +1,4 @@
--- A simulation, put together.
+-- The contract of a simulation, proved from the contracts of its steps.
 use Rattle.std.proofs.Common.{◌≡◌, List, Err, inl, inr, refl, sym, ap, subst}
 use Rattle.gpkt.specs.Sending.{Output, IsUnwritten}
 use Rattle.grefs.specs.RefLists.{RefList}
@@ -14,14 +14,14 @@ use Rattle.gsimulate.specs.declared.fault.SimulationFault.{SimulationFault}
 use Rattle.gsimulate.specs.declared.fault.SimulationFault.TheVariants as faults
 use Rattle.gsimulate.specs.declared.simulate.Simulation.{Simulation}
 
--- the same text, by what it shows
+-- `Shows` carries over to equal outcomes and equal refs
 pub shows_same : {A : Type 0} (outcomes shown : List Outcome) (refs at : RefList) (output : Output) (ending : Ending A) → shown ≡ outcomes
     → at ≡ refs → Shows (simulated_text shown at) output ending → Shows (simulated_text outcomes refs) output ending
 shows_same outcomes shown refs at output ending same stand h =
     subst (λ (these : RefList). Shows (simulated_text outcomes these) output ending) stand
     (subst (λ (these : List Outcome). Shows (simulated_text these at) output ending) same h)
 
--- of equal worlds
+-- equal values of `WorldOf` have the same world state
 pub same_world : {A K : Type 0} (made other : WorldOf A K) → made ≡ other → made.world ≡ other.world
 same_world {A} {K} made other same = ap (λ (it : WorldOf A K). it.world) same
 
@@ -32,7 +32,7 @@ stops_before files (faults.World fault) h = h
 stops_before files faults.Memory h = absurd h
 
 module _ {A : Type 0} (files : Simulation) (output : Output) where
-  -- no event happened
+  -- a simulation that ends with a fault before its first event
   pub not_begun : (fault cause : SimulationFault A) → CannotBegin files cause → fault ≡ cause → IsUnwritten output
       → Simulates files output (Err fault)
   not_begun fault cause cannot same unwritten = inr (record {
@@ -43,7 +43,7 @@ module _ {A : Type 0} (files : Simulation) (output : Output) where
   })
 
   module _ {K : Type 0} (begun : WorldOf A K) (events : List (Event A)) (begins : BeginsWith files begun events) where
-    -- all happened
+    -- a simulation whose events all happened
     pub is_simulated : (outcomes : List Outcome) (new : WorldState A) (ending : Ending A)
         → RunWith (Promises (plain_tools A)) begun.world events outcomes new
         → Shows (simulated_text outcomes new.repo.refs) output ending → Simulates files output ending
@@ -67,7 +67,7 @@ module _ {A : Type 0} (files : Simulation) (output : Output) where
       );
     })
 
-    -- the run stopped
+    -- a simulation that ran out of memory before an event
     pub is_stopped : IsStopped begun.world events → IsUnwritten output
         → Simulates {A = A} files output (Err faults.Memory)
     is_stopped stopped unwritten = inr (record {

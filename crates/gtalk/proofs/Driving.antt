@@ -1,4 +1,4 @@
--- How much is left while a connection is driven, and what its devices are left as.
+-- The remaining turns and steps of a driven connection, and the bytes of its source and sink.
 use Rattle.std.proofs.Common.{◌≡◌, ℕ, ◌+◌, ◌<◌, ◌≤◌, ◌⊎◌, ◌++◌, [], Bool, true, false, length, Option, Some, None, Result, Ok, Err, IsSome, OnErr, inl, inr, refl, sym, subst, ap, ◌∙◌, arith, append-nil}
 use Rattle.std.specs.Io.KnownBytes.{Appends, Keeps}
 use Rattle.gpkt.specs.Packets.{Bytes, max_packet}
@@ -14,9 +14,9 @@ use Rattle.gtalk.specs.declared.fault.TalkFault.{TalkFault}
 use Rattle.gtalk.specs.declared.fault.TalkFault.TheVariants.{Io, Memory}
 use Rattle.gtalk.proofs.Moves.{more_heard, more_said, nothing_driven}
 
--- ---- measures
+-- ---- remaining calls, reads and turns
 
--- a call that says packets, and then fewer are left
+-- fewer calls remain after a call that queues packets
 pub calls_fewer : (old new : Turn) (steps fewer : ℕ) → old ≡ Speaks → (new ≡ old → fewer < steps)
     → calls_left new fewer < calls_left old steps
 calls_fewer Speaks Speaks steps fewer is less = let l = less refl in omega (arith, l)
@@ -25,7 +25,7 @@ calls_fewer Speaks Done steps fewer is less = omega arith
 calls_fewer Listens new steps fewer is less = absurd (cc is)
 calls_fewer Done new steps fewer is less = absurd (cc is)
 
--- a packet that is heard, and then fewer reads are left
+-- fewer reads remain after a packet is received
 pub reads_fewer : (old new : Turn) (steps fewer kept more : ℕ) → old ≡ Listens → (new ≡ old → fewer < steps)
     → reads_left new fewer more < reads_left old steps kept
 reads_fewer Listens Listens steps fewer kept more is less = let l = less refl in omega (arith, l)
@@ -34,7 +34,7 @@ reads_fewer Listens Done steps fewer kept more is less = omega arith
 reads_fewer Speaks new steps fewer kept more is less = absurd (cc is)
 reads_fewer Done new steps fewer kept more is less = absurd (cc is)
 
--- some bytes more of a packet, and then fewer reads are left
+-- fewer reads remain after more bytes of an incomplete packet are received
 pub reads_on : (turn : Turn) (steps kept more count : ℕ) → turn ≡ Listens → more ≡ kept + count → 0 < count → kept + count ≤ max_packet
     → reads_left turn steps more < reads_left turn steps kept
 reads_on Listens steps kept more count is same some few = omega (arith, same, some, few)
@@ -42,7 +42,7 @@ reads_on Speaks steps kept more count is same some few = absurd (cc is)
 reads_on Done steps kept more count is same some few = absurd (cc is)
 
 module _ {C : Type 0} (turn : C → Turn) (left : C → Left) where
-  -- a step of the same turn leaves fewer
+  -- a step within a turn decreases the number of remaining steps
   pub fewer_steps : (old new : C) → IsNearer turn left old new → turn new ≡ turn old → (left new).steps < (left old).steps
   fewer_steps old new (inl (same, few, less)) is = less
   fewer_steps old new (inr (other, less)) is = absurd (other is)
@@ -62,7 +62,7 @@ module _ {C : Type 0} (turn : C → Turn) (left : C → Left) where
   later_later old mid new (inr few) (inl (is, fewer)) = inr (omega (arith, few, fewer))
   later_later old mid new (inr few) (inr less) = inr (omega (arith, few, less))
 
-  -- a turn that is over was one of those that were left
+  -- fewer turns remain after the turn `was` has ended
   pub turn_over : (old new : C) (was : Turn) → IsLater turn left old new → turn old ≡ was → (turn new ≡ was → ⊥)
       → (left new).turns < (left old).turns
   turn_over old new was (inl (same, few)) is other = absurd (other (same ∙ is))
@@ -85,7 +85,7 @@ module _ {C A : Type 0} (turn : C → Turn) (left : C → Left) where
       reads_fewer (turn old.conversation) (turn new.conversation) (left old.conversation).steps (left new.conversation).steps
       (length old.incoming) (length new.incoming) is (fewer_steps turn left old.conversation new.conversation near)
 
-  -- it listens no more: fewer turns are left, or no packet comes any more
+  -- when the conversation no longer listens, fewer turns remain, or no more packets arrive
   pub listens_no_more : (old new : Connection C A) → turn old.conversation ≡ Listens → IsLater turn left old.conversation new.conversation
       → ((turn new.conversation ≡ Speaks) ⊎ IsDone {A = A} turn new) → IsFewer {A = A} left old new
   listens_no_more old new is later (inl speaks) =
@@ -108,7 +108,7 @@ module _ {C A : Type 0} (turn : C → Turn) (left : C → Left) where
       → turns_left {A = A} turn left new < turns_left {A = A} turn left old
   said_turns old new same less = let is = ap count_unstopped same in omega (arith, is, less)
 
--- ---- devices
+-- ---- the written and flushed bytes of a sink
 
 pub keeps_known : (a b : Option Bytes) → Keeps a b → IsSome a → IsSome b
 keeps_known None b keeps some = absurd (cc some)
@@ -125,7 +125,7 @@ leaves_sink (Ok done) first was is h same = h
 leaves_sink (Err Io) first was is h same = h
 leaves_sink (Err Memory) first was is h same = h ∙ same
 
--- where it keeps what was passed on, it keeps it and perhaps more
+-- unchanged flushed bytes satisfy `KeepsPassed`
 pub keeps_passed : (a b : Option Bytes) → Keeps a b → KeepsPassed (record { old = a; new = b })
 keeps_passed None b keeps = tt
 keeps_passed (Some x) None keeps = keeps
@@ -137,7 +137,7 @@ keeps_then_passed (Some x) None c keeps h = absurd keeps
 keeps_then_passed (Some x) (Some y) None keeps h = h
 keeps_then_passed (Some x) (Some y) (Some z) keeps (more, is) = (more, is ∙ ap (λ l. l ++ more) keeps)
 
--- what was passed on at a turn's beginning is passed on at its end
+-- if all written bytes are flushed at the start of a turn, they are still flushed at its end
 passed_since : (between passed last : Option Bytes) → passed ≡ between → IsSome passed → KeepsPassed (record { old = passed; new = last })
     → (bytes : Bytes) × (more : Bytes) × (between ≡ Some bytes) × (last ≡ Some (bytes ++ more))
 passed_since between None last same some h = absurd (cc some)
@@ -149,7 +149,7 @@ module _ {C A D : Type 0} (holds : C → Talk → Type 0) (turn : C → Turn) (c
   Drove passed old new first last begun sink = Driven {A = A} holds passed old new (record { old = first; new = last })
       (record { old = contents begun; new = contents sink }) (record { old = passed_on begun; new = passed_on sink }) (sink ≡ begun)
 
-  -- where it was known what was written and passed on, it is known what is passed on now
+  -- if the bytes written and flushed before `drive` are known, the bytes flushed so far are known
   known_now : (passed : Bool) (old mid : Connection C A) (first last : Option Bytes) (begun sink : D) → Drove passed old mid first last begun sink
       → IsSome (contents begun) → IsSome (passed_on begun) → IsSome (passed_on sink)
   known_now false old mid first last begun sink h some known = subst (λ d. IsSome (passed_on d)) (sym (h.quiet refl).1) known
@@ -185,7 +185,7 @@ module _ {C A D : Type 0} (holds : C → Talk → Type 0) (turn : C → Turn) (c
     known = λ is some known. all (known_now passed old mid first between begun sink h some known);
   }
 
-  -- it breaks off in a turn, or where nothing was passed on yet
+  -- if the turn that starts at `mid` fails, the connection is aborted as `BreaksOff` states
   pub breaks_off : (passed : Bool) (old mid new : Connection C A) (first between : Option Bytes) (begun sink after : D)
       → Drove passed old mid first between begun sink
       → ((turn mid.conversation ≡ Speaks) ⊎ IsDone {A = A} turn mid) → pending_of mid ≡ []

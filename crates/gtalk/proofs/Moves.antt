@@ -1,4 +1,4 @@
--- What a connection does with bytes and packets.
+-- The effects of calls on the bytes and packets of a connection.
 use Rattle.std.proofs.Common.{◌≡◌, ℕ, ◌+◌, List, [], ◌∷◌, ◌++◌, take, drop, Option, Some, None, Bool, false, Result, Ok, Err, OnOk, is_err, inl, refl, sym, ap, ◌∙◌, subst, arith, append-nil, append_assoc, take-append-drop}
 use Rattle.std.proofs.lemmas.Grind.{common_steps}
 use Rattle.gpkt.specs.Packets.{Bytes, Packet, Spells, SpellsAll, canonical, canonical_all}
@@ -11,7 +11,7 @@ use Rattle.std.specs.Io.KnownBytes.{Keeps}
 use Rattle.gtalk.specs.declared.conversation.Stop.{Stop}
 use Rattle.gtalk.specs.declared.connection.Connection.{Connection}
 
--- ---- spellings
+-- ---- encodings of packets
 
 pub spells_next : (lines : List Packet) (line : Packet) (front next : Bytes) → SpellsAll lines front → Spells line next
     → SpellsAll (lines ++ line ∷ []) (front ++ next)
@@ -30,7 +30,7 @@ canonical_joins [] more = refl
 canonical_joins (line ∷ lines) more =
     ap (λ b. canonical line ++ b) (canonical_joins lines more) ∙ sym (append_assoc (canonical line) (canonical_all lines) (canonical_all more))
 
--- what was taken, where the taking did not fail
+-- a call that did not fail satisfies its postcondition
 pub taken : {E P : Type 0} (r : Result (Unit {0}) E) (b : Bool) → b ≡ is_err r → b ≡ false → OnOk r P → P
 taken (Ok x) b is fine p = p
 taken (Err e) b is fine p = absurd (cc (is, fine))
@@ -38,11 +38,11 @@ taken (Err e) b is fine p = absurd (cc (is, fine))
 nothing_partial : IsPartialPacket []
 nothing_partial = inl (omega arith)
 
--- what was received stays, where nothing more is
+-- receiving no bytes preserves `Spelt`
 same_spelt : (heard : List Packet) (partial received : Bytes) → Spelt heard partial received → Spelt heard partial (received ++ [])
 same_spelt heard partial received h = record { front = h.front; parts = append-nil received ∙ h.parts; spells = h.spells }
 
--- some bytes more of a packet
+-- received bytes that do not complete a packet extend the incomplete packet
 more_spelt : (heard : List Packet) (partial received more new : Bytes) → new ≡ partial ++ more → Spelt heard partial received
     → Spelt heard new (received ++ more)
 more_spelt heard partial received more new is h = record {
@@ -51,7 +51,7 @@ more_spelt heard partial received more new is h = record {
   spells = h.spells;
 }
 
--- a packet whose last bytes have come
+-- received bytes that complete a packet add it to the received packets
 packet_spelt : (heard : List Packet) (line : Packet) (partial received more new : Bytes) → new ≡ partial ++ more → Spells line new
     → Spelt heard partial received → Spelt (heard ++ line ∷ []) [] (received ++ more)
 unfolding more_spelt
@@ -61,12 +61,12 @@ packet_spelt heard line partial received more new is spelt h = record {
   spells = spells_next heard line h.front new h.spells spelt;
 }
 
--- what is still to be sent stays, where nothing more is sent
+-- sending no bytes leaves the pending bytes unchanged
 same_said : (all sent pending : Bytes) → all ≡ sent ++ pending → all ≡ (sent ++ []) ++ pending
 same_said all sent pending is = is ∙ ap (λ s. s ++ pending) (sym (append-nil sent))
 
 module _ {C A : Type 0} (holds : C → Talk → Type 0) where
-  -- some bytes are sent
+  -- sending pending bytes preserves `Holds`
   pub sends : (c : Connection C A) (count : ℕ) (p : ∥ IsPartial c.stopped c.incoming ∥₁) (received sent : Bytes)
       → Holds {A = A} holds c received sent
       → Holds {A = A} holds (record { conversation = c.conversation; alloc = c.alloc; stopped = c.stopped; incoming = c.incoming; outgoing = c.outgoing; sent = c.sent + count; part = p })
@@ -87,7 +87,7 @@ module _ {C A : Type 0} (holds : C → Talk → Type 0) where
             ∙ sym (append_assoc sent (take count (drop c.sent out)) (drop (c.sent + count) out));
       }
 
-  -- it speaks, once all was sent
+  -- if no bytes are pending, queuing packets preserves `Holds`
   pub speaks : (c : Connection C A) (conversation : C) (p : ∥ IsPartial c.stopped c.incoming ∥₁) (out received sent : Bytes)
       → drop c.sent (bytes_in c.outgoing) ≡ []
       → ((talk : Talk) → holds c.conversation talk → Says (holds conversation) talk out) → Holds {A = A} holds c received sent
@@ -108,11 +108,11 @@ module _ {C A : Type 0} (holds : C → Talk → Type 0) where
             ∙ ap (λ b. (sent ++ []) ++ b) (sym told.spelt);
       }
 
-  -- while more is heard, what is kept is all that came of the packet
+  -- while more packets may arrive, all received bytes of the incomplete packet are stored
   kept_all : (c : Connection C A) (received sent : Bytes) (h : Holds {A = A} holds c received sent) → c.stopped ≡ None → c.incoming ≡ h.partial
   kept_all c received sent h goes = subst (λ s. IsKept s h.partial c.incoming) goes h.kept
 
-  -- some bytes more of a packet have come
+  -- receiving bytes that do not complete a packet preserves `Holds`
   pub grows : (c : Connection C A) (more new : Bytes) (p : ∥ IsPartial c.stopped new ∥₁) (received sent : Bytes) → c.stopped ≡ None
       → new ≡ c.incoming ++ more → IsPartialPacket new
       → Holds {A = A} holds c received sent
@@ -130,7 +130,7 @@ module _ {C A : Type 0} (holds : C → Talk → Type 0) where
         said = same_said (canonical_all h.talk.said) sent (drop c.sent (bytes_in c.outgoing)) h.said;
       }
 
-  -- a packet is heard
+  -- receiving the last bytes of a packet preserves `Holds`
   pub hears : (c : Connection C A) (conversation : C) (line : Packet) (more new left : Bytes) (p : ∥ IsPartial c.stopped left ∥₁) (received sent : Bytes) → c.stopped ≡ None
       → left ≡ [] → new ≡ c.incoming ++ more → Spells line new → ((talk : Talk) → holds c.conversation talk → holds conversation (talk_after talk line))
       → Holds {A = A} holds c received sent
@@ -147,7 +147,7 @@ module _ {C A : Type 0} (holds : C → Talk → Type 0) where
     said = same_said (canonical_all h.talk.said) sent (drop c.sent (bytes_in c.outgoing)) h.said;
   }
 
-  -- it is heard that no packet comes any more
+  -- notifying the conversation that no more packets arrive preserves `Holds`
   pub stops : (c : Connection C A) (conversation : C) (why : Stop) (more new : Bytes) (p : ∥ IsPartial (Some why) new ∥₁) (received sent : Bytes) → c.stopped ≡ None
       → (IsPartialPacket c.incoming → IsStopped (Some why) (c.incoming ++ more)) → IsKept (Some why) (c.incoming ++ more) new
       → ((talk : Talk) → holds c.conversation talk → holds conversation (stop_talk talk why))
@@ -167,11 +167,11 @@ module _ {C A : Type 0} (holds : C → Talk → Type 0) where
         said = same_said (canonical_all h.talk.said) sent (drop c.sent (bytes_in c.outgoing)) h.said;
       }
 
-  -- what is held after a move
+  -- after a move, the connection still matches some received and sent bytes
   pub held_after : (old new : Connection C A) (more said : Bytes) → Moves {A = A} holds old new more said → IsHeld {A = A} holds old → IsHeld {A = A} holds new
   held_after old new more said moves (received, sent, h) = (received ++ more, sent ++ said, moves received sent h)
 
-  -- two moves, one after the other
+  -- two consecutive moves are one move
   pub one_move : (old mid new : Connection C A) (a b said told : Bytes)
       → ((received sent : Bytes) → Holds {A = A} holds old received sent → Holds {A = A} holds mid (received ++ a) (sent ++ said))
       → ((received sent : Bytes) → Holds {A = A} holds mid received sent → Holds {A = A} holds new (received ++ b) (sent ++ told))
@@ -181,12 +181,12 @@ module _ {C A : Type 0} (holds : C → Talk → Type 0) where
       (subst (λ s. Holds {A = A} holds new ((received ++ a) ++ b) s) (append_assoc sent said told)
       (second (received ++ a) (sent ++ said) (first received sent h)))
 
-  -- no move
+  -- receiving and sending no bytes preserves `Holds`
   pub no_move : (c : Connection C A) (received sent : Bytes) → Holds {A = A} holds c received sent → Holds {A = A} holds c (received ++ []) (sent ++ [])
   no_move c received sent h =
       subst (λ r. Holds {A = A} holds c r (sent ++ [])) (sym (append-nil received)) (subst (λ s. Holds {A = A} holds c received s) (sym (append-nil sent)) h)
 
-  -- ---- a connection and its devices
+  -- ---- a connection with its source and sink
 
   unfoldable pub nothing_driven : (c : Connection C A) (read written : Option Bytes)
       → Drives {A = A} holds c c (record { old = read; new = read }) (record { old = written; new = written })
@@ -244,7 +244,7 @@ module _ {C A : Type 0} (holds : C → Talk → Type 0) where
   none_sent c written last keeps =
       record { said = []; sent = Appends-kept written written last [] (Appends-nil written) keeps; moves = no_move c }
 
-  -- what was sent stays, where the sink keeps what it has
+  -- a call that leaves the contents of the sink unchanged preserves `SendsSaid`
   pub kept_sent : (old new : Connection C A) (first between last : Option Bytes)
       → SendsSaid {A = A} holds old new (record { old = first; new = between }) → Keeps between last
       → SendsSaid {A = A} holds old new (record { old = first; new = last })

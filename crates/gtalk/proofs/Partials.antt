@@ -1,4 +1,4 @@
--- The bytes of a packet that have come so far.
+-- The received bytes of an incomplete packet.
 use Rattle.std.proofs.Common.{◌≡◌, ℕ, zero, suc, ◌+◌, ◌-◌, ◌<◌, ◌≤◌, [], ◌++◌, length, take, drop, Some, None, inl, inr, sym, ap, ◌∙◌, subst, arith, length-append, append-nil, take-append-drop, length-drop}
 use Rattle.std.proofs.lemmas.List.{take-append-le, nil_from_length}
 use Rattle.gpkt.specs.Packets.{Bytes, Data, Spells, digit_count, max_packet, number_of}
@@ -8,11 +8,11 @@ use Rattle.gtalk.specs.Partial.{IsWithinPacket, Lacks}
 some_value : (a b : ℕ) → Some a ≡ Some b → a ≡ b
 some_value a b same = cc same
 
--- the digits at the front announce one number
+-- the digits at the front of the bytes announce only one number
 one_number : (bytes : Bytes) (a b : ℕ) → AnnouncesAtFront bytes a → AnnouncesAtFront bytes b → a ≡ b
 one_number bytes a b p q = some_value a b (sym p.1 ∙ q.1)
 
--- what is announced is announced with more bytes
+-- appended bytes do not change the number that the digits announce
 announces_more : (bytes more : Bytes) (n : ℕ) → AnnouncesAtFront bytes n → AnnouncesAtFront (bytes ++ more) n
 announces_more bytes more n (long, number) =
     (omega (arith, long, length-append bytes more), ap number_of (take-append-le digit_count bytes more long) ∙ number)
@@ -32,7 +32,7 @@ whole_packet bytes n within announced long all =
       | inr h ↦ let same = one_number bytes n h.0 announced h.1 in let most = h.2 in omega (arith, same, most, all)
     ]
 
--- a data packet of which all has come
+-- if all announced bytes have arrived, the bytes encode a data packet
 pub whole_data : (bytes : Bytes) (n : ℕ) → IsWithinPacket bytes → AnnouncesAtFront bytes n → digit_count ≤ n → n ≤ max_packet
     → n ≤ length bytes → Spells (Data (drop digit_count bytes)) bytes
 whole_data bytes n within announced long short all =
@@ -69,18 +69,18 @@ lacks_payload bytes (suc k) announced within there fits is = record {
   room = omega (arith, is, fits);
 }
 
--- what is taken of what lacks keeps within the packet
+-- appending at most the missing bytes does not go beyond the packet
 pub within_after : (bytes more new : Bytes) (n : ℕ) → Lacks bytes n → length more ≤ n → new ≡ bytes ++ more → IsWithinPacket new
 within_after bytes more new n lacking few is = subst IsWithinPacket (sym is) (lacking.within more few)
 
--- where so many lack, fewer do
+-- if `n` more bytes do not go beyond the packet, fewer bytes do not either
 pub lacks_fewer : (bytes some : Bytes) (n : ℕ) → Lacks bytes n → length some ≤ n → Lacks bytes (length some)
 lacks_fewer bytes some n lacking few = record {
   within = λ more h. let fewer = few in lacking.within more (omega (arith, h, fewer));
   room = let all = lacking.room in omega (arith, all, few);
 }
 
--- ---- a part of a packet lacks some
+-- ---- the missing bytes of an incomplete packet
 
 pub partial_none : (bytes : Bytes) (n : ℕ) → digit_count ≤ length bytes → number_of (take digit_count bytes) ≡ None → IsPartialPacket bytes → 0 < n
 partial_none bytes n long none part =

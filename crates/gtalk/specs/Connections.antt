@@ -25,8 +25,8 @@ abbrev pub bytes_in : Option Bytes → Bytes
 bytes_in None = []
 bytes_in (Some bytes) = bytes
 
--- if no bytes were sent before the last turn, the previously flushed bytes stay flushed; otherwise all bytes written
--- before the last turn are flushed, if the written and flushed bytes are known
+-- If no bytes were sent before the last turn, the previously flushed bytes stay flushed. Otherwise, all bytes written
+-- before the last turn are flushed, if the written and flushed bytes are known.
 abbrev pub HasPassed : Bytes → Option Bytes → Change → Change → Type 0
 HasPassed said between written passed_on =
     ((said ≡ []) × KeepsPassed passed_on)
@@ -125,7 +125,8 @@ module _ {C A : Type 0} where
     pub last : SendsSaid holds mid new (record { old = between; new = written.new })
     pub passed : HasPassed before.said between written passed_on
 
--- for each result of `drive`, whether the sink has failed before and after the call
+-- after `Ok` the sink has not failed, after `Io` it has failed, and after `Memory` it has failed exactly if it had
+-- failed before the call
 abbrev pub LeavesSink : Result Unit TalkFault → Bool → Bool → Type 0
 LeavesSink (Ok done) was_down is_down = is_down ≡ false
 LeavesSink (Err Io) was_down is_down = is_down ≡ true

@@ -37,8 +37,8 @@ pub record Says (Holds : Talk → Type 0) (talk : Talk) (bytes : Bytes) : Type 0
 abbrev pub queue_room : ℕ
 queue_room = 2 * max_packet
 
--- The maximum number of changes of turn that remain, and the maximum number of steps before the step that makes the
--- next change. Each received packet is a step, and each call that queues packets is a step.
+-- The maximum number of remaining changes of turn, and the maximum number of steps in the current turn that do not
+-- change the turn. Each received packet is a step, and each call that queues packets is a step.
 pub record Left : Type 0 where
   pub turns : ℕ
   pub steps : ℕ

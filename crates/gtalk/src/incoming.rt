@@ -49,7 +49,7 @@ impl<A: Allocator + Copy> Incoming<A> {
         lacks_after(self.as_bytes())
     }
 
-    /// Appends received bytes, which must be no more than the missing bytes. If the allocation
+    /// Appends received bytes, which must not exceed the number of missing bytes. If the allocation
     /// fails, the buffer is unchanged.
     #[tactic(auto, using(crate::proofs::Partials::within_after))]
     pub(crate) fn take_bytes(&mut self, bytes: &[u8]) -> Result<(), AllocError>
@@ -96,7 +96,7 @@ impl<A: Allocator + Copy> Incoming<A> {
     }
 }
 
-// Returns the number of bytes after `bytes` that are missing from the digits. If the digits are
+// Returns the number of bytes that `bytes` lacks to complete the digits. If the digits are
 // complete, returns the number of bytes that are missing from the packet.
 #[tactic(auto, using(crate::proofs::Partials::lacks_digits, crate::proofs::Partials::lacks_none, crate::proofs::Partials::partial_none))]
 fn lacks_after(bytes: &[u8]) -> usize

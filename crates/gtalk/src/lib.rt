@@ -8,8 +8,8 @@
 //!
 //! # Proved
 //!
-//! - The received bytes consist of the encodings of the packets that the conversation received, and
-//!   a part of the next packet. The sent bytes followed by the pending bytes are the canonical
+//! - The received bytes are the encodings of the packets that the conversation received, followed
+//!   by a part of the next packet. The sent bytes followed by the pending bytes are the canonical
 //!   encoding of the packets that the conversation queued (`Holds` in `specs/Connections.antt`).
 //!   The contract of each call states which bytes the call receives and sends (`Moves`).
 //! - While more packets may arrive, [`Connection::receive_limit`] is at least one byte, and no call

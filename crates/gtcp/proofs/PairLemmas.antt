@@ -1,4 +1,4 @@
--- The client of a pair: what it did, and why both ends stopped.
+-- The fetch of a pair's client, and the faults of a pair.
 use Rattle.std.proofs.Common.{◌≡◌, ℕ, List, Bool, true, false, Result, Err, inl, sym, subst}
 use Rattle.ggrammar.specs.declared.ends.Ends.TheVariants.{Plain}
 use Rattle.ghello.specs.Hello.{Hello, IsHello}
@@ -16,7 +16,7 @@ use Rattle.gtcp.specs.Remote.{FetchesAsClient, FetchesInPair, pair_hello}
 use Rattle.gtcp.specs.steps.Remote.{IsPairFault}
 
 module _ {A : Type 0} (old : RepoState A) (specs : List Refspec) (new : RepoState A) where
-  -- it held a fetch with the default limit, over the first line of a pair
+  -- a fetch with the default limit and the first line of a pair is a fetch of the pair's client
   pub fetched_as_client : (limit : ℕ) (hello : Hello) (input : Input) (output : Output)
       (result : Result (Fetched A) (FetchFault A)) → limit ≡ default_limit → hello ≡ pair_hello → IsHello hello
       → FetchesGit plain_indexes (plain_index_fails A) (start_of old specs limit Plain) hello input output new result
@@ -38,7 +38,7 @@ module _ {A : Type 0} (old : RepoState A) (specs : List Refspec) (new : RepoStat
         }),
       )
 
-  -- it failed, and so both ends stopped
+  -- if the client's fetch fails, the pair fails with the fault that `IsPairFault` gives
   pub pair_fails : (cause : FetchFault A) (too_long lacks_memory : Bool) (fault : ProgramFault A)
       → IsPairFault cause too_long lacks_memory fault → FetchesAsClient old specs new (Err cause)
       → FetchesInPair old specs new (Err fault)

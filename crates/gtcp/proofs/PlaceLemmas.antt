@@ -1,4 +1,4 @@
--- A place, from the parts of its address.
+-- A location, from the parts of its address.
 use Rattle.std.proofs.Common.{◌≡◌, ℕ, List, [], ◌∷◌, ◌++◌, take, Some, Result, Ok, Err, sym, ap, subst, ◌∙◌, append_assoc, lit<}
 use Rattle.std.proofs.lemmas.List.{take-append-drop}
 use Rattle.std.proofs.lemmas.Option.{none-some, same_Some}
@@ -9,7 +9,7 @@ use Rattle.ggrammar.specs.declared.fault.MessageFault.{MessageFault}
 use Rattle.ghello.specs.Hello.{Hello, IsHello, MakesHello}
 use Rattle.std.specs.Str.Pattern.{RFindsChar, SplitsAroundMatch}
 
--- what holds of a value that is made holds of the one that is taken
+-- if `P` holds for the value of a successful result, it holds for the value that `result_ok` returns
 pub taken : {X E : Type 0} (P : X → Type 0) (made : Result X E) (x : X) → Some x ≡ result_ok made → IfOk made P → P x
 taken P (Ok y) x same holds = subst P (sym (same_Some x y same)) holds
 taken P (Err fault) x same holds = absurd (none-some x (sym same))
@@ -20,7 +20,7 @@ hello_taken wanted (Ok made) hello same makes =
     subst (λ (h : Hello). (h ≡ wanted) × IsHello h) (sym (same_Some hello made same)) makes
 hello_taken wanted (Err fault) hello same makes = absurd (none-some hello (sym same))
 
--- a text is what stands before a colon, the colon, and what follows
+-- a text that is split at its last colon is the front, the colon and the back
 pub split_at_colon : (text front back : List ℕ) → SplitsAroundMatch (RFindsChar 58) text front back
     → text ≡ front ++ codes ":" ++ back
 split_at_colon text front back (i, j, found, before, after, order, until, past) =

@@ -1,4 +1,4 @@
--- Connections that are served, one more at a time.
+-- Connections that are served one after the other.
 use Rattle.std.proofs.Common.{◌≡◌, ℕ, ◌+◌, ◌<◌, Bool, true, false, List, [], ◌∷◌, ◌++◌, Option, None, Ok, Err, inl, refl, ◌∙◌, ap, subst, arith}
 use Rattle.std.proofs.lemmas.List.{length-append}
 use Rattle.std.proofs.lemmas.List.Elements.{All-append, All-from_recursion}
@@ -17,7 +17,7 @@ use Rattle.gtcp.specs.steps.Remote.{ServesSoFar, Tells}
 use Rattle.gtcp.proofs.TellingLemmas.{tells_all, tells_next}
 
 module _ {A : Type 0} (server : Server A) (packs : Packs A) (fails : PackFails A) (path : List ℕ) (ends : Ends) where
-  -- devices that begin well, over a reader and a writer
+  -- serving over a source and a sink that have not failed before is serving over a reader and a writer
   pub serves_between : (read written : Change) (input : Input) (output : Output) (ended : GitEnd) → input.read ≡ read
       → output.written ≡ written → output.passed_on ≡ record { old = None; new = None } → input.was_down ≡ false
       → output.was_down ≡ false → ServesGit server packs fails path ends input output ended
@@ -39,7 +39,7 @@ module _ {A : Type 0} (server : Server A) (packs : Packs A) (fails : PackFails A
 module _ {A W : Type 0} (contents passed_on : W → Option (List ℕ)) (is_down : W → Bool) (server : Server A)
     (packs : Packs A) (fails : PackFails A) (path : List ℕ) (ends : Ends)
   where
-    -- before the first
+    -- no connection has been served yet
     pub serves_none : (a : W) → ServesSoFar server packs fails path ends (output_of contents passed_on is_down a a) true 0
     serves_none a = record {
       outcomes = [];
@@ -48,7 +48,7 @@ module _ {A W : Type 0} (contents passed_on : W → Option (List ℕ)) (is_down 
       count = refl;
     }
 
-    -- one more
+    -- one more connection is served
     pub serves_next : (a b c : W) (outcome : ProgramOutcome A) (could can : Bool) (count : ℕ)
         → ServesSoFar server packs fails path ends (output_of contents passed_on is_down a b) could count
         → IsServed server packs fails path ends outcome
@@ -63,7 +63,7 @@ module _ {A W : Type 0} (contents passed_on : W → Option (List ℕ)) (is_down 
       count = length-append so_far.outcomes (outcome ∷ []) ∙ ap (λ (n : ℕ). n + 1) so_far.count;
     }
 
-    -- all of them
+    -- all connections are served
     pub serves_all : (a b : W) (is_up : Bool) (number connections : ℕ)
         → ServesSoFar server packs fails path ends (output_of contents passed_on is_down a b) is_up number
         → number ≡ connections
@@ -75,7 +75,7 @@ module _ {A W : Type 0} (contents passed_on : W → Option (List ℕ)) (is_down 
       count = so_far.count ∙ same;
     }
 
-    -- one of them can't be accepted
+    -- fewer connections are served, because one of them can't be accepted
     pub serves_fewer : (a b : W) (is_up : Bool) (number connections : ℕ)
         → ServesSoFar server packs fails path ends (output_of contents passed_on is_down a b) is_up number
         → number < connections

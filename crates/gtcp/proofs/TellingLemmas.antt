@@ -1,4 +1,4 @@
--- Faults that are printed, one more at a time.
+-- The faults of connections, which are printed one after the other.
 use Rattle.std.proofs.Common.{◌≡◌, ◌⊎◌, ℕ, Bool, true, false, List, [], ◌∷◌, ◌++◌, Option, Result, Ok, Err, inl, inr, sym, ap, subst, ◌∙◌, append_assoc}
 use Rattle.std.proofs.lemmas.Bool.{false≢true}
 use Rattle.std.proofs.lemmas.List.{append-nil, flat_map_more}
@@ -15,7 +15,7 @@ use Rattle.gtcp.specs.steps.Remote.{PrintsSoFar, Tells}
 use Rattle.gtcp.specs.Telling.{PrintsFaults, PrintsNone, fault_in, fault_lines, faults_of}
 
 module _ {W : Type 0} (contents passed_on : W → Option (List ℕ)) (is_down : W → Bool) where
-  -- a beginning stays so where nothing more is written
+  -- if the sink failed after a prefix of `bytes`, this remains true while nothing more is written
   some_still : (a b c : W) (bytes : List ℕ) → SendsSome (output_of contents passed_on is_down a b) bytes
       → IsUnwritten (output_of contents passed_on is_down b c) → SendsSome (output_of contents passed_on is_down a c) bytes
   some_still a b c bytes some still = record {
@@ -26,7 +26,7 @@ module _ {W : Type 0} (contents passed_on : W → Option (List ℕ)) (is_down : 
     down = still.down ∙ some.down;
   }
 
--- a beginning of some bytes is one of more
+-- if the sink failed after a prefix of `bytes`, it failed after a prefix of `bytes ++ more`
 some_longer : (output : Output) (bytes more : List ℕ) → SendsSome output bytes → SendsSome output (bytes ++ more)
 some_longer output bytes more some = record {
   front = some.front;
@@ -36,7 +36,7 @@ some_longer output bytes more some = record {
   down = some.down;
 }
 
--- the line of a fault was to be printed
+-- trying to write and flush the line of a fault is an effect that `Tells` allows, if the sink worked before
 pub tells_printed : {A : Type 0} (output : Output) (fault : ProgramFault A) (printed : Result (Unit {0}) Down) (could : Bool)
     → could ≡ true → IsSent output printed (fault_line fault) → Tells (Err fault) could (is_ok printed) output
 tells_printed output fault printed false h sent = absurd (false≢true h)
@@ -51,7 +51,7 @@ tells_printed output fault (Err down) true h (inr at_flush) = record {
 }
 
 module _ {A W : Type 0} (contents passed_on : W → Option (List ℕ)) (is_down : W → Bool) where
-  -- ---- where nothing more is written
+  -- ---- sinks to which nothing more is written
 
   none_still : (a b c : W) (faults : List (ProgramFault A)) → PrintsNone (output_of contents passed_on is_down a b) faults
       → IsUnwritten (output_of contents passed_on is_down b c) → PrintsNone (output_of contents passed_on is_down a c) faults
@@ -71,7 +71,7 @@ module _ {A W : Type 0} (contents passed_on : W → Option (List ℕ)) (is_down 
   up_still a b c faults (inl none) still = inl (none_still a b c faults none still)
   up_still a b c faults (inr all) still = inr (passes_still contents passed_on is_down a b c (fault_lines faults) all still)
 
-  -- ---- where a line more is printed
+  -- ---- the line of one more fault
 
   lines_more : (faults : List (ProgramFault A)) (fault : ProgramFault A)
       → fault_lines faults ++ fault_line fault ≡ fault_lines (faults ++ fault ∷ [])
@@ -123,7 +123,7 @@ module _ {A W : Type 0} (contents passed_on : W → Option (List ℕ)) (is_down 
         down = next.down;
       })
 
-  -- ---- a connection more
+  -- ---- the outcome of one more connection
 
   still_so : (a b c : W) (faults : List (ProgramFault A)) (is_up : Bool)
       → PrintsSoFar (output_of contents passed_on is_down a b) faults is_up
@@ -150,7 +150,7 @@ module _ {A W : Type 0} (contents passed_on : W → Option (List ℕ)) (is_down 
   prints_next a b c faults (Err fault) true true so_far next = inr (all_more a b c faults fault so_far next)
   prints_next a b c faults (Err fault) true false so_far next = some_more a b c faults fault so_far next
 
-  -- so of the faults of connections
+  -- the printed faults of several connections, and of one more
   pub tells_next : (a b c : W) (outcomes : List (ProgramOutcome A)) (outcome : ProgramOutcome A) (could can : Bool)
       → PrintsSoFar (output_of contents passed_on is_down a b) (faults_of outcomes) could
       → Tells outcome could can (output_of contents passed_on is_down b c)
@@ -160,7 +160,7 @@ module _ {A W : Type 0} (contents passed_on : W → Option (List ℕ)) (is_down 
       (flat_map_more fault_in [] outcomes outcome)
       (prints_next a b c (faults_of outcomes) outcome could can so_far next)
 
--- ---- the end
+-- ---- the faults of all connections
 
 pub tells_all : {A : Type 0} (output : Output) (faults : List (ProgramFault A)) (is_up : Bool)
     → PrintsSoFar output faults is_up → PrintsFaults output faults

@@ -69,7 +69,7 @@ abbrev pub FitPrefixes : List Bytes → Type 0
 FitPrefixes prefixes = length prefixes ≤ max_prefixes profile
 
 module _ {A : Type 0} (asked : LsRefsAsked) (hello : Hello) where
-  -- a listing over a socket, whose client first sends the first line of the transport
+  -- a listing over a socket, which begins with the first line
   pub record HoldsListing (result : Result LsReply (FetchFault A)) : Type 0 where
     pub input : Input
     pub output : Output

@@ -1,4 +1,4 @@
--- How much a walk counts.
+-- The counts of a walk.
 use Rattle.std.proofs.Common.{◌≡◌, ℕ, zero, suc, ◌+◌, ◌^◌, ◌<◌, ◌≤◌, Bool, true, false, List, [], ◌∷◌, length, get_or}
 use Rattle.std.proofs.Common.{set, All, Some, replicate, refl, sym, arith}
 use Rattle.std.specs.List.{slice_get}
@@ -16,7 +16,7 @@ marked_none [] n = refl
 marked_none (entry ∷ g) zero = refl
 marked_none (entry ∷ g) (suc n) = marked_none g n
 
--- an entry more is marked
+-- marking one more entry
 pub marked_more : {A : Type 0} (g : List (Entry A)) (marks : List Bool) (p : ℕ) (entry : Entry A) → p < length marks →
     get_or marks p false ≡ false → slice_get g p ≡ Some entry →
     (length (marked_entries g (set marks p true)) ≡ length (marked_entries g marks) + 1) ×
@@ -47,7 +47,7 @@ marked_all P (entry ∷ g) (true ∷ marks) each =
     All-cons P entry (marked_entries g marks) (each 0 entry refl) (marked_all P g marks (λ p. each (suc p)))
 marked_all P (entry ∷ g) (false ∷ marks) each = marked_all P g marks (λ p. each (suc p))
 
--- few parents were counted with this one
+-- the number of counted parents, with the parents of one more entry, does not overflow
 pub counts_fit : {A : Type 0} (g : List (Entry A)) (marks : List Bool) (parents p : ℕ) (more : List (List ℕ)) → parents ≡ parents_in (marked_entries g marks) → p < length marks → get_or marks p false ≡ false → option_map (λ entry. entry.node.parents) (slice_get g p) ≡ Some more → length g ≤ 1048576 → ((q : ℕ) (entry : Entry A) → slice_get g q ≡ Some entry → length entry.node.parents ≤ 64) → parents + length more < 2 ^ 64
 counts_fit {A} g marks parents p more are inside free is small narrow =
     let w = mapped_from (λ (entry : Entry A). entry.node.parents) (slice_get g p) more is in

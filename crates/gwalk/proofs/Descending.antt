@@ -1,4 +1,4 @@
--- What a pass down keeps, and what it ends with.
+-- The invariant of a pass down, and the final state of the pass.
 use Rattle.std.proofs.Common.{◌≡◌, ◌⊎◌, inl, inr, ℕ, ◌+◌, ◌<◌, ◌≤◌, Bool, true, false, not, List, length, Some, sym, ap, ◌∙◌, subst, arith, replicate}
 use Rattle.std.specs.List.{slice_get}
 use Rattle.std.specs.Option.{option_map}
@@ -13,7 +13,7 @@ use Rattle.gdag.proofs.Reaching.{position_same, position_of_node, kept_along, so
 use Rattle.gwalk.proofs.Positions.{HasParentsFirst, edge_position, position_edge, edge_down, marked_inside, none_marked}
 use Rattle.gwalk.proofs.PassCounting.{open_least, open_if}
 
--- ---- what is reached, position by position
+-- ---- reachable objects by position
 
 pub reached_start : {A : Type 0} (g : List (Entry A)) (ids : List (List ℕ)) (p : ℕ) → IsPositionOf g ids p → IsReachedAt g ids p
 reached_start g ids p x = record { id = x.id; at = x.at; reached = (x.id, x.among, here) }
@@ -24,7 +24,7 @@ reached_edge g ids p q r e =
     let P : List ℕ → Type 0 = λ a. SomeReaches g ids a in
     record { id = e.parent; at = e.parent_at; reached = some_reaches g ids e.child e.parent (subst P same r.reached) e.edge }
 
--- what holds at the positions of the ids and goes on along edges holds at each position that they reach
+-- if P holds at the positions of the ids, and passes from an object to its parents, P holds at each reachable position
 pub at_reached : {A : Type 0} (g : List (Entry A)) (ids : List (List ℕ)) (P : ℕ → Type 0) → ((p : ℕ) → IsPositionOf g ids p → P p) → ((p q : ℕ) → IsEdge g p q → P p → P q) → (p : ℕ) → IsReachedAt g ids p → P p
 at_reached g ids P start step p r =
     let Q : List ℕ → Type 0 = λ a. (k : ℕ) → position_of g a ≡ Some k → P k in
@@ -35,7 +35,7 @@ at_reached g ids P start step p r =
     ) in
     kept_along g Q on r.reached.0 r.id r.reached.2 begin p r.at
 
--- ---- at the start
+-- ---- the start of the pass
 
 module _ {A : Type 0} (g : List (Entry A)) (wants commons : List (List ℕ)) (end : ℕ) (wanted known : List Bool) (w : MarksAll g wants (replicate end false) wanted) (k : MarksAll g commons (replicate end false) known) where
   start_sound : (ids : List (List ℕ)) (marks : List Bool) → MarksAll g ids (replicate end false) marks → (p : ℕ) → is_marked marks p ≡ true → IsReachedAt g ids p
@@ -56,9 +56,9 @@ module _ {A : Type 0} (g : List (Entry A)) (wants commons : List (List ℕ)) (en
     known_ahead = λ p q e past m. (let h = start_inside commons known k long p m in absurd (omega arith));
   }
 
--- ---- one position down
+-- ---- one step of the pass
 
--- marks of what some ids reach grew, at earlier positions alone
+-- the marks of objects that the ids reach have additional marks, all at positions below `position`
 record IsGrown {A : Type 0} (g : List (Entry A)) (position : ℕ) (ids : List (List ℕ)) (old new : List Bool) : Type 0 where
   kept : (p : ℕ) → is_marked old p ≡ true → is_marked new p ≡ true
   before : (p : ℕ) → position ≤ p → is_marked new p ≡ true → is_marked old p ≡ true
@@ -69,7 +69,7 @@ module _ {A : Type 0} (g : List (Entry A)) (wants commons : List (List ℕ)) (wa
       IsGrown g position ids marks marks
   same_marks ids marks sound = record { kept = λ p m. m; before = λ p past m. m; sound = sound }
 
-  -- where a position is marked, its parents are now marked as it is
+  -- a visited position whose marks were passed on to its parents
   goes_down : (wanted' known' : List Bool) → IsGrown g position wants wanted wanted' →
       IsGrown g position commons known known' →
       ((q : ℕ) → IsEdge g position q → IsMarked wanted position → IsMarked wanted' q ⊎ IsMarked known' q) →
@@ -95,7 +95,7 @@ module _ {A : Type 0} (g : List (Entry A)) (wants commons : List (List ℕ)) (wa
     ];
   }
 
-  -- an idle position
+  -- a visited position without marks
   pub goes_by : is_marked wanted position ≡ false → is_marked known position ≡ false → IsPassed g wants commons wanted known position
   goes_by idle free =
       goes_down wanted known (same_marks wants wanted old.wanted_sound) (same_marks commons known old.known_sound)
@@ -131,7 +131,7 @@ module _ {A : Type 0} (g : List (Entry A)) (wants commons : List (List ℕ)) (wa
         goes_down wanted' known grown (same_marks commons known old.known_sound)
         (λ q e m. inl (parent_marked wanted wanted' more at q e)) (λ q e m. absurd (false≢true (sym free ∙ m)))
 
--- ---- at the end
+-- ---- the end of the pass
 
 module _ {A : Type 0} (g : List (Entry A)) (wants commons : List (List ℕ)) (wanted known : List Bool) (next : ℕ) (last : IsPassed g wants commons wanted known next) (ordered : HasParentsFirst g) (none : open_below wanted known next ≡ 0) where
   open_above : (p : ℕ) → is_open wanted known p ≡ true → next ≤ p
@@ -141,7 +141,7 @@ module _ {A : Type 0} (g : List (Entry A)) (wants commons : List (List ℕ)) (wa
         | inr past ↦ past
       ]
 
-  -- from `next` on all that the common ids reach is known
+  -- every object at a position from `next` on that the common ids reach is marked as known
   known_all : (p : ℕ) → IsReachedAt g commons p → next ≤ p → is_marked known p ≡ true
   known_all p r past =
       let P : ℕ → Type 0 = λ n. next ≤ n → is_marked known n ≡ true in
@@ -150,7 +150,7 @@ module _ {A : Type 0} (g : List (Entry A)) (wants commons : List (List ℕ)) (wa
       (λ n m e before far. (let down = edge_down g n m ordered e in let there : next ≤ n = omega arith in last.known_ahead n m e there (before there)))
       p r past
 
-  -- what the wants reach is wanted, or the common ids reach it
+  -- a parent of an object that is marked as wanted, or that a common id reaches, has the same property
   wanted_on : (p q : ℕ) → IsEdge g p q → IsReachedAt g commons p ⊎ (is_marked wanted p ≡ true) → IsReachedAt g commons q ⊎ (is_marked wanted q ≡ true)
   wanted_on p q e (inl r) = inl (reached_edge g commons p q r e)
   wanted_on p q e (inr w) =

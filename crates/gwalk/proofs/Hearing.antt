@@ -1,4 +1,4 @@
--- What more common ids reach.
+-- The ids that additional common ids reach.
 use Rattle.std.proofs.Common.{◌≡◌, ◌⊎◌, ◌||◌, inl, inr, ℕ, Bool, true, false, List, [], ◌++◌, get_or, Contains, All, Option, None, Some, sym, ◌∙◌, subst}
 use Rattle.std.proofs.lemmas.Bool.{false≢true, or_cases, or_left, or_right}
 use Rattle.std.proofs.lemmas.List.Elements.{All-weaker, Contains-append_cases, Contains-append_left, Contains-append_right}
@@ -17,7 +17,7 @@ use Rattle.gwalk.proofs.Marking.{none_in}
 use Rattle.gwalk.proofs.Stopping.{stop_position}
 use Rattle.gwalk.proofs.Walking.{position_cases}
 
--- no id reaches anything yet
+-- without common ids, no id is marked
 pub none_reached : {A : Type 0} (g : List (Entry A)) → AreReached g [] []
 none_reached g a p e = (λ t. absurd (false≢true (sym (none_in p) ∙ t)), λ s. nothing_in_nil s.0 s.1)
 
@@ -27,7 +27,7 @@ module _ {A : Type 0} (g : List (Entry A)) where
   past_reaches marks a c (further {b = b} unmarked parent past) = onward parent (past_reaches marks b c past)
 
   module _ (commons : List (List ℕ)) (known : List Bool) (are : AreReached g commons known) where
-    -- what an id reaches, it reaches by unmarked ids, or a common id reaches it
+    -- an id that `a` reaches is reached by a path that does not continue past marked ids, or from a common id
     reaches_or : (a b : List ℕ) → Reaches g a b → ReachesPast g known a b ⊎ SomeReaches g commons b
     reaches_or a b here = inl there
     reaches_or a c (onward {b = b} parent path) =
@@ -41,7 +41,7 @@ module _ {A : Type 0} (g : List (Entry A)) where
               ])
         ]
 
-    -- more ids are common: what they reach is marked, too
+    -- the union of the old marks and the marks of a walk from more common ids marks all ids that common ids reach
     pub more_reached : StopsAtMarks A → (more : List (List ℕ)) (reached marks : List Bool) (met : List ℕ) (lost : Option (List ℕ)) (parents : ℕ)
         → IsWalk (stop_at known g) more reached met lost parents
         → ((p : ℕ) → get_or marks p false ≡ (get_or reached p false || get_or known p false))
@@ -67,7 +67,7 @@ module _ {A : Type 0} (g : List (Entry A)) where
           ],
         )
 
-    -- what may be offered then might be before
+    -- an id that may not be offered may not be offered with more common ids either
     pub told_more : (sent more ids : List (List ℕ)) → All (λ a. ¬ (MayBeOffered g commons sent a)) ids
         → All (λ a. ¬ (MayBeOffered g (commons ++ more) sent a)) ids
     told_more sent more ids told =

@@ -1,4 +1,4 @@
--- The walk that lists all levels: it takes up one id after the other, and adds the parents that are new at the end.
+-- The walk that lists all levels: it visits one id after another, and appends the parents that are new.
 use Rattle.std.proofs.Common.{◌≡◌, ℕ, suc, ◌<◌, ◌≤◌, ◌+◌, List, [], ◌∷◌, ◌++◌, length, get_or, refl, sym, ap, ◌∙◌, length-append, append_assoc, append-nil, arith}
 use Rattle.std.proofs.Math.Seq.{get_or-append_seam}
 use Rattle.std.proofs.lemmas.List.{nil_from_length}
@@ -10,7 +10,7 @@ use Rattle.gdag.specs.Reach.{SomeReaches}
 use Rattle.gwalk.specs.Offers.{IsWalked}
 use Rattle.std.proofs.Common.{Contains, subst}
 
--- ---- a list of ids with those of others that are new to it
+-- ---- a list of ids, followed by new ids
 
 pub with_new-nil : (s : List (List ℕ)) → with_new s [] ≡ s
 with_new-nil s = append-nil s
@@ -37,7 +37,7 @@ module _ {A : Type 0} (g : List (Entry A)) (tips : List (List ℕ)) where
     ahead = ap (λ l. with_new l (parents_of_each g (new_ids [] tips))) e;
   }
 
-  -- one id further in a level
+  -- visiting one more id of a level
   next_id : (ids : List (List ℕ)) (at k : ℕ) (done : List (List ℕ)) (y : List ℕ) (rest more : List (List ℕ)) → levels_below g tips (suc k) ≡ done ++ y ∷ rest → ids ≡ (done ++ y ∷ rest) ++ more → length done ≡ at → with_new ids (parents_of_each g (y ∷ rest)) ≡ levels_below g tips (suc (suc k)) → (x : List ℕ) → x ≡ get_or ids at x → (ids2 : List (List ℕ)) → ids2 ≡ with_new ids (parents_of g x) → IsWalked g tips ids2 (at + 1)
   next_id ids at k done y rest more levels has position ahead x item ids2 is =
       let regroup : done ++ y ∷ rest ≡ (done ++ y ∷ []) ++ rest = simp append_assoc in
@@ -54,7 +54,7 @@ module _ {A : Type 0} (g : List (Entry A)) (tips : List (List ℕ)) where
         ahead = ap (λ l. with_new l (parents_of_each g rest)) here ∙ sym (with_new-append ids (parents_of g y) (parents_of_each g rest)) ∙ ahead;
       }
 
-  -- an id is taken up
+  -- visiting the next id
   pub walk_goes : (ids : List (List ℕ)) (at : ℕ) → IsWalked g tips ids at → at < length ids → (x : List ℕ) → x ≡ get_or ids at x → (ids2 : List (List ℕ)) → ids2 ≡ with_new ids (parents_of g x) → IsWalked g tips ids2 (at + 1)
   walk_goes ids at w inside x item ids2 is = in_level ids at w.k w.done w.rest w.more w.levels w.has w.position w.ahead inside x item ids2 is
     where
@@ -65,7 +65,7 @@ module _ {A : Type 0} (g : List (Entry A)) (tips : List (List ℕ)) where
       within ids at k done (y ∷ rest) more levels has position ahead inside x item ids2 is =
           next_id ids at k done y rest [] levels has position ahead x item ids2 is
 
-      -- at the end of a level the next one is the rest
+      -- at the end of a level, the unvisited ids are the next level
       in_level : (ids : List (List ℕ)) (at k : ℕ) (done rest more : List (List ℕ)) → levels_below g tips (suc k) ≡ done ++ rest → ids ≡ (done ++ rest) ++ more → length done ≡ at → with_new ids (parents_of_each g rest) ≡ levels_below g tips (suc (suc k)) → at < length ids → (x : List ℕ) → x ≡ get_or ids at x → (ids2 : List (List ℕ)) → ids2 ≡ with_new ids (parents_of g x) → IsWalked g tips ids2 (at + 1)
       in_level ids at k done [] more levels has position ahead inside x item ids2 is =
           let next = level g tips (suc k) in
@@ -76,7 +76,7 @@ module _ {A : Type 0} (g : List (Entry A)) (tips : List (List ℕ)) where
       in_level ids at k done (y ∷ rest) more levels has position ahead inside x item ids2 is =
           next_id ids at k done y rest more levels has position ahead x item ids2 is
 
-  -- all ids were taken up
+  -- if all ids were visited, the list has all levels
   pub walk_ends : (ids : List (List ℕ)) (at : ℕ) → IsWalked g tips ids at → length ids ≤ at → AreLevels g tips ids
   walk_ends ids at w end =
       let long = ap length w.has in
@@ -92,7 +92,7 @@ module _ {A : Type 0} (g : List (Entry A)) (tips : List (List ℕ)) where
       let e2 = ap length next in
       record { count = suc w.k; joined = joined; last = nil_from_length (level g tips (suc w.k)) (omega arith) }
 
--- the ids of all levels about some tips are those that a tip reaches
+-- the ids of all levels are the ids that a tip reaches
 module _ {A : Type 0} (g : List (Entry A)) (tips ids : List (List ℕ)) (levels : AreLevels g tips ids) where
   pub met_reached : (a : List ℕ) → Contains ids a → SomeReaches g tips a
   met_reached a c = in_reached g tips levels.count a (subst (λ (l : List (List ℕ)). Contains l a) levels.joined c)

@@ -1,4 +1,4 @@
--- A walk that looks for some ids.
+-- A walk that searches for some ids.
 use Rattle.std.proofs.Common.{◌≡◌, inl, inr, ◌↔◌, ℕ, suc, ◌+◌, ◌≤◌, Bool, true, false, not, List, [], ◌∷◌, ◌++◌, length, get_or, filter, is_some, All, Contains, Option, Some, None, refl, sym, ap, ◌∙◌, subst, append_assoc}
 use Rattle.std.specs.List.{Any}
 use Rattle.std.proofs.lemmas.Bool.{false≢true}
@@ -44,7 +44,7 @@ goals_are g ids marks met lost parents absent h is =
       );
     }
 
--- ---- what a walk underway has met is reached
+-- ---- the ids that an unfinished walk has met
 
 pub walked_reached : {A : Type 0} (g : List (Entry A)) (starts ids : List (List ℕ)) (at : ℕ) → IsWalked g starts ids at → (a : List ℕ) → Contains ids a → SomeReaches g starts a
 walked_reached g starts ids at w a c =
@@ -63,7 +63,7 @@ unplaced g (b ∷ bs) a p c e none =
       | inr later ↦ unplaced g bs a p later e r.1
     ]
 
--- ---- the walk: no id that was taken up is a goal, and no id that was met and isn't held
+-- ---- the walk: no visited id is a goal, and no met id outside the graph is a goal
 
 pub record IsLooking {A : Type 0} (g : List (Entry A)) (start : List ℕ) (goals : List Bool) (absent front back : List (List ℕ)) (marks : List Bool) (met : List ℕ) (lost : Option (List ℕ)) (parents at : ℕ) : Type 0 where
   pub underway : IsUnderway g (start ∷ []) front back marks met lost parents at
@@ -95,7 +95,7 @@ module _ {A : Type 0} (g : List (Entry A)) (start : List ℕ) (goals : List Bool
       pub found : (ids : List (List ℕ)) → AreGoals g ids goals absent → get_or goals x false ≡ true → Any (Reaches g start) ids
       found ids are t = any_of (Reaches g start) ids n.id ((are.marked n.id x n.position).0 t) (looked_reached n.id next_met)
 
-      -- one of its parents is a goal that isn't held
+      -- a parent of the next id is a goal that the graph does not contain
       pub found_absent : (ids more : List (List ℕ)) → AreGoals g ids goals absent → more ≡ parents_of g n.id → Any (Contains absent) more → Any (Reaches g start) ids
       found_absent ids more are lent (k, b, inside, is, c) =
           let among : Contains more b = (k, inside, is) in
@@ -128,7 +128,7 @@ module _ {A : Type 0} (g : List (Entry A)) (start : List ℕ) (goals : List Bool
           no_position : (a : List ℕ) (p : ℕ) → Contains n.mid a → position_of g a ≡ Some p → ⊥
           no_position a p c e = unplaced g n.mid a p c e n.absent
 
-    -- all were taken up, and none is a goal
+    -- if all ids were visited and none is a goal, the walk reaches no goal
     pub looks_ends : length met ≤ at → (ids : List (List ℕ)) → AreGoals g ids goals absent → Any (Reaches g start) ids →
         ⊥
     looks_ends end ids are (k, b, inside, is, r) =
@@ -145,7 +145,7 @@ module _ {A : Type 0} (g : List (Entry A)) (start : List ℕ) (goals : List Bool
           ]
         ]
 
--- ---- the ids at the positions of some ids are those that are held
+-- ---- the ids at the positions of some ids
 
 pub ids_at_positions : {A : Type 0} (g : List (Entry A)) (ids : List (List ℕ)) → ids_at g (places g ids) ≡ filter (λ a. is_some (node_at g a)) ids
 ids_at_positions g [] = refl

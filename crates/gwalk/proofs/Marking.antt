@@ -18,7 +18,8 @@ use Rattle.gdag.proofs.Reaching.{reaches_on}
 pub none_in : (p : ℕ) → get_or [] p false ≡ false
 none_in p = get_or_past [] p false (omega arith)
 
--- ---- two lists of marks become one, position by position: before `i` stand joined marks, from there the first list's
+-- ---- two lists of marks joined one position after another: joined marks before `i`, marks of the first list from `i`
+-- on
 
 pub record AreJoined (join : Bool → Bool → Bool) (xs ys marks : List Bool) (i : ℕ) : Type 0 where
   pub long : length marks ≡ max (length xs) i
@@ -75,7 +76,7 @@ module _ (join : Bool → Bool → Bool) (xs ys : List Bool) where
               ∙ ap (join (get_or xs p false)) (sym (get_or_past ys p false (omega arith)))
         ]
 
--- ---- what was wanted, without what is known
+-- ---- the wanted marks without the known marks
 
 abbrev pub less : Bool → Bool → Bool
 less x y = x && not y
@@ -102,7 +103,7 @@ less_ends g wants commons wanted known marks w k long is = record {
       );
 }
 
--- the entries at marked positions, from one position on
+-- the entries at marked positions from position `i` on
 pub marked_next : {A : Type 0} (g : List (Entry A)) (marks : List Bool) (i : ℕ) (entry : Entry A) →
     slice_get g i ≡ Some entry → i < length marks → marked_entries (drop i g) (drop i marks) ≡ marked_entries (entry ∷ drop (i + 1) g)
     (get_or marks i false ∷ drop (i + 1) marks)
@@ -111,7 +112,7 @@ marked_next g marks i entry at inside =
     ∙ ap (λ x. x ∷ drop (i + 1) g) (get_or_from_slice_get g i entry entry at) in
     rw (rest, drop_more marks i false inside) refl
 
--- ---- marking what is reached
+-- ---- marks of reachable ids
 
 module _ {A : Type 0} (g : List (Entry A)) (ids : List (List ℕ)) (old new : List Bool) where
   pub marks_more : (reached : List Bool) → AreMarked (SomeReaches g ids) g reached →
@@ -126,7 +127,7 @@ module _ {A : Type 0} (g : List (Entry A)) (ids : List (List ℕ)) (old new : Li
         is p ∙ ap (λ b. b || get_or old p false) (get_or_past reached p false (let l = w.long in omega arith));
   }
 
-  -- what a connected id reaches is connected
+  -- all marked ids are connected after the ids that connected ids reach are marked
   pub connected_more : All (IsConnected g) ids → MarksReached g ids old new → AreConnected g old → AreConnected g new
   connected_more connected m before p t =
       elim (slice_get_cases g p).1 [

@@ -1,4 +1,4 @@
--- The offer by the marks of two walks, as far as a walk from the tips went.
+-- The ids to offer among the ids that a walk from the tips has visited, selected by marks.
 use Rattle.std.proofs.Common.{◌≡◌, ◌↔◌, inl, inr, ℕ, zero, suc, ◌≤◌, Bool, true, false, ◌&&◌, not, cond, List, [], ◌∷◌, ◌++◌, length, get_or, take, filter, is_some, All, Contains, Option, Some, refl, sym, subst, ap, ap₂, ◌∙◌, arith, append_assoc, append-nil, take_all}
 use Rattle.std.proofs.Math.Seq.{take-append_seam}
 use Rattle.std.specs.List.{slice_get}
@@ -21,7 +21,7 @@ use Rattle.gwalk.proofs.Looking.{new_same}
 use Rattle.gwalk.proofs.Reached.{found_at}
 use Rattle.gwalk.proofs.Walking.{IsNext, ends_levels, none_left, placed}
 
--- ---- the test, where `reached` is all ids that a common id reaches
+-- ---- the test of an id, for a list `reached` of all ids that a common id reaches
 
 abbrev pub is_untold : {A : Type 0} → List (Entry A) → List (List ℕ) → List (List ℕ) → List ℕ → Bool
 is_untold g reached sent a = is_some (node_at g a) && (not (is_in reached a) && not (is_in sent a))
@@ -54,7 +54,7 @@ module _ {A : Type 0} (g : List (Entry A)) (commons reached sent : List (List �
     first = e;
   }
 
-  -- none of the ids may be offered
+  -- if none of the ids may be offered, the test selects none of them
   pub none_told : (ids : List (List ℕ)) → All (λ a. ¬ (MayBeOffered g commons sent a)) ids → [] ≡ filter (is_untold g reached sent) ids
   none_told [] told = refl
   none_told (b ∷ bs) told =
@@ -76,7 +76,7 @@ module _ {A : Type 0} (g : List (Entry A)) (commons reached sent : List (List �
             either_way (T b) (λ t. subst P (sym t) (contains_tail b (filter T bs) a k)) (λ f. subst P (sym f) k)
       ]
 
-  -- and once those that may be are sent, none may be
+  -- after the selected ids are sent, none of the ids may be offered
   pub told_after : (ids list : List (List ℕ)) → list ≡ filter (is_untold g reached sent) ids → All (λ a. ¬ (MayBeOffered g commons (sent ++ list) a)) ids
   told_after ids list is = λ k d low may.
       let a = get_or ids k d in
@@ -100,12 +100,12 @@ untold_is g commons reached others levels known sent are marks a p e =
     let other : get_or sent p false ≡ is_in others a = same_bool (get_or sent p false) others a (marks a p e) in
     rw (held, one, other) refl
 
--- what a walk met that went no further
+-- the marks of a walk that has met exactly the given ids are the marks of these ids
 pub sent_marks : {A : Type 0} (g : List (Entry A)) (ids : List (List ℕ)) (marks : List Bool) (met : List ℕ) (lost : Option (List ℕ)) (parents : ℕ) → HasMet g (new_ids [] ids) marks met lost parents → HasMarks g ids marks
 sent_marks g ids marks met lost parents h a p e =
     (λ t. (new_same ids a).0 ((h.marked a p e).0 t), λ c. (h.marked a p e).1 ((new_same ids a).1 c))
 
--- ids that are not held are not offered
+-- ids that the graph does not contain are not offered
 none_untold : {A : Type 0} (g : List (Entry A)) (reached others ids : List (List ℕ)) → places g ids ≡ [] → filter (is_untold g reached others) ids ≡ []
 none_untold g reached others [] none = refl
 none_untold g reached others (b ∷ bs) none =
@@ -114,7 +114,7 @@ none_untold g reached others (b ∷ bs) none =
     let later = none_untold g reached others bs r.1 in
     rw absent later
 
--- ---- the front's ids that are offered, once more is taken up
+-- ---- the ids to offer after one more id is visited
 
 module _ {A : Type 0} (g : List (Entry A)) (tips reached others : List (List ℕ)) where
   taken : (front back : List (List ℕ)) (x : ℕ) (n : IsNext g tips front back x) (list one : List (List ℕ)) →
@@ -134,7 +134,7 @@ module _ {A : Type 0} (g : List (Entry A)) (tips reached others : List (List ℕ
   skips_next front back list x n is f =
       sym (append-nil list) ∙ taken front back x n list [] is (ap (λ b. cond b (n.id ∷ []) []) f)
 
-  -- the levels go on from those of fewer
+  -- the ids of more levels begin with the ids of fewer levels
   pub levels_more : (i j : ℕ) → (count : ℕ) × (i ≤ count) × (more : List (List ℕ)) × (levels_below g tips count ≡ levels_below g tips j ++ more)
   levels_more zero j = (j, omega arith, [], sym (append-nil (levels_below g tips j)))
   levels_more (suc i) j =
@@ -142,7 +142,7 @@ module _ {A : Type 0} (g : List (Entry A)) (tips reached others : List (List ℕ
       let whole = ap (λ l. l ++ level g tips n.0) n.3 ∙ (simp append_assoc) in
       (suc n.0, omega (arith, n.1), n.2 ++ level g tips n.0, whole)
 
-  -- what a walk has met begins all levels
+  -- the list of all levels begins with the ids that a walk has met
   begins_levels : LevelsAreDistances A → (ids : List (List ℕ)) (at : ℕ) → IsWalked g tips ids at → (count : ℕ) × (rest : List (List ℕ)) × (levels_below g tips count ≡ ids ++ rest) × (level g tips count ≡ [])
   begins_levels law ids at w =
       let end = (law g tips).ends in
@@ -151,7 +151,7 @@ module _ {A : Type 0} (g : List (Entry A)) (tips reached others : List (List ℕ
       (n.0, rest, n.3 ∙ ap (λ l. l ++ n.2) (sym w.ahead) ∙ (simp append_assoc), (law g tips).stays end.0 n.0 n.1 end.1)
 
   module _ (commons : List (List ℕ)) (levels : AreLevels g commons reached) (n : ℕ) (front back list : List (List ℕ)) (marks : List Bool) (met : List ℕ) (lost : Option (List ℕ)) (parents at : ℕ) (now : IsUnderway g tips front back marks met lost parents at) (is : list ≡ filter (is_untold g reached others) front) where
-    -- there are as many as were asked for
+    -- the offer has the requested number of ids
     pub offers_enough : LevelsAreDistances A → length list ≡ n → IsOffer g tips commons others n list
     offers_enough law enough =
         let w = begins_levels law (front ++ back) (length front) now.walked in
@@ -162,7 +162,7 @@ module _ {A : Type 0} (g : List (Entry A)) (tips reached others : List (List ℕ
         ap (take n) parts ∙ ap (λ k. take k (list ++ filter T (back ++ w.1))) (sym enough) ∙ take-append_seam list (filter T (back ++ w.1)) in
         offer_by_filter g commons reached others levels tips (levels_below g tips w.0) record { count = w.0; joined = refl; last = w.3 } n list (sym cut)
 
-    -- all were taken up
+    -- all ids were visited
     pub offers_all : length met ≤ at → length list ≤ n → IsOffer g tips commons others n list
     offers_all end few =
         let T = is_untold g reached others in
@@ -173,12 +173,12 @@ module _ {A : Type 0} (g : List (Entry A)) (tips reached others : List (List ℕ
         let cut : take n (filter T (front ++ back)) ≡ list = ap (take n) whole ∙ take_all n list few in
         offer_by_filter g commons reached others levels tips (front ++ back) all n list (sym cut)
 
--- all levels about some tips
+-- the ids of all levels
 pub all_levels : {A : Type 0} → LevelsAreDistances A → (g : List (Entry A)) (tips : List (List ℕ)) → (ids : List (List ℕ)) × AreLevels g tips ids
 all_levels law g tips =
     let end = (law g tips).ends in (levels_below g tips end.0, record { count = end.0; joined = refl; last = end.1 })
 
--- the id at the position of an id is that id
+-- the id that is found at the position of an id is that id
 pub id_taken : {A : Type 0} (g : List (Entry A)) (a b : List ℕ) (p : ℕ) → position_of g a ≡ Some p → option_map (λ (entry : Entry A). entry.id) (slice_get g p) ≡ Some b → b ≡ a
 id_taken {A} g a b p e is =
     let h = found_at g a p e in

@@ -1,4 +1,4 @@
--- How many positions are open.
+-- The number of open positions.
 use Rattle.std.proofs.Common.{◌≡◌, inl, inr, ℕ, zero, suc, ◌+◌, ◌-◌, ◌<◌, ◌≤◌, Bool, true, false, not, ◌&&◌, List, length, replicate, set, refl, sym, ap, ◌∙◌, arith, add-one}
 use Rattle.std.proofs.lemmas.List.{length-set, length-replicate}
 use Rattle.std.proofs.lemmas.Bool.{cases_eq, cases_Bool, and_from, and_left, and_right, not_from_true, not_from_false, false_from_ne_true}
@@ -14,7 +14,7 @@ module _ (wanted known wanted' known' : List Bool) where
       let here = ap one (same n (omega arith)) in
       omega (arith, before, here)
 
-  -- one position changes
+  -- the number of open positions after the marks of one position change
   pub changed_at : (q n : ℕ) → q < n → ((p : ℕ) → (p ≡ q → ⊥) → is_open wanted known p ≡ is_open wanted' known' p) → open_below wanted' known' n + one (is_open wanted known q) ≡ open_below wanted known n + one (is_open wanted' known' q)
   unfolding open_below
   changed_at q zero below same = absurd (omega arith)
@@ -52,7 +52,7 @@ module _ (wanted known : List Bool) where
         | inr other ↦ (let before = open_least q n (omega arith) is in omega (arith, before))
       ]
 
--- where something is open below, a position comes next
+-- `pending` counts the open positions below `next`
 pub counts : (wanted known : List Bool) (next pending : ℕ) → length known ≡ length wanted → next ≤ length wanted →
     pending ≡ open_below wanted known next → IsCounted wanted known next pending
 unfolding open_below
@@ -63,9 +63,9 @@ counts wanted known next pending long inside count =
     by zero is some = absurd (omega arith)
     by (suc n) is some = omega arith
 
--- ---- one position is marked
+-- ---- marking one position
 
--- a position below `next` is in the count
+-- an open position below `next` is counted
 pub in_count : (wanted known : List Bool) (next pending position : ℕ) → IsCounted wanted known next pending → position < next → one (is_open wanted known position) ≤ pending
 in_count wanted known next pending position counted below =
     elim (cases_Bool (is_open wanted known position)) [
@@ -87,13 +87,13 @@ knows_count wanted known next pending position counted below =
     let l = length-set known position true in
     counts wanted (set known position true) next _ (l ∙ counted.long) counted.inside (omega arith)
 
--- the count fits a word
+-- the count is at most the number of marks
 pub count_fits : (wanted known : List Bool) (next pending : ℕ) → IsCounted wanted known next pending → pending ≤ length wanted
 count_fits wanted known next pending counted = let most = open_most wanted known next in omega arith
 
 -- ---- the next position down
 
--- the count below the next position, by what that position is
+-- the count after the next lower position is visited
 module _ (wanted known : List Bool) (next position pending : ℕ) (counted : IsCounted wanted known next pending) (is : next ≡ position + 1) where
   step_count : pending ≡ open_below wanted known position + one (is_open wanted known position)
   unfolding open_below
@@ -120,7 +120,7 @@ shut_known wanted known p k = and_right (is_marked wanted p) (not (is_marked kno
 pub shut_idle : (wanted known : List Bool) (p : ℕ) → is_marked wanted p ≡ false → is_open wanted known p ≡ false
 shut_idle wanted known p w = and_left (is_marked wanted p) (not (is_marked known p)) w
 
--- ---- at the start
+-- ---- the start of the pass
 
 count_unmarked : (n m : ℕ) → open_below (replicate n false) (replicate n false) m ≡ 0
 unfolding open_below

@@ -1,4 +1,4 @@
--- Which entries the marks select.
+-- The entries that the marks select.
 use Rattle.std.proofs.Common.{◌≡◌, ◌⊎◌, inl, inr, ℕ, zero, suc, ◌+◌, ◌-◌, ◌<◌, ◌≤◌, Bool, true, false, List, [], ◌∷◌, ◌++◌, length, take, Some, refl, sym, ap, ◌∙◌, subst, arith}
 use Rattle.std.specs.List.{slice_get}
 use Rattle.std.proofs.lemmas.List.{take_all}
@@ -31,7 +31,7 @@ module _ {A : Type 0} (g : List (Entry A)) (wants commons tips : List (List ℕ)
       let new = done.new x.commit x.open_there in
       record { tip = x.tip.id; among = x.tip.among; steps = led.steps; leads = leads; next = x.chain.next; tag = tag; commit = new.id; peels = chain_peels g x.start p x.commit x.chain x.peeled a new.id at new.at; new = new.new }
 
-  -- where tags lead to an id that is held, they begin at one
+  -- if a chain of tags leads to an id of the graph, the chain begins at an id of the graph
   led_position : (m : ℕ) (a b : List ℕ) (q : ℕ) → position_of g b ≡ Some q → Tags g m a b → (p : ℕ) × (position_of g a ≡ Some p)
   led_position zero a b q at same = (q, ap (position_of g) same ∙ at)
   led_position (suc m) a b q at (on, tag, rest) = position_of_node g a tag.node tag.held
@@ -51,7 +51,7 @@ module _ {A : Type 0} (g : List (Entry A)) (wants commons tips : List (List ℕ)
         open_there = done.all end.0 (record { id = x.commit; at = end.1; new = x.new });
       }
 
-  -- ---- one entry, by its marks
+  -- ---- the marks of one entry
 
   module _ (order : IsInOrder g) (tagged : List Bool) (marks : MarksTags g tips wanted known tagged) (p : ℕ) (entry : Entry A) (at : slice_get g p ≡ Some entry) where
     own : position_of g entry.id ≡ Some p
@@ -68,7 +68,7 @@ module _ {A : Type 0} (g : List (Entry A)) (wants commons tips : List (List ℕ)
     not_sent shut bare (inl new) = false≢true (sym shut ∙ done.all p (record { id = entry.id; at = own; new = new }))
     not_sent shut bare (inr tag) = false≢true (sym bare ∙ marks.marked p (sends_open_tag entry.id p own tag))
 
-    -- nothing is sent below the end of the pass
+    -- no entry below the end of the pass is to be sent
     none_below : p < next → ¬ (IsToSend g wants commons tips entry)
     none_below below (inl new) =
         let h = done.above p (done.all p (record { id = entry.id; at = own; new = new })) in omega arith
@@ -78,7 +78,7 @@ module _ {A : Type 0} (g : List (Entry A)) (wants commons tips : List (List ℕ)
         let l = commit_below g (parents_first g order) x.start p x.commit x.chain x.peeled in
         omega arith
 
--- ---- one position after the other
+-- ---- the list to send, one position after another
 
 take_there : {X : Type 0} (xs : List X) (i : ℕ) (x : X) → slice_get xs i ≡ Some x → take (i + 1) xs ≡ take i xs ++ x ∷ []
 take_there [] i x at = absurd (none-some x at)

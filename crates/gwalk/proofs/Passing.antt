@@ -1,4 +1,4 @@
--- What is counted where marked objects have lost their parents.
+-- The counts in a graph in which marked objects have no parents.
 use Rattle.std.proofs.Common.{◌≡◌, ℕ, zero, suc, Bool, true, false, List, [], ◌∷◌, length, get_or, Some, refl, sym, ◌∙◌, subst, arith}
 use Rattle.std.specs.List.{slice_get}
 use Rattle.std.proofs.lemmas.Bool.{false≢true}
@@ -16,12 +16,12 @@ use Rattle.gwalk.proofs.Reached.{past_from, past_to}
 use Rattle.gwalk.proofs.Stopping.{bare_if}
 use Rattle.gwalk.specs.Walks.{parents_in}
 
--- a mark says of each entry whether it is left
+-- an entry satisfies R exactly if its position is unmarked
 abbrev Marks : {A : Type 0} → (Entry A → Type 0) → List Bool → List (Entry A) → Type 0
 Marks {A} R marks g = (position : ℕ) (entry : Entry A) → slice_get g position ≡ Some entry →
     (get_or marks position false ≡ false → R entry) × (get_or marks position false ≡ true → ¬ (R entry))
 
--- the same choice where no object has lost its parents, and those of it that are left
+-- `list` has the entries of `g` that satisfy Q, and `left` those that also satisfy R; their numbers match `chosen`
 record Whole {A : Type 0} (Q : List ℕ → Type 0) (R : Entry A → Type 0) (g chosen : List (Entry A)) : Type 0 where
   list : List (Entry A)
   reached : Selects (λ entry. Q entry.id) g list

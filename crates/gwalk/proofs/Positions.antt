@@ -21,14 +21,14 @@ use Rattle.gdag.proofs.Reaching.{position_inside, node_at_position, position_at}
 pub one_position : {A : Type 0} (g : List (Entry A)) (a : List ℕ) (p q : ℕ) → position_of g a ≡ Some p → position_of g a ≡ Some q → p ≡ q
 one_position g a p q e f = same_Some p q (sym e ∙ f)
 
--- an entry stands at each position
+-- each position below the length of a graph has an entry
 pub entry_there : {A : Type 0} (g : List (Entry A)) (p : ℕ) → p < length g → (entry : Entry A) × (slice_get g p ≡ Some entry)
 entry_there {A} g p inside =
     elim (slice_get_cases g p).1 [ inl w ↦ (w.0, w.2) | inr w ↦ absurd (omega (arith, w.0)) ]
 
 -- ---- parents
 
--- the parents at the position of an id are those of its node
+-- the parents at the position of an id are the parents of its node
 pub parents_are : {A : Type 0} (g : List (Entry A)) (a : List ℕ) (p : ℕ) (parents : List (List ℕ)) → position_of g a ≡ Some p → option_map (λ entry. entry.node.parents) (slice_get g p) ≡ Some parents → (node : Node A) × IsNode g a node × (node.parents ≡ parents)
 parents_are {A} g a p parents e are =
     let there = entry_there g p (position_inside g a p e) in
@@ -38,7 +38,7 @@ parents_are {A} g a p parents e are =
     (node, is, same_Some node.parents parents same)
 
 module _ {A : Type 0} (g : List (Entry A)) (p : ℕ) (parents : List (List ℕ)) (are : option_map (λ entry. entry.node.parents) (slice_get g p) ≡ Some parents) where
-  -- a parent's position is one of those of the parents
+  -- the position of a parent is a position of one of the parents
   pub edge_position : (q : ℕ) → IsEdge g p q → IsPositionOf g parents q
   edge_position q e =
       let n = parents_are g e.child p parents e.child_at are in
@@ -54,11 +54,11 @@ module _ {A : Type 0} (g : List (Entry A)) (p : ℕ) (parents : List (List ℕ))
 
 -- ---- the order
 
--- what is known of a graph in which parents come first
+-- a valid graph in which each entry comes after its parents
 pub in_order : {A : Type 0} (g : History A) → IsGraph g → IsOrdered g.entries → IsInOrder g.entries
 in_order g graph ordered = record { differ = graph.differ; shaped = graph.shaped; few = graph.few; ordered = ordered }
 
--- parents come first, position by position
+-- each parent has a lower position than its child
 abbrev pub HasParentsFirst : {A : Type 0} → List (Entry A) → Type 0
 HasParentsFirst g = (a b : List ℕ) (p : ℕ) → position_of g a ≡ Some p → HasParent g a b → (q : ℕ) × (position_of g b ≡ Some q) × (q < p)
 
@@ -68,7 +68,7 @@ taken [] (suc n) p x at = absurd (none-some x at)
 taken (y ∷ xs) (suc n) zero x at = (omega arith, at)
 taken (y ∷ xs) (suc n) (suc p) x at = let h = taken xs n p x at in let low = h.0 in (omega arith, h.1)
 
--- an id that the first entries hold has one of their positions
+-- an id of the first `n` entries has a position below `n`
 held_before : {A : Type 0} (g : List (Entry A)) (n : ℕ) (b : List ℕ) → Holds (take n g) b → IdsDiffer g → (q : ℕ) × (position_of g b ≡ Some q) × (q < n)
 held_before {A} g n b held differ =
     let at = position_at (take n g) b held in
@@ -85,7 +85,7 @@ parents_first {A} g order a b p at h =
     let held = All-contains (λ x. Holds (take p g) x) (there.0).node.parents b (order.ordered p there.0 there.1) among in
     held_before g p b held order.differ
 
--- a parent comes first
+-- a parent has a lower position
 pub edge_down : {A : Type 0} (g : List (Entry A)) (p q : ℕ) → HasParentsFirst g → IsEdge g p q → q < p
 edge_down g p q ordered e =
     let o = ordered e.child e.parent p e.child_at e.edge in
@@ -111,7 +111,7 @@ set_cases marks p q m =
 pub set_there : (marks : List Bool) (q : ℕ) → q < length marks → is_marked (set marks q true) q ≡ true
 set_there marks q inside = get_or-set_same marks q true false inside
 
--- a mark stands below the end of the marks
+-- a marked position is below the end of the marks
 pub marked_inside : (marks : List Bool) (p : ℕ) → is_marked marks p ≡ true → p < length marks
 marked_inside [] p m = absurd (false≢true m)
 marked_inside (mark ∷ marks) zero m = omega arith
@@ -149,7 +149,7 @@ module _ {A : Type 0} (g : List (Entry A)) (ids : List (List ℕ)) (old new : Li
   only_wider p (inl m) = inl m
   only_wider p (inr x) = inr (wider p x)
 
-  -- the marks stay where the id has no position that is to be marked
+  -- the marks are unchanged if the id has no position below the end of the marks
   pub marks_stay : ((p : ℕ) → position_of g a ≡ Some p → p < length old → ⊥) → MarksAll g (ids ++ a ∷ []) old new
   marks_stay never = record {
     long = before.long;
@@ -172,10 +172,10 @@ module _ {A : Type 0} (g : List (Entry A)) (ids : List (List ℕ)) (old new : Li
     ];
   }
 
--- ---- one id after the other
+-- ---- one id after another
 
 module _ {A : Type 0} (g : List (Entry A)) (ids : List (List ℕ)) (i : ℕ) (a : List ℕ) (inside : i < length ids) (is : a ≡ get_or ids i a) where
-  -- the position of an item
+  -- the position of the id at index `i`
   pub item_position : (p : ℕ) → position_of g a ≡ Some p → IsPositionOf g ids p
   item_position p at = record { id = a; among = (i, inside, sym is); at = at }
 
@@ -185,7 +185,7 @@ module _ {A : Type 0} (g : List (Entry A)) (ids : List (List ℕ)) (i : ℕ) (a 
   pub marks_past : (old new : List Bool) → MarksAll g (take i ids) old new → position_of g a ≡ None → MarksAll g (take (i + 1) ids) old new
   marks_past old new before absent = rw (take_one ids i a inside is) (marks_stay g (take i ids) old new a before (λ p e _. none-some p (sym absent ∙ e)))
 
-  -- a position of the ids so far
+  -- a position of the first `i + 1` ids is a position of the first `i` ids or of the next id
   pub position_next : (p : ℕ) → IsPositionOf g (take (i + 1) ids) p → IsPositionOf g (take i ids) p ⊎ (position_of g a ≡ Some p)
   position_next p x =
       let P : List (List ℕ) → Type 0 = λ xs. IsPositionOf g xs p in
@@ -195,13 +195,13 @@ pub is_none : {X : Type 0} (o : Option X) → ((p : X) → o ≡ Some p → ⊥)
 is_none None never = refl
 is_none (Some p) never = absurd (never p refl)
 
--- a mark that was read
+-- the result of reading a mark from a slice
 pub read_mark : (marks slice : List Bool) (p : ℕ) (r b : Bool) → slice ≡ marks → r ≡ is_marked slice p → r ≡ b → is_marked marks p ≡ b
 read_mark marks slice p r b same read is = ap (λ xs. is_marked xs p) (sym same) ∙ sym read ∙ is
 
 pub max_is : (a b m : ℕ) → m ≡ ord_max nat_cmp a b → m ≡ max a b
 max_is a b m e = grind (arith, nat_tests)
 
--- a position of one id
+-- a position of a list of one id is the position of that id
 pub one_item : {A : Type 0} (g : List (Entry A)) (a : List ℕ) (p : ℕ) → IsPositionOf g (a ∷ []) p → position_of g a ≡ Some p
 one_item g a p x = ap (position_of g) (sym (only_one a x.id x.among)) ∙ x.at

@@ -1,4 +1,4 @@
--- What the marks of a walk say of the ids that are reached.
+-- The marks of a walk and the ids that it reaches.
 use Rattle.std.proofs.Common.{◌≡◌, ◌⊎◌, inl, inr, ◌↔◌, ℕ, suc, Bool, true, false, List, [], ◌∷◌, length, get_or, Contains, Option, Some, None, refl, sym, ap, ◌∙◌, subst, arith, rules}
 use Rattle.std.specs.List.{slice_get}
 use Rattle.std.specs.Option.{option_map, MatchOption}
@@ -24,7 +24,7 @@ use Rattle.gwalk.proofs.LevelWalk.{met_reached, reached_met}
 use Rattle.gwalk.proofs.Stopping.{bare_if, stop_position, stop_slice, stopped_entry}
 use Rattle.gdag.proofs.Positions.{id_at_position}
 
--- the marked positions are those of the ids that are reached
+-- the marked positions are the positions of the reachable ids
 pub marks_reached : {A : Type 0} (g : List (Entry A)) (starts : List (List ℕ)) (marks : List Bool) (met : List ℕ) (lost : Option (List ℕ)) (parents : ℕ) → IdsDiffer g → IsWalk g starts marks met lost parents → AreMarked (SomeReaches g starts) g marks
 marks_reached g starts marks met lost parents differ walk = record {
   long = walk.has_met.long;
@@ -55,9 +55,9 @@ counts_reached {A} g starts marks met lost parents differ walk =
       parents_are = walk.has_met.parents_are;
     }
 
--- ---- what is missing, where the walk stopped at connected ids
+-- ---- the missing ids, by a walk that stops at connected ids
 
--- the entry that holds an id
+-- the entry of the id `a`, with its position and its node
 pub record IsHeldBy {A : Type 0} (g : List (Entry A)) (a : List ℕ) (node : Node A) : Type 0 where
   pub position : ℕ
   pub position_is : position_of g a ≡ Some position
@@ -76,7 +76,7 @@ held_by {A} g a node held =
     let m = mapped_from (λ (entry : Entry A). entry.node) (slice_get g p.0) node (sym (node_at_position g a p.0 p.1) ∙ held) in
     record { position = p.0; position_is = p.1; entry = m.0; at = m.1; node_is = m.2; id_is = id_at_position g a p.0 m.0 p.1 m.1 }
 
--- graphs with the same positions hold the same ids
+-- two graphs in which `a` has the same position both contain `a`, or neither does
 module _ {A : Type 0} (g h : List (Entry A)) (a : List ℕ) (same : position_of g a ≡ position_of h a) where
   same_holds : Holds g a → Holds h a
   same_holds held =
@@ -86,7 +86,7 @@ module _ {A : Type 0} (g h : List (Entry A)) (a : List ℕ) (same : position_of 
   same_absent empty = not_held g a (λ held. (let k = rw empty at (same_holds held) in search (rules, k)))
 
 module _ {A : Type 0} (known : List Bool) (g : List (Entry A)) where
-  -- a step here leaves an unmarked id, and is a step there
+  -- an entry that has parents in `stop_at known g` is unmarked, and has the same parents in `g`
   bare_parent : (mark : Bool) (entry : Entry A) (b : List ℕ) → Contains (bare_if mark entry).node.parents b → (mark ≡ false) × Contains entry.node.parents b
   bare_parent true entry b c = nothing_in_nil b c
   bare_parent false entry b c = (refl, c)
@@ -123,7 +123,7 @@ module _ {A : Type 0} (known : List Bool) (g : List (Entry A)) where
   stop_reaches a b here = here
   stop_reaches a b (onward {b = c} parent more) = onward (stop_parent a c parent).1 (stop_reaches c b more)
 
-  -- a step leaves a connected id, or is a step here
+  -- a parent `b` of `a` is connected, or is also a parent of `a` in `stop_at known g`
   step_here : AreConnected g known → (a b : List ℕ) → HasParent g a b → IsConnected g b ⊎ HasParent (stop_at known g) a b
   step_here connected a b parent =
       let h = held_by g a parent.0 parent.1 in
@@ -158,7 +158,7 @@ module _ {A : Type 0} (known : List Bool) (g : List (Entry A)) where
         let s = met_reached (stop_at known g) starts walk.ids walk.levels b is.0 in
         ((s.0, s.1, stop_reaches s.0 b s.2), same_absent g (stop_at known g) b (sym (stop_position known g b)) is.1)
 
--- ids differ where some have lost their parents
+-- ids are distinct in the graph in which marked objects have no parents
 stop_none : {A : Type 0} (marks : List Bool) (g : List (Entry A)) (a : List ℕ) → node_at g a ≡ None → node_at (stop_at marks g) a ≡ None
 stop_none marks g a empty = same_absent (stop_at marks g) g a (stop_position marks g a) empty
 
@@ -168,9 +168,9 @@ stop_differ (mark ∷ marks) [] differ = tt
 stop_differ (true ∷ marks) (entry ∷ g) differ = (stop_none marks g entry.id differ.0, stop_differ marks g differ.1)
 stop_differ (false ∷ marks) (entry ∷ g) differ = (stop_none marks g entry.id differ.0, stop_differ marks g differ.1)
 
--- ---- what is missing where the graph is closed, and where nothing is marked
+-- ---- the missing ids of a closed graph, and without marks
 
--- where each id that is held is connected, the ids themselves are looked up
+-- if each id of the graph is connected, only the given ids can be missing
 pub held_misses : {A : Type 0} (g : List (Entry A)) (ids : List (List ℕ)) (o : Option (List ℕ)) → ((a : List ℕ) → Holds g a → IsConnected g a) → MatchOption o (All (Holds g) ids) (IsFirstAbsent g ids) → Misses g ids o
 held_misses g ids None connected all = λ k d inside. connected (get_or ids k d) (all k d inside)
 held_misses g ids (Some b) connected found =

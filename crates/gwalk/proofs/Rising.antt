@@ -1,4 +1,4 @@
--- What a pass up keeps, and what it ends with.
+-- The invariant of a pass up, and the final state of the pass.
 use Rattle.std.proofs.Common.{◌≡◌, ◌⊎◌, inl, inr, ◌↔◌, ℕ, ◌+◌, ◌<◌, ◌≤◌, Bool, true, false, List, [], ◌∷◌, length, get_or, set, replicate, Contains, Some, None, refl, sym, ap, ◌∙◌, subst, arith}
 use Rattle.std.specs.List.{slice_get, Any, IsAnyAnswer}
 use Rattle.std.specs.Option.{option_map}
@@ -45,7 +45,7 @@ module _ {A : Type 0} (g : List (Entry A)) (goals : List (List ℕ)) where
       let on = ordered a m p at h in
       inr (on.0, record { child = a; parent = m; edge = h; child_at = at; parent_at = on.1 }, record { id = m; at = on.1; reaching = any_goal g goals m b among way })
 
-  -- one that reaches a goal is one, or has a parent that reaches one
+  -- an object that reaches a goal is a goal, or has a parent that reaches a goal
   pub reaching_cases : HasParentsFirst g → (p : ℕ) → IsReachingAt g goals p → IsPositionOf g goals p ⊎ ((q : ℕ) × IsEdge g p q × IsReachingAt g goals q)
   reaching_cases ordered p r =
       let way = goal_of g goals r.id r.reaching in
@@ -58,16 +58,16 @@ module _ {A : Type 0} (g : List (Entry A)) (goals : List (List ℕ)) where
       let down = way_down ordered on.0 m b way on.1 in
       (down.0, down.1, omega (arith, on.2, down.2))
 
-  -- a goal that is reached stands no later
+  -- a reachable goal has the same or a lower position
   pub reaching_low : HasParentsFirst g → (p : ℕ) → IsReachingAt g goals p → (q : ℕ) × IsPositionOf g goals q × (q ≤ p)
   reaching_low ordered p r =
       let way = goal_of g goals r.id r.reaching in
       let down = way_down ordered p r.id way.0 way.2 r.at in
       (down.0, record { id = way.0; among = way.1; at = down.1 }, down.2)
 
--- ---- the pass as it goes
+-- ---- the invariant of the pass
 
--- what holds each time the next position is looked at
+-- the state before `position` is visited
 pub record IsRising {A : Type 0} (g : List (Entry A)) (goals : List (List ℕ)) (end position : ℕ) (good : List Bool) : Type 0 where
   pub long : length good ≡ end
   pub goals_in : (p : ℕ) → IsPositionOf g goals p → p < end → is_marked good p ≡ true

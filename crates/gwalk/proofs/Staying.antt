@@ -1,4 +1,4 @@
--- Marks where objects only came to a graph.
+-- Marks after objects are added to a graph.
 use Rattle.std.proofs.Common.{◌≡◌, ℕ, zero, suc, List, [], ◌∷◌, ◌++◌, true, false, Some, ap, sym, ◌∙◌, subst}
 use Rattle.std.specs.List.{slice_get, slice_index_or}
 use Rattle.std.proofs.lemmas.List.Elements.{All-contains}
@@ -22,7 +22,7 @@ stay_connected {A} keeps law g h marks grows connected position t =
     let at = subst (λ (l : List (Entry A)). slice_get l position ≡ Some f.0) (sym grows.1) (slice_in_front g grows.0 position f.0 f.1) in
     (f.0, at, (law g h (f.0).id (keeps g h grows) f.2).0)
 
--- what a connected id reaches in the grown graph it reached before, at the same position
+-- marks still cover the same connected ids, because these ids reach the same ids at the same positions
 pub covering_stays : {A : Type 0} → GrowingKeeps A → ConnectedStaysConnected A → CoveringStays A
 covering_stays {A} keeps law g h ids marks grows differ connected covers position entry at reaches =
     let a = reaches.0 in

@@ -1,4 +1,4 @@
--- The graph whose marked objects have no parents.
+-- The graph in which marked objects have no parents.
 use Rattle.std.proofs.Common.{◌≡◌, ℕ, zero, suc, ◌<◌, ◌≤◌, Bool, true, false, cond, List, [], ◌∷◌, length, get_or, All, Option, Some, None, refl, sym, ap, ◌∙◌, subst, arith}
 use Rattle.std.specs.List.{position_or_len, slice_get}
 use Rattle.std.specs.Option.{option_map}
@@ -50,7 +50,7 @@ narrow_if : {A : Type 0} (mark : Bool) (entry : Entry A) → length entry.node.p
 narrow_if true entry few = omega arith
 narrow_if false entry few = few
 
--- what stands at a position here is the entry that stands there, perhaps without parents
+-- the entry at a position of `stop_at marks g` is the entry of `g` at this position, or that entry without parents
 pub stopped_entry : {A : Type 0} (marks : List Bool) (g : List (Entry A)) (p : ℕ) (entry : Entry A) → slice_get (stop_at marks g) p ≡ Some entry → (whole : Entry A) × (slice_get g p ≡ Some whole) × (bare_if (get_or marks p false) whole ≡ entry)
 stopped_entry marks g p entry at = mapped_from (bare_if (get_or marks p false)) (slice_get g p) entry (sym (stop_slice marks g p) ∙ at)
 
@@ -59,7 +59,7 @@ stop_narrow {A} marks g shaped p entry at =
     let w = stopped_entry marks g p entry at in
     subst (λ (e : Entry A). length e.node.parents ≤ 64) w.2 (narrow_if (get_or marks p false) w.0 (all_standing (λ (e : Entry A). IsShaped e.node) g p w.0 w.1 shaped).few)
 
--- ---- the parents that are lent
+-- ---- the parents that a look-up returns
 
 pub lends_none : {A : Type 0} (marks : List Bool) (g : List (Entry A)) (p : ℕ) → get_or marks p false ≡ true → p < length g → option_map (λ (entry : Entry A). entry.node.parents) (slice_get (stop_at marks g) p) ≡ Some []
 lends_none marks g p marked inside = rw (stop_slice marks g p, marked, (entry_there g p inside).1) refl

@@ -27,7 +27,7 @@ first_none : (xs : List (List ℕ)) → length xs ≡ 1 → slice_get xs 0 ≡ N
 first_none [] one none = omega arith
 first_none (x ∷ xs) one none = none-some x (sym none)
 
--- ---- what stands at a position
+-- ---- the object at a position
 
 module _ {A : Type 0} (g : List (Entry A)) (order : IsInOrder g) (p : ℕ) (inside : p < length g) where
   there : (entry : Entry A) × (slice_get g p ≡ Some entry)
@@ -70,7 +70,7 @@ module _ {A : Type 0} (g : List (Entry A)) where
       let T : List ℕ → Type 0 = λ x. IsTagOf g x tag.named in
       record { id = led.id; at = led.at; end = tag.named; end_at = tag.named_at; steps = suc led.steps; leads = tags_more g led.steps led.id led.end tag.named led.leads (subst T same tag.tag) }
 
-  -- a tag that the chain has come to is on it
+  -- a tag to which the chain leads is on the chain
   pub chain_here : (p q r : ℕ) → IsLedTo g p q → IsTagAt g q r → IsOnChain g p q
   chain_here p q r led tag =
       let same = position_same g tag.id led.end q tag.at led.end_at in
@@ -86,7 +86,7 @@ module _ {A : Type 0} (g : List (Entry A)) where
       let same = one_next g tag.id tag.named next tag.tag (subst T here first) in
       inr (record { id = next; at = ap (position_of g) (sym same) ∙ tag.named_at; end = end; end_at = end_at; steps = m; leads = rest }, refl)
 
-  -- a tag on a chain is the first one, or on the chain from the object that this names
+  -- a tag on a chain is the first tag of the chain, or is on the chain from the object of the first tag
   pub chain_next : (p q r : ℕ) → IsTagAt g p q → IsOnChain g p r → (p ≡ r) ⊎ IsOnChain g q r
   chain_next p q r tag x =
       elim (led_on p q r tag x.led.id x.led.end x.led.steps x.led.at x.led.end_at x.led.leads) [
@@ -109,7 +109,7 @@ module _ {A : Type 0} (g : List (Entry A)) where
       let P : List ℕ → Type 0 = λ e. Tags g x.led.steps x.led.id e in
       (x.led.steps, subst P (position_same g x.led.end x.commit.id q x.led.end_at x.commit.at) x.led.leads, x.commit.commit)
 
-  -- a chain has one end
+  -- a chain has at most one end
   pub one_peeled : (p q r : ℕ) → IsPeeledAt g p q → IsPeeledAt g p r → q ≡ r
   one_peeled p q r x y =
       let px = peels_at p q x in let py = peels_at p r y in
@@ -127,7 +127,7 @@ module _ {A : Type 0} (g : List (Entry A)) where
       let below : on.0 < p = on.2 in
       omega arith
 
-  -- the chain goes on from each of its tags to the commit
+  -- the id of each tag on a chain peels to the id of the commit at the end of the chain
   chain_on : (p q r : ℕ) (x : IsOnChain g p q) (y : IsPeeledAt g p r) → PeelsTo g x.led.end y.commit.id
   chain_on p q r x y =
       let peels = peels_at p r y in
@@ -136,7 +136,7 @@ module _ {A : Type 0} (g : List (Entry A)) where
       let on = onward g peels.0 x.led.steps y.led.id x.led.end y.commit.id peels.1 peels.2 (subst P start x.led.leads) in
       (on.0, on.2, y.commit.commit)
 
-  -- the commit of a chain stands before its tags
+  -- the position of the commit at the end of a chain is not above the position of a tag on the chain
   pub commit_below : HasParentsFirst g → (p q r : ℕ) → IsOnChain g p q → IsPeeledAt g p r → r ≤ q
   commit_below ordered p q r x y =
       let on = chain_on p q r x y in
@@ -149,9 +149,9 @@ module _ {A : Type 0} (g : List (Entry A)) where
       let from = subst Q (position_same g x.led.end a q x.led.end_at at) (chain_on p q r x y) in
       subst (λ (d : List ℕ). PeelsTo g a d) (position_same g y.commit.id c r y.commit.at there) from
 
--- ---- the chain as it is marked
+-- ---- marking a chain
 
--- what holds each time the next tag is looked at
+-- the state before the object at position `at` of the chain is marked
 pub record IsMarkingChain {A : Type 0} (g : List (Entry A)) (start at : ℕ) (old now : List Bool) : Type 0 where
   pub inside : at < length g
   pub low : at ≤ start
@@ -203,7 +203,7 @@ module _ {A : Type 0} (g : List (Entry A)) (start at : ℕ) (old now : List Bool
     only = before.only;
   }
 
--- ---- one tip after the other
+-- ---- one tip after another
 
 pub tags_none : {A : Type 0} (g : List (Entry A)) (wanted known : List Bool) (end : ℕ) → MarksTags g [] wanted known (replicate end false)
 tags_none g wanted known end = record {

@@ -19,11 +19,11 @@ use Rattle.std.proofs.lemmas.Option.{same_Some}
 
 -- ---- one chain
 
--- the tags of the chain that fewer steps lead to
+-- the id is a tag of the chain from the tip, at fewer than `i` steps
 abbrev pub IsPassed : {A : Type 0} → List (Entry A) → List ℕ → ℕ → List ℕ → Type 0
 IsPassed g tip i a = (from : IsTagFrom g tip a) × (from.steps < i)
 
--- the marks before, and those of the tags that were passed
+-- the marks `new` are the marks `old`, with additional marks for the first `i` tags of the chain
 pub record HasPassed {A : Type 0} (g : List (Entry A)) (tip : List ℕ) (old new : List Bool) (i : ℕ) (at : List ℕ) : Type 0 where
   pub leads : Tags g i tip at
   pub long : length new ≡ length g
@@ -37,7 +37,7 @@ passed_none g tip old long = record {
 }
 
 module _ {A : Type 0} (g : List (Entry A)) (tip : List ℕ) (old new : List Bool) (i : ℕ) (at : List ℕ) (now : HasPassed g tip old new i at) where
-  -- a tag more is marked
+  -- marking one more tag
   pub passes_tag : (p : ℕ) (next : List ℕ) → position_of g at ≡ Some p → IsTagOf g at next → HasPassed g tip old (set new p true) (i + 1) next
   passes_tag p next e tag =
       let inside : p < length new = let h = position_inside g at p e in let l = now.long in omega arith in
@@ -76,7 +76,7 @@ module _ {A : Type 0} (g : List (Entry A)) (tip : List ℕ) (old new : List Bool
                 absurd (other (same_Some p q (sym e ∙ ap (position_of g) none ∙ at_q)))
           ]
 
-  -- the chain has no further tag
+  -- if the chain has no further tag, all its tags are marked
   pub passes_all : ((b : List ℕ) → IsTagOf g at b → ⊥) → (position : ℕ) (a : List ℕ) → position_of g a ≡ Some position → (get_or new position false ≡ true) ↔ ((get_or old position false ≡ true) ⊎ IsTagFrom g tip a)
   passes_all last position a e = (
     λ t. elim ((now.each position a e).0 t) [ inl before ↦ inl before | inr w ↦ inr w.0 ],
@@ -97,7 +97,7 @@ module _ {A : Type 0} (g : List (Entry A)) (tip : List ℕ) (old new : List Bool
 -- ---- all chains
 
 module _ {A : Type 0} (g : List (Entry A)) (wants commons : List (List ℕ)) (new : List Bool) (differ : IdsDiffer g) (are : AreMarked (IsNew g wants commons) g new) where
-  -- where a tip leads to a marked commit
+  -- the commit to which a tip leads is new if it is marked
   leads_new : (tip : List ℕ) (lead : LeadsToMarked g new tip) → IsNew g wants commons lead.commit
   leads_new tip lead =
       let end : IsCommit g lead.commit = (lead.peels).2 in
@@ -143,7 +143,7 @@ module _ {A : Type 0} (g : List (Entry A)) (wants commons : List (List ℕ)) (ne
         from = record { steps = t.steps; leads = t.leads; next = t.next; tag = t.tag };
       }
 
-  -- the list to send
+  -- the entries at marked positions are the list to send
   pub tags_end : (tips : List (List ℕ)) (marks : List Bool) → AreTagged g new tips marks → Selects (IsToSend g wants commons tips) g (marked_entries g marks)
   tags_end tips marks now =
       marked_selects (IsToSend g wants commons tips) g marks now.long

@@ -1,4 +1,4 @@
--- What a walk keeps as it goes.
+-- The invariant of a walk.
 use Rattle.std.proofs.Common.{◌≡◌, inl, inr, ℕ, zero, suc, ◌+◌, ◌<◌, ◌≤◌, Bool, true, false, List, [], ◌∷◌, ◌++◌, length, get_or, set, take, Contains, Option, Some, None, refl, sym, ap, ◌∙◌, subst, arith, replicate, append-nil, append_assoc, length-append, unwrap_or}
 use Rattle.std.specs.List.{slice_get, cons_option}
 use Rattle.std.specs.Option.{option_map}
@@ -24,7 +24,7 @@ use Rattle.gwalk.proofs.Counting.{marked_none, marked_more, marked_few}
 use Rattle.gwalk.proofs.LevelWalk.{with_new-nil, with_new-append, walk_begins, walk_goes, walk_ends}
 use Rattle.gwalk.proofs.Positions.{parents_are}
 
--- an id has a position or has none
+-- an id has a position, or it has none
 pub position_cases : {A : Type 0} (g : List (Entry A)) (a : List ℕ) →
     (position_of g a ≡ None) ⊎ ((p : ℕ) × (position_of g a ≡ Some p))
 position_cases g a = by (position_of g a) refl
@@ -33,7 +33,7 @@ position_cases g a = by (position_of g a) refl
     by None e = inl e
     by (Some p) e = inr (p, e)
 
--- an id with a position gives that position
+-- if none of the ids has a position, the first id has none, and the other ids have none
 pub placed : {A : Type 0} (g : List (Entry A)) (b : List ℕ) (bs : List (List ℕ)) (o : Option ℕ) → position_of g b ≡ o → places g (b ∷ bs) ≡ [] → (o ≡ None) × (places g bs ≡ [])
 placed g b bs None e none = (refl, sym (ap (λ o. cons_option o (places g bs)) e) ∙ none)
 placed g b bs (Some p) e none = absurd (let some : p ∷ places g bs ≡ [] = sym (ap (λ o. cons_option o (places g bs)) e) ∙ none in cc)
@@ -72,7 +72,7 @@ positions_push : {A : Type 0} (g : List (Entry A)) (ids : List (List ℕ)) (a : 
 positions_push g ids a o e = filter_map-append (position_of g) ids (a ∷ []) ∙ ap (λ p. places g ids ++ cons_option p []) e
 
 module _ {A : Type 0} (g : List (Entry A)) (ids : List (List ℕ)) (marks : List Bool) (met : List ℕ) (lost : Option (List ℕ)) (parents : ℕ) (old : HasMet g ids marks met lost parents) (a : List ℕ) where
-  -- an id that is not held
+  -- meeting an id that the graph does not contain
   pub meets_lost : position_of g a ≡ None → HasMet g (with_new ids (a ∷ [])) marks met (Some a) parents
   meets_lost e =
       let P : List (List ℕ) → Type 0 = λ l. HasMet g l marks met (Some a) parents in
@@ -105,7 +105,7 @@ module _ {A : Type 0} (g : List (Entry A)) (ids : List (List ℕ)) (marks : List
         }
       ]
 
-  -- an id that was met before
+  -- meeting an id that was met before
   pub meets_again : (p : ℕ) → position_of g a ≡ Some p → get_or marks p false ≡ true → HasMet g (with_new ids (a ∷ [])) marks met lost parents
   meets_again p e t =
       let P : List (List ℕ) → Type 0 = λ l. HasMet g l marks met lost parents in
@@ -119,7 +119,7 @@ module _ {A : Type 0} (g : List (Entry A)) (ids : List (List ℕ)) (marks : List
       ]
   lost_more (Some b) p e some = (Contains-append_left ids (a ∷ []) b some.0, some.1)
 
-  -- an id that is held and new
+  -- meeting an id of the graph for the first time
   pub meets_new : (p : ℕ) (more : List (List ℕ)) → position_of g a ≡ Some p → get_or marks p false ≡ false → option_map (λ entry. entry.node.parents) (slice_get g p) ≡ Some more → HasMet g (with_new ids (a ∷ [])) (set marks p true) (met ++ p ∷ []) lost (parents + length more)
   meets_new p more e free are =
       let P : List (List ℕ) → Type 0 = λ l. HasMet g l (set marks p true) (met ++ p ∷ []) lost (parents + length more) in
@@ -173,7 +173,7 @@ underway g starts marks met lost parents h = record {
 no_parents : {A : Type 0} (g : List (Entry A)) (a : List ℕ) → position_of g a ≡ None → parents_of g a ≡ []
 no_parents g a e = rw (node_at_none g a e) refl
 
--- the next id to take up: those of the back before it are not held
+-- the next id of the graph to visit: the graph does not contain the unvisited ids before it
 pub record IsNext {A : Type 0} (g : List (Entry A)) (starts front back : List (List ℕ)) (x : ℕ) : Type 0 where
   pub mid : List (List ℕ)
   pub id : List ℕ
@@ -184,7 +184,7 @@ pub record IsNext {A : Type 0} (g : List (Entry A)) (starts front back : List (L
   pub walked : IsWalked g starts (front ++ back) (length front + length mid)
 
 module _ {A : Type 0} (g : List (Entry A)) where
-  -- ids that are not held are passed
+  -- the walk skips ids that the graph does not contain
   passes : (starts mid front rest : List (List ℕ)) → places g mid ≡ [] → IsWalked g starts (front ++ (mid ++ rest))
       (length front) → IsWalked g starts (front ++ (mid ++ rest)) (length front + length mid)
   passes starts [] front rest none walked = let z : length front + 0 ≡ length front = omega arith in rw z walked
@@ -200,7 +200,7 @@ module _ {A : Type 0} (g : List (Entry A)) where
       let sum : length front + 1 + length mid ≡ length front + length (b ∷ mid) = omega arith in
       rw (again, length_push front b, sum) at on
 
-  -- the first id that is held
+  -- the first unvisited id that the graph contains
   split_back : (back : List (List ℕ)) (x : ℕ) (xs : List ℕ) → places g back ≡ x ∷ xs → (mid : List (List ℕ)) ×
       (id : List ℕ) × (rest : List (List ℕ)) × (back ≡ mid ++ id ∷ rest) × (places g mid ≡ []) ×
       (position_of g id ≡ Some x)
@@ -231,7 +231,7 @@ module _ {A : Type 0} (g : List (Entry A)) (starts front back : List (List ℕ))
   pub none_left : length met ≤ at → places g back ≡ []
   none_left end = left_are ∙ drop_all at met end
 
-  -- all were taken up
+  -- if all positions were visited, the list of met ids has all levels
   pub ends_levels : length met ≤ at → AreLevels g starts (front ++ back)
   ends_levels end =
       let walked = passes g starts back front [] (none_left end) (rw (append-nil back) now.walked) in
@@ -241,7 +241,7 @@ module _ {A : Type 0} (g : List (Entry A)) (starts front back : List (List ℕ))
   pub finishes : length met ≤ at → IsWalk g starts marks met lost parents
   finishes end = record { ids = front ++ back; levels = ends_levels end; has_met = now.has_met }
 
-  -- the parents of the next id were met
+  -- visiting the next id by meeting its parents
   pub goes : (x : ℕ) (n : IsNext g starts front back x) (more : List (List ℕ)) → more ≡ parents_of g n.id → (marks2 : List Bool) (met2 : List ℕ) (lost2 : Option (List ℕ)) (parents2 : ℕ) → HasMet g (with_new (front ++ back) more) marks2 met2 lost2 parents2 → IsUnderway g starts (front ++ (n.mid ++ n.id ∷ [])) (n.rest ++ new_ids (front ++ back) more) marks2 met2 lost2 parents2 (at + 1)
   goes x n more are marks2 met2 lost2 parents2 then =
       let i = length front + length n.mid in
@@ -271,7 +271,7 @@ module _ {A : Type 0} (g : List (Entry A)) (starts front back : List (List ℕ))
         position = omega arith;
       }
 
--- ---- the parents that are lent
+-- ---- the parents that a look-up returns
 
 pub lent_parents : {A : Type 0} (g : List (Entry A)) (a : List ℕ) (p : ℕ) (parents : List (List ℕ)) → position_of g a ≡ Some p → option_map (λ entry. entry.node.parents) (slice_get g p) ≡ Some parents → parents ≡ parents_of g a
 lent_parents {A} g a p parents e are =

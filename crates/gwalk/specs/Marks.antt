@@ -9,7 +9,7 @@ use Rattle.gdag.specs.Reach.{Reaches, IsConnected, SomeReaches, Grows}
 use Rattle.gdag.specs.Selecting.{Selects}
 use Rattle.gdag.specs.Walks.{CountsReached}
 
--- each marked position is that of a connected id
+-- each marked position is the position of a connected id
 abbrev pub AreConnected : {A : Type 0} → List (Entry A) → List Bool → Type 0
 AreConnected {A} g marks =
     (position : ℕ) → slice_index_or marks position false ≡ true →

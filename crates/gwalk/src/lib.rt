@@ -19,8 +19,8 @@
 //! - [`send_list`] returns the list of objects to send, and [`send_list_tags`] adds the tags of the
 //!   refs. The ids of the list are distinct and have the graph's format.
 //! - In an ordered graph, `reaches` and `ready` visit objects in insertion order, each at most
-//!   once. `send_list` searches for new objects in reverse insertion order. The search stops when a
-//!   common id was found to reach every unvisited object that a want was found to reach.
+//!   once. `send_list` searches for new objects in reverse insertion order. The search stops when
+//!   every unvisited object that it has reached from a want was also reached from a common id.
 //! - [`haves`] returns the offer: the first `n` unsent ids of the graph, level by level from the
 //!   tips, that no common id reaches. [`Offers`] returns one offer after another, and continues the
 //!   same walk for each offer. No id is offered twice.

@@ -1,4 +1,4 @@
--- What the code did is a step.
+-- The effects of the functions are steps of a world.
 use Rattle.std.specs.Prelude.{slice_get, IsSome, Result, MatchResult}
 use Rattle.std.proofs.Common.{inr, true, ◌∙◌, ◌≡◌, ℕ, Bool, false, List, [], ◌∷◌, ◌++◌, length, Option, Some, None, Ok}
 use Rattle.std.proofs.Common.{Err, refl, sym, ap, subst}
@@ -43,13 +43,13 @@ use Rattle.gworld.specs.Worlds.{Kept, WorldState}
 use Rattle.gworld.specs.declared.outcome.Outcome.{Outcome}
 use Rattle.gworld.specs.declared.outcome.Outcome.TheVariants.{Done, Asked as Asks, Served, Fault}
 
--- ---- a request that waits
+-- ---- the open request
 
 some_waits : {A : Type 0} (s : SessionState A) (pending : Option Asked) → IsSome pending → IsSome (waits_for s pending)
 some_waits s None waits = waits
 some_waits s (Some asked) waits = refl
 
--- what a session waits for where it waits for refs, and where it waits for objects
+-- a session that awaits refs or objects has an open request
 pub waits_for_refs : (pending : Option Asked) → IsAwaited pending Refs → IsSome pending
 waits_for_refs None is = absurd is
 waits_for_refs (Some asked) is = refl
@@ -61,16 +61,16 @@ waits_for_objects (Some asked) is = refl
 module _ {A : Type 0} {w now : WorldState A} (same : w ≡ now) where
   -- ---- the session
 
-  -- a request waits for its reply
+  -- if the session has an open request, `waiting_session` returns both
   pub waits_on : (s : SessionState A) → w.session ≡ Some s → IsSome s.pending → IsSome (waiting_session now.session)
   waits_on s is waits = rw (← same, is) (some_waits s s.pending waits)
 
-  -- where no request is due, none is made
+  -- if no request is due, the event `Ask` fails with fault 83
   pub not_due_step : (s : SessionState A) → w.session ≡ Some s → is_due s.stage s.pending ≡ false
       → AsksNext now now.session (Fault 83) (record w { session = Some s })
   not_due_step s is not_due = rw (← same, is) (s, client.NoOpenRequest, (not_due, refl), refl, refl)
 
-  -- where one is due, memory is needed to make it
+  -- if a request is due, the event `Ask` needs memory
   pub may_ask : (s : SessionState A) → w.session ≡ Some s → is_due s.stage s.pending ≡ true → NeedsMemory now event.Ask
   may_ask s is due = rw (← same) (s, is, due)
 
@@ -97,7 +97,7 @@ module _ {A : Type 0} {w now : WorldState A} (same : w ≡ now) where
       let new = λ (m : Bool). record w { session = Some after; repo = repo; answered = m } in
       rw (← same, is, count) (after, repo, fault, settles, refl, ap new marked)
 
-  -- ---- changes of the ends
+  -- ---- changes of the server and of the client's repository
 
   pub added_step : (entry : Entry A) (server : Server A) (outcome : Outcome)
       → AgreesWith now.repo.graph.entries entry → Adds w.server entry server (Ok tt) → outcome ≡ Done
@@ -156,9 +156,9 @@ module _ {A : Type 0} {w now : WorldState A} (same : w ≡ now) where
     refused_step number asked fault outcome is refuses count =
         rw (← same, is, count) (fault, refuses, refl, refl)
 
-  -- ---- bytes that come
+  -- ---- the arrival of bytes
 
-  -- a world with parts that are as they were is as it was
+  -- setting fields of a world to the values that they already have leaves the world unchanged
   as_before : (s after : SessionState A) (repo : RepoState A) (mark : Bool) → w.session ≡ Some s → after ≡ s
       → repo ≡ w.repo → mark ≡ w.answered → record w { session = Some after; repo = repo; answered = mark } ≡ w
   as_before s after repo mark is same_session same_repo same_mark =
@@ -223,7 +223,7 @@ module _ {A : Type 0} {w now : WorldState A} (same : w ≡ now) where
         rw (← same) (subst (λ (o : Option (SessionState A)). Forges indexes index_fails w bytes (waiting_session o) outcome new)
         (sym is) (forged_to bytes s after repo s.pending outcome open_takes))
 
--- what a reply to ls-refs comes to
+-- the outcome of an ls-refs reply is `refs_outcome` of the result
 pub took_refs : {A S : Type 0} (is_down : S → Bool) (old new : Reader S) (s after : SessionState A) (repo : RepoState A)
     (bytes left : List ℕ) (result : Result (LsTaken A) (ClientFault A)) → old.failed ≡ false
     → is_down new.source ≡ false → TakesLs s repo.graph.entries (known_bytes bytes left) after result
@@ -236,7 +236,7 @@ took_refs is_down old new s after repo bytes left (Err (client.Message fault)) w
 took_refs is_down old new s after repo bytes left (Err fault) well up takes leaves =
     (left, fault, takes, tt, refl, refl)
 
--- what a reply to fetch comes to
+-- the outcome of a fetch reply is `objects_outcome` of the result
 pub took_objects : {A S : Type 0} (indexes : Indexes A) (index_fails : IndexFails) (is_down : S → Bool)
     (old new : Reader S) (s after : SessionState A) (repo moved : RepoState A) (bytes left : List ℕ)
     (result : Result Taken (ClientFault A)) → old.failed ≡ false → is_down new.source ≡ false

@@ -1,4 +1,4 @@
--- Both ends stay whole over each step, and so each run keeps its promises.
+-- Each step leaves both ends connected. Therefore each run keeps its promises.
 use Rattle.std.proofs.Common.{[], ◌∷◌, ◌≡◌, ℕ, List, Option, Some, None, Ok, inl, inr, refl, sym, ap, subst}
 use Rattle.std.specs.Map.{values_of}
 use Rattle.std.specs.Prelude.{Bool, slice_get}
@@ -136,7 +136,7 @@ module _ {A : Type 0} (tools : PackTools A) (grows : TakingOnlyGrows tools.index
   bytes_graph _ s after before repo bytes _ takes graph = absurd takes
 
   module _ (w v : WorldState A) (ends : AreEndsConnected w) (listed : AreListed v) where
-    -- the world is this one, whose server and repository are whole
+    -- both ends of `v` are connected if the server and the client's repository of an equal world are connected
     connected_as : {u : WorldState A} → v ≡ u → IsServer u.server → IsConnectedRepo u.repo → IsGraph u.repo.graph
         → AreEndsConnected v
     connected_as {u} same server repo graph = record {
@@ -177,7 +177,7 @@ module _ {A : Type 0} (tools : PackTools A) (grows : TakingOnlyGrows tools.index
     serves_connected (Some asked) (Fault code) step = unchanged step.3
     serves_connected (Some asked) _ step = absurd step
 
-    -- bytes came, and the repository is this one
+    -- both ends remain connected after bytes arrive
     bytes_connected : (asked : Asked) (s after : SessionState A) (repo : RepoState A) (bytes : List ℕ)
         (outcome : Outcome) → TakesBytes tools.indexes tools.index_fails asked s w.repo bytes outcome after repo
         → {u : WorldState A} → v ≡ u → u.server ≡ w.server → u.repo ≡ repo → AreEndsConnected v
@@ -240,7 +240,7 @@ module _ {A : Type 0} (tools : PackTools A) (grows : TakingOnlyGrows tools.index
     step_connected (event.ClientRef name id) (Fault number) step = unchanged step.3
     step_connected _ _ step = absurd step
 
--- from a sound world with whole ends a run keeps its promises, and leads to such a world
+-- a run from a sound world with connected ends keeps its promises, and leads to a sound world with connected ends
 pub runs_keep : {A : Type 0} (tools : PackTools A) → StepsKeep tools → EndsStayConnected tools
     → (w v : WorldState A) (events : List (Event A)) (outcomes : List Outcome) → AreEndsConnected w → IsSound tools w
     → RunWith (StepsListed tools) w events outcomes v

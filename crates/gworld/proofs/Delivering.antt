@@ -1,4 +1,4 @@
--- What a kept reply says and brings, where nothing was forged.
+-- The contents and the effect of a kept reply, if no bytes were forged.
 use Rattle.std.proofs.Common.{◌≡◌, ℕ, ◌≤◌, List, length, All, refl, sym, ap, subst, ◌∙◌, arith, take, inl, inr}
 use Rattle.std.proofs.lemmas.List.Elements.{All-weaker, All-contains}
 use Rattle.gname.specs.Limits.{max_pack}
@@ -37,12 +37,12 @@ use Rattle.gworld.specs.Taking.{TakesObjects}
 use Rattle.gworld.specs.declared.outcome.Outcome.TheVariants.{PackTaken}
 use Rattle.gworld.proofs.Sessions.{Tells, WorldLaws, all_held}
 
--- how a reply to fetch is read by one who takes any pack, with the default limits
+-- the parameters for reading a fetch reply with the default limits and the maximum pack size
 abbrev pub any_reading : Format → FetchAsked → Reading
 any_reading format asked =
     record { limits = profile; format = format; direct = is_direct asked; limit = max_pack; ends = Plain }
 
--- which is a limit that there can be
+-- the maximum pack size is a valid limit
 pub largest : max_pack ≤ max_pack
 largest = omega arith
 
@@ -60,7 +60,7 @@ module _ {A : Type 0} {tools : PackTools A} (laws : WorldLaws tools) where
       laws.objects_fit server asked reply (any_reading server.graph.format asked) is few answers refl refl
       (pack_small server asked reply answers.replies)
 
-  -- a reply to fetch that is read of a kept reply: it is the kept one, and answers a request for objects
+  -- a fetch reply that is read from a kept reply equals the kept reply, which answers a request for objects
   pub record IsKeptFetch (server : Server A) (asked : Asked) (reply : Reply) (read : FetchReply) : Type 0 where
     pub fetch : FetchAsked
     pub is_asked : asked ≡ Fetches fetch
@@ -68,7 +68,7 @@ module _ {A : Type 0} {tools : PackTools A} (laws : WorldLaws tools) where
     pub answers : FetchAnswer server tools.packs fetch read
 
   module _ (w : WorldState A) (server : Server A) (count : ℕ) (left : List ℕ) (is : IsServer server) where
-    -- the server holds what the first bytes of a kept reply say of refs
+    -- the server holds the id of each ref that is read from the first bytes of a kept reply
     lines_told : (asked : Asked) (reply : Reply) (told : LsReply) → Grows server.graph.entries w.server.graph.entries
         → Answers server tools.packs asked reply → IsSoundRequest w asked
         → ReadsMessage (refs.judge server.graph.format Plain) (refs.Says server.graph.format Plain)
@@ -107,7 +107,7 @@ module _ {A : Type 0} {tools : PackTools A} (laws : WorldLaws tools) where
     kept_fetch reading Empty reply read format plain answers sound reads = absurd sound
     kept_fetch reading asked reply read format plain answers sound reads = absurd answers
 
-  -- so it says what the server holds
+  -- the server holds each id of a ref and each acknowledged id that is read from the first bytes of a kept reply
   pub kept_tells : {w : WorldState A} {kept : Kept} (s : SessionState A) (count : ℕ) → IsSoundKept tools.packs w kept
       → s.format ≡ w.server.graph.format → s.ends ≡ Plain → Tells w s (take count (reply_bytes kept.reply))
   kept_tells {w} {kept} s count is format plain =
@@ -127,7 +127,7 @@ module _ {A : Type 0} {tools : PackTools A} (laws : WorldLaws tools) where
 
   -- ---- packs
 
-  -- what the indexer reads of the pack is what was sent
+  -- the indexer reads from the pack exactly the objects that the server packed
   pub read_is_sent : {w : WorldState A} {server : Server A} {asked : FetchAsked} {pack : List ℕ}
       (entries : List (Entry A)) → IsUnforgedAndFaithful tools w → (enough : IsEnough server tools.packs asked pack)
       → tools.indexes pack entries → entries ≡ enough.list
@@ -136,7 +136,7 @@ module _ {A : Type 0} {tools : PackTools A} (laws : WorldLaws tools) where
       honest.faithful.reads_image enough.list entries enough.entries
       (subst (λ (bytes : List ℕ). tools.indexes bytes entries) same read)
 
-  -- once a pack came, the wants of its request are connected, and the graphs agree as before
+  -- after a pack is accepted, the client holds all objects that the wants reach, and the graphs agree
   pub record IsCompleted (server : Server A) (wants : List (List ℕ)) (g : List (Entry A)) : Type 0 where
     pub all : HasAll server.graph.entries wants g
     pub agree : Agree server.graph.entries g
@@ -171,13 +171,13 @@ module _ {A : Type 0} {tools : PackTools A} (laws : WorldLaws tools) where
   sends server asked (Ready ids pack) has replies = replies.3
   sends server asked (Pack pack) has replies = replies.1
 
-  -- the pack of a kept reply came: the wants of the request of that reply are connected
+  -- the pack of a kept reply was accepted: the client holds all objects that the wants of the reply's request reach
   pub record PackCame (w : WorldState A) (kept : Kept) (repo : RepoState A) : Type 0 where
     pub fetch : FetchAsked
     pub is_asked : kept.asked ≡ Fetches fetch
     pub completed : IsCompleted w.server fetch.wants repo.graph.entries
 
-  -- the pack came where nothing was forged, and packer and indexer are faithful
+  -- the effect of an accepted pack, if no bytes were forged and the packer and the indexer are faithful
   pub pack_came : {w : WorldState A} {s : SessionState A} {kept : Kept} (count added : ℕ) (after : SessionState A)
       (repo : RepoState A) → IsUnforgedAndFaithful tools w → IsSound tools w → IsSoundKept tools.packs w kept
       → IsSoundSession w s
@@ -198,14 +198,14 @@ module _ {A : Type 0} {tools : PackTools A} (laws : WorldLaws tools) where
             is.grown read.answers.can.held request.connected enough head.2;
       }
 
-  -- ---- an answered session can settle
+  -- ---- sessions that are marked as answered
 
   pub either_connected : (g : List (Entry A)) (s : SessionState A) → All (IsConnected g) s.wants → (a : List ℕ) → IsWantedOrConnected g s a
       → IsConnected g a
   either_connected g s connected a (inl wanted) = All-contains (IsConnected g) s.wants a connected wanted
   either_connected g s connected a (inr there) = there
 
-  -- `v` is the world after the pack came, in which the session was sound
+  -- in the world `v` after the session's pack is accepted, each requested id of the session is connected
   pub can_settle : {w v : WorldState A} {s : SessionState A} {kept : Kept} (after : SessionState A)
       (fetch : FetchAsked) (acks : List (List ℕ))
       → IsSession s → Awaits s fetch → kept.asked ≡ Fetches fetch → PackCame w kept v.repo → IsSoundSession v s

@@ -1,5 +1,5 @@
--- Why a complete reply to the very request that waits is not taken, where nothing was forged and packer and indexer
--- are faithful.
+-- The reasons for the client to reject a complete fetch reply to the open request, if no bytes were forged and the
+-- packer and the indexer are faithful.
 use Rattle.std.proofs.Common.{[], ◌≡◌, ◌⊎◌, ℕ, ◌≤◌, Bool, false, List, ◌∷◌, length, All, Contains, Some, Ok, Err, inl}
 use Rattle.std.proofs.Common.{inr, refl, sym, ap, subst, ◌∙◌, arith, take}
 use Rattle.std.proofs.lemmas.Bool.{false≢true}
@@ -70,7 +70,7 @@ pub record FaultLaws (A : Type 0) : Type 0 where
   pub refs_exactly : (format : Format) (ends : Ends) → ReadsExactly (refs.judge format ends) refs.brings
       (refs.Says format ends)
 
--- ---- taken
+-- ---- accepted replies
 
 module _ {A : Type 0} (tools : PackTools A) (r : RepoState A) where
   round_taken : (reply : FetchReply) (common : ℕ) → ¬ (HasPack reply) → IsTakenOrDeclined tools r reply (Round common)
@@ -90,9 +90,9 @@ module _ {A : Type 0} (tools : PackTools A) (r : RepoState A) where
 pub err_is_no_ok : {T E : Type 0} (e : E) (t : T) → Err e ≡ Ok t → ⊥
 err_is_no_ok e t wrong = cc
 
--- ---- as it is read
+-- ---- reading the reply
 
--- bytes at hand are refused for a reason in them, or out of memory
+-- reading from memory fails only because of the bytes, or for lack of memory
 pub why_cases : (w : Why) → IsReadFailure false false w → (w ≡ why.Memory) ⊎ IsOfBytes w
 why_cases (why.Line line.Io) at = absurd (false≢true at.1)
 why_cases (why.Line line.Failed) at = absurd (false≢true at)
@@ -101,7 +101,7 @@ why_cases (why.Line fault) at = inr tt
 why_cases why.Memory at = inl refl
 why_cases w at = inr tt
 
--- what is refused for a reason in the bytes is so whatever packets take memory
+-- if a message is rejected because of its bytes, it does not matter which packets need memory
 module _ (judge : Judge) (one other : List Packet → Packet → Bool) (front : List Packet) where
   reason_of_bytes : (change : Change) (w : Why) → IsOfBytes w → IsReasonAfter judge one front change w
       → IsReasonAfter judge other front change w
@@ -120,16 +120,16 @@ module _ (judge : Judge) (one other : List Packet → Packet → Bool) (front : 
     reason = reason_of_bytes (record { old = is.between; new = change.new }) fault.why certain is.reason;
   }
 
--- how a client reads the reply to this request
+-- the parameters with which the client reads the reply to this request
 abbrev limited : Format → FetchAsked → Reading
 limited format asked = record (any_reading format asked) { limit = default_limit }
 
--- which differs in the limit alone from how one reads it who takes any pack
+-- a session with the default limits reads the reply with the parameters `limited`
 reading_is : {A : Type 0} (s : SessionState A) (format : Format) (asked : FetchAsked) → s.format ≡ format
     → s.limit ≡ default_limit → s.ends ≡ Plain → s.options.limits ≡ profile → reading_for s asked ≡ limited format asked
 reading_is s format asked f l e o = cc
 
--- an id that the server acknowledges is none that the request did not name
+-- if each acknowledged id is a have of the request, none is rejected as unknown (`IsFirstStrange`)
 none_strange : (haves acks : List (List ℕ)) (id : List ℕ) → All (Contains haves) acks → IsFirstStrange haves acks id → ⊥
 none_strange haves acks id named first =
     let among : Contains acks id = subst (λ (ids : List (List ℕ)). Contains ids id) (sym first.parts)
@@ -141,7 +141,7 @@ module _ {A : Type 0} {tools : PackTools A} (answers : WorldLaws tools) (laws : 
       (left : List ℕ) (fault : MessageFault)
       (says : Says (any_reading format asked) (canonical_reply Plain reply) reply)
       (spelt : IsFront (canonical_reply Plain reply) (objects_bytes reply) []) where
-    -- a reply whose pack is within the limit is not refused for a reason in its bytes
+    -- a reply whose pack is within the limit is not rejected because of its bytes
     within_limit : ReadsRefused (judge (limited format asked)) (brings (limited format asked)) front
         (known_bytes (objects_bytes reply) left) fault
         → IsOfBytes fault.why → length (pack_of reply) ≤ default_limit → ⊥
@@ -170,7 +170,7 @@ module _ {A : Type 0} {tools : PackTools A} (answers : WorldLaws tools) (laws : 
           | inr long ↦ inl (is ∙ ap (λ (w : Why). (why_row w).code) over, long.1)
         ]
 
-  -- ---- as it is taken
+  -- ---- accepting the reply
 
   graph_number : (r : RepoState A) (reply : FetchReply) (number : ℕ) (fault : GraphFault)
       → number ≡ (graph_fault_row fault).0
@@ -183,14 +183,14 @@ module _ {A : Type 0} {tools : PackTools A} (answers : WorldLaws tools) (laws : 
   graph_number r reply number fault is (inr none) =
       inr (inr (inr (inl (is ∙ ap (λ (f : GraphFault). (graph_fault_row f).0) none))))
 
-  -- why the graph's part of a reply is not taken
+  -- the graph rejects a reply only for lack of memory, or because it rejects the objects of the reply's pack
   graph_declined : (haves : List (List ℕ)) (r : RepoState A) (read : FetchReply) (fault : GraphFault)
       → IsReplyFault tools.indexes tools.index_fails haves r read (client.Repo (repo.Graph fault))
       → (fault ≡ graph.Memory) ⊎ (HasPack read × RefusesPack tools.indexes tools.index_fails r (pack_of read) fault)
   graph_declined haves r read graph.Memory declined = inl refl
   graph_declined haves r read fault declined = inr (declined.1, declined.2)
 
-  -- what is known where all bytes of the reply to the request that waits come
+  -- the premises for the arrival of a complete reply to the open request
   pub record IsWhole (w : WorldState A) (s : SessionState A) (server : Server A) (asked : FetchAsked)
       (reply : FetchReply) : Type 0 where
     pub honest : IsUnforgedAndFaithful tools w
@@ -210,7 +210,7 @@ module _ {A : Type 0} {tools : PackTools A} (answers : WorldLaws tools) (laws : 
     same_awaited : (other : FetchAsked) → Awaits s other → other ≡ asked
     same_awaited other also = let same : Some (Fetches other) ≡ Some (Fetches asked) = sym also ∙ is.waits in cc
 
-    -- the reply that is read is that reply
+    -- the reply that is read equals the reply that was sent
     read_whole : (read : FetchReply) (also : FetchAsked) (left : List ℕ) → ReadsFetch (reading_for s also)
         (known_bytes (take count (reply_bytes (Objects reply))) left) read → read ≡ reply
     read_whole read also left reads =
@@ -222,7 +222,7 @@ module _ {A : Type 0} {tools : PackTools A} (answers : WorldLaws tools) (laws : 
     enough_of has = answers.enough server asked (pack_of reply) is.is is.is_answer.can
         (sends answers server asked reply has is.is_answer.replies)
 
-    -- the indexer reads the pack, or is out of memory
+    -- the indexer fails to read the pack only if out of memory
     index_fault : (fault : IndexFault) → IsEnough server tools.packs asked (pack_of reply)
         → tools.index_fails (pack_of reply) fault → fault ≡ index.Memory
     index_fault fault enough fails =
@@ -231,7 +231,7 @@ module _ {A : Type 0} {tools : PackTools A} (answers : WorldLaws tools) (laws : 
         faithful.reads_each enough.list fault enough.entries
         (subst (λ (bytes : List ℕ). tools.index_fails bytes fault) same fails)
 
-    -- the client's graph takes the objects, or has no room for them, or is out of memory
+    -- the client's graph rejects the objects of the pack only if it is full or out of memory
     graph_fault : (fault : GraphFault) → IsEnough server tools.packs asked (pack_of reply)
         → RefusesPack tools.indexes tools.index_fails w.repo (pack_of reply) fault
         → (fault ≡ graph.TooMany) ⊎ (fault ≡ graph.Memory)
@@ -296,7 +296,7 @@ module _ {A : Type 0} {tools : PackTools A} (answers : WorldLaws tools) (laws : 
         ])
     take_fault left _ number all fault at same = absurd fault
 
-    -- a complete reply to the very request that waits is taken, or one of these faults is reported
+    -- the client accepts a complete reply to the open request, or rejects it for one of the allowed reasons
     pub whole_taken : (after : SessionState A) (outcome : Outcome) (r : RepoState A)
         → length (reply_bytes (Objects reply)) ≤ count
         → TakesObjects tools.indexes tools.index_fails s w.repo (take count (reply_bytes (Objects reply))) outcome after

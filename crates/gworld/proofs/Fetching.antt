@@ -1,4 +1,4 @@
--- Rounds of a fetch, up to its settle.
+-- The rounds of a fetch, until the session settles.
 use Rattle.std.proofs.Common.{[], ◌∷◌, ◌++◌, ◌≡◌, ◌⊎◌, ◌∙◌, ℕ, ◌+◌, ◌≤◌, zero, suc, true, List, length}
 use Rattle.std.proofs.Common.{Option, Some, None, Err, inl, inr, refl, sym, ap, subst, arith, take}
 use Rattle.std.proofs.lemmas.Bool.{false≢true}
@@ -36,12 +36,12 @@ use Rattle.gworld.specs.declared.outcome.Outcome.TheVariants.{Asked as Asks, Ser
 use Rattle.gworld.proofs.Runs.{is_run, unforged_on}
 use Rattle.gworld.proofs.Sessions.{IsSoundIn}
 
--- what comes last stands at the end
+-- the element appended to a list is at the index that equals the old length
 at_end : {X : Type 0} (xs : List X) (x : X) → slice_get (xs ++ x ∷ []) (length xs) ≡ Some x
 at_end [] x = refl
 at_end (first ∷ xs) x = at_end xs x
 
--- a run keeps a sound world sound, whose ends are whole
+-- a run from a sound world with connected ends leads to a sound world with connected ends
 pub leads_soundly : {A : Type 0} (tools : PackTools A) → StepsKeep tools
     → (w v : WorldState A) (events : List (Event A)) (outcomes : List Outcome) → AreEndsConnected w → IsSound tools w
     → RunWith (Promises tools) w events outcomes v → AreEndsConnected v × IsSound tools v
@@ -53,9 +53,10 @@ leads_soundly tools keep w v (first ∷ events) (told ∷ outcomes) ends sound (
 leads_soundly tools keep w v _ _ ends sound run = absurd run
 
 module _ {A : Type 0} where
-  -- ---- how far a session is
+  -- ---- the progress of a session
 
-  -- refs are to be asked for; or objects are; or it is time to settle, and nothing is wanted or the session is answered
+  -- The session is about to request refs, is about to request objects, or is ready to settle. In the last case it has
+  -- no wants, or is marked as answered.
   abbrev Lists : ℕ → SessionState A → Type 0
   Lists n s = (s.stage ≡ Listing) × (s.pending ≡ None) × (n ≡ 0) × (s.rounds ≡ 0)
 
@@ -69,9 +70,9 @@ module _ {A : Type 0} where
   abbrev IsAt : ℕ → WorldState A → SessionState A → Type 0
   IsAt n w s = Lists n s ⊎ Fetches_on n s ⊎ Settles_next n w s
 
-  -- ---- a reply came to a request that the session made
+  -- ---- replies to requests of the session
 
-  -- a session to which refs were told
+  -- the progress of a session after it accepts an ls-refs reply
   told_at : (n : ℕ) (w : WorldState A) (s after : SessionState A) (wants : List (List ℕ)) → s.rounds ≡ 0 → n ≡ 0
       → after.stage ≡ stage_for wants → after.pending ≡ None → after.wants ≡ wants → after.rounds ≡ s.rounds
       → IsAt (n + 1) w after
@@ -80,7 +81,7 @@ module _ {A : Type 0} where
   told_at n w s after (want ∷ wants) none is stage pending same rounds =
       inr (inl (stage, pending, omega (arith, is, rounds, none)))
 
-  -- what is known of a session by its stage
+  -- the number of rounds before a request, by the stage of the session
   abbrev Counts : ℕ → SessionState A → Type 0
   Counts n s = (s.stage ≡ Listing → (n ≡ 0) × (s.rounds ≡ 0)) × (s.stage ≡ Fetching → n ≡ s.rounds + 1)
 
@@ -111,7 +112,7 @@ module _ {A : Type 0} where
   made_waits g s after Empty made = absurd made.1
 
 module _ {A : Type 0} (tools : PackTools A) where
-  -- bytes came to the request that the session made, and were taken
+  -- the progress of a session after it accepts the reply to its request
   bytes_at : (n : ℕ) (g : List (Entry A)) (s after later : SessionState A) (w : WorldState A) (asked : Asked)
       (before repo : RepoState A) (bytes : List ℕ) (outcome : Outcome) → Counts n s → MakesNext s g after asked
       → TakesBytes tools.indexes tools.index_fails asked after before bytes outcome later repo → IsDone outcome
@@ -171,7 +172,7 @@ module _ {A : Type 0} (tools : PackTools A) where
   has_asked w v s (Fault number) step done = absurd done
   has_asked w v s _ step done = absurd step
 
-  -- the server kept a reply to it
+  -- the server made a reply to the request, and the reply is kept
   pub record HasServed (w v : WorldState A) (request : Asked) : Type 0 where
     pub reply : Reply
     pub answers : Answers w.server tools.packs request reply
@@ -190,14 +191,14 @@ module _ {A : Type 0} (tools : PackTools A) where
   has_served w v request (Fault number) step done = absurd done
   has_served w v request _ step done = absurd step
 
-  -- how a session stands after a round
+  -- the session after a round: its progress, and its unchanged tips
   pub record Stands_at (n : ℕ) (s : SessionState A) (v : WorldState A) : Type 0 where
     pub after : SessionState A
     pub goes_on : v.session ≡ Some after
     pub at : IsAt n v after
     pub tips : after.tips ≡ s.tips
 
-  -- all bytes of the reply to the request that waits came
+  -- the session after the complete reply to its open request arrives and is accepted
   has_brought : (n count : ℕ) (g : List (Entry A)) (w v : WorldState A) (s after : SessionState A) (request : Asked)
       (reply : Reply) (outcome : Outcome) → Counts n s → MakesNext s g after request
       → Delivers tools.indexes tools.index_fails w (Some (record { asked = request; reply = reply })) count
@@ -215,7 +216,7 @@ module _ {A : Type 0} (tools : PackTools A) where
         tips = next.1 ∙ made_tips g s after request made;
       }
 
-  -- the request is the last that was sent, and its reply the last that is kept
+  -- the request of a round is the last sent request, and the reply to it is the last kept reply
   last_sent : (w v : WorldState A) (s : SessionState A) (asked : HasAsked w v s)
       → slice_get v.sent (length w.sent) ≡ Some asked.request
   last_sent w v s asked =
@@ -230,13 +231,13 @@ module _ {A : Type 0} (tools : PackTools A) where
       served.kept ∙ ap (λ (l : List Kept). l ++ kept ∷ []) asked.kept in
       ap (λ (l : List Kept). slice_get l (length w.kept)) all ∙ at_end w.kept kept
 
-  -- the client asked
+  -- the request of a round, if the event `Ask` succeeds
   asked_of : (w new : WorldState A) (s : SessionState A) → w.session ≡ Some s → (tried : IsTried tools w new)
       → IsDone tried.asked → HasAsked w tried.after_asking s
   asked_of w new s is tried done = has_asked w tried.after_asking s tried.asked
       (subst (λ (o : Option (SessionState A)). AsksNext w o tried.asked tried.after_asking) is tried.asks.step) done
 
-  -- the server served what it asked for
+  -- the reply of a round, if the event `Serve` succeeds
   served_of : (w new : WorldState A) (s : SessionState A) (tried : IsTried tools w new)
       (asked : HasAsked w tried.after_asking s) → IsDone tried.served
       → HasServed tried.after_asking tried.after_serving asked.request
@@ -247,7 +248,7 @@ module _ {A : Type 0} (tools : PackTools A) where
       (subst (λ (o : Option Asked). ServesRequest tools.packs tools.pack_fails one o tried.served two)
       (last_sent w one s asked) tried.serves.step) done
 
-  -- a round
+  -- the session after a round
   round_at : (n : ℕ) (w v : WorldState A) (s : SessionState A) → w.session ≡ Some s → IsAt n w s → IsRound tools w v
       → Stands_at (n + 1) s v
   round_at n w v s is at round =
@@ -270,15 +271,15 @@ module _ {A : Type 0} (tools : PackTools A) where
       has_brought n count w.repo.graph.entries two v s asked.after request served.reply tried.brought
       (counts_of n w s at) asked.made comes round.is_brought (tried.whole kept held)
 
-  -- the three events are a run
+  -- the three events of a round are a run
   pub run_of : (w v : WorldState A) (tried : IsTried tools w v) → RunWith (Promises tools) w
       (event.Ask ∷ event.Serve (length w.sent) ∷ event.Deliver (length w.kept) tried.count ∷ [])
       (tried.asked ∷ tried.served ∷ tried.brought ∷ []) v
   run_of w v tried = (tried.after_asking, tried.asks, (tried.after_serving, tried.serves, (v, tried.brings, refl)))
 
-  -- ---- why an event of a round is refused
+  -- ---- reasons for an event of a round to fail
 
-  -- a session whose next request is due is refused only out of memory
+  -- if a request is due, making the request fails only for lack of memory
   refused_asking : (s after : SessionState A) (g : List (Entry A)) (fault : ClientFault A)
       → is_due s.stage s.pending ≡ true → Requests s g after (Err fault) → code_of fault ≡ 64
   refused_asking s after g client.NoOpenRequest due requests = absurd (false≢true (sym requests.0 ∙ due))
@@ -292,14 +293,14 @@ module _ {A : Type 0} (tools : PackTools A) where
       inr (ap Fault (step.3 ∙ refused_asking s step.0 w.repo.graph.entries step.1 due step.2))
   asks_or_stops w v s _ due step = absurd step
 
-  -- each request of a session is answered with a reply
+  -- the server's answer to a request of a session is never `Nothing`
   no_empty_answer : (w : WorldState A) (g : List (Entry A)) (s after : SessionState A) (request : Asked)
       → MakesNext s g after request → Answers w.server tools.packs request Nothing → ⊥
   no_empty_answer w g s after Empty made answers = made.1
   no_empty_answer w g s after (Ls asked) made answers = answers
   no_empty_answer w g s after (Fetches asked) made answers = answers
 
-  -- a reply to a request of the session comes whole
+  -- the client accepts a complete reply to a request of the session, or rejects it for one of the allowed reasons
   takes_or_stops : (w one two new : WorldState A) (s : SessionState A) (asked : HasAsked w one s)
       (served : HasServed one two asked.request) (count : ℕ) (outcome : Outcome)
       → length (reply_bytes served.reply) ≤ count → IsUnforgedAndFaithful tools two
@@ -331,7 +332,7 @@ module _ {A : Type 0} (tools : PackTools A) where
         waits = made_waits w.repo.graph.entries s asked.after asked.request asked.made;
       })
 
-  -- two worlds later nothing was forged, either
+  -- after an event that forges no bytes, the world still satisfies `IsUnforgedAndFaithful`
   honest_on : (w v : WorldState A) (event : Event A) (outcome : Outcome) → IsNoForge event
       → IsUnforgedAndFaithful tools w → Promises tools w event outcome v → IsUnforgedAndFaithful tools v
   honest_on w v event outcome none honest promised = record {
@@ -373,7 +374,7 @@ module _ {A : Type 0} (tools : PackTools A) where
 
 module _ {A : Type 0} (tools : PackTools A) (keep : StepsKeep tools) (grow : GraphsOnlyGrow tools)
     (few : RoundsAreFew A) (stay : CountsStay A) (counted : ReachedAreCounted A) (reached parents : ℕ) where
-  -- a world after so many rounds of a session
+  -- a world after `n` rounds of a session
   pub record Stands (n : ℕ) (w : WorldState A) : Type 0 where
     pub honest : IsUnforgedAndFaithful tools w
     pub ends : AreEndsConnected w
@@ -430,9 +431,9 @@ module _ {A : Type 0} (tools : PackTools A) (keep : StepsKeep tools) (grow : Gra
       subst (λ (k : ℕ). Stands k v) one
       (all_stand n (m + 1) next v (next_stands m w next stands round) rest)
 
-  -- ---- how it stands then
+  -- ---- the world after the rounds
 
-  -- no more ids were offered than the tips reach
+  -- the session has sent at most as many different haves as its tips reach ids
   offered_few : (n : ℕ) (w : WorldState A) (stands : Stands n w) → length stands.session.sent ≤ reached
   offered_few n w stands =
       let s = stands.session in

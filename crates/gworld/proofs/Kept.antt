@@ -1,4 +1,4 @@
--- The worlds of a run, and what each step leaves as it is.
+-- The worlds of a run, and the parts of a world that each step leaves unchanged.
 use Rattle.std.proofs.Common.{◌≡◌, ℕ, List, [], ◌∷◌, ◌++◌, All, Option, Some, None, Ok, Err, refl, sym, ap, subst, ◌∙◌}
 use Rattle.std.specs.Prelude.{slice_get}
 use Rattle.std.proofs.lemmas.List.Elements.{All-head, All-tail}
@@ -30,7 +30,7 @@ use Rattle.gworld.specs.declared.outcome.Outcome.TheVariants.{Done, Asked as Ask
 use Rattle.gworld.specs.declared.outcome.Outcome.TheVariants.{Settled, Fault}
 
 module _ {A : Type 0} (P : WorldState A → Event A → Outcome → WorldState A → Type 0) where
-  -- a front of a run is a run
+  -- a prefix of a run is a run
   pub parted : (w new : WorldState A) (front rest : List (Event A)) (outcomes : List Outcome)
       → RunWith P w (front ++ rest) outcomes new
       → (v : WorldState A) × LeadsThrough P w front rest outcomes new v
@@ -49,7 +49,7 @@ module _ {A : Type 0} (P : WorldState A → Event A → Outcome → WorldState A
         },
       )
 
--- what a step leaves as it is
+-- both graphs only grow, and refs and the server change only if the event may change them
 pub record Spares {A : Type 0} (e : Event A) (w v : WorldState A) : Type 0 where
   pub server : Grows w.server.graph.entries v.server.graph.entries
   pub client : Grows w.repo.graph.entries v.repo.graph.entries
@@ -60,7 +60,7 @@ pub record Spares {A : Type 0} (e : Event A) (w v : WorldState A) : Type 0 where
 module _ {A : Type 0} (tools : PackTools A) (grows : TakingOnlyGrows tools.indexes tools.index_fails)
     (refusals : RefusalsChangeNothing A) (servers : ServersGrow A) where
   module _ {w v : WorldState A} (e : Event A) where
-    -- the server stays, and objects only come to the client
+    -- the server is unchanged, and the client's graph only grows
     client_only : v.server ≡ w.server → Grows w.repo.graph.entries v.repo.graph.entries
         → (LeavesClientRefs e → v.repo.refs ≡ w.repo.refs) → Spares e w v
     client_only server client refs = record {
@@ -72,7 +72,7 @@ module _ {A : Type 0} (tools : PackTools A) (grows : TakingOnlyGrows tools.index
       served = λ _. server;
     }
 
-    -- both ends stay
+    -- the server and the client's repository are unchanged
     neither : v.server ≡ w.server → v.repo ≡ w.repo → Spares e w v
     neither server repo = client_only server
         (grows_none w.repo.graph.entries v.repo.graph.entries (ap (λ (r : RepoState A). r.graph.entries) repo))
@@ -81,7 +81,7 @@ module _ {A : Type 0} (tools : PackTools A) (grows : TakingOnlyGrows tools.index
     unchanged : v ≡ w → Spares e w v
     unchanged same = neither (ap (λ (x : WorldState A). x.server) same) (ap (λ (x : WorldState A). x.repo) same)
 
-    -- the client stays, and objects only come to the server
+    -- the client's repository is unchanged, and the server's graph only grows
     server_only : v.repo ≡ w.repo → Grows w.server.graph.entries v.server.graph.entries
         → (LeavesServerRefs e → v.server.refs ≡ w.server.refs) → (LeavesServer e → v.server ≡ w.server) → Spares e w v
     server_only repo server refs served = record {
@@ -93,7 +93,7 @@ module _ {A : Type 0} (tools : PackTools A) (grows : TakingOnlyGrows tools.index
       served = served;
     }
 
-  -- how the repository changes where bytes come
+  -- the client's repository only grows when bytes arrive
   pub bytes_grow : (asked : Asked) (s after : SessionState A) (before repo : RepoState A) (bytes : List ℕ)
       (outcome : Outcome) → TakesBytes tools.indexes tools.index_fails asked s before bytes outcome after repo
       → OnlyGrows before repo
@@ -107,7 +107,7 @@ module _ {A : Type 0} (tools : PackTools A) (grows : TakingOnlyGrows tools.index
       grows s after before repo (known_bytes bytes takes.0) (Err takes.1) takes.2
   bytes_grow _ s after before repo bytes _ takes = absurd takes
 
-  -- a settle that is refused changes nothing
+  -- an event `Settle` that fails leaves the client's repository unchanged
   pub settle_refused : (s after : SessionState A) (before repo : RepoState A) (fault : ClientFault A)
       → SettlesSession s before after repo (Err fault) → repo ≡ before
   settle_refused s after before repo (client.Repo fault) settles =
@@ -211,7 +211,7 @@ module _ {A : Type 0} (tools : PackTools A) (grows : TakingOnlyGrows tools.index
     step_spares (event.ClientRef name id) (Fault number) step = unchanged (event.ClientRef name id) step.3
     step_spares _ _ step = absurd step
 
-  -- ---- over a run
+  -- ---- the worlds before and after a run
 
   pub graphs_grow : (w v : WorldState A) (events : List (Event A)) (outcomes : List Outcome)
       → Run tools w events outcomes v
@@ -229,7 +229,7 @@ module _ {A : Type 0} (tools : PackTools A) (grows : TakingOnlyGrows tools.index
       )
   graphs_grow w v _ _ run = absurd run
 
-  -- what each of some events leaves is left by a run of them
+  -- a part of the world that no event of a run changes is unchanged after the run
   pub left_on : {X : Type 0} (leaves : Event A → Type 0) (part : WorldState A → X)
       → ((e : Event A) (x y : WorldState A) → leaves e → Spares e x y → part y ≡ part x)
       → (w v : WorldState A) (events : List (Event A)) (outcomes : List Outcome) → All leaves events
@@ -248,7 +248,7 @@ module _ {A : Type 0} (tools : PackTools A) (grows : TakingOnlyGrows tools.index
     server = left_on LeavesServer (λ (x : WorldState A). x.server) (λ e x y leaves spares. spares.served leaves);
   }
 
-  -- ---- an event that is refused
+  -- ---- failed events
 
   abbrev Same : WorldState A → WorldState A → Type 0
   Same w v = (v.server ≡ w.server) × (v.repo ≡ w.repo)

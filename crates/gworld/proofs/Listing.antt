@@ -1,4 +1,4 @@
--- Why a complete reply to ls-refs, to the very request that waits, is not taken.
+-- The reasons for the client to reject a complete ls-refs reply to the open request.
 use Rattle.std.proofs.Common.{[], false, ◌≡◌, ◌⊎◌, ℕ, ◌≤◌, List, length, Option, Some, Err, inl, inr, sym, ap}
 use Rattle.std.proofs.Common.{subst, ◌∙◌, take}
 use Rattle.std.specs.Prelude.{slice_get}
@@ -42,11 +42,11 @@ use Rattle.gworld.proofs.Reading.{front_all, refs_bytes, refs_read, refs_written
 use Rattle.gworld.proofs.Sessions.{IsSoundIn, WorldLaws}
 
 module _ {A : Type 0} {tools : PackTools A} (laws : WorldLaws tools) (faults : FaultLaws A) where
-  -- ---- as it is read
+  -- ---- reading the reply
 
   module _ (s : SessionState A) (format : Format) (reply : LsReply) (is : IsLsReplyIn format reply)
       (same : s.format ≡ format) (plain : s.ends ≡ Plain) (count : ℕ) (left : List ℕ) where
-    -- the reply that is read is that reply
+    -- the reply that is read equals the reply that was sent
     read_same : (told : LsReply) → ReadsRefs s (known_bytes (take count (refs_bytes reply)) left) told → told ≡ reply
     read_same told reads = refs_read laws.reading format reply told count left is
         (subst (λ (f : Format). ReadsMessage (refs.judge f Plain) (refs.Says f Plain)
@@ -54,7 +54,7 @@ module _ {A : Type 0} {tools : PackTools A} (laws : WorldLaws tools) (faults : F
         (subst (λ (e : Ends). ReadsMessage (refs.judge s.format e) (refs.Says s.format e)
         (known_bytes (take count (refs_bytes reply)) left) told) plain reads))
 
-    -- a complete one is refused only out of memory
+    -- reading a complete reply fails only if out of memory
     refused_memory : (cause : MessageFault) → length (refs_bytes reply) ≤ count
         → RefusesRefs s (known_bytes (take count (refs_bytes reply)) left) cause
         → (cause.why ≡ why.Memory) ⊎ IsOfBytes cause.why → cause.why ≡ why.Memory
@@ -73,7 +73,7 @@ module _ {A : Type 0} {tools : PackTools A} (laws : WorldLaws tools) (faults : F
         absurd (err_is_no_ok cause reply
         ((faults.refs_exactly format Plain bytes left [] (Err cause) reply (refused.0, here) certain).1 there).0)
 
-  -- ---- as it is taken
+  -- ---- accepting the reply
 
   module _ (w : WorldState A) (s : SessionState A) (session : IsSoundSession w s) (asked : LsRefsAsked)
       (reply : LsReply) (count : ℕ) (waits : s.pending ≡ Some (Ls asked)) (format : Format)
@@ -112,7 +112,7 @@ module _ {A : Type 0} {tools : PackTools A} (laws : WorldLaws tools) (faults : F
     refs_fault (client.Repo _) why at is_number = absurd why.1.2
     refs_fault _ why at is_number = absurd why
 
-  -- all bytes come of a reply to ls-refs
+  -- the client accepts a complete ls-refs reply to the open request, or rejects it for one of the allowed reasons
   listed : (w : WorldState A) (s after : SessionState A) (asked : Asked) (reply : LsReply) (count : ℕ)
       (outcome : Outcome) (r : RepoState A) → w.repo.graph.format ≡ w.server.graph.format → IsSoundSession w s
       → s.pending ≡ Some asked → IsSoundKept tools.packs w (record { asked = asked; reply = Refs reply })

@@ -1,4 +1,4 @@
--- What each step promises follows from what is sound.
+-- The promises of each step follow from the soundness of the world before it.
 use Rattle.std.proofs.Common.{[], ◌≡◌, ◌⊎◌, ℕ, ◌≤◌, false, List, length, All, Option, Some, None, Ok, Err, inl, inr, refl}
 use Rattle.std.proofs.Common.{sym, ap, subst, ◌∙◌, take}
 use Rattle.std.proofs.lemmas.List.Elements.{All-nil, All-weaker}
@@ -54,7 +54,7 @@ use Rattle.gworld.proofs.Listing.{lists_each}
 use Rattle.gworld.proofs.Sessions.{IsAnsweredIn, IsSoundIn, WorldLaws}
 use Rattle.gworld.proofs.Steps.{step_sound}
 
--- ---- common ids, and how often objects are asked for
+-- ---- common ids, and the number of requests for objects
 
 module _ {A : Type 0} where
   commons_shared : (w : WorldState A) (session : Option (SessionState A)) → IsSoundIn w session → w.forged ≡ false
@@ -95,7 +95,8 @@ module _ {A : Type 0} {tools : PackTools A} (laws : WorldLaws tools) where
     moved = settles.1.asked;
   }
 
-  -- the session settles where it is time for that, and each asked id is connected
+  -- a session in the stage `Settling` settles, or fails for one of the allowed reasons, if each requested id is
+  -- connected
   settles_connected : HeldIsNotMissing A → (w v : WorldState A) (s : SessionState A) (outcome : Outcome)
       → s.stage ≡ Settling → All (IsConnected w.repo.graph.entries) (asked_ids s.asks) → SettlesRefs w (Some s) outcome v
       → IsSettledOrRefused w.repo (Some s) outcome v.repo
@@ -113,7 +114,7 @@ module _ {A : Type 0} {tools : PackTools A} (laws : WorldLaws tools) where
   settles_well law w v (Some s) outcome honest can settles =
       settles_connected law w v s outcome can.stage (can.connected honest) settles
 
-  -- where nothing is wanted, each asked id is connected
+  -- if the session has no wants, each requested id is connected
   none_wanted : (g : List (Entry A)) (s : SessionState A) → s.wants ≡ [] → All (IsWantedOrConnected g s) (asked_ids s.asks)
       → All (IsConnected g) (asked_ids s.asks)
   none_wanted g s none each = All-weaker (IsWantedOrConnected g s) (IsConnected g)
@@ -133,12 +134,12 @@ module _ {A : Type 0} {tools : PackTools A} (laws : WorldLaws tools) where
       settles_idle law w v w.session outcome sound.session step
   settles_up_to_date law w v sound e outcome step = tt
 
-  -- from a sound world where nothing was forged, and packer and indexer are faithful
+  -- steps from a sound world without forged bytes, with a faithful packer and indexer
   module _ {w : WorldState A} (sound : IsSound tools w) (honest : IsUnforgedAndFaithful tools w) where
     -- ---- packs
 
     module _ (v : WorldState A) {kept : Kept} (count added : ℕ) (is : IsSoundKept tools.packs w kept) where
-      -- the reply answers a request for objects, whose wants were brought
+      -- the reply answers a request for objects, and the client holds the whole history of each want
       abbrev Brought : Type 0
       Brought = (asked : FetchAsked) × (kept.asked ≡ Fetches asked) × All (IsBrought v) asked.wants
 
@@ -179,7 +180,7 @@ module _ {A : Type 0} {tools : PackTools A} (laws : WorldLaws tools) where
         found_complete v number count added (slice_get w.kept number) refl step
     completes v e outcome step = tt
 
-    -- ---- a complete reply to the very request that waits
+    -- ---- a complete reply to the open request
 
     module _ (faults : FaultLaws A) where
       whole_of : (s after : SessionState A) (asked : Asked) (reply : FetchReply) (count : ℕ) (outcome : Outcome)
@@ -235,9 +236,9 @@ module _ {A : Type 0} {tools : PackTools A} (laws : WorldLaws tools) where
       takes_each v (event.Deliver number count) outcome step = takes_answers v number count outcome step
       takes_each v e outcome step = tt
 
-    -- ---- requests are served
+    -- ---- replies to sent requests
 
-    -- the packer fails for the objects to send, as a faithful one may
+    -- a packer's fault for the objects to send is an allowed reason for the server to reject the request
     pack_refused : (asked : FetchAsked) (why : PackFault) (number : ℕ) (list : List (Entry A))
         → number ≡ (serve_fault_row (serve.Pack why)).code → AreEntries list → tools.pack_fails list why
         → FailsToPack w.server tools.pack_fails asked why → MayRefuse tools w.server (Fetches asked) number
@@ -284,7 +285,7 @@ module _ {A : Type 0} {tools : PackTools A} (laws : WorldLaws tools) where
         λ answered. settles_well law w v w.session outcome honest (sound.answered answered) step
     settles_answered law v e outcome step = tt
 
-  -- ---- from a sound world a step leads to a sound world, and keeps its promises
+  -- ---- the soundness of the next world, and the promises of a step
 
   pub promised : FaultLaws A → HeldIsNotMissing A → RoundsAreFew A → (w v : WorldState A) (e : Event A)
       (outcome : Outcome) → AreEndsConnected w → AreEndsConnected v → IsSound tools w → Step tools w e outcome v

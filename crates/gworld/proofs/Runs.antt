@@ -1,4 +1,4 @@
--- A run that goes on, and what holds after any run.
+-- Runs that are extended by an event, and properties that hold after any run.
 use Rattle.std.proofs.Common.{Result, Ok, Err, is_err, OnOk, false, ◌≡◌, ℕ, ◌+◌, ◌<◌, List, [], ◌∷◌, ◌++◌, length, take}
 use Rattle.std.proofs.Common.{drop, get_or, refl, sym, subst, inl, inr, Bool, All, Option, Some, None, ap, ◌∙◌, ◌≢◌}
 use Rattle.std.proofs.lemmas.Bool.{false≢true}
@@ -19,7 +19,7 @@ use Rattle.gworld.specs.Laws.{IsNoForge, KeepsAll}
 use Rattle.gworld.specs.Events.{AsksNext, Delivers, ServesRequest, SettlesRefs, Step, waiting_session}
 use Rattle.gworld.specs.declared.outcome.Outcome.TheVariants.{Done, Asked as Asks, Served, Settled, Fault}
 
--- ---- a run goes on
+-- ---- extending a run
 
 run_goes_on : {A : Type 0} (R : WorldState A → Event A → Outcome → WorldState A → Type 0) (w v u : WorldState A)
     (events : List (Event A)) (outcomes : List Outcome) (event : Event A) (outcome : Outcome)
@@ -32,7 +32,7 @@ run_goes_on R w v u (first ∷ events) (told ∷ outcomes) event outcome (next, 
 run_goes_on R w v u _ _ event outcome run step = absurd run
 
 module _ {A : Type 0} (tools : PackTools A) where
-  -- the first events were done, and the next one is there
+  -- a run that stopped after its first `count` events, because the next event needs memory
   pub front_runs : {w v : WorldState A} (events : List (Event A)) (count : ℕ) (next : Event A)
       (outcomes : List Outcome) → count < length events → next ≡ get_or events count next
       → RunsSoundly tools w (take count events) outcomes v → NeedsMemory v next
@@ -46,7 +46,7 @@ module _ {A : Type 0} (tools : PackTools A) where
     memory = inr needs;
   }
 
-  -- no event was done yet
+  -- a run before its first event
   pub begins_soundly : {w : WorldState A} (events : List (Event A)) (told : List Outcome) → IsSound tools w
       → told ≡ [] → RunsSoundly tools w (take 0 events) told w
   begins_soundly {w} events told sound is = record {
@@ -54,7 +54,7 @@ module _ {A : Type 0} (tools : PackTools A) where
     run = subst (λ (list : List Outcome). RunWith (Promises tools) w [] list w) (sym is) refl;
   }
 
-  -- none was done, for want of memory for the outcomes
+  -- a run that stopped before its first event, because there is not enough memory for the list of outcomes
   pub none_runs : {w : WorldState A} (events : List (Event A)) (told : List Outcome) → told ≡ [] → events ≢ []
       → RunsFront (Promises tools) w events told w
   none_runs [] told is some = absurd (some refl)
@@ -67,7 +67,7 @@ module _ {A : Type 0} (tools : PackTools A) where
     memory = inl is;
   }
 
-  -- one more event was done
+  -- a run, extended by one event
   pub goes_on_soundly : {w v u : WorldState A} (events more : List (Event A)) (event : Event A)
       (outcomes told : List Outcome) (outcome : Outcome) → RunsSoundly tools w events outcomes v
       → IsSound tools u × Promises tools v event outcome u
@@ -77,12 +77,12 @@ module _ {A : Type 0} (tools : PackTools A) where
     run = rw (is, also) (run_goes_on (Promises tools) w v u events outcomes event outcome runs.run step.1);
   }
 
-  -- ---- what holds after any run
+  -- ---- properties that hold after any run
 
   abbrev mark : WorldState A → Bool
   mark w = w.forged
 
-  -- only forging makes a world count as forged
+  -- only the event `Forge` sets the flag `forged` of a world
   module _ (w v : WorldState A) where
     asks_unforged : (session : Option (SessionState A)) (outcome : Outcome) → AsksNext w session outcome v
         → mark v ≡ mark w
@@ -140,7 +140,7 @@ module _ {A : Type 0} (tools : PackTools A) where
       (next, here.step, is_run next v events outcomes rest)
   is_run w v _ _ run = absurd run
 
-  -- what each step promises of the world after it holds after a run, if it held before
+  -- if each step promises `P` for the world after it, and `P` holds before a run, then `P` holds after the run
   pub kept_on : (P : WorldState A → Type 0)
       → ((w : WorldState A) (e : Event A) (outcome : Outcome) (next : WorldState A) → Promises tools w e outcome next
       → P next)
@@ -159,7 +159,7 @@ module _ {A : Type 0} (tools : PackTools A) where
       ∙ unforged_step w next first told (All-head IsNoForge first events none) here.step
   unforged_on w v _ _ none run = absurd run
 
-  -- ---- runs in which nothing is forged
+  -- ---- runs without forged bytes
 
   pub all_kept : ((x : WorldState A) → mark x ≡ false → IsUnforgedAndFaithful tools x)
       → (w v : WorldState A) (events : List (Event A)) (outcomes : List Outcome) → mark w ≡ false

@@ -1,4 +1,4 @@
--- What stays sound: where objects only come, and over each call of a session.
+-- The soundness of requests, replies and sessions after both graphs grow, and after each call of a session.
 use Rattle.std.proofs.Common.{[], ◌≡◌, ℕ, false, List, All, Option, Some, None, inl, inr, sym, ◌∙◌, ◌⊎◌, Contains, Ok}
 use Rattle.std.proofs.Common.{refl, ap, subst, Bool, true, Err, if◌then◌else◌, ◌+◌, ◌++◌, ◌≤◌, length}
 use Rattle.std.specs.Prelude.{IfSome, MatchOption}
@@ -50,7 +50,7 @@ use Rattle.ganswer.specs.Laws.{ServersGrow, AcksAreCommon, FetchAnswersFit, LsAn
 use Rattle.ganswer.specs.Laws.{PacksAreEnough, ServesWhatIsHeld}
 use Rattle.gworld.proofs.Reading.{ReadingLaws}
 
--- what an event does to both graphs
+-- both graphs only grow and keep their formats, and a world with forged bytes still has forged bytes
 pub record Extends {A : Type 0} (old new : WorldState A) : Type 0 where
   pub server : Grows old.server.graph.entries new.server.graph.entries
   pub server_format : new.server.graph.format ≡ old.server.graph.format
@@ -58,9 +58,9 @@ pub record Extends {A : Type 0} (old new : WorldState A) : Type 0 where
   pub client_format : new.repo.graph.format ≡ old.repo.graph.format
   pub forged : new.forged ≡ false → old.forged ≡ false
 
--- the laws of the crates below on which a world rests
+-- the laws of other crates that the proofs about worlds use
 pub record WorldLaws {A : Type 0} (tools : PackTools A) : Type 0 where
-  -- of graphs
+  -- laws of graphs
   pub keeps : GrowingKeeps A
   pub goes_on : GrowingGoesOn A
   pub holds : KeepingHolds A
@@ -69,7 +69,7 @@ pub record WorldLaws {A : Type 0} (tools : PackTools A) : Type 0 where
   pub has_all : KeepingHasAll A
   pub agreeing : AgreeingStays A
   pub coming : ComingGrows A
-  -- of sessions
+  -- laws of sessions
   pub begins : BeganBegins A
   pub stays : BeganStays A
   pub haves : HavesAreConnected A
@@ -79,7 +79,7 @@ pub record WorldLaws {A : Type 0} (tools : PackTools A) : Type 0 where
   pub commons : RepliesAddCommons tools.indexes tools.index_fails
   pub grows : TakingOnlyGrows tools.indexes tools.index_fails
   pub refusals : RefusalsChangeNothing A
-  -- of servers, and of what they answer
+  -- laws of servers and their replies
   pub servers : ServersGrow A
   pub reading : ReadingLaws
   pub refs_fit : LsAnswersFit A
@@ -90,7 +90,7 @@ pub record WorldLaws {A : Type 0} (tools : PackTools A) : Type 0 where
   pub small : (list : List (Entry A)) (pack : List ℕ) → tools.packs list pack → length pack ≤ max_pack
   pub serves : ServesWhatIsHeld A tools.pack_fails
 
--- what the bytes say, where nothing was forged: the server holds the objects of refs, and the acknowledged ids
+-- if no bytes were forged, the server holds each id of a ref and each acknowledged id that is read from the bytes
 pub record Tells {A : Type 0} (v : WorldState A) (s : SessionState A) (bytes : List ℕ) : Type 0 where
   pub refs : v.forged ≡ false → (left : List ℕ) (reply : LsReply) → ReadsRefs s (known_bytes bytes left) reply
       → All (λ (line : RefLine). Holds v.server.graph.entries line.id) reply.lines
@@ -98,7 +98,7 @@ pub record Tells {A : Type 0} (v : WorldState A) (s : SessionState A) (bytes : L
       → ReadsFetch (reading_for s asked) (known_bytes bytes left) reply
       → All (Holds v.server.graph.entries) (acknowledged_by reply)
 
--- what holds of the common ids and of those that are acknowledged holds of the common ids afterwards
+-- if `P` holds for the old common ids and for the acknowledged ids, it holds for the new common ids
 commons_after : (P : List ℕ → Type 0) (haves acks old new : List (List ℕ)) → AreCommonsAfter haves acks old new
     → All P old → All P acks → All P new
 commons_after P haves acks old new are olds news =
@@ -113,11 +113,11 @@ module _ {A : Type 0} where
   abbrev pub IsSoundIn : WorldState A → Option (SessionState A) → Type 0
   IsSoundIn w session = IfSome session (IsSoundSession w)
 
-  -- there is a session, and it is answered
+  -- there is a session, and it satisfies `IsAnswered`
   abbrev pub IsAnsweredIn : PackTools A → WorldState A → Option (SessionState A) → Type 0
   IsAnsweredIn tools w session = MatchOption session ⊥ (IsAnswered tools w)
 
-  -- a session that has heard the advertisement of the server
+  -- a session after it reads the server's advertisement
   abbrev pub hearing : SessionState A → WorldState A → SessionState A
   hearing s w = record s { offers_unborn = tells_unborn (advertisement w.server.graph.format) }
 
@@ -125,7 +125,7 @@ module _ {A : Type 0} where
       → IsUnforgedAndFaithful tools w
   honest_before e is = record { image = is.image; faithful = is.faithful; unforged = e.forged is.unforged }
 
-  -- the client's graph grows, and the server stays
+  -- the client's graph grows, and the server is unchanged
   pub client_extends : (w : WorldState A) (repo : RepoState A) (session : Option (SessionState A))
       (forged answered : Bool) → Grows w.repo.graph.entries repo.graph.entries
       → repo.graph.format ≡ w.repo.graph.format → (forged ≡ false → w.forged ≡ false)
@@ -146,9 +146,9 @@ module _ {A : Type 0} where
     marks = ap (λ (r : RepoState A). r.known) same;
   }
 
-  -- ---- after a call
+  -- ---- sessions after a call
 
-  -- a session in which no request waits, with other asks, wants and common ids
+  -- a session without an open request remains sound if its new requested updates, wants and common ids are valid
   idle_sound : {w : WorldState A} {s : SessionState A} → IsSoundSession w s
       → (stage : Stage) (asks : List (Ask A)) (wants commons : List (List ℕ))
       → All (IsConnected w.repo.graph.entries) commons → (w.forged ≡ false → All (Holds w.server.graph.entries) commons)
@@ -184,7 +184,7 @@ module _ {A : Type 0} where
       → after ≡ after_fault s fault → IsSoundSession v s → IsSoundSession v after
   fault_sound after fault is sound = if_sound after (ends_session fault) is sound
 
-  -- a session with another request that waits
+  -- a session with a new open request remains sound if this request is sound
   asking_sound : {w : WorldState A} {s : SessionState A} → IsSoundSession w s
       → (pending : Option Asked) (sent : List (List ℕ)) (rounds : ℕ)
       → BeganOn w.repo.graph.entries (record s { pending = pending; sent = sent; rounds = rounds })
@@ -204,7 +204,7 @@ module _ {A : Type 0} where
   }
 
 module _ {A : Type 0} {tools : PackTools A} (laws : WorldLaws tools) where
-  -- ---- what is sound stays so
+  -- ---- soundness after both graphs grow
 
   pub all_held : (g h : List (Entry A)) → Grows g h → (ids : List (List ℕ)) → All (Holds g) ids → All (Holds h) ids
   all_held g h grows ids all =
@@ -303,7 +303,7 @@ module _ {A : Type 0} {tools : PackTools A} (laws : WorldLaws tools) where
       connected = λ honest. connected_after (asked_ids s.asks) (is.connected (honest_before e honest));
     }
 
-  -- ---- a session that begins
+  -- ---- a new session
 
   began_sound : (w : WorldState A) (specs : List Refspec) (session : SessionState A)
       → session ≡ new_session w.repo.graph.format specs default_limit Plain (tips_of w.repo)
@@ -376,7 +376,7 @@ module _ {A : Type 0} {tools : PackTools A} (laws : WorldLaws tools) where
       subst P (sym (ap (λ (x : Ask A). x.id) is.is))
       (All-contains (λ (line : RefLine). P line.id) lines is.line all is.told)
 
-  -- what holds of the ids that were reported holds of the wants
+  -- if `P` holds for each id that the ls-refs reply lists, it holds for each want
   wants_told : (P : List ℕ → Type 0) (g : List (Entry A)) (specs : List Refspec) (reply : LsReply)
       (wants : List (List ℕ)) → AreWants {A = A} g (asked_of specs reply.lines) wants
       → All (λ (line : RefLine). P line.id) reply.lines → All P wants
@@ -404,7 +404,7 @@ module _ {A : Type 0} {tools : PackTools A} (laws : WorldLaws tools) where
 
   -- ---- the reply to fetch
 
-  -- only acknowledgments and the stage change; objects may have come to the client before
+  -- a session remains sound after acknowledgments extend its common ids, also if the client has gained objects
   acks_sound : {w : WorldState A} {s : SessionState A} (after : SessionState A) (asked : FetchAsked) (stage : Stage)
       (acks : List (List ℕ)) → IsSoundSession w s → Awaits s asked → after ≡ after_acks s stage acks
       → AreCommonsAfter asked.haves acks s.commons after.commons
@@ -424,14 +424,14 @@ module _ {A : Type 0} {tools : PackTools A} (laws : WorldLaws tools) where
       commons_after (Holds w.server.graph.entries) haves acks s.commons new are_new (is.shared unforged)
       (told unforged)) is.asked is.wanted)
 
-  -- ---- bytes come
+  -- ---- the arrival of bytes
 
   abbrev pub Takes : Asked → SessionState A → RepoState A → List ℕ → Outcome → SessionState A → RepoState A → Type 0
   Takes asked s repo bytes outcome after new =
       TakesBytes tools.indexes tools.index_fails asked s repo bytes outcome after new
 
   module _ (s : SessionState A) (before : RepoState A) (bytes : List ℕ) (after : SessionState A) where
-    -- how the repository changes
+    -- the repository only grows when bytes arrive
     pub bytes_only : (asked : Asked) (repo : RepoState A) (outcome : Outcome)
         → Takes asked s before bytes outcome after repo → OnlyGrows before repo
     bytes_only (Ls asked) repo (RefsTold asks wants) takes = only_same before repo takes.5
@@ -444,7 +444,8 @@ module _ {A : Type 0} {tools : PackTools A} (laws : WorldLaws tools) where
         laws.grows s after before repo (known_bytes bytes takes.0) (Err takes.1) takes.2
     bytes_only _ repo _ takes = absurd takes
 
-    -- the session is sound in the world after bytes came; refs are judged by the graph as it was, which stays
+    -- The session is sound in the world after bytes arrive. An ls-refs reply is compared with the old graph, and leaves
+    -- this graph unchanged.
     pub bytes_sound : (v : WorldState A) → IsSoundSession v s → Tells v s bytes → (asked : Asked) (outcome : Outcome)
         → Takes asked s before bytes outcome after v.repo → IsSoundSession v after
     bytes_sound v sound tells (Ls asked) (RefsTold asks wants) takes =

@@ -1,4 +1,4 @@
--- A world begins.
+-- The start of a world.
 use Rattle.std.proofs.Common.{◌≡◌, ◌∙◌, ℕ, ◌+◌, ◌<◌, ◌≤◌, List, [], length, take, drop, get_or, All, Some, sym, ap}
 use Rattle.std.proofs.Common.{subst, arith, inl, inr}
 use Rattle.std.specs.Prelude.{slice_get}
@@ -23,7 +23,7 @@ module _ {A : Type 0} where
   stands : (g : List (Entry A)) (p : ℕ) (entry : Entry A) → slice_get g p ≡ Some entry → entry ≡ get_or g p entry
   stands g p entry at = sym (get_or_from_slice_get g p entry entry at)
 
-  -- the client agrees with one more entry
+  -- if the client agrees with the server's first `p` entries and with the next, it agrees with the first `p + 1`
   pub one_more_agrees : (g h : List (Entry A)) (p : ℕ) → p < length g → AgreesAt g h p → All (AgreesWith h) (take p g)
       → All (AgreesWith h) (take (p + 1) g)
   one_more_agrees g h p inside here before =
@@ -34,7 +34,7 @@ module _ {A : Type 0} where
         | inr past ↦ (let over = past.0 in absurd (omega (arith, over, inside)))
       ]
 
-  -- the first entry with which it disagrees
+  -- if the client agrees with the server's first `p` entries, but not with the next, this is the first disagreement
   pub first_found : (g h : List (Entry A)) (p : ℕ) (id : List ℕ) → All (AgreesWith h) (take p g) → DisagreesAt g h p id
       → IsFirstDisagreement g h id
   first_found g h p id before found = record {
@@ -47,7 +47,7 @@ module _ {A : Type 0} where
     is = found.3;
   }
 
-  -- where it agrees with each entry, the graphs agree
+  -- if the client agrees with each entry of the server, the two graphs agree
   pub graphs_agree : PositionsAreNodes A → (g h : List (Entry A)) (p : ℕ) → length g ≤ p → IdsDiffer g
       → All (AgreesWith h) (take p g)
       → Agree g h
@@ -63,7 +63,7 @@ module _ {A : Type 0} where
       ap (λ (l : List Asked). record (new_world server repo) { sent = l; kept = kept }) none
       ∙ ap (λ (l : List Kept). record (new_world server repo) { kept = l }) also
 
-  -- a world that begins is sound
+  -- a new world is sound
   pub starts_soundly : (tools : PackTools A) (server : Server A) (repo : RepoState A) → CanStart server repo
       → IsSound tools (new_world server repo)
   starts_soundly tools server repo can = record {

@@ -1,4 +1,4 @@
--- Each event keeps what is sound.
+-- Each step from a sound world leads to a sound world.
 use Rattle.std.proofs.Common.{[], ◌≡◌, ℕ, Bool, true, false, List, ◌∷◌, ◌++◌, Option, Some, None, Ok, Err}
 use Rattle.std.proofs.Common.{if◌then◌else◌, refl, sym, ap, subst, ◌∙◌, take, All}
 use Rattle.std.specs.Prelude.{IfSome, slice_get}
@@ -40,7 +40,7 @@ use Rattle.gworld.proofs.Sessions.{asked_sound, begin_sound, bytes_only, bytes_s
 use Rattle.gworld.proofs.Sessions.{honest_before, kept_grown, made_request, one_kept_grown, request_grown, sent_grown}
 use Rattle.gworld.proofs.Sessions.{session_grown, session_in_grown, settled_sound}
 
--- no request is due when it is time to settle
+-- no request is due in the stage `Settling`
 due_not_settling : (stage : Stage) (pending : Option Asked) → stage ≡ Settling → is_due stage pending ≡ true → ⊥
 due_not_settling Settling None same due = false≢true due
 due_not_settling Settling (Some asked) same due = false≢true due
@@ -74,24 +74,24 @@ module _ {A : Type 0} {tools : PackTools A} (laws : WorldLaws tools) where
   agree_other_way : (g h : List (Entry A)) → Agree g h → Agree h g
   agree_other_way g h agree a m n here there = sym (agree a n m there here)
 
-  -- an end that grew by an entry with which the other agrees still agrees with it
+  -- two graphs still agree after one of them gains an entry with which the other agrees
   agrees_after : (format : Format) (g old new : List (Entry A)) (entry : Entry A) → Agree g old → AgreesWith g entry
       → ComesIn format old entry new → Agree g new
   agrees_after format g old new entry agree same comes = laws.agreeing g old (entry ∷ []) new format agree
       (All-cons (AgreesWith g) entry [] same (All-nil (AgreesWith g))) (new, comes, refl)
 
-  -- a session is answered after a fault only where the fault leaves it
+  -- if a session is still marked as answered after a fault, it satisfies `IsAnswered`
   mark_left : (v : WorldState A) (s after : SessionState A) (ends mark : Bool) → after ≡ (if ends then over s else s)
       → (mark ≡ true → IsAnswered tools v s) → (if ends then false else mark) ≡ true → IsAnswered tools v after
   mark_left v s after true mark is can wrong = never wrong
   mark_left v s after false mark is can same = subst (IsAnswered tools v) (sym is) (can same)
 
-  -- from a sound world, `w`, a step leads to `v`
+  -- a step from the sound world `w` to the world `v`
   module _ (w v : WorldState A) (ends : AreEndsConnected w) (later : AreEndsConnected v) (sound : IsSound tools w) where
     same_sound : v ≡ w → Sound v
     same_sound same = subst Sound (sym same) sound
 
-    -- no more was sent or kept
+    -- `v` is sound if the lists of requests and replies are unchanged, and the graphs and the session remain valid
     changed_sound : {u : WorldState A} → v ≡ u → Extends w u → u.sent ≡ w.sent → u.kept ≡ w.kept
         → (Honest u → Honest w → Agree u.server.graph.entries u.repo.graph.entries) → IsSoundIn u u.session
         → (u.answered ≡ true → IsAnsweredIn tools u u.session) → Sound v
@@ -104,7 +104,7 @@ module _ {A : Type 0} {tools : PackTools A} (laws : WorldLaws tools) where
       answered = settles;
     })
 
-    -- the graphs stay
+    -- the graphs are unchanged
     graphs_stay : (u : WorldState A) → u.server.graph ≡ w.server.graph → u.repo.graph ≡ w.repo.graph
         → (u.forged ≡ false → w.forged ≡ false) → Extends w u
     graphs_stay u server client unforged = record {
@@ -127,7 +127,7 @@ module _ {A : Type 0} {tools : PackTools A} (laws : WorldLaws tools) where
         (subst (λ (g : History A). Agree w.server.graph.entries g.entries) (sym client) (sound.agree honest))) (is e)
         (settles e)
 
-    -- and the session stays
+    -- the graphs, the requests, the replies and the session are unchanged
     refs_sound : {u : WorldState A} → v ≡ u → u.server.graph ≡ w.server.graph → u.repo.graph ≡ w.repo.graph
         → (u.forged ≡ false → w.forged ≡ false) → u.sent ≡ w.sent → u.kept ≡ w.kept → u.session ≡ w.session
         → u.answered ≡ w.answered → Sound v
@@ -140,7 +140,7 @@ module _ {A : Type 0} {tools : PackTools A} (laws : WorldLaws tools) where
 
     -- ---- the session
 
-    -- a call of the session failed
+    -- `v` is sound after a failed call of the session
     failed_sound : {s : SessionState A} (after : SessionState A) (repo : RepoState A) (fault : ClientFault A)
         → after ≡ after_fault s fault → repo.graph ≡ w.repo.graph
         → v ≡ record w { session = Some after; repo = repo; answered = mark_after fault w.answered }
@@ -223,11 +223,11 @@ module _ {A : Type 0} {tools : PackTools A} (laws : WorldLaws tools) where
     serves_sound number (Some asked) (Fault count) at serves = same_sound serves.3
     serves_sound number (Some asked) _ at serves = absurd serves
 
-    -- ---- a kept reply comes
+    -- ---- the arrival of a kept reply
 
     module _ {kept : Kept} (s : SessionState A) (count : ℕ) (is : IsSoundKept tools.packs w kept)
         (session : IsSoundSession w s) (types : IsSession s) where
-      -- a pack, if it is one, keeps that the graphs agree
+      -- after the bytes of a kept reply arrive, the graphs of both ends still agree
       bytes_agree : (asked : Asked) (outcome : Outcome) (after : SessionState A) (repo : RepoState A) → Honest w
           → Takes laws asked s w.repo (take count (reply_bytes kept.reply)) outcome after repo
           → Agree w.server.graph.entries repo.graph.entries
@@ -244,7 +244,7 @@ module _ {A : Type 0} {tools : PackTools A} (laws : WorldLaws tools) where
           subst (λ (r : RepoState A). Agree w.server.graph.entries r.graph.entries) (sym takes.2.2) (sound.agree honest)
       bytes_agree _ _ after repo honest takes = absurd takes
 
-      -- the session is answered that took the pack of a complete reply to the very request that waited
+      -- a session that accepts the pack of a complete reply to its open request satisfies `IsAnswered`
       bytes_settle : (u : WorldState A) (asked : Asked) (outcome : Outcome) (after : SessionState A)
           → (Honest u → Honest w) → s.pending ≡ Some asked → IsSoundSession u s
           → Takes laws asked s w.repo (take count (reply_bytes kept.reply)) outcome after u.repo
@@ -290,7 +290,7 @@ module _ {A : Type 0} {tools : PackTools A} (laws : WorldLaws tools) where
 
     -- ---- forged bytes
 
-    -- no request waits
+    -- `v` is sound after forged bytes arrive while no request is open
     forged_in_vain : v ≡ record w { forged = true } → Sound v
     forged_in_vain is = refs_sound is refl refl (λ wrong. never (sym wrong)) refl refl refl refl
 

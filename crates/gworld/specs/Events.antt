@@ -209,7 +209,7 @@ waiting_session (Some s) = waits_for s s.pending
 
 module _ {A : Type 0} (indexes : Indexes A) (index_fails : IndexFails) where
   -- The bytes arrive as the reply to the open request, and change the session and the repository. The flags `forged`
-  -- and `answered` are set to the given values. A session with an open request is not yet marked as answered.
+  -- and `answered` are set to the given values. A session is never marked as answered while its request is open.
   pub record BytesCome (w : WorldState A) (s : SessionState A) (asked : Asked) (bytes : Bytes) (forged answered : Bool)
       (outcome : Outcome) (new : WorldState A) : Type 0 where
     pub after : SessionState A
@@ -218,8 +218,8 @@ module _ {A : Type 0} (indexes : Indexes A) (index_fails : IndexFails) where
     pub is : new ≡ record w { session = Some after; repo = repo; forged = forged; answered = answered }
 
   -- `Deliver`: the first `count` bytes of a kept reply arrive, unless no request is open or no kept reply has this
-  -- index. A session is marked as answered if the reply arrives complete, its request equals the open request, and its
-  -- pack is accepted.
+  -- index. A session is marked as answered if the reply arrives complete, the reply's request equals the open request,
+  -- and the reply's pack is accepted.
   abbrev pub Delivers : WorldState A → Option Kept → ℕ → Option (SessionState A × Asked) → Outcome → WorldState A
       → Type 0
   Delivers w None count waits outcome new = IsRefused no_such w outcome new

@@ -33,8 +33,8 @@ module _ {A : Type 0} where
 
   -- ---- the sent requests and the kept replies
 
-  -- a request for objects has wants, and the client holds the whole history of each have; the server holds the wants
-  -- unless bytes were forged
+  -- a request for objects has wants and not too many haves; the client holds the whole history of each have, and the
+  -- server holds the wants unless bytes were forged
   pub record IsSoundFetch (w : WorldState A) (asked : FetchAsked) : Type 0 where
     pub connected : All (IsConnected w.repo.graph.entries) asked.haves
     pub few : length asked.haves ≤ max_haves profile

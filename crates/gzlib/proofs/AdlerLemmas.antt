@@ -1,4 +1,4 @@
--- The sums of Adler-32 over bytes in pieces, reduced after each piece.
+-- The sums of Adler-32 over pieces of the bytes, reduced after each piece.
 use Rattle.std.proofs.Common.{◌≡◌, ℕ, ◌+◌, ◌*◌, ◌/◌, ◌%◌, ◌<◌, List, [], ◌∷◌, ◌++◌, length, take, get_or, sum, ap, sym, ◌∙◌, arith, add-zero}
 use Rattle.std.proofs.Math.Nat.{add-mul-mod_self_right, mod-add-mod, add-mod-mod, mod-add-div', mul_assoc}
 use Rattle.std.proofs.lemmas.List.{take_more}
@@ -21,19 +21,19 @@ sum_of_sums-append a (x ∷ xs) ys =
     let start : a + sum (x ∷ xs) ≡ a + x + sum xs = omega (arith, sum-cons x xs) in
     rw (start, sum_of_sums-append (a + x) xs ys) (omega arith)
 
--- one byte more
+-- the total after one more byte
 pub sum_of_sums_more : (a : ℕ) (xs : List ℕ) (i : ℕ) → i < length xs
     → sum_of_sums a (take (i + 1) xs) ≡ sum_of_sums a (take i xs) + (a + sum (take i xs) + get_or xs i 0)
 sum_of_sums_more a xs i h = rw (take_more xs i 0 h, sum_of_sums-append a (take i xs) (get_or xs i 0 ∷ [])) (omega arith)
 
--- a first sum that is larger by c
+-- a start value that is larger by `c` makes the total larger by `c` for each byte
 sum_of_sums_larger : (a c : ℕ) (xs : List ℕ) → sum_of_sums (a + c) xs ≡ sum_of_sums a xs + length xs * c
 sum_of_sums_larger a c [] = omega arith
 sum_of_sums_larger a c (x ∷ xs) =
     let start : a + c + x ≡ a + x + c = omega arith in
     rw (start, sum_of_sums_larger (a + x) c xs) (omega arith)
 
--- the second sum counts the first one modulo the base
+-- reducing the start value modulo `m` does not change the total modulo `m`
 sum_of_sums_reduced : (a m : ℕ) (xs : List ℕ) → sum_of_sums (a % m) xs % m ≡ sum_of_sums a xs % m
 sum_of_sums_reduced a m xs =
     let parts : a % m + a / m * m ≡ a = mod-add-div' a m in
@@ -42,7 +42,7 @@ sum_of_sums_reduced a m xs =
     ∙ ap (λ (n : ℕ). sum_of_sums (a % m) xs + n) (sym (mul_assoc (length xs) (a / m) m)) in
     sym (rw larger (add-mul-mod_self_right (sum_of_sums (a % m) xs) (length xs * (a / m)) m))
 
--- what a value holds once the sums of more bytes are added and reduced
+-- the state for the bytes `m`, updated with the sums of `xs` and reduced, is the state for `m ++ xs`
 pub HasAdlerOf-append : (s n : Adler32) (m xs : List ℕ) → HasAdlerOf s m → n.low ≡ (s.low + sum xs) % 65521
     → n.high ≡ (s.high + sum_of_sums s.low xs) % 65521 → HasAdlerOf n (m ++ xs)
 HasAdlerOf-append s n m xs has low high =

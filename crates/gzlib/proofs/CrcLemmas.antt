@@ -1,5 +1,5 @@
--- The register of CRC-32 by tables: bits of the register go their ways without heed of the others,
--- and what stands above the lowest eight bits only moves down.
+-- CRC-32 with tables. The shift of the exclusive or of two registers is the exclusive or of both shifted registers. A
+-- shift by one byte only moves the bits above the lowest byte down.
 use Rattle.std.proofs.Common.{◌≡◌, ℕ, zero, suc, ◌+◌, ◌*◌, ◌/◌, ◌%◌, ◌^◌, ◌<◌, ◌≤◌, ◌==◌, List, [], ◌∷◌, ◌++◌, Bool, true, false, length, length-drop, take, drop, drop-cons, get_or, refl, ap, sym, ◌∙◌, arith}
 use Rattle.std.specs.Prelude.{if◌then◌else◌, bit_xor}
 use Rattle.std.proofs.Math.Nat.{pow-suc}
@@ -10,7 +10,7 @@ use Rattle.gzlib.specs.Crc.{shift_out, shift_bits, next_register, register_after
 use Rattle.gzlib.specs.steps.CrcTables.{after_bytes}
 use Rattle.gzlib.specs.declared.crc.Crc32.{Crc32}
 
--- a choice of two registers, each with the same bits added
+-- a choice between two numbers, each combined with `c`, is the chosen number combined with `c`
 choose_xor : (b : Bool) (x y c : ℕ) → (if b then bit_xor x c else bit_xor y c) ≡ bit_xor (if b then x else y) c
 choose_xor true x y c = refl
 choose_xor false x y c = refl
@@ -21,7 +21,7 @@ xor_swap a c p = xor_assoc a c p ∙ ap (bit_xor a) (xor_comm c p) ∙ sym (xor_
 xor_zero : (a : ℕ) → bit_xor a 0 ≡ a
 xor_zero a = xor_comm a 0
 
--- bits above the lowest one move down by one place
+-- a shift by one bit only moves the bits above the lowest bit down
 shift_out_high : (a c : ℕ) → shift_out (bit_xor a (c * 2)) ≡ bit_xor (shift_out a) c
 shift_out_high a c =
     let down : c * 2 / 2 ≡ c = omega arith in
@@ -31,7 +31,7 @@ shift_out_high a c =
     let low : bit_xor a (c * 2) % 2 ≡ a % 2 = xor_mod a (c * 2) 1 ∙ ap (bit_xor (a % 2)) even ∙ xor_zero (a % 2) in
     rw (half, low, xor_swap (a / 2) c 0xEDB8_8320) (choose_xor (a % 2 == 1) (bit_xor (a / 2) 0xEDB8_8320) (a / 2) c)
 
--- bits above the lowest ones move down by as many places
+-- a shift by `k` bits only moves the bits above the lowest `k` bits down
 shift_bits_high : (k a c : ℕ) → shift_bits k (bit_xor a (c * 2 ^ k)) ≡ bit_xor (shift_bits k a) c
 shift_bits_high zero a c =
     let same : c * 1 ≡ c = omega arith in
@@ -40,7 +40,7 @@ shift_bits_high (suc k) a c =
     let twice : c * 2 ^ suc k ≡ c * 2 ^ k * 2 = rw (pow-suc 2 k) (omega arith) in
     rw (twice, shift_out_high a (c * 2 ^ k)) (shift_bits_high k (shift_out a) c)
 
--- a register moves down by a byte, and the table has what its lowest byte adds
+-- a register shifted by one byte: its higher bytes, moved down, combined with its lowest byte, shifted
 shift_byte : (n : ℕ) → shift_bits 8 n ≡ bit_xor (n / 256) (shift_bits 8 (n % 256))
 shift_byte n =
     let below : n % 256 < 2 ^ 8 = omega arith in
@@ -48,7 +48,7 @@ shift_byte n =
     let turned : n ≡ bit_xor (n % 256) (n / 256 * 2 ^ 8) = sym parts ∙ xor_comm (n / 256 * 2 ^ 8) (n % 256) in
     ap (shift_bits 8) turned ∙ shift_bits_high 8 (n % 256) (n / 256) ∙ xor_comm (shift_bits 8 (n % 256)) (n / 256)
 
--- the step of the table is that of the definition
+-- the register after one more byte `b`, computed with the table entry for `i`, is the register of the definition
 pub next_by_table : (r b i : ℕ) → b < 2 ^ 8 → i ≡ bit_xor b (r % 256) → bit_xor (r / 256) (after_bytes 1 i) ≡ next_register r b
 unfolding next_register after_bytes
 next_by_table r b i h e =
@@ -58,7 +58,8 @@ next_by_table r b i h e =
     let low : bit_xor r b % 256 ≡ i = xor_mod r b 8 ∙ ap (bit_xor (r % 256)) low_b ∙ xor_comm (r % 256) b ∙ sym e in
     sym (shift_byte (bit_xor r b) ∙ rw (high, low) refl)
 
--- a bit goes out of two registers, of which the lowest bits are these
+-- combining two registers and then shifting them by one bit is the same as shifting first; `r` and `s` are the lowest
+-- bits of the registers, and `x` and `y` are the higher bits
 shift_out_each : (x y r s : ℕ) → r < 2 → s < 2
     → (if bit_xor r s == 1 then bit_xor (bit_xor x y) 0xEDB8_8320 else bit_xor x y)
     ≡ bit_xor (if r == 1 then bit_xor x 0xEDB8_8320 else x) (if s == 1 then bit_xor y 0xEDB8_8320 else y)
@@ -95,7 +96,8 @@ shift_bits_add (suc j) k a =
     let next : suc j + k ≡ suc (j + k) = omega arith in
     rw next (shift_bits_add j k (shift_out a))
 
--- what a part of the register becomes, and what the rest of it becomes
+-- the register after these bytes, if it starts at `bit_xor p q`: `p`, shifted by the number of bytes, combined with the
+-- register that starts at `q`
 register_after_xor : (p q : ℕ) (bytes : List ℕ)
     → register_after (bit_xor p q) bytes ≡ bit_xor (shift_bits (8 * length bytes) p) (register_after q bytes)
 unfolding next_register
@@ -109,7 +111,8 @@ register_after_xor p q (b ∷ bytes) =
     ∙ ap (λ (n : ℕ). bit_xor n (register_after (shift_bits 8 (bit_xor q b)) bytes)) (sym (shift_bits_add 8 (8 * length bytes) p))
     ∙ ap (λ (n : ℕ). bit_xor (shift_bits n p) (register_after (shift_bits 8 (bit_xor q b)) bytes)) (sym more)
 
--- the first byte goes its way with the lowest byte of the register
+-- the register after `b` and more bytes: the table entry for `b` and the lowest byte of the register, combined with the
+-- result for the higher bytes of the register
 first_byte : (r b : ℕ) (bytes : List ℕ) → b < 2 ^ 8
     → register_after r (b ∷ bytes) ≡ bit_xor (after_bytes (suc (length bytes)) (bit_xor b (r % 256))) (register_after (r / 256) bytes)
 unfolding next_register after_bytes
@@ -122,7 +125,7 @@ first_byte r b bytes h =
     ∙ ap (λ (n : ℕ). bit_xor n (register_after (r / 256) bytes)) (sym (shift_bits_add 8 (8 * length bytes) c))
     ∙ ap (λ (n : ℕ). bit_xor (shift_bits n c) (register_after (r / 256) bytes)) (sym more)
 
--- the same of the byte at a place, after what others have become
+-- the same for the byte at index `i`, where `acc` combines the table entries of the earlier bytes
 byte_more : (acc r q i k : ℕ) (bytes : List ℕ) → r / 256 ≡ q → i < length bytes → i + k ≡ length bytes → get_or bytes i 0 < 2 ^ 8
     → bit_xor acc (register_after r (drop i bytes))
     ≡ bit_xor (bit_xor acc (after_bytes k (bit_xor (get_or bytes i 0) (r % 256)))) (register_after q (drop (suc i) bytes))
@@ -136,7 +139,7 @@ byte_more acc r q i k bytes down h e small =
     ∙ ap (λ (n : ℕ). bit_xor acc (bit_xor (after_bytes k now) (register_after n rest))) down
     ∙ sym (xor_assoc acc (after_bytes k now) (register_after q rest))
 
--- the same once all of the register has met bytes
+-- the same if the earlier bytes have used up all bytes of the register
 byte_last : (acc i k : ℕ) (bytes : List ℕ) → i < length bytes → i + k ≡ length bytes → get_or bytes i 0 < 2 ^ 8
     → bit_xor acc (register_after 0 (drop i bytes))
     ≡ bit_xor (bit_xor acc (after_bytes k (get_or bytes i 0))) (register_after 0 (drop (suc i) bytes))
@@ -147,7 +150,7 @@ byte_last acc i k bytes h e small =
 none_left : (acc : ℕ) (bytes : List ℕ) → length bytes ≤ 8 → bit_xor acc (register_after 0 (drop 8 bytes)) ≡ acc
 none_left acc bytes h = at_drop_all (λ (xs : List ℕ). bit_xor acc (register_after 0 xs)) bytes 8 h ∙ xor_zero acc
 
--- what eight bytes and the register become
+-- the register after eight bytes: eight combined table entries
 pub eight_bytes : (r : ℕ) (bytes : List ℕ) → r < 2 ^ 32 → length bytes ≡ 8 → ((i : ℕ) → get_or bytes i 0 < 2 ^ 8)
     → bit_xor (bit_xor (bit_xor (bit_xor (bit_xor (bit_xor (bit_xor
     (after_bytes 8 (bit_xor (get_or bytes 0 0) (r % 256)))

@@ -1,10 +1,10 @@
--- The tables of CRC-32 hold what the definition says.
+-- The entries of the CRC-32 tables are the values that `after_bytes` defines.
 use Rattle.std.proofs.Common.{◌≡◌, ℕ, zero, suc, ◌+◌, ◌*◌, ◌<◌, List, [], ◌∷◌, get_or, refl, ap, ◌∙◌, arith}
 use Rattle.gzlib.specs.Crc.{shift_bits}
 use Rattle.gzlib.specs.steps.CrcTables.{after_bytes}
 use Rattle.gzlib.specs.declared.crc_tables.TheConstants.{AFTER_1, AFTER_2, AFTER_3, AFTER_4, AFTER_5, AFTER_6, AFTER_7, AFTER_8}
 
--- so many rows, from a byte on
+-- `count` rows of the table for a shift by `bits` bits, starting with the row for the byte `from`
 rows : ℕ → ℕ → ℕ → List ℕ
 rows bits zero from = []
 rows bits (suc count) from = shift_bits bits from ∷ rows bits count (suc from)

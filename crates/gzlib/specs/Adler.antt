@@ -2,7 +2,7 @@
 use Rattle.std.specs.Prelude.{◌≡◌, ℕ, ◌+◌, ◌*◌, ◌%◌, List, [], ◌∷◌, sum}
 use Rattle.gzlib.specs.declared.adler.Adler32.{Adler32}
 
--- the total of the values that the first sum has after each byte, if the first sum starts at this value
+-- the total of the values that the first sum has after each byte, if the first sum starts at `first`
 abbrev pub sum_of_sums : ℕ → List ℕ → ℕ
 sum_of_sums first [] = 0
 sum_of_sums first (byte ∷ bytes) = (first + byte) + sum_of_sums (first + byte) bytes

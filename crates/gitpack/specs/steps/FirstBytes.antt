@@ -10,7 +10,7 @@ begins_with byte e = nat_eq (slice_index e.id 0) byte
 abbrev pub ids_beginning : ℕ → List IndexEntry → ℕ
 ids_beginning byte entries = count_by (begins_with byte) entries
 
--- the number of ids that begin with a lower byte
+-- the number of ids whose first byte is less than this byte
 abbrev pub ids_below : ℕ → List IndexEntry → ℕ
 ids_below zero entries = 0
 ids_below (suc byte) entries = ids_within byte entries

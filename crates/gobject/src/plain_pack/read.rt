@@ -80,8 +80,8 @@ fn id_of(part: &[u8]) -> Option<Oid>
     }
 }
 
-/// Returns what is expected after the header, or `None` if `part` and `separator` are not the
-/// header.
+/// Returns the part that is expected after the header, or `None` if `part` and `separator` are not
+/// the header.
 fn after_header<A: Allocator + Copy>(part: &[u8], separator: Separator) -> Option<Next<A>>
     ensures { ((list : List (Entry A)) → MatchOption result
         (NeverLeads {A = A} Next.Header list part.now separator)
@@ -93,8 +93,8 @@ fn after_header<A: Allocator + Copy>(part: &[u8], separator: Separator) -> Optio
     }
 }
 
-/// Returns what is expected after the first word of a line, or `None` if `part` is not allowed as
-/// that word.
+/// Returns the part that is expected after the first word of a line, or `None` if `part` is not
+/// allowed as that word.
 fn after_word<A: Allocator + Copy>(part: &[u8], separator: Separator) -> Option<Next<A>>
     ensures { ((list : List (Entry A)) → MatchOption result
         (NeverLeads {A = A} Next.Word list part.now separator)
@@ -143,8 +143,8 @@ fn push_parent<A: Allocator + Copy>(mut entry: Entry<A>, id: Oid) -> Result<Entr
     Ok(entry)
 }
 
-/// Returns what is expected after an id of an entry: another parent if a space ends the id, or the
-/// first word of the next line if a line feed ends it.
+/// Returns the part that is expected after an id of an entry: another parent if a space ends the
+/// id, or the first word of the next line if a line feed ends the id.
 fn after_id<A: Allocator + Copy>(
     entries: &mut Vec<Entry<A>, A>,
     entry: Entry<A>,
@@ -163,7 +163,7 @@ fn after_id<A: Allocator + Copy>(
     }
 }
 
-/// Returns what is expected after `part`, or `None` if `part` is not allowed next.
+/// Returns the part that is expected after `part`, or `None` if `part` is not allowed next.
 fn after_part<A: Allocator + Copy>(
     alloc: A,
     entries: &mut Vec<Entry<A>, A>,

@@ -95,7 +95,7 @@ fn put_end<A: Allocator + Copy>(text: &mut Vec<u8, A>, count: usize) -> Result<(
     Ok(())
 }
 
-/// Returns the plain pack of the entries, which may have any length.
+/// Returns the plain pack of the entries. The pack may have any length.
 #[tactic(auto, using(crate::proofs::PlainPackWriting::pack_text_is))]
 fn put_pack<A: Allocator + Copy>(alloc: A, entries: &[Entry<A>]) -> Result<Vec<u8, A>, AllocError>
     ensures { IfOk result (λ pack. pack.items ≡ pack_text entries.now) }

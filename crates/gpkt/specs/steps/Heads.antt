@@ -1,4 +1,4 @@
--- The reading of one packet: its head, which is the kind of packet that the four digits announce, and its payload.
+-- Reading one packet: first its head, which is the kind of packet that the four digits announce, then its payload.
 use Rattle.std.specs.Prelude.{◌≡◌, ℕ, ◌+◌, ◌<◌, ◌≤◌, Bool, true, false, [], length, take}
 use Rattle.std.specs.Prelude.{Option, Some, None, option_map, Result, Ok, Err}
 use Rattle.std.specs.Io.KnownBytes.{Consumes, IsAtEnd}

@@ -114,7 +114,7 @@ abbrev pub CarriesWord : CapabilityForm → Type 0
 CarriesWord (Agent value) = is_word_value value ≡ true
 CarriesWord _ = Unit {0}
 
--- the contents of a packet in this section are stored
+-- whether the contents of a packet in this section are stored
 abbrev pub packet_brings : RequestPlace → Packet → Bool
 packet_brings place (Data payload) = text_brings place (text payload)
 packet_brings place _ = false

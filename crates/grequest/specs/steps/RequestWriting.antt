@@ -7,6 +7,6 @@ use Rattle.ggrammar.specs.Capabilities.{max_capability}
 abbrev pub max_word : ℕ
 max_word = 16
 
--- each text of a table fits a packet, even after a word
+-- each text of the table has at most `max_capability` bytes, and fits into a packet even after a word
 abbrev pub AreShort : {F : Type 0} → List (F × Bor (List ℕ)) → Type 0
 AreShort rows = All (λ row. length row.1.now ≤ max_capability) rows

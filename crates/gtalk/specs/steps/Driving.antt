@@ -55,13 +55,14 @@ IsFewer left old new =
     ((left new.conversation).turns < (left old.conversation).turns)
     ⊎ (((left new.conversation).turns ≤ (left old.conversation).turns) × ((why : Stop) × (new.stopped ≡ Some why)))
 
--- for each result of a sequence of calls, whether the sink has failed before and after the calls
+-- after `Io` the sink has failed; after any other result it has failed exactly if it had failed before the calls
 abbrev pub IsDownBy : Result Unit TalkFault → Bool → Bool → Type 0
 IsDownBy (Ok done) was_down is_down = is_down ≡ was_down
 IsDownBy (Err Io) was_down is_down = is_down ≡ true
 IsDownBy (Err Memory) was_down is_down = is_down ≡ was_down
 
--- the progress of a connection so far: either no bytes are sent yet, or all written bytes are flushed (if known)
+-- The progress of a connection so far. If `passed` is false, no bytes were sent. If `passed` is true and the written
+-- bytes are known, all of them are flushed.
 pub record Driven {C A : Type 0} (holds : C → Talk → Type 0) (passed : Bool) (old new : Connection C A)
     (read written passed_on : Change) (Untouched : Type 0) : Type 0 where
   pub drives : Drives holds old new read written

@@ -29,7 +29,7 @@ abbrev pub PrintsSoFar : {A : Type 0} → Output → List (ProgramFault A) → B
 PrintsSoFar errors faults true = PrintsNone errors faults ⊎ Passes errors (fault_lines faults)
 PrintsSoFar errors faults false = SendsSome errors (fault_lines faults)
 
--- the effect of reporting a connection: the fault of the connection is printed, if it has one and all earlier faults
+-- the effect of reporting a connection: the fault of the connection is printed, if there is one and all earlier faults
 -- could be printed
 abbrev pub Tells : {A : Type 0} → ProgramOutcome A → Bool → Bool → Output → Type 0
 Tells (Ok done) could can errors = IsUnwritten errors × (can ≡ could)

@@ -20,12 +20,12 @@ use Rattle.gclient.specs.Listings.{ListsGit}
 
 -- ---- sources and sinks
 
--- a source over a reader that has not failed before, with the reader's remaining bytes before and after
+-- a source over a reader that has not failed before, with the reader's remaining bytes before and after its use
 abbrev pub input_by : Change → Bool → Input
 input_by read failed = record { read = read; was_down = false; is_down = failed }
 
--- a sink over a writer that has not failed before, with the written bytes before and after; the flushed bytes are
--- unknown
+-- a sink over a writer that has not failed before, with the written bytes before and after its use; the flushed bytes
+-- are unknown
 abbrev pub output_by : Change → Bool → Output
 output_by written failed = record {
   written = written;
@@ -37,7 +37,7 @@ output_by written failed = record {
 -- ---- fetching
 
 module _ {A : Type 0} (indexes : Indexes A) (index_fails : IndexFails) (start : Start A) (hello : Hello) where
-  -- a fetch over a reader and a writer, with their bytes before and after
+  -- a fetch over a reader and a writer, with the bytes of both before and after the fetch
   abbrev pub FetchesBetween : Change → Change → RepoState A → Result (Fetched A) (FetchFault A) → Type 0
   FetchesBetween read written new result =
       (reader_failed writer_failed : Bool)
@@ -47,7 +47,7 @@ module _ {A : Type 0} (indexes : Indexes A) (index_fails : IndexFails) (start : 
 -- ---- listing
 
 module _ {A : Type 0} (asked : LsRefsAsked) (hello : Hello) where
-  -- a listing over a reader and a writer, with their bytes before and after
+  -- a listing over a reader and a writer, with the bytes of both before and after the listing
   abbrev pub ListsBetween : Change → Change → Result LsReply (FetchFault A) → Type 0
   ListsBetween read written result =
       (reader_failed writer_failed : Bool)
@@ -56,14 +56,14 @@ module _ {A : Type 0} (asked : LsRefsAsked) (hello : Hello) where
 -- ---- serving
 
 module _ {A : Type 0} (server : Server A) (packs : Packs A) (fails : PackFails A) (path : Bytes) (ends : Ends) where
-  -- a connection that is served over a reader and a writer, with their bytes before and after, and the end of the
-  -- connection
+  -- a connection that is served over a reader and a writer, with the bytes of both before and after the connection, and
+  -- with the connection's end
   abbrev pub ServesBetween : Change → Change → GitEnd → Type 0
   ServesBetween read written ended =
       (reader_failed writer_failed : Bool)
       × ServesGit server packs fails path ends (input_by read reader_failed) (output_by written writer_failed) ended
 
-  -- a connection that is served from a reader into a socket, with the reader's remaining bytes before and after
+  -- a connection that is served from a reader into a socket, with the reader's remaining bytes before and after it
   abbrev pub ServesFrom : Change → GitEnd → Type 0
   ServesFrom read ended =
       (reader_failed : Bool) × (output : Output)

@@ -63,7 +63,7 @@ is_marked marks p = slice_index_or marks p false
 abbrev pub IsMarked : List Bool → ℕ → Type 0
 IsMarked marks p = is_marked marks p ≡ true
 
--- those positions of the ids that are below the end of the marks are now also marked
+-- the marks `new` are the marks `old`, with additional marks at the positions of the ids below the end of the marks
 pub record MarksAll {A : Type 0} (g : List (Entry A)) (ids : IdList) (old new : List Bool) : Type 0 where
   pub long : length new ≡ length old
   pub kept : (p : ℕ) → IsMarked old p → IsMarked new p
@@ -121,7 +121,7 @@ pub record HasMarked {A : Type 0} (g : List (Entry A)) (ids : IdList) (marks : L
   pub among : IsPositionOf g ids position
   pub marked : IsMarked marks position
 
--- each marked position is that of an object that reaches one of the goals, and each such position below `n` is marked
+-- the object at each marked position reaches a goal, and each position below `n` whose object reaches a goal is marked
 pub record MarksReaching {A : Type 0} (g : List (Entry A)) (goals : IdList) (n : ℕ) (marks : List Bool) : Type 0 where
   pub sound : (p : ℕ) → IsMarked marks p → IsReachingAt g goals p
   pub all : (p : ℕ) → p < n → IsReachingAt g goals p → IsMarked marks p
@@ -163,7 +163,7 @@ pub record IsOnChain {A : Type 0} (g : List (Entry A)) (p q : ℕ) : Type 0 wher
   pub next : Id
   pub tag : IsTagOf g led.end next
 
--- the tags in the chain that begins at `start` are now also marked
+-- the marks `new` are the marks `old`, with additional marks for the tags in the chain that begins at `start`
 pub record MarksChain {A : Type 0} (g : List (Entry A)) (start : ℕ) (old new : List Bool) : Type 0 where
   pub long : length new ≡ length old
   pub kept : (p : ℕ) → IsMarked old p → IsMarked new p

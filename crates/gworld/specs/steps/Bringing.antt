@@ -25,7 +25,7 @@ use Rattle.gworld.specs.declared.outcome.Outcome.TheVariants as outcomes
 use Rattle.gworld.specs.declared.incoming.Due.{Due}
 use Rattle.gworld.specs.declared.incoming.Due.TheVariants.{Nothing, Refs, Objects}
 
--- the kind of reply that the open request awaits
+-- the kind of reply that answers the open request, or `Nothing` if no request is open
 abbrev pub IsAwaited : Option Asked → Due → Type 0
 IsAwaited None Nothing = ⊤
 IsAwaited (Some (Ls asked)) Refs = ⊤

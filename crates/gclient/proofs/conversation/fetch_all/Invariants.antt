@@ -1,5 +1,5 @@
--- Each reply so far was only of acknowledgments, and both the reader and the writer go on. There are at most as many
--- rounds as objects.
+-- Each reply so far had only acknowledgments, and neither the reader nor the writer has failed. The number of rounds is
+-- at most the number of objects.
 use Rattle.std.proofs.Common.{◌≡◌, ◌-◌, ℕ, List, length, false, IfSome, Option, None}
 use Rattle.gpkt.specs.Sending.{input_of, output_of}
 use Rattle.gsession.specs.Bounds.{BeganOn}

@@ -1,5 +1,5 @@
--- The message is going, as its grammar at the beginning says, and the reader has failed exactly where it had before,
--- which it had only at the first packet.
+-- The message is being read, and its judge has not changed. The reader has failed exactly if it had failed before the
+-- first packet, which is possible only at the first packet.
 use Rattle.std.proofs.Common.{◌≡◌, ◌≤◌, ◌^◌, true}
 use Rattle.ggrammar.proofs.ReadingLemmas.{IsGoing}
 use Rattle.ggrammar.proofs.message.read_message.Given as goal

@@ -3,7 +3,7 @@ use Rattle.ggrammar.specs.Writing.{IsWriting}
 use Rattle.ghello.specs.Adverts.{capability_packet}
 use Rattle.ghello.proofs.advert.write_capabilities.Given as goal
 
--- the packets of the capabilities that were not written yet are to come
+-- the packets of the capabilities that are not written yet remain to be written
 abbrev pub invariant-loop-kept : goal.invariant-loop-kept
 invariant-loop-kept g l =
     IsWriting g.W.Sink.contents g.W.Sink.passed_on g.W.Sink.is_down g.W.Sink.loans l.initial.writer l.writer

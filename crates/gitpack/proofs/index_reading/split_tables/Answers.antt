@@ -14,7 +14,7 @@ crcs_long count lines counted = length-crcs lines ∙ ap (λ n. n * 4) (sym coun
 shorts_long : (count : ℕ) (lines : List IndexEntry) → count ≡ length lines → length (short_offsets 0 lines) ≡ count * 4
 shorts_long count lines counted = length-shorts 0 lines ∙ ap (λ n. n * 4) (sym counted)
 
--- the tables after that of CRC-32s, and after that of ids
+-- the tables after the table of CRC-32s, and the tables after the table of ids
 abbrev after_crcs : List IndexEntry → List ℕ
 after_crcs lines = short_offsets 0 lines ++ flat_map long_bytes lines
 

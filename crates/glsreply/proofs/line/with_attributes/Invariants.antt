@@ -1,4 +1,5 @@
--- The attributes that are left make of the line so far what all of them make of its name; what is left grows shorter.
+-- Adding the remaining attributes to the line so far has the same result as adding all attributes to the line without
+-- attributes. The rest of the text becomes shorter.
 use Rattle.std.proofs.Common.{◌≡◌, None, Ok}
 use Rattle.glsreply.specs.RefTexts.{with_attributes}
 use Rattle.glsreply.specs.steps.LineViews.{line_parts, parts_left}

@@ -1,4 +1,4 @@
--- The lines from here on are to come.
+-- The lines from the current index on remain to be written.
 use Rattle.std.proofs.Common.{drop}
 use Rattle.ggrammar.specs.Writing.{IsWriting}
 use Rattle.glsreply.proofs.WritingLemmas.{coming}

@@ -7,7 +7,7 @@ pub returns-then-are_below : goal.returns-then-are_below
 returns-then-are_below g c =
     gap_last c.args.refs.now c.args.name.now (rw c.as_bytes.ensures.bytes at (c.are_below.ensures.0 c.if-are_below.true))
 
--- the closure compares a ref's name with the name that is looked for
+-- the closure compares the name of a ref with the name to find
 pub returns : goal.returns
 returns g c =
     let facts = c.binary_search_by.ensures in

@@ -8,7 +8,7 @@ use Rattle.ggrammar.proofs.IdLemmas.{id_formed}
 use Rattle.gname.specs.Ids.{has_format}
 use Rattle.grequest.proofs.fetch.id_in.Goals as goal
 
--- an id that a text spells has the format of the reading
+-- an id that is read from a text has the format in which the text is read
 has_read_format : TextsHaveOneReading → (format : Format) (text : List ℕ) (read : Option (List ℕ))
     → id_of_text format text ≡ read → IfSome read (λ id. has_format format id ≡ true)
 has_read_format law format text None is = tt

@@ -1,4 +1,4 @@
--- The same flags are set in the rows so far.
+-- Both arrays set the same flags of the rows so far.
 use Rattle.std.proofs.Common.{◌≡◌, drop}
 use Rattle.grequest.specs.Flags.{flag_at}
 use Rattle.grequest.specs.steps.Flags.{table_in}

@@ -1,4 +1,4 @@
--- The packets of the rows that are left are to come.
+-- The packets of the rows from the current index on remain to be written.
 use Rattle.std.proofs.Common.{drop}
 use Rattle.ggrammar.specs.Writing.{IsWriting}
 use Rattle.grequest.specs.Flags.{flags_at}

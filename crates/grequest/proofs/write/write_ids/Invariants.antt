@@ -1,4 +1,4 @@
--- The packets of the ids that are left are to come.
+-- The packets of the ids from the current index on remain to be written.
 use Rattle.std.proofs.Common.{drop, map}
 use Rattle.ggrammar.specs.Writing.{IsWriting}
 use Rattle.grequest.specs.RequestWriting.{id_packet}

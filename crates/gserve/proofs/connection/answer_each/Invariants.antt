@@ -1,4 +1,4 @@
--- Each request so far was answered, and both the reader and the writer go on.
+-- Each request so far was answered, and neither the reader nor the writer has failed.
 use Rattle.std.proofs.Common.{◌≡◌, false}
 use Rattle.gpkt.specs.Packets.{canonical_all}
 use Rattle.gpkt.specs.Sending.{input_of, output_of, Passes}

@@ -7,7 +7,7 @@ use Rattle.indexmap.specs.IndexSet.{IndexSet, IsFromIterResult, contains, insert
 use Rattle.gdag.proofs.IdLists.{any_from_contains, contains_from_any}
 use Rattle.gsession.proofs.acks.set_of.Goals as goal
 
--- a set that was made of ids has exactly these
+-- a set that was built from these ids contains exactly these ids
 abbrev IsMade : {S : Type 0} → List (List ℕ) → IndexSet (List ℕ) S → Type 0
 IsMade ids set = (set.keys ≡ insert_all bytes_eq [] ids) × IsFromIterResult bytes_eq ids set
 

@@ -1,4 +1,4 @@
--- What was received, sent and passed on so far, and how many turns are left.
+-- The bytes received, sent and flushed so far, and the number of remaining turns.
 use Rattle.std.proofs.Common.{◌≡◌, [], true, false}
 use Rattle.gpkt.specs.Change.{change_of}
 use Rattle.gtalk.specs.Connections.{has_stopped, pending_of}

@@ -1,4 +1,4 @@
--- What was heard so far in this turn, and how much of it is left.
+-- The bytes received so far in this turn, and the number of remaining reads.
 use Rattle.std.proofs.Common.{◌≡◌}
 use Rattle.gpkt.specs.Change.{change_of}
 use Rattle.gtalk.specs.Connections.{HearsRead, conversation_of, has_stopped, pending_of}

@@ -1,4 +1,4 @@
--- What was sent so far, and how many bytes are left.
+-- The bytes sent so far, and the number of pending bytes.
 use Rattle.std.proofs.Common.{◌≡◌, length}
 use Rattle.std.specs.Io.KnownBytes.{Keeps}
 use Rattle.gpkt.specs.Change.{change_of}

@@ -1,4 +1,4 @@
--- What was said and sent so far in this turn, and how much of it is left.
+-- The packets queued and sent so far in this turn, and the number of remaining calls.
 use Rattle.std.proofs.Common.{◌≡◌, []}
 use Rattle.std.specs.Io.KnownBytes.{Keeps}
 use Rattle.gpkt.specs.Change.{change_of}

@@ -1,5 +1,5 @@
--- The count ends here, and there is no block; or the answer is that of the allocator inside, and with a block comes its
--- right to free it.
+-- The proof of `allocate`. A refused call returns an error. Any other call returns the result of the inner allocator,
+-- and a returned block comes with the right to free it.
 use Rattle.std.proofs.Common.{◌≡◌, ℕ, ◌+◌, ◌^◌, ◌<◌, Bool, true, false, List, [], ◌∷◌, Ok, Err, refl, w64, Bor}
 use seplogic.Ra.Ura.{Ura}
 use mir.Syntax.{Ty, Args, Fn, a_type, dnil, dcons}
@@ -47,14 +47,14 @@ use Rattle.case_text.proofs.refusing_allocator.RefusingAllocatorAllocator.alloca
 use Rattle.case_text.proofs.refusing_allocator.RefusingAllocatorAllocator.allocate.Code as code
 
 module _ (inner : Al) where
-  -- the code for this allocator inside
+  -- the generic arguments of the code for the inner allocator `inner`
   abbrev applied : Args
   applied = bounded (a_type ∷ []) (inner.row, tt) (dcons inner.d (dcons inner.drops dnil))
 
   abbrev body : Fn
   body = inst_fn applied code.function
 
-  -- the parameters: the handle, the size and the alignment
+  -- the parameters of `allocate`: the handle, the size and the alignment
   abbrev handle : Slot 2
   handle = RefOf (0 ∷ []) tt (plain (λ _. allocator.the_row (param 0 inner.row))) (λ _. tt)
 
@@ -85,11 +85,11 @@ module _ (inner : Al) {M : Type 1} {𝓤 : Ura M} (𝓛 : Logic 𝓤) (at_mem : 
     abbrev due : Val → SProp 𝓤
     due = (walk_of 𝓛 (ended inner) (stays inner) clauses).post asked
 
-    -- the size and the alignment are those of the type
+    -- the arguments `n` and `a` are the size and the alignment of the type `τ`
     abbrev IsOfType : Type 0
     IsOfType = (capped (size τ) ≡ n) × (capped (align τ) ≡ a)
 
-    -- the end where there is no block
+    -- the postcondition of a call that returns no block
     ends_without : Sq 𝓛 (‵ (flft κ q) ∷ (‵ (flft ρ s) ⊛ ‵ ftrue) ∷ []) (prop (due (answer_val false 0 0)))
     ends_without =
         nothing ! $
@@ -98,7 +98,7 @@ module _ (inner : Al) {M : Type 1} {𝓤 : Ura M} (𝓛 : Logic 𝓤) (at_mem : 
         nothing ! $ nothing ! $ fjoin ! $ nothing ! $ fjoin ! $ nothing ! $ fjoin ! $ join ! $
         move ! (2 ∷ 3 ∷ []) $ join ! $ join ! $ done !
 
-    -- the end with a block
+    -- the postcondition of a call that returns a block
     ends_with : (b o : ℕ) → Sq 𝓛 (‵ (fsep (froom τ b o) (inner.g.dealloc_token r.now.inner τ (block_ptr b o))) ∷ ‵ (flft κ q) ∷ (‵ (flft ρ s) ⊛ ‵ ftrue) ∷ []) (prop (due (answer_val true b o)))
     ends_with b o =
         suffices ! _ (ends_at 𝓛 (ended inner) (stays inner) clauses asked (answer_val true b o) (Ok (block_ptr b o)) (tt, (tt, (tt, tt))) (tt, (tt, (tt, tt)))) $
@@ -115,24 +115,24 @@ module _ (inner : Al) {M : Type 1} {𝓤 : Ura M} (𝓛 : Logic 𝓤) (at_mem : 
         let there : (Takes inner 𝓛 at_mem run).Ghost = at_takes inner 𝓛 at_mem run κ q place held n a τ in
         qed 𝓛 (((‵ (flft κ q) ⊛ ‵ (flft ρ s) ⊛ ‵ ftrue) ⊛ ‵ (owns (types_at (ended inner).signature.params asked.0.0) asked.0.3 asked.0.4))
         ∷ (raw (fact 𝓤 (ρ ⊑ inner.row.lives)) ⊛ raw (fact 𝓤 IsOfType)) ∷ []) ∵
-        -- looks at the count and at the allocator inside, and the lifetimes
+        -- shared access to the count and to the inner allocator, and their lifetimes
         move ! (1 ∷ []) $ split ! $ heard ! (ρ ⊑ inner.row.lives) (λ outlives. heard ! IsOfType (λ of_type.
         split ! $ split ! $ move ! (2 ∷ []) $ fsplit ! $ fsplit ! $ move ! (1 ∷ []) $ unhide ! $ fsplit ! $ fsplit ! $
         use1 𝓛 (‵ (seen inner κ place held)) (id⊢ 𝓤 _) $ move ! (1 ∷ []) $ fsplit ! $ keep ! (0 ∷ 6 ∷ 2 ∷ 7 ∷ []) $
         enter ! 𝓣.C 𝓣.Λ (body inner) values _ $
         alloc_all ! (λ l. pass_all ! refl ((tt, tt), ((tt, record { fits = fits_n }), ((tt, record { fits = fits_a }), tt))) $
-        -- the count
+        -- the call of `count_allocation`
         sets ! (addr ! (through ! refl (fld ! refl (stop !)))) refl (tt, tt) $
         use2 𝓛 (raw ((Counts 𝓛 at_mem run).pre (picked 𝓛 at_mem run κ q count))) (handed 𝓛 at_mem run κ q count) $
         calls_at ! (fm_of 𝓤 H 𝓛.laws 𝓣) (Counts 𝓛 at_mem run) counts (picked 𝓛 at_mem run κ q count) (and_then ! (get ! refl) (no_more !)) (λ u.
         use1 𝓛 (later (some (λ (word : Bool). given (u ≡ vbool word) (‵ (flft κ q))))) (returned 𝓛 at_mem run κ q count u) $
         await ! tt $ pick ! (λ word. learn ! (λ is_word. lands_as ! is_word refl (tt, tt) $
         first ! $ branches ! (get ! refl)
-        -- it ends here
+        -- a refused allocation
         (λ ends. sets ! (agg ! (no_more !)) refl (tt, tt) $
         sets ! (agg ! (and_then ! (lit ! tt) (and_then ! (get ! refl) (no_more !)))) refl (Answer-typed false 0 0) $
         returns_within ! due refl (look_at ! 0 refl) $ free_all ! refl $ keep ! (0 ∷ 2 ∷ []) $ ends_without)
-        -- it goes on
+        -- an allocation by the inner allocator
         (λ goes_on. skips ! $ exec ! 𝓣.C 𝓣.Λ (env (body inner).locals l) (after 3 (body inner).body) (at_ret _ due) $
         move ! (1 ∷ []) $ sets ! (addr ! (through ! refl (fld ! refl (stop !)))) refl (tt, tt) $
         use2 𝓛 (raw ((Takes inner 𝓛 at_mem run).pre there))

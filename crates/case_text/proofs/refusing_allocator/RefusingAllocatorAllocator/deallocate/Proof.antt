@@ -1,4 +1,4 @@
--- The block goes back to the allocator inside, whose right to free it is the one that was given.
+-- The proof of `deallocate`. The inner allocator frees the block, with the right to free it that the caller passes.
 use Rattle.std.proofs.Common.{◌≡◌, ℕ, ◌+◌, ◌^◌, ◌<◌, List, [], ◌∷◌, refl, w64, Bor}
 use seplogic.Ra.Ura.{Ura}
 use mir.Syntax.{Ty, Args, Fn, a_type, dnil, dcons}
@@ -41,14 +41,14 @@ use Rattle.case_text.proofs.refusing_allocator.RefusingAllocatorAllocator.deallo
 use Rattle.case_text.proofs.refusing_allocator.RefusingAllocatorAllocator.deallocate.Code as code
 
 module _ (inner : Al) where
-  -- the code for this allocator inside
+  -- the generic arguments of the code for the inner allocator `inner`
   abbrev applied : Args
   applied = bounded (a_type ∷ []) (inner.row, tt) (dcons inner.d (dcons inner.drops dnil))
 
   abbrev body : Fn
   body = inst_fn applied code.function
 
-  -- the parameters: the handle, the pointer, the size and the alignment
+  -- the parameters of `deallocate`: the handle, the pointer, the size and the alignment
   abbrev handle : Slot 2
   handle = RefOf (0 ∷ []) tt (plain (λ _. allocator.the_row (param 0 inner.row))) (λ _. tt)
 
@@ -72,7 +72,7 @@ module _ (inner : Al) {M : Type 1} {𝓤 : Ura M} (𝓛 : Logic 𝓤) (at_mem : 
   clauses = f.clauses inner.row inner.g inner.d inner.drops 𝓛 at_mem run
 
   module _ (κ ρ : Lft) (q s : Share) (within : κ ⊑ ρ) (r : Bor (allocator.the_row inner.row).Denot) (n a : ℕ) (τ : Ty) where
-    -- what is given, at a pointer
+    -- the ghost arguments of a call with the pointer `x`
     abbrev given_at : Ptr → (walk_of 𝓛 (ended inner) (stays inner) clauses).Ghost
     given_at x =
         (((κ, (ρ, tt)), (q, (s, tt)), (within, tt), (r, (x, (n, (a, tt)))), (shr_vals r, (rawptr_vals x, (vint w64 n ∷ [], (vint w64 a ∷ [], tt))))), τ)
@@ -88,13 +88,13 @@ module _ (inner : Al) {M : Type 1} {𝓤 : Ura M} (𝓛 : Logic 𝓤) (at_mem : 
         (‵ (flft κ q) ⊛ ‵ (flft ρ s) ⊛ ‵ ftrue)
         ⊛ ‵ (owns (types_at (ended inner).signature.params (given_at x).0.0) (given_at x).0.3 (given_at x).0.4)
 
-    -- the size and the alignment are those of the block's type
+    -- the arguments `n` and `a` are the size and the alignment of the block's type `τ`
     abbrev IsOfType : Type 0
     IsOfType = (capped (size τ) ≡ n) × (capped (align τ) ≡ a)
 
     gives_back : n < 2 ^ 64 → a < 2 ^ 64 → (x : Ptr)
         → ent 𝓤 ((walk_of 𝓛 (ended inner) (stays inner) clauses).pre (given_at x)) (WpFn 𝓤 H 𝓣.C 𝓣.Λ (body inner) (values x) (due x))
-    -- no block is at null
+    -- the null pointer, which points to no block
     gives_back fits_n fits_a null_ptr =
         qed 𝓛 (at_first null_ptr ∷ (raw (fact 𝓤 (ρ ⊑ inner.row.lives)) ⊛ raw (fact 𝓤 IsOfType) ⊛ ‵ (fsep ffalse (token inner r.now.inner τ null_ptr))) ∷ []) ∵
         move ! (1 ∷ []) $ split3 ! $ move ! (2 ∷ []) $ fsplit ! $ keep ! (0 ∷ []) $ by ! (never_e 𝓤 _)
@@ -104,7 +104,7 @@ module _ (inner : Al) {M : Type 1} {𝓤 : Ura M} (𝓛 : Logic 𝓤) (at_mem : 
         let x : Ptr = block_ptr b o in
         let there : (Gives inner 𝓛 at_mem run).Ghost = at_gives inner 𝓛 at_mem run κ q place held b o n a τ in
         qed 𝓛 (at_first x ∷ (raw (fact 𝓤 (ρ ⊑ inner.row.lives)) ⊛ raw (fact 𝓤 IsOfType) ⊛ ‵ (fsep (froom τ b o) (token inner held τ x))) ∷ []) ∵
-        -- the look at the allocator inside, the lifetimes, and the block with the right to free it
+        -- shared access to the inner allocator, the lifetimes, and the block with the right to free it
         move ! (1 ∷ []) $ split3 ! $
         heard ! (ρ ⊑ inner.row.lives) (λ outlives. heard ! IsOfType (λ of_type.
         move ! (1 ∷ []) $ split ! $ split ! $ move ! (2 ∷ []) $
@@ -112,7 +112,7 @@ module _ (inner : Al) {M : Type 1} {𝓤 : Ura M} (𝓛 : Logic 𝓤) (at_mem : 
         use1 𝓛 (‵ (seen inner κ place held)) (id⊢ 𝓤 _) $ keep ! (0 ∷ 5 ∷ 6 ∷ 7 ∷ []) $
         enter ! 𝓣.C 𝓣.Λ (body inner) (values x) _ $
         alloc_all ! (λ l. pass_all ! refl ((tt, tt), ((tt, tt), ((tt, record { fits = fits_n }), ((tt, record { fits = fits_a }), tt)))) $
-        -- the field, and the call
+        -- the address of the field `inner`, and the call of the inner allocator
         sets ! (addr ! (through ! refl (fld ! refl (stop !)))) refl (tt, tt) $
         join ! $ move ! (2 ∷ []) $ fsplit ! $ move ! (1 ∷ 2 ∷ []) $ join ! $ move ! (1 ∷ 0 ∷ []) $ join ! $
         use1 𝓛 (raw ((Gives inner 𝓛 at_mem run).pre there))
@@ -121,7 +121,7 @@ module _ (inner : Al) {M : Type 1} {𝓤 : Ura M} (𝓛 : Logic 𝓤) (at_mem : 
         (and_then ! (get ! refl) (and_then ! (get ! refl) (and_then ! (get ! refl) (and_then ! (get ! refl) (no_more !))))) (λ v.
         use1 𝓛 (later (given (v ≡ vunit) (‵ (flft κ q)))) (Gives-Gives inner 𝓛 at_mem run κ q place held b o n a τ v) $
         await ! tt $ learn ! (λ is_unit. lands_as ! is_unit refl (tt, tt) $
-        -- the end
+        -- the return from `deallocate`
         sets ! (of_opd ! (unit_lit !)) refl (tt, tt) $ returns ! (look_at ! 0 refl) $ free_all ! refl $
         suffices ! _ (ends_at 𝓛 (ended inner) (stays inner) clauses (given_at x) vunit tt (tt, (tt, (tt, (tt, tt)))) (tt, (tt, (tt, (tt, tt))))) $
         nothing ! $ feq_i ! (List Val) (vunit ∷ []) (vunit ∷ []) refl $ nothing ! $

@@ -1,4 +1,4 @@
--- The lines of the refs from here on are to come.
+-- The lines that are still to be written are the lines of the remaining refs.
 use Rattle.std.proofs.Common.{List, drop, map}
 use Rattle.ggrammar.specs.Writing.{IsWriting}
 use Rattle.glsreply.specs.LsReplies.{ref_packet}

@@ -76,7 +76,7 @@ returns-in-Err-clause-connected g c =
 pub returns-in-Err-clause-graph : goal.returns-in-Err-clause-graph
 returns-in-Err-clause-graph g c = subst IsGraph (sym (returns-in-Err-clause-adds g c).0) c.len-before.ensures.graph
 
--- all entries came in, once none is left
+-- if no entries are left, all entries were inserted
 all_in : {A : Type 0} (format : Format) (old entries front rest new : List (Entry A)) → front ++ rest ≡ entries → length rest ≡ 0 → Inserts format old front new → Inserts format old entries new
 all_in format old entries front [] new is none comes =
     subst (λ l. Inserts format old l new) (sym (append-nil front) ∙ is) comes

@@ -8,12 +8,12 @@ use Rattle.gdag.proofs.graph.Graph.peel.Goals.{then-is_power_of_two, else-is_pow
 pub loop-steps-init : goal.loop-steps-init
 loop-steps-init g c = (refl, (0, omega arith, refl))
 
--- the object is not held
+-- the graph does not contain the object
 pub returns-in_err-node-clause-only : goal.returns-in_err-node-clause-only
 returns-in_err-node-clause-only g c =
     λ c' peels. absurd (peel_stuck c.args.self.now.entries c.args.id.now c.loop-steps.at c' c.loop-steps.steps c.loop-steps.invariant.0 (λ node held. (let missing = c.in_err-node.ensures in cc)) peels)
 
--- it is a commit
+-- the object is a commit
 pub returns-in-Commit-clause-found : goal.returns-in-Commit-clause-found
 returns-in-Commit-clause-found g c =
     (c.loop-steps.steps, c.loop-steps.invariant.0, record { node = c.in_ok-node.node.now; held = sym c.in_ok-node.ensures; commit = c.in-Commit.is })
@@ -24,12 +24,12 @@ returns-in-Commit-clause-only g c =
     ap (λ (x : List ℕ). Some x)
     (peel_ends c.args.self.now.entries c.args.id.now c.loop-steps.at c' c.loop-steps.steps c.loop-steps.invariant.0 (record { node = c.in_ok-node.node.now; held = sym c.in_ok-node.ensures; commit = c.in-Commit.is }) peels)
 
--- it is a tag without a parent
+-- the object is a tag without a parent
 pub returns-in_err-at-in-Tag-clause-only : goal.returns-in_err-at-in-Tag-clause-only
 returns-in_err-at-in-Tag-clause-only g c =
     λ c' peels. absurd (peel_nameless c.args.self.now.entries c.args.id.now c.loop-steps.at c' c.loop-steps.steps c.in_ok-node.node.now c.loop-steps.invariant.0 (sym c.in_ok-node.ensures) c.in-Tag.is (rw c.as_slice.ensures at (sym c.in_err-at-in-Tag.ensures.value)) peels)
 
--- it comes to the id that is kept
+-- the chain returns to the id in `kept`
 pub returns-then-eq-clause-only : goal.returns-then-eq-clause-only
 returns-then-eq-clause-only g c =
     let more = one_tag_more c.args.self.now.entries c.loop-steps.steps c.args.id.now c.loop-steps.at c.in_ok-at-in-Tag.field-0.now c.in_ok-node.node.now c.loop-steps.invariant.0 (sym c.in_ok-node.ensures) c.in-Tag.is (rw c.as_slice.ensures at (sym c.in_ok-at-in-Tag.ensures.value)) in
@@ -38,7 +38,7 @@ returns-then-eq-clause-only g c =
     let same : c.in_ok-at-in-Tag.field-0.now ≡ c.loop-steps.kept = (bytes_eq-Decides c.in_ok-at-in-Tag.field-0.now c.loop-steps.kept).0 (sym c.eq.ensures ∙ c.if-eq.true) in
     λ c' peels. absurd (peel_round c.args.self.now.entries c.args.id.now c.loop-steps.kept c' kept.0 (suc c.loop-steps.steps) (omega (arith, less)) kept.2 (subst (Tags c.args.self.now.entries (suc c.loop-steps.steps) c.args.id.now) same more) peels)
 
--- it goes on
+-- the loop takes one more step along the chain
 pub loop-steps-preserved : goal.loop-steps-preserved
 loop-steps-preserved g c =
     let more = one_tag_more c.args.self.now.entries c.loop-steps.steps c.args.id.now c.loop-steps.at c.in_ok-at-in-Tag.field-0.now c.in_ok-node.node.now c.loop-steps.invariant.0 (sym c.in_ok-node.ensures) c.in-Tag.is (rw c.as_slice.ensures at (sym c.in_ok-at-in-Tag.ensures.value)) in
@@ -51,7 +51,7 @@ loop-steps-preserved g c =
       ],
     )
 
--- more tags than entries
+-- the chain has at least as many tags as the graph has entries
 pub returns-clause-only : goal.returns-clause-only
 returns-clause-only g c =
     λ c' peels. absurd (peel_long c.args.self.now.entries c.loop-steps.steps c.args.id.now c.loop-steps.at c' (omega (arith, c.len-steps-end.ensures.len)) c.loop-steps.invariant.0 peels)

@@ -1,4 +1,4 @@
--- What is kept is the first of the text.
+-- The stored bytes are the first bytes of the text.
 use Rattle.std.proofs.Common.{◌≡◌, ◌++◌, ℕ, List, length, take, ap, ◌∙◌, min, arith}
 use Rattle.std.proofs.lemmas.List.{take_min}
 use Rattle.ggrammar.specs.Faults.{max_peer_text}

@@ -3,7 +3,7 @@ use Rattle.std.proofs.lemmas.Bool.Decides.{Decides-eqb}
 use Rattle.std.proofs.lemmas.Slice.Eq.{strip_prefix_is}
 use Rattle.ggraph.proofs.text.recent.after.Goals as goal
 
--- what follows digits of which there are some
+-- the text after digits that are not empty
 follows : (digits text : List ℕ) (found : Option (Bor (List ℕ))) → digits ≢ [] → MatchOption found ((rest : List ℕ) → text ≢ digits ++ rest) (λ rest. text ≡ digits ++ rest.now) → IfSome found (λ rest. (digits ≢ []) × (text ≡ digits ++ rest.now))
 follows digits text (Some rest) some is = (some, is)
 follows digits text None some is = tt

@@ -2,7 +2,7 @@ use Rattle.std.proofs.Common.{◌≡◌, ◌+◌, ◌≤◌, ◌++◌, ℕ, List
 use Rattle.gitrepository.specs.Parts.{IsGoing}
 use Rattle.gitrepository.proofs.parts.StoreParts.fill.Given as goal
 
--- so many bytes were given, to the front of the buffer
+-- `filled` bytes were returned so far, at the front of the buffer `out`
 abbrev pub invariant-loop : goal.invariant-loop
 invariant-loop g l =
     (l.filled ≤ length l.out) × (l.self.outgoing.left + l.filled ≡ l.initial.self.outgoing.left)

@@ -4,7 +4,7 @@ use Rattle.grefs.specs.RefLists.{CannotSet, RefList, ref_at}
 use Rattle.grefs.proofs.RefLemmas.{ref_at-found, ref_at-gap, ref_at-head, found_inside, gap_inside, refs_insert, refs_set, sets_insert, sets_set}
 use Rattle.grefs.proofs.refs.Refs.set.Goals as goal
 
--- a name that stands somewhere and is not HEAD can be set
+-- a name that already has a ref and is not HEAD can be set
 cannot_set : (refs : RefList) (name id : List ℕ) → ref_at refs name ≡ Some id → name ≢ head_name → CannotSet refs name → ⊥
 cannot_set refs name id there differs (inl head) = differs head
 cannot_set refs name id there differs (inr new) = let missing = new.0 in cc

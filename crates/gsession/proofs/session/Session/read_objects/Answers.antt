@@ -7,7 +7,7 @@ use Rattle.gsession.proofs.ReplyLemmas.{read_answer, read_leaves}
 use Rattle.gsession.proofs.session.Session.read_objects.Given.{Over}
 use Rattle.gsession.proofs.session.Session.read_objects.Goals as goal
 
--- what taking the reply answers that was read
+-- the result of accepting or rejecting the complete reply
 answers : (g : Over) (c : goal.After-take_head g)
     → AnswersRead (g.K.Indexer.indexes c.args.indexer.now) (g.K.Indexer.index_fails c.args.indexer.now)
     c.in-Some.ensures.0.haves c.args.self.now c.args.repo.now c.in-Ok.ensures.read.reply c.take_head.new.self

@@ -30,7 +30,7 @@ loop-pass-init g c =
       fits = (let l = wants.long in rw c.know_all.ensures.wanted (omega arith));
     }
 
--- the pass stops where nothing that is open is left below
+-- the pass ends when no unvisited position is open
 pub returns-clause-done : goal.returns-clause-done
 returns-clause-done g c =
     let pass = c.loop-pass.pass in

@@ -2,7 +2,7 @@ use Rattle.std.proofs.Common.{◌≡◌, ℕ, List, ◌++◌, length}
 use Rattle.gzlib.specs.Adler.{HasAdlerOf}
 use Rattle.gzlib.proofs.adler.Adler32.update.Given as goal
 
--- the bytes before the rest have been added
+-- all bytes before `rest` have been added
 abbrev pub invariant-loop-part : goal.invariant-loop-part
 invariant-loop-part l =
     (m : List ℕ) → HasAdlerOf l.fn.self m → (done : List ℕ) × HasAdlerOf l.self done × (done ++ l.rest ≡ m ++ l.bytes)

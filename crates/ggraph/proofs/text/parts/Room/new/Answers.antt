@@ -6,7 +6,7 @@ use Rattle.gname.specs.declared.ids.OidFault.{OidFault}
 use Rattle.gname.specs.declared.ids.OidFault.TheVariants.{Length, Digit}
 use Rattle.ggraph.proofs.text.parts.Room.new.Goals as goal
 
--- forty noughts are the text of an id
+-- forty zeros are the text of an id
 noughts : (r : Result (List ℕ) OidFault) → ReadsId Sha1 (replicate 40 48) r → IsOk r
 noughts (Ok id) h = refl
 noughts (Err Length) h = absurd (h refl)

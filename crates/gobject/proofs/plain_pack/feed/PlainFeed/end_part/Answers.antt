@@ -7,7 +7,7 @@ use Rattle.gobject.proofs.PlainPackFeed.{feeds_then, feeds_more, feeds_part, nil
 use Rattle.gobject.proofs.PlainPackLines.{IsPart-nil}
 use Rattle.gobject.proofs.plain_pack.feed.PlainFeed.end_part.Goals as goal
 
--- the part that was moved out is what was kept
+-- the part that was moved out of the feed has the stored bytes
 kept : (part moved : ArrayVec ℕ) (bytes : List ℕ) → moved ≡ part → bytes ≡ moved.items → part.items ++ [] ≡ bytes
 kept part moved bytes is lent = append-nil part.items ∙ sym (ap (λ (v : ArrayVec ℕ). v.items) is) ∙ sym lent
 
