@@ -37,6 +37,21 @@ pub struct IndexLimits {
     pub held: usize,
     /// The maximum total size of all objects and deltas.
     pub total: usize,
+    /// The number of bytes by which `object` and `held` are reduced for each object of the pack,
+    /// since each object needs memory for tables.
+    pub table: usize,
+}
+
+impl IndexLimits {
+    // Returns the limits for a pack of `count` objects.
+    pub(crate) fn for_count(self, count: u32) -> IndexLimits {
+        let tables = self.table.saturating_mul(count as usize);
+        IndexLimits {
+            object: self.object.saturating_sub(tables),
+            held: self.held.saturating_sub(tables),
+            ..self
+        }
+    }
 }
 
 /// An object of a pack, with its entry in the pack index and its type.
@@ -158,9 +173,9 @@ pub fn index_pack<A: Allocator + Copy, V: ObjectVisitor>(
 ) -> Result<IndexedPack<A>, PackFileFault>
     ensures { IfOk result (λ indexed. (count : ℕ) × IsFramed count indexed.checksum pack.now) }
 {
-    let mut incoming = IncomingPack::new(alloc, limits);
+    let mut incoming = IncomingPack::new(alloc, Vec::new(alloc), limits);
     incoming.feed(pack, visitor)?;
-    let (_bytes, index) = incoming.finish(visitor)?;
+    let (_spool, index) = incoming.finish(visitor)?;
     Ok(index)
 }
 

@@ -99,6 +99,7 @@ pub mod laws;
 mod numbers;
 mod resolving;
 mod scanning;
+mod spool;
 mod streams;
 mod writing;
 
@@ -109,4 +110,5 @@ pub use crate::fault::PackFileFault;
 pub use crate::incoming::IncomingPack;
 pub use crate::index::{IndexEntry, PackIndex};
 pub use crate::indexing::{IndexLimits, IndexedEntry, IndexedPack, ObjectVisitor, index_pack};
+pub use crate::spool::{Spool, SpoolFault};
 pub use crate::writing::{PackWriter, put_entry, put_header};
