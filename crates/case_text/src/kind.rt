@@ -13,7 +13,7 @@ pub enum FactKind {
     PrintedFault,
     /// The results of calls with inputs near the size limits.
     SizeLimits,
-    /// The request to which a command line parses.
+    /// The result of parsing a command line.
     CommandLine,
     /// The results of random simulations.
     RandomSimulation,

@@ -41,7 +41,7 @@ pub record Welcomes (format : Format) (capabilities : List Capability) : Type 0 
   pub goes_on : check_fault format capabilities ≡ None
   pub unborn : has_feature (codes "ls-refs") (codes "unborn") capabilities ≡ true
 
--- each client of the server's object format accepts its advertisement
+-- each client of the server's object format accepts the server's advertisement
 abbrev pub AdvertsWelcome : Type 0
 AdvertsWelcome = (format : Format) → Welcomes format (advertisement format)
 

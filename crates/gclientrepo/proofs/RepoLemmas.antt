@@ -54,7 +54,7 @@ module _ {A : Type 0} where
     covers = covers g.entries h.entries (values_of refs) known grows differ whole.connected_refs whole.covers;
   }
 
-  -- if no id is missing in the ancestries of some ids, these ids are connected
+  -- if no id is missing in the ancestries of some ids, these ids are connected; otherwise they are not all connected
   pub all_held : (g : List (Entry A)) (ids : List (List ℕ)) (missing : Option (List ℕ)) → Misses g ids missing → is_some missing ≡ false → All (IsConnected g) ids
   all_held g ids None misses is = misses
   all_held g ids (Some b) misses is = absurd (false≢true (sym is))
@@ -81,7 +81,7 @@ module _ {A : Type 0} where
   all_connected closed connected g differ ordered is true_is ids held =
       All-weaker (Holds g) (IsConnected g) (held_connected closed connected g differ (is.0 true_is)) ids held
 
-  -- only a walk can decide whether ids of an unordered graph are connected
+  -- if a graph holds the ids but is not ordered, only a walk can decide whether the ids are connected
   pub needs_walk : (g : List (Entry A)) (ids : List (List ℕ)) (ordered : Bool) → All (Holds g) ids → IsTrue ordered ↔ IsOrdered g → ordered ≡ false → NeedsWalk g ids
   needs_walk g ids ordered held is out = record { held = held; unordered = λ first. false≢true (sym out ∙ is.1 first) }
 

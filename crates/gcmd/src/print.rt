@@ -287,7 +287,8 @@ fn line_in_text(fault: &LoadFault) -> Option<usize>
     }
 }
 
-/// Returns the id that two objects share, or the id that has another object format.
+/// Returns the id in the fault, if there is one: the id of two different objects, or an id that
+/// does not have the graph's object format.
 pub(crate) fn id_in_graph(fault: &GraphFault) -> Option<Oid>
     ensures { result ≡ id_in_graph fault.now }
 {

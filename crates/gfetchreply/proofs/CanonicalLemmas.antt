@@ -1,4 +1,5 @@
--- The packets that are written of a reply: there is one list of them, each payload fits, and they say the reply.
+-- The packets that are written for a reply: the pieces of its pack, the reply that the packets encode, and the lengths
+-- of the payloads.
 use Rattle.std.proofs.Common.{◌≡◌, ℕ, zero, suc, ◌≤◌, ◌<◌, false, List, [], ◌∷◌, ◌++◌, length, take, drop, map, min, codes, inl, inr, Some, refl, sym, ap, subst, ◌∙◌, length-append, length-drop, length-take, arith}
 use Rattle.std.specs.Prelude.{All}
 use Rattle.std.specs.Option.{is_some}
@@ -34,7 +35,7 @@ within_nil : (most : ℕ) → pieces_within most [] ≡ []
 within_nil zero = refl
 within_nil (suc most) = refl
 
--- they are the same, however many more there may be
+-- the pieces do not depend on the maximum number of pieces, if this is at least the length of the pack
 same_within : (most more : ℕ) (pack : List ℕ) → length pack ≤ most → length pack ≤ more
     → pieces_within most pack ≡ pieces_within more pack
 same_within most more [] few less = within_nil most ∙ sym (within_nil more)
@@ -50,11 +51,11 @@ pieces_few zero pack = omega arith
 pieces_few (suc most) [] = omega arith
 pieces_few (suc most) (byte ∷ rest) = let few = pieces_few most (drop max_band (byte ∷ rest)) in omega arith
 
--- a piece on band 1
+-- the payload of a piece on band 1
 abbrev pub on_band : List ℕ → List ℕ
 on_band piece = band_payload (BandData piece)
 
--- their data is the pack
+-- the data in the payloads of the pieces is the pack
 pieces_join : (most : ℕ) (pack : List ℕ) → length pack ≤ most → pack ≡ data_of (map on_band (pieces_within most pack))
 unfolding band_form
 pieces_join most [] few = ap (λ (xs : List (List ℕ)). data_of (map on_band xs)) (sym (within_nil most))
@@ -77,14 +78,14 @@ pieces_fit (suc most) (byte ∷ rest) =
     All-cons Fits (data_packet (take max_band (byte ∷ rest))) _ (omega arith)
     (pieces_fit most (drop max_band (byte ∷ rest)))
 
--- ---- the pieces of a pack, one after the other
+-- ---- the pieces of a pack in sequence
 
 pub pieces_none : (pack : List ℕ) → length pack ≡ 0 → pieces pack ≡ []
 unfolding pieces
 pieces_none [] empty = refl
 pieces_none (byte ∷ rest) empty = absurd (omega arith)
 
--- the first piece, and those of what follows it
+-- the pieces of a nonempty pack are its first piece and the pieces of the rest
 pub pieces_next : (pack piece after : List ℕ) → pack ≡ piece ++ after → length piece ≡ min max_band (length pack) → 0 < length pack
     → pieces pack ≡ piece ∷ pieces after
 unfolding pieces
@@ -99,7 +100,7 @@ pieces_next (byte ∷ rest) piece after e size some =
     ∙ ap (λ (xs : List (List ℕ)). piece ∷ xs)
     (same_within (length rest) (length after) after (omega (arith, length-drop max_band (byte ∷ rest))) (omega arith))
 
--- ---- what the packets say
+-- ---- the reply that the packets encode
 
 module _ (line_is : TextOfLine) (ids_have : IdsHaveTexts) (one_format : IdsHaveOneFormat) where
   -- the payload of an acknowledged id
@@ -199,7 +200,7 @@ module _ (line_is : TextOfLine) (ids_have : IdsHaveTexts) (one_format : IdsHaveO
       says_from_manual reading (canonical_reply reading.ends reply) reply
       (record { body = body_packets reply; is_body = body_is reading reply within fit; parts = refl })
 
-  -- ---- each fits
+  -- ---- the lengths of the payloads
 
   ack_fits : (format : Format) (id : List ℕ) → IsIdOf format id → Fits (ack_packet id)
   ack_fits format id is =

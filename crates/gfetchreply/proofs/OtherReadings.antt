@@ -1,4 +1,4 @@
--- Replies that are read another way: as the answer to another request, or with other limits.
+-- Reading the same packets as the reply to another request, or with other limits.
 use Rattle.std.proofs.Common.{◌≡◌, ℕ, ◌+◌, ◌≤◌, Bool, true, false, List, [], ◌∷◌, ◌++◌, length, map, cond, inl, inr}
 use Rattle.std.proofs.Common.{Option, Some, None, Result, Ok, Err, refl, sym, subst, ap, ◌∙◌, arith}
 use Rattle.std.specs.Prelude.{◌⊎◌, ◌&&◌, is_some, nat_le, nat_lt}
@@ -33,7 +33,7 @@ use Rattle.gfetchreply.proofs.ReplyManual.{whole_at_start}
 use Rattle.gfetchreply.proofs.ReplySections.{data_goes, refused}
 use Rattle.gfetchreply.proofs.ReplyVerdicts.{at_place, before_open, IsWholeAt, start, start_open}
 
--- ---- within another limit
+-- ---- another size limit
 
 pack_within : (limit other : ℕ) (packets : List Packet) (pack : List ℕ) → IsPackSection limit packets pack → length pack ≤ other → IsPackSection other packets pack
 pack_within limit other packets pack is short = record {
@@ -70,9 +70,9 @@ any_limit reading limit packets reply said short =
     says_from_manual (record reading { limit = limit }) packets reply
     (record { body = is.body; is_body = body_within reading limit is.body reply is.is_body short; parts = is.parts })
 
--- ---- with other limits
+-- ---- other limits on acknowledged ids
 
--- as many ids as texts acknowledge them
+-- the number of acknowledged ids is the number of texts that acknowledge an id
 section_count : (limits : Limits) (format : Format) (packets : List Packet) (ids : List (List ℕ))
     → (is : IsAckSection limits format packets ids) → length ids ≡ length is.acks
 section_count limits format packets ids is =
@@ -139,7 +139,7 @@ any_limits reading limits packets reply said few =
     says_from_manual (record reading { limits = limits }) packets reply
     (record { body = is.body; is_body = body_allowed reading limits is.body reply is.is_body few; parts = is.parts })
 
--- ---- what a reply keeps
+-- ---- the limits that a reply is within
 
 body_short : (reading : Reading) (packets : List Packet) (reply : FetchReply) → IsBody reading packets reply → length (pack_of reply) ≤ reading.limit
 body_short reading packets (Acks ids) is = omega arith
@@ -154,7 +154,7 @@ body_few reading packets (Acks ids) (direct, inr is) =
 body_few reading packets (Ready ids pack) is = section_few reading.limits reading.format is.1.section ids is.1.acks
 body_few reading packets (Pack pack) is = omega arith
 
--- the limits of one who reads a reply
+-- the reply is within the limits of the reading
 record Keeps (reading : Reading) (reply : FetchReply) : Type 0 where
   short : length (pack_of reply) ≤ reading.limit
   few : length (acknowledged_by reply) ≤ max_acks reading.limits
@@ -165,7 +165,7 @@ said_keeps reading packets reply said =
     let is = manual_from_says reading packets reply said in
     record { short = body_short reading is.body reply is.is_body; few = body_few reading is.body reply is.is_body }
 
--- the limits of either of two
+-- limits that allow at least as many haves as each of the two given limits
 abbrev either : Limits → Limits → Limits
 either limits other = record limits { haves = limits.haves + other.haves }
 
@@ -176,7 +176,7 @@ wider reading limit limits packets reply said short few =
     any_limits (record reading { limit = limit }) limits packets reply
     (any_limit reading limit packets reply said short) few
 
--- ---- the first packet says whether the pack comes at once
+-- ---- the first packet, which shows whether a reply is direct
 
 abbrev heading_of : Bool → ReplyForm
 heading_of true = Packfile
@@ -206,7 +206,7 @@ heading_tells true true e = refl
 heading_tells false false e = refl
 heading_tells a b e = cc
 
--- both come with the pack at once, or neither
+-- if a complete reply is a prefix of another complete reply, both are direct or neither is
 same_direct : (reading other : Reading) (packets back : List Packet) → IsWhole (judge reading) packets
     → IsWhole (judge other) (packets ++ back) → other.direct ≡ reading.direct
 same_direct reading other packets back p q =
@@ -232,7 +232,7 @@ whatever_reading reading other packets back one also format ends p q =
     (subst (λ (r : Reading). Says r (packets ++ back) also) (same_reading reading other limit limits format direct ends)
     (wider other limit limits (packets ++ back) also q (omega arith) (omega arith)))
 
--- ---- who allows more refuses less, and nothing else
+-- ---- verdicts with higher limits
 
 room_more : (few : Bool) (bytes limit more : ℕ) (test : Bool) (v : Verdict) → limit ≤ more → (few && nat_le bytes limit) ≡ test → if_room (few && nat_le bytes limit) ≡ v
     → (v ≡ Refused why.Limit) ⊎ (if_room (few && nat_le bytes more) ≡ v)
@@ -248,7 +248,7 @@ band_more limit more state (Ok (BandData bytes)) v longer e = room_more _ (state
 band_more limit more state (Ok form) v longer e = inr e
 band_more limit more state (Err fault) v longer e = inr e
 
--- another acknowledged id
+-- the verdict on another acknowledged id is the same with a higher limit, unless it rejects the id with `Limit`
 count_more : (count most more : ℕ) (test : Bool) (v : Verdict) → most ≤ more → nat_lt count most ≡ test
     → if_room (nat_lt count most) ≡ v → (v ≡ Refused why.Limit) ⊎ (if_room (nat_lt count more) ≡ v)
 count_more count most more true v longer is e =
@@ -270,14 +270,14 @@ acking_more limits more format state (Ack id) v longer e =
     id_more (is_some (id_of_text format id)) state.ack_count (max_acks limits) (max_acks more) v longer e
 acking_more limits more format state form v longer e = inr e
 
--- where no error of the peer comes first
+-- the same fact for a verdict that an error of the peer may replace
 error_more : (said : Option (List ℕ)) (one other v : Verdict)
     → ((w : Verdict) → one ≡ w → (w ≡ Refused why.Limit) ⊎ (other ≡ w))
     → unless_error said one ≡ v → (v ≡ Refused why.Limit) ⊎ (unless_error said other ≡ v)
 error_more (Some said) one other v more e = inr e
 error_more None one other v more e = more v e
 
--- the limits allow what the reading allows
+-- the given limits are at least as high as those of the reading
 record Allows (reading : Reading) (limit : ℕ) (limits : Limits) : Type 0 where
   longer : reading.limit ≤ limit
   many : max_acks reading.limits ≤ max_acks limits
@@ -335,7 +335,7 @@ module _ (reading : Reading) (limit : ℕ) (limits : Limits) (allows : Allows re
   reason_more front bytes why.Limit certain h = inl refl
   reason_more front bytes reason certain h = packet_more front bytes reason h
 
-  -- the same refusal by who allows more, where it is not for a limit
+  -- with higher limits, a refusal stays the same, unless its reason is `Limit`
   refused_more : (front : List Packet) (bytes : Change) (fault : MessageFault) → LawsOf (judge wide)
       → IsOfBytes fault.why → ReadsRefused (judge reading) (brings reading) front bytes fault
       → (fault.why ≡ why.Limit) ⊎ ReadsRefused (judge wide) (brings wide) front bytes fault
@@ -353,7 +353,8 @@ module _ (reading : Reading) (limit : ℕ) (limits : Limits) (allows : Allows re
         })
       ]
 
--- one who allows what either allows reads the reply, and refuses nothing of it
+-- a reply that is accepted with some limits is refused with other limits only because of `Limit`: limits that are at
+-- least as high as both accept the reply
 pub over_limit : ((judge : Judge) → LawsOf judge) → ((judge : Judge) → LawsOfBytes judge) → IsRefusedOverLimit
 over_limit laws bytes_laws reading limit limits packets front reply bytes new rest fault said at refused certain =
     let given = record reading { limit = limit; limits = limits } in

@@ -1,4 +1,4 @@
--- Each open list of a reply has an ending, and few packets.
+-- Each open list of packets can be completed to a reply, and has a bounded length.
 use Rattle.std.proofs.Common.{◌≡◌, ℕ, ◌+◌, ◌≤◌, ◌<◌, ◌^◌, List, [], ◌∷◌, ◌++◌, length, length-append, codes, inl, refl, sym, ap, subst, ◌∙◌, arith}
 use Rattle.gpkt.specs.Packets.{Packet, Data, Flush, Delim, ResponseEnd, text, line_feed}
 use Rattle.gpkt.specs.Bands.{band_form}
@@ -18,9 +18,9 @@ use Rattle.gfetchreply.proofs.ReplyVerdicts.{an_ack, a_nak, a_readiness, acking_
 use Rattle.gfetchreply.proofs.ReplySections.{onward, rest_flush, next-heading, next-delim, next-packfile}
 use Rattle.gfetchreply.proofs.StateLemmas.{acks_there, moved, moves, next_state, state-ack, state-acking, state-band}
 
--- ---- an ending
+-- ---- completing a reply
 
--- at most so many packets complete it
+-- at most four packets that complete a reply from this state
 record Ending (reading : Reading) (state : State) : Type 0 where
   more : List Packet
   few : length more ≤ 4
@@ -105,9 +105,9 @@ short_ending reading front opened =
 pub HasEndings-judge : (reading : Reading) → HasEndings (judge reading)
 HasEndings-judge reading front opened = let last = short_ending reading front opened in (last.0, last.2)
 
--- ---- few packets
+-- ---- the number of packets
 
--- how many packets may come that are neither acknowledged ids nor of the pack
+-- the maximum number of further packets before the last, not counting acknowledged ids and packets of the pack
 due : Point → ℕ
 due Start = 5
 due Acking = 4
@@ -122,7 +122,7 @@ record Within (reading : Reading) (state : State) : Type 0 where
   band_count : state.band_count ≤ max_packets
   byte_count : state.byte_count ≤ reading.limit
 
--- a packet more is counted
+-- one more packet reduces the number of further packets or raises a count, and the counts stay within the limits
 record Step (reading : Reading) (old new : State) : Type 0 where
   fewer : due new.place + 1 + (old.ack_count + old.band_count) ≤ due old.place + (new.ack_count + new.band_count)
   within : Within reading new
@@ -223,7 +223,7 @@ bytes_within reading state [] within opened = within.byte_count
 bytes_within reading state (packet ∷ rest) within opened =
     bytes_within reading (next_state reading.format state packet) rest (step_at reading state state.place packet refl within opened.0).within opened.1
 
--- an open list keeps it
+-- the data of the pack in an open list of packets is within the size limit
 pub open_keeps_limit : (reading : Reading) (front : List Packet) → IsOpen (judge reading) front → (state_of reading front).byte_count ≤ reading.limit
 open_keeps_limit reading front opened =
     subst (λ (s : State). s.byte_count ≤ reading.limit) (sym (state_from_start reading front))

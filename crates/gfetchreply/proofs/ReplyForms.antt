@@ -1,4 +1,4 @@
--- The forms of texts and payloads of a reply.
+-- The kinds of texts and payloads in a reply.
 use Rattle.std.proofs.Common.{◌≡◌, ℕ, Bool, true, false, cond, nat_eq, List, [], ◌∷◌, ◌++◌, length, take, codes, inl, inr, Option, Some, None, refl, sym, ap, subst, ◌∙◌, ◌-◌, suc, arith}
 use Rattle.std.specs.Str.{bytes_eq}
 use Rattle.std.proofs.lemmas.Bool.{and_left, cond-false, cond_both, cases_cond, eqb-true}
@@ -10,7 +10,7 @@ use Rattle.ggrammar.proofs.TextLemmas.{follows_word}
 use Rattle.gfetchreply.specs.FetchManual.{IsDataOrProgress}
 use Rattle.gfetchreply.specs.FetchReplies.{ReplyForm, Acknowledgments, Nak, Readiness, Packfile, Ack, OtherForm, ack_or_other, reply_form}
 
--- ---- a text has one of six forms
+-- ---- the six kinds of texts
 
 abbrev pub IsOfForm : List ℕ → ReplyForm → Type 0
 IsOfForm line Acknowledgments = line ≡ codes "acknowledgments"
@@ -41,7 +41,7 @@ form_of line =
 pub form_there : (line : List ℕ) (form : ReplyForm) → reply_form line ≡ form → IsOfForm line form
 form_there line form e = subst (IsOfForm line) e (form_of line)
 
--- a text that is one word
+-- the kind of a text that is a single word
 abbrev pub IsWord : ReplyForm → Type 0
 IsWord (Ack id) = ⊥
 IsWord OtherForm = ⊥
@@ -59,9 +59,9 @@ pub ack_form-written : (id : List ℕ) → reply_form (codes "ACK " ++ id) ≡ A
 unfolding reply_form after_word
 ack_form-written id = refl
 
--- ---- no such text reports an error
+-- ---- texts of the grammar, which report no error
 
--- a text begins as its payload
+-- a nonempty text begins with the first byte of its payload
 text-head : (payload : List ℕ) (byte : ℕ) (rest : List ℕ) → text payload ≡ byte ∷ rest → (more : List ℕ) × (payload ≡ byte ∷ more)
 text-head [] byte rest e = absurd (let no : [] ≡ byte ∷ rest = e in cc)
 text-head (first ∷ []) byte rest e =
@@ -95,7 +95,7 @@ text_reports_none payload byte rest e not_e =
 after_ack : (line id : List ℕ) → after_word (codes "ACK ") line ≡ Some id → (rest : List ℕ) × (line ≡ 65 ∷ rest)
 after_ack line id e = (67 ∷ 75 ∷ 32 ∷ id, follows_word (codes "ACK ") line id e)
 
--- a form that is not another
+-- the kind of a text that the grammar defines
 abbrev pub IsForm : ReplyForm → Type 0
 IsForm OtherForm = ⊥
 IsForm _ = Unit {0}
@@ -108,7 +108,7 @@ none_by payload Packfile e h = text_reports_none payload 112 _ e refl
 none_by payload (Ack id) e h = let a = after_ack (text payload) id e in text_reports_none payload 65 a.0 a.1 refl
 none_by payload OtherForm e h = absurd h
 
--- a text of the grammar reports no error
+-- a payload whose text is of a kind that the grammar defines reports no error
 pub form_reports_none : (payload : List ℕ) (form : ReplyForm) → reply_form (text payload) ≡ form → IsForm form → peer_error payload ≡ None
 form_reports_none payload form e h = none_by payload form (form_there (text payload) form e) h
 

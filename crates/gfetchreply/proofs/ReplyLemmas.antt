@@ -1,4 +1,4 @@
--- What a reply that was read says.
+-- The contents of a reply that was read.
 use Rattle.std.proofs.Common.{◌≡◌, ℕ, Bool, true, false, List, [], ◌++◌, length, ◌≤◌, append-nil, refl, sym, ap, subst}
 use Rattle.std.proofs.Common.{◌∙◌, Result, Ok, Err}
 use Rattle.std.specs.Prelude.{if◌then◌else◌, IfErr}
@@ -34,13 +34,13 @@ head_is : (reading : Reading) (packets : List Packet)
 head_is reading packets =
     heads reading.direct (is_ready (ack_texts reading.direct packets)) (acks_of reading.format (ack_texts reading.direct packets)) (data_of (band_payloads reading.direct packets))
 
--- the last packet brings nothing of the pack
+-- the last packet of a reply contains no data of the pack
 last_none : (reading : Reading) (state : State) (place : Point) (packet : Packet) → state.place ≡ place → judge_at reading state packet ≡ Whole → data_there place packet ≡ []
 last_none reading state InPack (Data payload) here e = absurd (data_not_whole reading state InPack payload here e)
 last_none reading state place (Data payload) here e = refl
 last_none reading state place packet here e = refl
 
--- a complete reply keeps the limit
+-- the data of the pack in a complete reply is within the size limit
 whole_is_short : (reading : Reading) (packets : List Packet) → IsWhole (judge reading) packets → length (data_of (band_payloads reading.direct packets)) ≤ reading.limit
 whole_is_short reading packets whole =
     let front = data_of (band_payloads reading.direct whole.front) in
@@ -82,7 +82,7 @@ module _ {S : Type 0} (taken : S → List ℕ → Type 0) (same : S → S → Ty
       subst (λ r. Leaves taken same had starts seat lent r sink name packets) (before.kind ∙ sym from) before in
       record { packets = packets; refused = refused; short = open_keeps_limit asked packets refused.goes; pack = left.pack }
 
--- ---- a sink that says what it has taken has the pack
+-- ---- a sink whose accepted bytes are known, which holds the pack
 
 module _ {S : Type 0} (taken : S → List ℕ → Type 0) (reading : Reading) (bytes : Change) (had : List ℕ → Type 0) (sink : S) (head : FetchHead) (items : List ℕ)
     (h : TakesReply taken reading bytes had sink head) (none : had []) (tells : (xs : List ℕ) → taken sink xs → items ≡ xs) where
@@ -102,13 +102,13 @@ module _ {S : Type 0} (taken : S → List ℕ → Type 0) (reading : Reading) (b
   pub short_reply : length (pack_of (reply_with head items)) ≤ reading.limit
   short_reply = subst (λ (reply : FetchReply). length (pack_of reply) ≤ reading.limit) (sym reply_is) h.short
 
--- ---- what reading a reply into a sink comes to, by what reading the reply does
+-- ---- reading a reply into a sink, from the laws of reading a reply
 
 pub says_whole : (reading : Reading) → SaysWhole (judge reading) (Says reading)
 says_whole reading packets = (λ whole. (reply_of reading packets, record { whole = whole; says = refl }), λ said. said.1.whole)
 
 module _ (refuses : Bool) (reading : Reading) where
-  -- whatever is read of these bytes is this reply, and this is left of them
+  -- a read of `bytes` that no failure outside the bytes prevents returns this reply, and leaves `rest`
   abbrev IsRead : List ℕ → List ℕ → List ℕ → FetchReply → Type 0
   IsRead bytes new rest reply = (answer : Result FetchReply MessageFault)
       → ReadsOrRefuses (judge reading) (brings_into refuses reading) (Says reading) (known_bytes bytes new) answer → IfErr answer (λ fault. IsOfBytes fault.why)

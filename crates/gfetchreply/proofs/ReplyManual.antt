@@ -1,4 +1,4 @@
--- The replies that the judge accepts are those of the manual's grammar, and they say the same.
+-- The judge accepts exactly the replies of the manual's grammar, with the same contents.
 use Rattle.std.proofs.Common.{◌≡◌, ℕ, ◌+◌, ◌||◌, Bool, true, false, List, [], ◌∷◌, ◌++◌, length, map, codes, inl, inr, Some, None, suc, refl, sym, ap, subst, ◌∙◌, append_assoc, append-nil, arith}
 use Rattle.std.specs.Prelude.{All, if◌then◌else◌}
 use Rattle.std.proofs.lemmas.Bool.{cond-true, cond-false}
@@ -25,7 +25,7 @@ use Rattle.gfetchreply.proofs.ReplySections.{pack_part, part_pack, rest_flush, A
 use Rattle.gfetchreply.proofs.ReplySections.{acked, ack_part, part_ack, rest_acks, rest_nak, rest_ready, ack_is}
 use Rattle.gfetchreply.proofs.StateLemmas.{moved, next_state, acks_of-append, acks_of-one}
 
--- ---- what packets give
+-- ---- the texts and the payloads of packets
 
 abbrev texts : Point → List Packet → List (List ℕ)
 texts place packets = collect next_place texts_there place packets
@@ -49,7 +49,7 @@ pack_bands : (ends : Ends) (payloads : List (List ℕ)) → bands InPack (map Da
 pack_bands ends [] = over_bands ends
 pack_bands ends (payload ∷ payloads) = ap (λ (xs : List (List ℕ)). payload ∷ xs) (pack_bands ends payloads)
 
--- the packets of a pack's section, to the reply's end
+-- the packets of a pack's section, followed by the end of the reply
 section_parts : (ends : Ends) (limit : ℕ) (section : List Packet) (pack : List ℕ) → (is : IsPackSection limit section pack)
     → section ++ ends_with ends ≡ Data is.heading ∷ (map Data is.payloads ++ Flush ∷ ends_with ends)
 section_parts ends limit section pack is =
@@ -111,9 +111,9 @@ module _
         ap (bands Start) headed_parts
         ∙ (ap (λ (p : Point). bands p (map Data is.acks ++ tail)) (heading_there is.heading is.is_heading) ∙ acks_bands format is.acks tail is.are_acks)
 
--- ---- what texts say
+-- ---- the contents of texts
 
--- each acknowledged id counts
+-- the number of acknowledged ids is the number of texts that acknowledge an id
 pub acks_count : (format : Format) (lines : List (List ℕ)) → All (IsAck format) lines → length (acks_of format lines) ≡ length lines
 acks_count format [] are = refl
 acks_count format (line ∷ lines) are =
@@ -122,7 +122,7 @@ acks_count format (line ∷ lines) are =
     ap length (acks_of-append format (line ∷ []) lines ∙ ap (λ (xs : List (List ℕ)). xs ++ acks_of format lines) one)
     ∙ ap suc (acks_count format lines (All-tail (IsAck format) line lines are))
 
--- acknowledged ids are not ready
+-- texts that acknowledge ids are not `ready`
 acks_not_ready : (format : Format) (lines more : List (List ℕ)) → All (IsAck format) lines → is_ready (lines ++ more) ≡ is_ready more
 acks_not_ready format [] more are = refl
 acks_not_ready format (line ∷ lines) more are =
@@ -130,7 +130,7 @@ acks_not_ready format (line ∷ lines) more are =
     ap (λ (f : ReplyForm). is_readiness f || is_ready (lines ++ more)) form.is
     ∙ acks_not_ready format lines more (All-tail (IsAck format) line lines are)
 
--- ---- a reply of the manual says what it says
+-- ---- the contents of a reply of the manual
 
 texts_at : (reading : Reading) (direct : Bool) (packets : List Packet) (lines : List (List ℕ)) → reading.direct ≡ direct
     → texts (first_place direct) packets ≡ lines → ack_texts reading.direct packets ≡ lines
@@ -142,7 +142,7 @@ bands_at : (reading : Reading) (direct : Bool) (packets : List Packet) (payloads
 unfolding band_payloads
 bands_at reading direct packets payloads is e = ap (λ (d : Bool). bands (first_place d) packets) is ∙ e
 
--- the texts and the payloads of the packets give this reply
+-- the packets have texts and payloads that encode this reply
 record Gives (reading : Reading) (packets : List Packet) (reply : FetchReply) : Type 0 where
   lines : List (List ℕ)
   payloads : List (List ℕ)
@@ -151,7 +151,7 @@ record Gives (reading : Reading) (packets : List Packet) (reply : FetchReply) : 
   value : reply_by reading lines payloads ≡ reply
   pack : pack_of reply ≡ data_of payloads
 
--- acknowledged ids, and packets after them that acknowledge none
+-- a section of acknowledgments, and packets after it that acknowledge no ids
 module _
     (reading : Reading) (body section more : List Packet) (ids lines payloads : List (List ℕ)) (ready : Bool)
     (direct : reading.direct ≡ false) (is : IsAckSection reading.limits reading.format section ids)
@@ -235,7 +235,7 @@ value_is reading packets reply is =
     let given = gives reading packets reply is in
     sym given.value ∙ (λ i. reply_by reading (sym given.are_texts i) (sym given.are_bands i))
 
--- ---- a reply of the manual is complete
+-- ---- the completeness of a reply of the manual
 
 start_place : (reading : Reading) (direct : Bool) → reading.direct ≡ direct → (start reading).place ≡ first_place direct
 start_place reading direct e = ap first_place e
@@ -245,7 +245,7 @@ whole_pack : (reading : Reading) (body : List Packet) (pack : List ℕ) → read
 whole_pack reading body pack direct is =
     part_pack reading (start reading) body pack (record { place = start_place reading true direct; band_count = refl; byte_count = refl }) is
 
--- acknowledgments, and what completes them
+-- a section of acknowledgments is completed by packets that complete a reply after its acknowledged ids
 whole_acks : (reading : Reading) (body section more : List Packet) (ids : List (List ℕ)) → reading.direct ≡ false
     → (is : IsAckSection reading.limits reading.format section ids) → body ≡ section ++ more
     → IsWholeAt reading (acked (length is.acks) (start reading)) (more ++ ends_with reading.ends)
@@ -292,7 +292,7 @@ says_from_manual reading packets reply is = record {
 
 -- ---- from the judge to the manual
 
--- some reply of the manual
+-- the packets are some reply of the manual
 record IsOfManual (reading : Reading) (packets : List Packet) : Type 0 where
   reply : FetchReply
   is : IsFetchReply reading packets reply
@@ -317,7 +317,7 @@ module _
       are = refl;
     }
 
-    -- the packets of a body
+    -- the packets of the reply are its acknowledgments, the packets `more`, and the end of the reply
     joined : (more : List Packet) → is.tail ≡ more ++ ends_with reading.ends
         → packets ≡ (section ++ more) ++ ends_with reading.ends
     unfolding section
@@ -384,7 +384,7 @@ manual_from_says reading packets reply said =
     let found = of_manual reading packets reading.direct refl (whole_at_start reading packets said.whole) in
     subst (IsFetchReply reading packets) (value_is reading packets found.reply found.is ∙ sym said.says) found.is
 
--- ---- one meaning, and no reply begins another
+-- ---- the uniqueness of the reply, and replies that are prefixes of replies
 
 pub one_value : (reading : Reading) (packets : List Packet) (a b : FetchReply) → Says reading packets a → Says reading packets b → a ≡ b
 one_value reading packets a b p q = p.says ∙ sym q.says
@@ -401,7 +401,7 @@ one_reply_begins reading packets back reply other short long =
     let same : packets ++ back ≡ packets = ap (λ (xs : List Packet). packets ++ xs) ends ∙ append-nil packets in
     (ends, long.says ∙ (ap (reply_of reading) same ∙ sym short.says))
 
--- ---- the pack that a reply says
+-- ---- the pack of a reply
 
 pub said_pack : (reading : Reading) (packets : List Packet) (reply : FetchReply) → Says reading packets reply
     → pack_of reply ≡ data_of (band_payloads reading.direct packets)

@@ -1,4 +1,4 @@
--- The sections of a reply that is complete from some state on.
+-- The sections of packets that complete a reply from a given state.
 use Rattle.std.proofs.Common.{◌≡◌, ℕ, ◌+◌, ◌≤◌, List, [], ◌∷◌, ◌++◌, length, map, ◌⊎◌, inl, inr, refl, sym, ap, subst}
 use Rattle.std.proofs.Common.{◌∙◌, append_assoc, length-append, arith, true, codes, Option, Some, None}
 use Rattle.std.specs.Prelude.{All}
@@ -26,21 +26,21 @@ use Rattle.gfetchreply.proofs.StateLemmas.{moved, moves, next_state, state-band,
 use Rattle.std.specs.Option.{is_some}
 use Rattle.ggrammar.specs.Ids.{id_of_text}
 
--- the state is another
+-- packets that complete a reply from a state complete it from an equal state
 pub at_state : (reading : Reading) (a b : State) (packets : List Packet) → a ≡ b → IsWholeAt reading a packets → IsWholeAt reading b packets
 at_state reading a b packets e h = subst (λ (s : State). IsWholeAt reading s packets) e h
 
--- neither open nor complete
+-- the verdict on a refused packet is neither `Open` nor `Whole`
 pub refused : {P : Type 0} {Q : Type 0} {R : Type 0} (v : Verdict) (why : Why) → v ≡ Refused why → ((v ≡ Whole) × P) ⊎ ((v ≡ Open) × Q) → R
 refused v why e (inl h) = absurd (let no = sym e ∙ h.0 in cc)
 refused v why e (inr h) = absurd (let no = sym e ∙ h.0 in cc)
 
--- the packet goes on
+-- if the verdict on the packet is never `Whole`, it is `Open`
 pub goes_on : {P : Type 0} {Q : Type 0} (v : Verdict) → (v ≡ Whole → ⊥) → ((v ≡ Whole) × P) ⊎ ((v ≡ Open) × Q) → (v ≡ Open) × Q
 goes_on v never (inl h) = absurd (never h.0)
 goes_on v never (inr h) = h
 
--- data goes on, where it is due
+-- a data packet does not complete the reply: the verdict is `Open`, and the rest completes the reply
 pub data_goes : (reading : Reading) (state : State) (place : Point) (payload : List ℕ) (rest : List Packet) → state.place ≡ place
     → IsWholeAt reading state (Data payload ∷ rest)
     → (judge_payload reading place state payload ≡ Open)
@@ -49,7 +49,7 @@ data_goes reading state place payload rest here h =
     let goes = goes_on _ (data_not_whole reading state place payload here) h in
     (data_open reading state place payload here goes.0, goes.1)
 
--- a packet goes on, and what follows it is complete from there on
+-- if a packet is accepted and the rest completes the reply from the next state, both complete the reply
 pub onward : (reading : Reading) (state next : State) (packet : Packet) (rest : List Packet)
     → judge_at reading state packet ≡ Open → next_state reading.format state packet ≡ next → IsWholeAt reading next rest
     → IsWholeAt reading state (packet ∷ rest)
@@ -82,7 +82,7 @@ rest_by Plain rest (inr h) = let no = h.0 in cc
 rest_by Response rest (inl h) = let no = h.0 in cc
 rest_by Response rest (inr h) = h.1
 
--- what follows a flush that ends the reply, and completes it
+-- if a flush ends the reply, the packets from the flush on are the flush and the response-end, if required
 pub flush_rest : (reading : Reading) (state : State) (place : Point) (rest : List Packet) → state.place ≡ place
     → judge_there reading place state Flush ≡ at_flush reading.ends → next_place place Flush ≡ Over
     → IsWholeAt reading state (Flush ∷ rest) → Flush ∷ rest ≡ Flush ∷ ends_with reading.ends
@@ -176,7 +176,7 @@ pub record IsPackPart (reading : Reading) (packets : List Packet) : Type 0 where
   pub is : IsPackSection reading.limit section pack
   pub parts : packets ≡ section ++ ends_with reading.ends
 
--- before the pack's heading, with nothing of the pack so far
+-- the heading of the pack is expected, and no packet of the pack was read
 pub record IsBeforePack (state : State) : Type 0 where
   pub place : state.place ≡ BeforePack
   pub band_count : state.band_count ≡ 0
@@ -233,7 +233,7 @@ part_pack reading state section pack before is =
 
 -- ---- the acknowledgments
 
--- what may follow so many acknowledged ids
+-- the packets that may follow `count` acknowledged ids
 pub data AckTail (reading : Reading) (count : ℕ) (tail : List Packet) : Type 0 where
   ended : tail ≡ Flush ∷ ends_with reading.ends → AckTail reading count tail
   naked : (nak : List ℕ) → count ≡ 0 → text nak ≡ codes "NAK" → tail ≡ Data nak ∷ Flush ∷ ends_with reading.ends → AckTail reading count tail
@@ -248,13 +248,13 @@ pub record IsAckRest (reading : Reading) (state : State) (packets : List Packet)
   pub few : state.ack_count + length acks ≤ max_acks reading.limits
   pub last : AckTail reading (state.ack_count + length acks) tail
 
--- among the acknowledgments
+-- a text of the acknowledgments is expected, and no packet of the pack was read
 pub record IsAcking (state : State) : Type 0 where
   pub place : state.place ≡ Acking
   pub band_count : state.band_count ≡ 0
   pub byte_count : state.byte_count ≡ 0
 
--- ---- from the judge
+-- ---- from the judge to the sections
 
 naked_rest : (reading : Reading) (state : State) (packets : List Packet) → state.place ≡ AfterNak → IsWholeAt reading state packets → packets ≡ Flush ∷ ends_with reading.ends
 naked_rest reading state [] here h = absurd h
@@ -278,7 +278,7 @@ ready_rest reading state (Delim ∷ rest) here none empty h =
     )
 ready_rest reading state (packet ∷ rest) here none empty h = refused _ _ (at_place reading state AfterReady packet here) h
 
--- so many ids more are acknowledged
+-- the state after `more` further acknowledged ids
 abbrev pub acked : ℕ → State → State
 acked more state = record { place = Acking; ack_count = state.ack_count + more; band_count = state.band_count; byte_count = state.byte_count }
 
@@ -345,7 +345,7 @@ ack_rest reading (Flush ∷ rest) state here few h = record {
 }
 ack_rest reading (packet ∷ rest) state here few h = refused _ _ (at_place reading state Acking packet here.place) h
 
--- ---- to the judge
+-- ---- from the sections to the judge
 
 some_id : (format : Format) (digits : List ℕ) (id : Option (List ℕ)) → id_of_text format digits ≡ id → is_some id ≡ true → (found : List ℕ) × (id_of_text format digits ≡ Some found)
 some_id format digits None is e = cc
@@ -369,7 +369,7 @@ open_text reading state payload form is on =
     ap (judge_acking reading.limits reading.format state) is
     ∙ open_acking reading.limits reading.format state form on
 
--- a text of the acknowledgments goes on
+-- after a text that may follow in the acknowledgments, the verdict is `Open`
 pub open_ack : (reading : Reading) (state : State) (payload : List ℕ) (form : ReplyForm) → state.place ≡ Acking → reply_form (text payload) ≡ form
     → AckingOn reading.limits reading.format state form → judge_at reading state (Data payload) ≡ Open
 open_ack reading state payload Nak here is on =

@@ -1,4 +1,4 @@
--- What the judge of replies says of a packet at each place.
+-- The verdicts of the judge of replies on a packet, for each place in the grammar.
 use Rattle.std.proofs.Common.{◌≡◌, ℕ, ◌+◌, ◌≤◌, ◌<◌, Bool, true, false, cond, List, [], ◌∷◌, ◌++◌, length, Option, Some}
 use Rattle.std.proofs.Common.{None, Result, Ok, Err, refl, sym, ap, subst, ◌∙◌, append_assoc, append-nil, arith, ◌⊎◌}
 use Rattle.std.proofs.Common.{inl, inr}
@@ -33,7 +33,7 @@ module _ {S : Type 0} (table : S → Packet → Verdict) (step : S → Packet �
   state_after state [] = state
   state_after state (packet ∷ packets) = state_after (step state packet) packets
 
-  -- the judge that begins with a state
+  -- the judge that starts in the given state
   abbrev pub judge_from : S → Judge
   judge_from state front packet = table (state_after state front) packet
 
@@ -53,7 +53,7 @@ module _ {S : Type 0} (table : S → Packet → Verdict) (step : S → Packet �
     OpenFrom-from_open (step state packet) rest (record { each = λ front one back e. opened.each (packet ∷ front) one back (ap (λ (xs : List Packet). packet ∷ xs) e) }),
   )
 
-  -- a position in an open list
+  -- the verdict on each packet of an open list is `Open`
   open_there : (state : S) (lines front : List Packet) (packet : Packet) (back : List Packet) → OpenFrom state lines → lines ≡ front ++ packet ∷ back
       → table (state_after state front) packet ≡ Open
   open_there state [] front packet back h e = absurd (nil_has_none front packet back e)
@@ -95,7 +95,7 @@ module _ {S : Type 0} (table : S → Packet → Verdict) (step : S → Packet �
         ends = whole.ends;
       }
 
-  -- no complete list begins another
+  -- no complete list is a proper prefix of another
   pub WholeFrom-ends : (state : S) (lines back : List Packet) → WholeFrom state lines → WholeFrom state (lines ++ back) → back ≡ []
   WholeFrom-ends state [] back short long = absurd short
   WholeFrom-ends state (packet ∷ rest) back (inl h) (inl g) = ap (λ (xs : List Packet). xs ++ back) (sym h.1) ∙ g.1
@@ -103,19 +103,19 @@ module _ {S : Type 0} (table : S → Packet → Verdict) (step : S → Packet �
   WholeFrom-ends state (packet ∷ rest) back (inr h) (inl g) = let goes = h.0 in let ends = g.0 in cc
   WholeFrom-ends state (packet ∷ rest) back (inr h) (inr g) = WholeFrom-ends (step state packet) rest back h.1 g.1
 
-  -- what follows an open list
+  -- an open list, followed by packets that are complete from its last state, is complete
   pub WholeFrom-after_open : (state : S) (front more : List Packet) → OpenFrom state front → WholeFrom (state_after state front) more
       → WholeFrom state (front ++ more)
   WholeFrom-after_open state [] more opened rest = rest
   WholeFrom-after_open state (packet ∷ front) more opened rest = inr (opened.0, WholeFrom-after_open (step state packet) front more opened.1 rest)
 
--- ---- the judge from the left
+-- ---- the judge, from the first packet to the last
 
--- before the first packet
+-- the state before the first packet
 abbrev pub start : Reading → State
 start reading = record { place = first_place reading.direct; ack_count = 0; band_count = 0; byte_count = 0 }
 
--- complete from a state on, and open
+-- the packets complete a reply from this state
 abbrev pub IsWholeAt : Reading → State → List Packet → Type 0
 IsWholeAt reading state packets = WholeFrom (judge_at reading) (next_state reading.format) state packets
 
@@ -139,7 +139,7 @@ state_from_start reading packets =
 pub judge_is : (reading : Reading) → judge reading ≡ judge_from (judge_at reading) (next_state reading.format) (start reading)
 judge_is reading = λ i. λ front packet. judge_at reading (state_from_start reading front i) packet
 
--- ---- by place
+-- ---- the verdicts for each place
 
 pub at_place : (reading : Reading) (state : State) (place : Point) (packet : Packet) → state.place ≡ place
     → judge_at reading state packet ≡ judge_there reading place state packet
@@ -167,7 +167,7 @@ open_data reading state place payload here none e =
     data_judged reading state place payload here
     ∙ (ap (λ (said : Option (List ℕ)). unless_error said (judge_payload reading place state payload)) none ∙ e)
 
--- ---- no data ends a reply, and what is refused is refused for the packet's own sake
+-- ---- data packets, which end no reply, and rejection because of the content of a packet
 
 abbrev IsPart : Verdict → Type 0
 IsPart Whole = ⊥
@@ -247,7 +247,7 @@ unfolding judge_at
 refuses_packets reading front packet =
     there_for_packet reading (state_of reading front).place (state_of reading front) packet
 
--- ---- texts that go on
+-- ---- texts after which a reply continues
 
 pub start_open : (form : ReplyForm) → judge_start form ≡ Open → form ≡ Acknowledgments
 start_open Acknowledgments e = refl
@@ -257,7 +257,7 @@ pub before_open : (form : ReplyForm) → judge_before_pack form ≡ Open → for
 before_open Packfile e = refl
 before_open form e = cc
 
--- the forms that the acknowledgments go on with
+-- the kinds of texts that may follow in the acknowledgments
 pub data AckingOn (limits : Limits) (format : Format) (state : State) : ReplyForm → Type 0 where
   an_ack : (digits id : List ℕ) → id_of_text format digits ≡ Some id → state.ack_count < max_acks limits
       → AckingOn limits format state (Ack digits)
@@ -295,7 +295,7 @@ open_acking limits format state Nak (a_nak none) =
 open_acking limits format state Readiness a_readiness = refl
 open_acking limits format state form on = elim on [ ]
 
--- a packet of the pack's section that goes on
+-- an accepted packet of the pack's section: data or progress, within the limits
 pub record BandOn (limit : ℕ) (state : State) (form : Result BandPacket BandFault) : Type 0 where
   pub is : IsDataOrProgress form
   pub few : state.band_count < max_packets

@@ -1,4 +1,4 @@
--- What a packet more does to what the packets so far say.
+-- The change of the state of reading by one more packet.
 use Rattle.std.proofs.Common.{◌≡◌, ℕ, ◌+◌, Bool, List, [], ◌∷◌, ◌++◌, length, Option, Some, None, refl, ap, ◌∙◌}
 use Rattle.std.proofs.Common.{append-nil, length-append, add-zero, true, false, ◌||◌, Result, Ok, Err, sym, subst}
 use Rattle.std.proofs.Common.{append_assoc}
@@ -27,7 +27,7 @@ use Rattle.ggrammar.specs.declared.message.Step.{Step}
 use Rattle.ggrammar.specs.declared.message.Step.TheVariants as step
 use Rattle.gfetchreply.specs.Values.{Acks}
 
--- ---- places, and what packets give there
+-- ---- places in the grammar, and the contents of packets there
 
 pub place_of-push : (direct : Bool) (front : List Packet) (packet : Packet)
     → place_of direct (front ++ packet ∷ []) ≡ next_place (place_of direct front) packet
@@ -51,7 +51,7 @@ pub band_payloads-nil : (direct : Bool) → band_payloads direct [] ≡ []
 unfolding band_payloads
 band_payloads-nil direct = refl
 
--- ---- ids and data of longer lists
+-- ---- the ids and the data of concatenated lists
 
 pub acks_of-append : (format : Format) (xs ys : List (List ℕ)) → acks_of format (xs ++ ys) ≡ acks_of format xs ++ acks_of format ys
 acks_of-append format xs ys = filter_map-append (λ line. ack_id format (reply_form line)) xs ys
@@ -59,7 +59,7 @@ acks_of-append format xs ys = filter_map-append (λ line. ack_id format (reply_f
 pub data_of-append : (xs ys : List (List ℕ)) → data_of (xs ++ ys) ≡ data_of xs ++ data_of ys
 data_of-append xs ys = flat_map-append (λ payload. data_in (band_form payload)) xs ys
 
--- the ids that a packet acknowledges at a place
+-- the ids that a packet acknowledges at a place in the grammar
 abbrev pub acks_there : Format → Point → Packet → List (List ℕ)
 acks_there format place packet = acks_of format (texts_there place packet)
 
@@ -82,7 +82,7 @@ data-push direct front packet =
 pub same_state : {a b : State} → a.place ≡ b.place → a.ack_count ≡ b.ack_count → a.band_count ≡ b.band_count → a.byte_count ≡ b.byte_count → a ≡ b
 same_state place ack_count band_count byte_count = λ i. record { place = place i; ack_count = ack_count i; band_count = band_count i; byte_count = byte_count i }
 
--- the state after a packet more
+-- the state after one more packet
 abbrev pub next_state : Format → State → Packet → State
 next_state format state packet = record {
   place = next_place state.place packet;
@@ -110,9 +110,9 @@ state_of-push reading front packet =
     (ap length (data-push reading.direct front packet)
     ∙ length-append (data_of (band_payloads reading.direct front)) (data_of (bands_there (place_of reading.direct front) packet)))
 
--- ---- the same by place
+-- ---- the next state, for each place
 
--- what one text or one payload gives
+-- the ids in one text, and the data in one payload
 pub acks_of-one : (format : Format) (line : List ℕ) (given : Option (List ℕ)) → ack_id format (reply_form line) ≡ given
     → acks_of format (line ∷ []) ≡ id_list given
 acks_of-one format line None is = cc
@@ -121,11 +121,11 @@ acks_of-one format line (Some id) is = cc
 pub data_of-one : (payload : List ℕ) → data_of (payload ∷ []) ≡ data_in (band_form payload)
 data_of-one payload = append-nil (data_in (band_form payload))
 
--- at another place
+-- the same state at another place
 abbrev pub moved : State → Point → State
 moved state place = record { place = place; ack_count = state.ack_count; band_count = state.band_count; byte_count = state.byte_count }
 
--- what a packet gives where the place is known
+-- the next state, given the place of the packet, its ids and its payloads of the pack
 gives : (format : Format) (state : State) (place to : Point) (packet : Packet) (acks bands : List (List ℕ))
     → state.place ≡ place
     → next_place place packet ≡ to → acks_there format place packet ≡ acks → bands_there place packet ≡ bands
@@ -143,7 +143,7 @@ gives format state place to packet acks bands here over is are =
     (ap (λ (p : Point). state.byte_count + length (data_of (bands_there p packet))) here
     ∙ ap (λ (xs : List (List ℕ)). state.byte_count + length (data_of xs)) are)
 
--- a packet that gives nothing changes at most the place
+-- a packet without ids and without data changes at most the place
 pub moves : (format : Format) (state : State) (place to : Point) (packet : Packet) → state.place ≡ place
     → next_place place packet ≡ to → acks_there format place packet ≡ [] → bands_there place packet ≡ []
     → next_state format state packet ≡ moved state to
@@ -151,7 +151,7 @@ moves format state place to packet here over is are =
     gives format state place to packet [] [] here over is are
     ∙ same_state refl (add-zero state.ack_count) (add-zero state.band_count) (add-zero state.byte_count)
 
--- an acknowledged id
+-- the next state after an acknowledged id
 pub state-ack : (format : Format) (state : State) (payload digits id : List ℕ) → state.place ≡ Acking → reply_form (text payload) ≡ Ack digits
     → id_of_text format digits ≡ Some id
     → next_state format state (Data payload) ≡ record { place = Acking; ack_count = state.ack_count + 1; band_count = state.band_count; byte_count = state.byte_count }
@@ -160,14 +160,14 @@ state-ack format state payload digits id here form spells =
     (acks_of-one format (text payload) (Some id) (ap (ack_id format) form ∙ spells)) refl
     ∙ same_state refl refl (add-zero state.band_count) (add-zero state.byte_count)
 
--- another text of the acknowledgments
+-- the next state after another text of the acknowledgments
 pub state-acking : (format : Format) (state : State) (payload : List ℕ) (form : ReplyForm) → state.place ≡ Acking → reply_form (text payload) ≡ form
     → ack_id format form ≡ None → next_state format state (Data payload) ≡ moved state (after_text Acking form)
 state-acking format state payload form here is none =
     moves format state Acking (after_text Acking form) (Data payload) here (ap (after_text Acking) is)
     (acks_of-one format (text payload) None (ap (ack_id format) is ∙ none)) refl
 
--- a packet of the pack's section
+-- the next state after a packet of the pack's section
 pub state-band : (format : Format) (state : State) (payload : List ℕ) → state.place ≡ InPack
     → next_state format state (Data payload)
     ≡ record { place = InPack; ack_count = state.ack_count; band_count = state.band_count + 1; byte_count = state.byte_count + length (data_in (band_form payload)) }
@@ -176,9 +176,9 @@ state-band format state payload here =
     ∙ same_state refl (add-zero state.ack_count) refl
     (ap (λ (xs : List ℕ). state.byte_count + length xs) (data_of-one payload))
 
--- ---- what is kept of a reply, and what takes a packet
+-- ---- the stored values of a reply, and accepting a packet
 
--- ---- what is kept
+-- ---- the stored values
 
 same_acks : {a b : Acks} → a.limits ≡ b.limits → a.format ≡ b.format → a.ids ≡ b.ids → a ≡ b
 same_acks limits format ids = λ i. record { limits = limits i; format = format i; ids = ids i }
@@ -196,7 +196,7 @@ kept_of-nil limits format direct =
     (ap length (sym (band_payloads-nil direct)))
     (ap (λ xs. length (data_of xs)) (sym (band_payloads-nil direct)))
 
--- at this place, with these texts of the acknowledgments and payloads of the pack more
+-- the stored values at this place, after these further texts of the acknowledgments and payloads of the pack
 grown : Kept → Point → List (List ℕ) → List (List ℕ) → Kept
 grown kept place texts payloads = record {
   place = place;
@@ -219,18 +219,18 @@ kept_of-push limits format direct front packet =
     (ap length (band_payloads-push direct front packet) ∙ length-append (band_payloads direct front) (bands_there (place_of direct front) packet))
     (ap length (data-push direct front packet) ∙ length-append (data_of (band_payloads direct front)) (data_of (bands_there (place_of direct front) packet)))
 
--- a packet that gives nothing changes at most the place
+-- without further texts and payloads, at most the place changes
 grown-none : (kept : Kept) (place : Point) → grown kept place [] [] ≡ record kept { place = place }
 unfolding grown
 grown-none kept place =
     same_kept refl (same_acks refl refl (append-nil kept.acks.ids)) (or-false kept.ready) (add-zero kept.band_count)
     (add-zero kept.byte_count)
 
--- and none at all where the place stays
+-- without further texts and payloads, and at the same place, nothing changes
 grown-same : (kept : Kept) (place : Point) → kept.place ≡ place → grown kept place [] [] ≡ kept
 grown-same kept place here = grown-none kept place ∙ same_kept (sym here) refl refl refl refl
 
--- a text of the acknowledgments
+-- the stored values after one more text of the acknowledgments
 grown-text : (kept : Kept) (place : Point) (line : List ℕ) (ids : List (List ℕ)) (ready : Bool) → acks_of kept.acks.format (line ∷ []) ≡ ids
     → is_readiness (reply_form line) ≡ ready
     → grown kept place (line ∷ []) []
@@ -244,7 +244,7 @@ grown-text kept place line ids ready acks is =
     same_kept refl (same_acks refl refl (ap (λ xs. kept.acks.ids ++ xs) acks))
     (ap (λ (b : Bool). kept.ready || b) (or-false (is_readiness (reply_form line)) ∙ is)) (add-zero kept.band_count) (add-zero kept.byte_count)
 
--- one that acknowledges nothing
+-- the stored values after a text that acknowledges no id and is not `ready`
 grown-word : (kept : Kept) (place : Point) (line : List ℕ) (form : ReplyForm) → reply_form line ≡ form → ack_id kept.acks.format form ≡ None
     → is_readiness form ≡ false → grown kept place (line ∷ []) [] ≡ record kept { place = place }
 grown-word kept place line form is none word =
@@ -254,12 +254,12 @@ grown-word kept place line form is none word =
 stays : (kept : Kept) (place : Point) → kept.place ≡ place → record kept { place = place } ≡ kept
 stays kept place here = same_kept (sym here) refl refl refl refl
 
--- a text where the acknowledgments are due, by its form
+-- the stored values after a text where the heading of the acknowledgments is expected
 start_adds : (kept : Kept) (form : ReplyForm) → kept.place ≡ Start → grown kept (after_text Start form) [] [] ≡ with_text Start kept form
 start_adds kept Acknowledgments here = grown-none kept Acking
 start_adds kept form here = grown-same kept Start here
 
--- a text of the acknowledgments
+-- the stored values after a text where a text of the acknowledgments is expected
 acking_adds : (kept : Kept) (line : List ℕ) (form : ReplyForm) → kept.place ≡ Acking → reply_form line ≡ form
     → grown kept (after_text Acking form) (line ∷ []) [] ≡ with_text Acking kept form
 acking_adds kept line Nak here is = grown-word kept AfterNak line Nak is refl refl
@@ -271,19 +271,19 @@ acking_adds kept line (Ack id) here is =
     ∙ same_kept (sym here) refl (or-false kept.ready) refl refl
 acking_adds kept line form here is = grown-word kept Acking line form is refl refl ∙ stays kept Acking here
 
--- a text where the pack is due
+-- the stored values after a text where the heading of the pack is expected
 before_adds : (kept : Kept) (form : ReplyForm) → kept.place ≡ BeforePack → grown kept (after_text BeforePack form) [] [] ≡ with_text BeforePack kept form
 before_adds kept Packfile here = grown-none kept InPack
 before_adds kept form here = grown-same kept BeforePack here
 
--- a packet of the pack's section
+-- the stored values after a packet of the pack's section
 band_adds : (kept : Kept) (payload : List ℕ) → kept.place ≡ InPack → grown kept InPack [] (payload ∷ []) ≡ with_band kept (length (data_in (band_form payload)))
 unfolding grown
 band_adds kept payload here =
     same_kept (sym here) (same_acks refl refl (append-nil kept.acks.ids)) (or-false kept.ready) refl
     (ap (λ (xs : List ℕ). kept.byte_count + length xs) (data_of-one payload))
 
--- any packet, by where it stands
+-- the stored values after any packet, for each place
 packet_adds : (kept : Kept) (place : Point) (packet : Packet)
     → grown (record kept { place = place }) (next_place place packet) (texts_there place packet) (bands_there place packet) ≡ with_packet (record kept { place = place }) packet
 packet_adds kept Start (Data payload) = start_adds (record kept { place = Start }) (reply_form (text payload)) refl
@@ -301,7 +301,7 @@ kept_push limits format direct front packet =
     kept_of-push limits format direct front packet
     ∙ packet_adds (kept_of limits format direct front) (place_of direct front) packet
 
--- the pack's data of a packet more
+-- the data of the pack in one more packet
 bands_data : (packet : Packet) (place : Point) → data_of (bands_there place packet) ≡ data_there place packet
 bands_data (Data payload) InPack = data_of-one payload
 bands_data Flush InPack = refl
@@ -318,9 +318,9 @@ brings_at : (refuses : Bool) (reading : Reading) (front : List Packet) (packet :
 brings_at refuses reading front (Data payload) = refl
 brings_at refuses reading front packet = refl
 
--- ---- what takes a packet
+-- ---- accepting a packet
 
--- the same under an equal verdict, and with what follows
+-- `TakesOr` stays true for an equal verdict and for predicates that follow from the given ones
 takes_also : {verdict other : Verdict} {some same : Bool} {P P' Q Q' : Type 0} → other ≡ verdict → same ≡ some → (P → P') → (Q → Q') → (result : Result Step Why)
     → TakesOr verdict some P Q result → TakesOr other same P' Q' result
 takes_also is brings more less (Ok step.Open) h = (is ∙ h.0, more h.1)
@@ -328,7 +328,7 @@ takes_also is brings more less (Ok step.Whole) h = (is ∙ h.0, more h.1)
 takes_also {verdict} {other} {some} {same} is brings more less (Err why) h =
     (subst (λ (v : Verdict). IsReason v same why) (sym is) (subst (λ (b : Bool). IsReason verdict b why) (sym brings) h.0), less h.1)
 
--- what the sink has with a packet more
+-- the bytes that the sink has accepted after one more packet
 longer : (reading : Reading) (kept : Kept) (front : List Packet) (packet : Packet) (before : List ℕ)
     → kept ≡ kept_of reading.limits reading.format reading.direct front
     → (before ++ data_of (band_payloads reading.direct front)) ++ data_there kept.place packet ≡ before ++ data_of (band_payloads reading.direct (front ++ packet ∷ []))
@@ -337,7 +337,7 @@ longer reading kept front packet before counts =
     ∙ ap (λ xs. before ++ xs)
     (ap (λ (k : Kept). data_of (band_payloads reading.direct front) ++ data_there k.place packet) counts ∙ sym (pack_push reading.direct front packet))
 
--- a packet that is taken, and more that holds then
+-- `TakesAs` implies `TakesOr` with a predicate that follows from the given one, and a predicate for refusals
 takes_or : {verdict other : Verdict} {P P' Q : Type 0} (some : Bool) → other ≡ verdict → (P → P') → Q → (result : Result Step Why) → TakesAs verdict some P result
     → TakesOr other some P' Q result
 takes_or some is more left (Ok step.Open) h = (is ∙ h.0, more h.1)
@@ -348,18 +348,18 @@ module _ {S : Type 0} (taken : S → List ℕ → Type 0) where
   no_more : (s : S) → TakesMore taken s s []
   no_more s before h = subst (taken s) (sym (append-nil before)) h
 
-  -- a packet that is not for the sink
+  -- a packet without data for the sink
   pub past_sink : {verdict other : Verdict} (wanted kept : Kept) (some : Bool) (s : S) → other ≡ verdict → (result : Result Step Why)
       → TakesAs verdict some (kept ≡ wanted) result → TakesBoth taken other some wanted kept [] s s result
   past_sink wanted kept some s is result h = takes_or some is (λ e. (e, no_more s)) (λ before t. t) result h
 
-  -- the same under an equal verdict
+  -- `TakesBoth` stays true for an equal verdict
   pub judged_as : {verdict other : Verdict} (wanted kept : Kept) (some : Bool) (more : List ℕ) (old new : S) → other ≡ verdict → (result : Result Step Why)
       → TakesBoth taken verdict some wanted kept more old new result → TakesBoth taken other some wanted kept more old new result
   judged_as wanted kept some more old new is result h = takes_also is refl (λ p. p) (λ q. q) result h
 
 module _ {S : Type 0} (taken : S → List ℕ → Type 0) (same : S → S → Type 0) (had : List ℕ → Type 0) (starts : S → Type 0) (seat : ℕ) (asked : Reading) where
-  -- what is held before the first packet
+  -- the state before the first packet
   pub begins : (reading : Reading) (kept : Kept) (sink : S) (name : ℕ) → reading ≡ asked
       → kept ≡ first_kept reading.limits reading.format reading.direct
       → ((before : List ℕ) → had before → taken sink before) → ((start : S) → starts start → same start sink) → name ≡ seat
@@ -372,7 +372,7 @@ module _ {S : Type 0} (taken : S → List ℕ → Type 0) (same : S → S → Ty
     in_place = in_place;
   }
 
-  -- taken by what is kept, a packet is taken after the packets so far
+  -- a packet that is accepted or refused for the stored values is accepted or refused for the packets so far
   pub takes_after : (refuses : Bool) (reading : Reading) (kept now : Kept) (old new : S) (name next : ℕ) (front : List Packet) (packet : Packet)
       (result : Result Step Why) → Holds taken same had starts seat asked reading kept old name front → next ≡ name
       → ((start : S) → same start old → same start new)
@@ -404,7 +404,7 @@ module _ {S : Type 0} (taken : S → List ℕ → Type 0) (same : S → S → Ty
       })
       result h
 
--- as the driver says it
+-- `TakesOr` for the verdict of a judge is `TakesPacket`
 pub as_packet : {M : Type 0} (judged : Judge) (brought : List Packet → Packet → Bool) (holds left : M → List Packet → Type 0) (front : List Packet) (packet : Packet)
     (new : M) (result : Result Step Why) → TakesOr (judged front packet) (brought front packet) (holds new (front ++ packet ∷ [])) (left new front) result
     → TakesPacket judged brought holds left front packet new result

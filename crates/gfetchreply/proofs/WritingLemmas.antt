@@ -1,4 +1,4 @@
--- Ids one after the other, and what is left to write of a reply.
+-- Checking ids in sequence, and the packets of a reply that remain to be written.
 use Rattle.std.proofs.Common.{◌≡◌, ◌≢◌, ℕ, ◌+◌, ◌≤◌, ◌<◌, ◌↔◌, Bool, false, List, [], ◌∷◌, ◌++◌, length, drop, get_or}
 use Rattle.std.proofs.Common.{map, suc, Option, Result, Ok, Err, refl, sym, ap, ◌∙◌, add-one, drop-cons, arith, true}
 use Rattle.std.proofs.Common.{subst}
@@ -18,7 +18,7 @@ use Rattle.gname.specs.Ids.{IsIdOf}
 use Rattle.gname.specs.declared.formats.Format.{Format}
 use Rattle.gname.specs.Ids.{has_format}
 
--- the ids from here on decide for all
+-- the check of all ids has the result of the check of the ids `rest`
 abbrev pub Tells : Format → List (List ℕ) → List (List ℕ) → Type 0
 Tells format ids rest =
     (list_all (has_format format) ids ≡ list_all (has_format format) rest) × (All (IsIdOf format) rest → All (IsIdOf format) ids)
@@ -27,7 +27,7 @@ ids_left : (ids : List (List ℕ)) (i : ℕ) (id : List ℕ) → i < length ids 
 ids_left ids i id inside at =
     rw add-one (drop-cons ids i id inside ∙ ap (λ (x : List ℕ). x ∷ drop (suc i) ids) (sym at))
 
--- and so do those after an id that has the format
+-- after an id that has the format, the check of all ids has the result of the check of the ids after it
 pub tells_on : (format : Format) (ids : List (List ℕ)) (i : ℕ) (id : List ℕ) → i < length ids → id ≡ get_or ids i id → has_format format id ≡ true → IsIdOf format id
     → Tells format ids (drop i ids) → Tells format ids (drop (i + 1) ids)
 tells_on format ids i id inside at has is h =
@@ -36,14 +36,14 @@ tells_on format ids i id inside at has is h =
       λ all. h.1 (subst (All (IsIdOf format)) (sym left) (All-cons (IsIdOf format) id (drop (i + 1) ids) is all)),
     )
 
--- ---- what is left to write
+-- ---- the packets that remain to be written
 
--- the next id, and those after it
+-- the packets of the ids from `i` on: the packet of the next id, then those of the ids after it
 pub ids_next : (ids : List (List ℕ)) (i : ℕ) (id : List ℕ) → i < length ids → id ≡ get_or ids i id
     → map ack_packet (drop i ids) ≡ (ack_packet id ∷ []) ++ map ack_packet (drop (i + 1) ids)
 ids_next ids i id inside at = ap (map ack_packet) (ids_left ids i id inside at)
 
--- bytes that fit a band are not too long
+-- writing at most `max_band` bytes on a band does not fail with `Payload`
 pub fits_band : {P : Type 0} (result : Result (Unit {0}) WriteFault) (bytes : List ℕ) → (IsErrOf result Payload ↔ (P × (max_band < length bytes)))
     → length bytes ≤ max_band → IfErr result (λ fault. fault ≢ Payload)
 fits_band (Ok done) bytes h short = tt
@@ -63,7 +63,7 @@ module _ {W : Type 0} (contents passed_on : W → Option (List ℕ)) (is_down : 
     ends : EndsWriting contents passed_on is_down loans;
   }
 
-  -- a text was written, or it was too long
+  -- the outcome of writing a text, which fails with `Payload` if the text is too long
   abbrev WritesText : Writer W → Writer W → Result (Unit {0}) WriteFault → Packet → Type 0
   WritesText old new result line = record {
     written : HasWritten contents passed_on is_down loans old new result (canonical line);
@@ -71,7 +71,7 @@ module _ {W : Type 0} (contents passed_on : W → Option (List ℕ)) (is_down : 
   }
 
 module _ {W : Type 0} {contents passed_on : W → Option (List ℕ)} {is_down : W → Bool} {loans : W → List ℕ} where
-  -- the first text was written, which is not too long, or it failed
+  -- after a first text that is not too long is written, the packets `rest` remain to be written
   pub headed : Laws contents passed_on is_down loans → {start next : Writer W} (line : Packet) (rest : List Packet)
       → WritesText contents passed_on is_down loans start next (Ok tt) line → Fits line
       → IsWriting contents passed_on is_down loans start next (line ∷ rest) rest

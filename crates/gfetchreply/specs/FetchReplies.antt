@@ -71,7 +71,7 @@ reply_form line =
     else if bytes_eq line (codes "packfile") then Packfile
     else ack_or_other (after_word (codes "ACK ") line)
 
--- ---- the position of a packet in a reply
+-- ---- the place of the next packet in the grammar
 
 pub data Point : Type 0 where
   -- the heading of the acknowledgments is expected
@@ -93,7 +93,7 @@ abbrev pub first_place : Bool → Point
 first_place true = BeforePack
 first_place false = Start
 
--- the position after a text
+-- the place in the grammar after a text
 abbrev pub after_text : Point → ReplyForm → Point
 after_text Start Acknowledgments = Acking
 after_text Acking Nak = AfterNak
@@ -268,12 +268,12 @@ payload_brings refuses Acking payload = form_brings (reply_form (text payload))
 payload_brings refuses InPack payload = band_brings refuses (band_form payload)
 payload_brings refuses _ payload = false
 
--- accepting the packet needs memory, given whether the sink may refuse a piece
+-- whether accepting the packet needs memory; `refuses` states whether the sink may refuse a piece
 abbrev pub brings_into : Bool → Reading → List Packet → Packet → Bool
 brings_into refuses reading packets (Data payload) = payload_brings refuses (place_of reading.direct packets) payload
 brings_into refuses reading packets _ = false
 
--- accepting the packet needs memory, if the pack is stored in memory
+-- whether accepting the packet needs memory, if the pack is stored in memory
 abbrev pub brings : Reading → List Packet → Packet → Bool
 brings = brings_into true
 

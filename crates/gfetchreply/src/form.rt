@@ -1,4 +1,4 @@
-//! The lines of a fetch reply, which are payloads without a line feed.
+//! The kinds of texts in a fetch reply. A text is a payload without its final line feed.
 
 ghost use Rattle.std.specs.Prelude.{◌≡◌, codes};
 ghost use Rattle.gfetchreply.specs.FetchReplies.{ack_or_other, reply_form};

@@ -49,7 +49,7 @@ pub fn limits_are_the_constants()
 {}
 
 /// Proves that a list of packets is read as a reply exactly if Git's manual and the limits allow
-/// the list. Its meaning is the one that the manual states (gitprotocol-v2(5), "fetch").
+/// the list. The list has the meaning that the manual states (gitprotocol-v2(5), "fetch").
 pub fn manual()
     ensures { (reading : Reading) → AsInManual (Says reading) (IsFetchReply reading) }
 {}

@@ -30,7 +30,7 @@
 //!   acknowledgments. The pack is within the reader's size limit. The field `direct` of
 //!   [`FetchReading`] is true exactly for a direct reply.
 //! - By [`laws`], a list of packets is a reply exactly if Git's manual and the limits allow the
-//!   list. Its meaning is the one that the manual states (`specs/FetchManual.antt`). A list of
+//!   list. The list has the meaning that the manual states (`specs/FetchManual.antt`). A list of
 //!   packets encodes at most one reply, and no reply is a prefix of another, as packets or as
 //!   bytes. Each unfinished reply can be completed with at most four packets, and a rejected packet
 //!   is the first that does not fit. The packets written for a reply encode it. A written reply
@@ -42,16 +42,16 @@
 //!
 //! # Only tested
 //!
-//! Calls succeed if there is enough memory, although the contracts do not state it. Writing does
+//! Calls succeed if there is enough memory, although the contracts do not state this. Writing does
 //! not allocate, and neither does building a reply from existing ids and an existing pack.
 //!
 //! # What the contracts do not rule out
 //!
 //! No contract rules out that reading reports out of memory at any id, or at any packet with data
-//! if the pack is stored in memory. If the caller provides the sink, no contract rules out such a
-//! report at a packet with data after the sink has refused a piece. No contract rules out that the
-//! reader passes this piece to the sink again. No contract rules out that a call allocates, or
-//! takes any amount of time.
+//! if the pack is stored in memory. If the caller provides the sink, no contract rules out that
+//! reading reports out of memory at a packet with data after the sink has refused a piece. No
+//! contract rules out that the reader passes this piece to the sink again. No contract rules out
+//! that a call allocates, or takes any amount of time.
 //!
 //! # Dependencies
 //!

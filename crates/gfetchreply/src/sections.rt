@@ -22,7 +22,7 @@ use std::alloc::Allocator;
 /// The maximum number of packets in a pack's section.
 const MAX_PACKETS: u32 = 4_294_967_295;
 
-/// The position of a packet in a reply.
+/// The place of the next packet in the grammar of a reply.
 #[derive(Clone, Copy, Debug, PartialEq, Eq)]
 pub(crate) enum Point {
     /// The heading of the acknowledgments is expected.

@@ -22,8 +22,8 @@ pub(crate) fn url_result(alloc: Global, text: &[u8]) -> Result<String, Trouble> 
     }
 }
 
-/// Returns the result of parsing a client's path: `ok` and the last candidate directory below the
-/// base, or `none`.
+/// Returns the result of parsing a client's path: `none`, or `ok` and the last directory that the
+/// server would try below its base directory.
 pub(crate) fn served_path_result<A: Allocator + Copy>(
     alloc: Global,
     tested_alloc: A,

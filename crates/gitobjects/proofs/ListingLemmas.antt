@@ -33,14 +33,14 @@ is_not_plain byte text found all =
 pub one_stem : (name front stem : List ℕ) → name ≡ front ++ codes ".idx" → IsIndexName stem name → stem ≡ front
 one_stem name front stem is index = append_cancel_right stem front (codes ".idx") (sym index.is ∙ is)
 
--- the stems after one more name, which is the name of a pack index
+-- appending the name of a pack index to the names appends its stem to the stems
 pub stems_more : (names : List (List ℕ)) (name stem : List ℕ) (stems : List (List ℕ)) → IsIndexName stem name → AreStems names stems → AreStems (names ++ name ∷ []) (stems ++ stem ∷ [])
 stems_more [] name stem stems this is = inl (stem, [], this, ap (λ l. l ++ stem ∷ []) is, refl)
 stems_more (first ∷ names) name stem stems this (inl h) =
     inl (h.0, h.1 ++ stem ∷ [], h.2, ap (λ l. l ++ stem ∷ []) h.3, stems_more names name stem h.1 this h.4)
 stems_more (first ∷ names) name stem stems this (inr h) = inr (h.0, stems_more names name stem stems this h.1)
 
--- the stems after one more name, which is not the name of a pack index
+-- appending a name that is not the name of a pack index leaves the stems unchanged
 pub stems_same : (names : List (List ℕ)) (name : List ℕ) (stems : List (List ℕ)) → IsOtherName name → AreStems names stems → AreStems (names ++ name ∷ []) stems
 stems_same [] name stems other is = inr (other, is)
 stems_same (first ∷ names) name stems other (inl h) = inl (h.0, h.1, h.2, h.3, stems_same names name h.1 other h.4)

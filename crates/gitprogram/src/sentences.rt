@@ -105,7 +105,7 @@ pub(crate) enum Sentence<'a> {
         address: &'a str,
         error: &'a io::Error,
     },
-    /// The program can accept no more connections.
+    /// The program cannot accept connections, because a system call failed.
     Accept {
         error: &'a io::Error,
     },

@@ -14,7 +14,7 @@ none_left : (given : ℕ) (bytes before text : List ℕ) → length bytes ≤ gi
 none_left given bytes before text h e = sym (append-nil before) ∙ ap (λ l. before ++ l) (sym (drop_all given bytes h)) ∙ e
 
 -- a new pack: the header is built, and no bytes are returned
-pub going_new : {A : Type 0} (pack : Outgoing A) → IsTrue pack.is_whole → pack.is_over ≡ false → pack.given ≡ 0 → pack.put ≡ 0
+pub going_new : {A : Type 0} (pack : Outgoing A) → IsTrue pack.is_between_entries → pack.has_trailer ≡ false → pack.given ≡ 0 → pack.put ≡ 0
     → pack.bytes.items ≡ pack_header pack.count → Holds pack.sum pack.bytes.items → IsGoing pack []
 going_new pack whole running none zero header holds =
     record {
@@ -26,8 +26,8 @@ going_new pack whole running none zero header holds =
     }
 
 -- once all built bytes are returned, adding an entry preserves `IsGoing` for the same returned bytes
-pub going_put : {A : Type 0} (old new : Outgoing A) (form : EntryForm) (size : ℕ) (stream start hashed : List ℕ) → old.is_over ≡ false
-    → length old.bytes.items ≤ old.given → IsTrue new.is_whole → new.is_over ≡ false → new.given ≡ 0 → new.count ≡ old.count
+pub going_put : {A : Type 0} (old new : Outgoing A) (form : EntryForm) (size : ℕ) (stream start hashed : List ℕ) → old.has_trailer ≡ false
+    → length old.bytes.items ≤ old.given → IsTrue new.is_between_entries → new.has_trailer ≡ false → new.given ≡ 0 → new.count ≡ old.count
     → new.put ≡ old.put + 1 → start ≡ [] → AddsEntry form size stream start new.bytes.items
     → hashed ≡ new.bytes.items → ((m : List ℕ) → Holds old.sum m → Holds new.sum (m ++ hashed)) → GoesOn old new
 going_put old new form size stream start hashed running none whole still zero count put fresh adds same sums = λ given is.
@@ -44,8 +44,8 @@ going_put old new form size stream start hashed running none whole still zero co
     }
 
 -- once all built bytes are returned, adding the trailer preserves `IsGoing` for the same returned bytes
-pub going_finish : {A : Type 0} (old new : Outgoing A) → old.is_over ≡ false → old.put ≡ old.count
-    → length old.bytes.items ≤ old.given → IsTrue new.is_whole → new.is_over ≡ true → new.given ≡ 0 → new.count ≡ old.count
+pub going_finish : {A : Type 0} (old new : Outgoing A) → old.has_trailer ≡ false → old.put ≡ old.count
+    → length old.bytes.items ≤ old.given → IsTrue new.is_between_entries → new.has_trailer ≡ true → new.given ≡ 0 → new.count ≡ old.count
     → new.put ≡ old.put → ((m : List ℕ) → Holds old.sum m → new.bytes.items ≡ sha1 m) → GoesOn old new
 going_finish old new running many none whole ended zero count put trailer = λ given is.
     let parts = is.going running in
@@ -72,7 +72,7 @@ front count copied bytes others long same =
     take-append-le count copied others (omega (arith, long)) ∙ ap (take count) same ∙ take-take count count bytes (omega arith)
 
 -- if the next `count` bytes are returned as `out`, the returned bytes are `before ++ out`
-pub going_given : {A : Type 0} (old new : Outgoing A) (count : ℕ) (out : List ℕ) → new.is_whole ≡ old.is_whole → new.is_over ≡ old.is_over
+pub going_given : {A : Type 0} (old new : Outgoing A) (count : ℕ) (out : List ℕ) → new.is_between_entries ≡ old.is_between_entries → new.has_trailer ≡ old.has_trailer
     → new.count ≡ old.count → new.put ≡ old.put → new.sum ≡ old.sum → new.bytes.items ≡ old.bytes.items
     → new.given ≡ old.given + count → out ≡ take count (drop old.given old.bytes.items)
     → (before : List ℕ) → IsGoing old before → IsGoing new (before ++ out)

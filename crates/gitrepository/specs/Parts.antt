@@ -12,11 +12,11 @@ rest_of pack = drop pack.given pack.bytes.items
 -- The bytes returned so far, followed by the bytes not yet returned, are the header and all entries built so far. Once
 -- the trailer is built, all these bytes are the whole pack.
 pub record IsGoing {A : Type 0} (pack : Outgoing A) (given : List ℕ) : Type 0 where
-  pub whole : IsTrue pack.is_whole
+  pub whole : IsTrue pack.is_between_entries
   pub text : List ℕ
   pub entries : HasPut pack.count pack.put text
-  pub going : pack.is_over ≡ false → Holds pack.sum text × (given ++ rest_of pack ≡ text)
-  pub over : pack.is_over ≡ true → (pack.put ≡ pack.count) × (given ++ rest_of pack ≡ with_trailer text)
+  pub going : pack.has_trailer ≡ false → Holds pack.sum text × (given ++ rest_of pack ≡ text)
+  pub over : pack.has_trailer ≡ true → (pack.put ≡ pack.count) × (given ++ rest_of pack ≡ with_trailer text)
 
 -- a call that returns no bytes: if `given` are the bytes returned before the call, they are also the bytes returned
 -- after the call
@@ -25,4 +25,4 @@ GoesOn old new = (given : List ℕ) → IsGoing old given → IsGoing new given
 
 -- the whole pack was returned
 abbrev pub IsGivenWhole : {A : Type 0} → Outgoing A → Type 0
-IsGivenWhole pack = IsTrue pack.is_over × (length pack.bytes.items ≤ pack.given)
+IsGivenWhole pack = IsTrue pack.has_trailer × (length pack.bytes.items ≤ pack.given)

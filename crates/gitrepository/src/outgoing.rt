@@ -29,9 +29,10 @@ pub(crate) struct Outgoing<A: Allocator + Copy> {
     // The entry count in the header, and the number of entries built so far.
     count: u32,
     put: u32,
-    // Whether the last entry is complete, and whether the trailer was built.
-    is_whole: bool,
-    is_over: bool,
+    // Whether the last entry is complete. This is also true before the first entry.
+    is_between_entries: bool,
+    // Whether the trailer was built.
+    has_trailer: bool,
 }
 
 impl<A: Allocator + Copy> Outgoing<A> {
@@ -52,8 +53,8 @@ impl<A: Allocator + Copy> Outgoing<A> {
             sum,
             count,
             put: 0,
-            is_whole: true,
-            is_over: false,
+            is_between_entries: true,
+            has_trailer: false,
         })
     }
 
@@ -73,7 +74,7 @@ impl<A: Allocator + Copy> Outgoing<A> {
     pub(crate) fn is_fully_returned(&self) -> bool
         ensures { IsTrue result → IsGivenWhole self.now }
     {
-        self.is_over && self.is_given()
+        self.has_trailer && self.is_given()
     }
 
     /// Appends an entry of this form with this zlib stream, which inflates to `size` bytes.
@@ -90,10 +91,14 @@ impl<A: Allocator + Copy> Outgoing<A> {
         ensures going { OnOk result (GoesOn self.old self.new) }
         ensures left { self.new.left ≡ self.old.left }
     {
-        if !self.is_whole || self.is_over || self.put >= self.count || !self.is_given() {
+        if !self.is_between_entries
+            || self.has_trailer
+            || self.put >= self.count
+            || !self.is_given()
+        {
             return Err(RepositoryFault::Count);
         }
-        self.is_whole = false;
+        self.is_between_entries = false;
         let most = MAX_PARTS.saturating_sub(TRAILER).saturating_sub(self.made);
         self.bytes.clear();
         self.given = 0;
@@ -101,7 +106,7 @@ impl<A: Allocator + Copy> Outgoing<A> {
         self.sum.update(self.bytes.as_slice());
         self.made = self.made.saturating_add(self.bytes.len());
         self.put += 1;
-        self.is_whole = true;
+        self.is_between_entries = true;
         Ok(())
     }
 
@@ -115,17 +120,21 @@ impl<A: Allocator + Copy> Outgoing<A> {
         ensures going { OnOk result (GoesOn self.old self.new) }
         ensures left { self.new.left ≡ self.old.left }
     {
-        if !self.is_whole || self.is_over || self.put != self.count || !self.is_given() {
+        if !self.is_between_entries
+            || self.has_trailer
+            || self.put != self.count
+            || !self.is_given()
+        {
             return Err(RepositoryFault::Count);
         }
-        self.is_whole = false;
+        self.is_between_entries = false;
         let sum = std::mem::replace(&mut self.sum, Sha1::new());
         self.bytes.clear();
         self.given = 0;
         self.bytes.extend_from_slice(&sum.finalize())?;
         self.made = self.made.saturating_add(TRAILER);
-        self.is_over = true;
-        self.is_whole = true;
+        self.has_trailer = true;
+        self.is_between_entries = true;
         Ok(())
     }
 

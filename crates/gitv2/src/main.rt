@@ -8,7 +8,7 @@
 //! # Only tested
 //!
 //! One test runs `ls --stdio-server` (`args`, `stdin`, `stdout`, `data/`), to check that `gprogram`
-//! receives the runtime. The program `conformance` tests the commands by calls of [`run_gitv2`].
+//! receives the runtime. The program `conformance` tests the commands by calling [`run_gitv2`].
 //!
 //! # What the contracts do not rule out
 //!

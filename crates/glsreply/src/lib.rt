@@ -36,8 +36,8 @@
 //! # What the contracts do not rule out
 //!
 //! No contract rules out that a reader reports out of memory at an accepted line, or that a call to
-//! `push` reports out of memory. No contract rules out that any other call allocates and frees memory. No
-//! contract bounds the memory of a value or the time of a call.
+//! `push` reports out of memory. No contract rules out that any other call allocates and frees
+//! memory. No contract bounds the memory of a value or the time of a call.
 //!
 //! The line-by-line writers accept lines in any order and ids of different formats. The caller must
 //! write the lines in the right order, with ids of the same format.

@@ -1,4 +1,5 @@
--- A reply to ls-refs and a reply to fetch differ in their first packet: the text of the one has a space.
+-- An ls-refs reply and a fetch reply differ in their first packet. An ls-refs reply begins with a flush or a text with
+-- a space, and a fetch reply with a heading without a space.
 use Rattle.std.proofs.Common.{◌≡◌, ◌⊎◌, ℕ, ◌==◌, Bool, true, false, if◌then◌else◌, List, [], ◌∷◌, ◌++◌, length, map, filter, codes, All, Contains, Option, Some, None, inl, inr, refl, sym, ap, subst, ◌∙◌, arith}
 use Rattle.std.proofs.lemmas.Bool.{false≢true}
 use Rattle.std.proofs.lemmas.List.Elements.{All-append, All-cons, All-contains, All-head, All-nil, Contains-append_left, Contains-append_right, filter_passes}
@@ -49,13 +50,13 @@ longer P packets front more same begins = record {
   is = begins.is;
 }
 
--- a flush, or a text with a space
+-- the packet is a flush, or its text has a space
 abbrev IsSpaced : Packet → Type 0
 IsSpaced (Data payload) = Contains (text payload) 32
 IsSpaced Flush = Unit {0}
 IsSpaced _ = ⊥
 
--- a text that begins a section
+-- the packet is the heading of a section of a fetch reply
 abbrev IsHeading : Packet → Type 0
 IsHeading (Data payload) = (text payload ≡ codes "acknowledgments") ⊎ (text payload ≡ codes "packfile")
 IsHeading _ = ⊥
@@ -73,7 +74,7 @@ not_so packets one other =
     let same : other.first ≡ one.first = cc in
     not_both one.first one.is (subst (λ (p : Packet). IsHeading p) same other.is)
 
--- ---- of a reply to ls-refs
+-- ---- the first packet of an ls-refs reply
 
 abbrev HasSpace : List ℕ → Type 0
 HasSpace payload = Contains (text payload) 32
@@ -115,7 +116,7 @@ ls_begins format ends packets reply is =
     (begins_spaced (is.first ++ is.refs) _
     (All-append HasSpace is.first is.refs (unborn_spaced reply.unborn is.first is.is_first) (refs_spaced format is.refs reply.lines is.are_refs)))
 
--- ---- of a reply to fetch
+-- ---- the first packet of a fetch reply
 
 acks_begin : (limits : Limits) (format : Format) (packets : List Packet) (ids : List (List ℕ)) → IsAckSection limits format packets ids → BeginsSo IsHeading packets
 acks_begin limits format packets ids is = record { first = Data is.heading; rest = map Data is.acks; parts = is.parts; is = inl is.is_heading }
@@ -140,7 +141,7 @@ body_begins reading packets (Pack pack) is = pack_begins reading.limit packets p
 fetch_begins : (reading : Reading) (packets : List Packet) (reply : FetchReply) → IsFetchReply reading packets reply → BeginsSo IsHeading packets
 fetch_begins reading packets reply is = longer IsHeading packets is.body _ is.parts (body_begins reading is.body reply is.is_body)
 
--- ---- so no bytes begin with both
+-- ---- the difference between the two kinds of reply
 
 pub none_begins_as_both : OneBegins → ((format : Format) (ends : Ends) → AsInManual (ls.Says format ends) (IsLsReply format ends))
     → ((reading : Reading) → AsInManual (fetch.Says reading) (IsFetchReply reading)) → (format : Format) (ends : Ends) (reading : Reading)

@@ -35,7 +35,7 @@ is_worth : (found : Option ℕ) → unwrap_or found 255 < 16 → found ≡ Some 
 is_worth None small = absurd (omega (arith, small))
 is_worth (Some value) small = refl
 
--- in a table of the values of all bytes, an element less than 16 is the value of the digit at that position
+-- in a table with the digit value of each byte, an element less than 16 is the value of a hexadecimal digit
 pub value_in : (table : List ℕ) → table ≡ map worth (range_with_len 0 256) → (byte : ℕ) → byte < 256
     → slice_index table byte < 16 → hex_digit_value byte ≡ Some (slice_index table byte)
 value_in table is byte low small =

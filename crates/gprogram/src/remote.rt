@@ -10,7 +10,7 @@ use std::io;
 use std::net::Net;
 use std::rt::{Clock, Files};
 
-/// `gitv2 serve --listen ADDR --path PATH --connections N FILE`
+/// `gitv2 serve --listen ADDR --path PATH --connections N [--response-end] FILE`
 pub(crate) fn listen<R, E>(rt: &R, asked: &Serve, errors: &mut E) -> u8
 where
     R: Files + Print + AllocGlobal + Clock + Net,

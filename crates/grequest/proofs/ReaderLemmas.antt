@@ -1,5 +1,5 @@
--- Reading a request. The state after some packets accepts exactly the packets that may follow them. A request is missing
--- exactly if the input is empty.
+-- Reading a request. The state after some packets accepts exactly the packets that may follow them. The reader
+-- returns `None` exactly if the input is empty.
 use Rattle.std.proofs.Common.{◌≡◌, Bool, List, [], ◌∷◌, ◌++◌, codes, Result, Ok, Err, refl, sym, ap, subst, ◌∙◌, ℕ, ◌<◌}
 use Rattle.std.proofs.Common.{length, map, Option, Some, None, inl, inr, arith}
 use Rattle.gpkt.specs.Packets.{Packet, Data, Flush, SpellsAll, text}

@@ -69,9 +69,7 @@ mod write;
 
 pub use crate::fetch::FetchRequest;
 pub use crate::flag::{FetchFlag, LsRefsFlag};
-pub use crate::limits::{
-    MAX_HAVES, MAX_PREFIXES, MAX_WANTS, max_haves, max_prefixes, max_wants,
-};
+pub use crate::limits::{MAX_HAVES, MAX_PREFIXES, MAX_WANTS, max_haves, max_prefixes, max_wants};
 pub use crate::ls_refs::LsRefsRequest;
 pub use crate::read::{read_request, read_request_in, read_request_within};
 pub use crate::reading::RequestReader;

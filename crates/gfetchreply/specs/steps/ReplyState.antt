@@ -21,8 +21,8 @@ use Rattle.gfetchreply.specs.declared.sections.Point as coded
 use Rattle.gfetchreply.specs.declared.sections.Point.TheVariants as place
 use Rattle.gfetchreply.specs.declared.sections.Sections.{Sections}
 
--- the position of the next packet, the acknowledged ids, whether `ready` was read, and the numbers of packets and of
--- bytes of the pack
+-- the place of the next packet in the grammar, the acknowledged ids, whether `ready` was read, and the numbers of
+-- packets and of bytes of the pack
 pub record Kept : Type 0 where
   pub place : Point
   pub acks : Acks
@@ -96,7 +96,7 @@ abbrev pub data_there : Point → Packet → Bytes
 data_there place (Data payload) = data_at place payload
 data_there place _ = []
 
--- accepting the packet needs memory
+-- whether accepting the packet needs memory
 abbrev pub brings_there : Bool → Point → Packet → Bool
 brings_there refuses place (Data payload) = payload_brings refuses place payload
 brings_there refuses place _ = false
@@ -124,8 +124,8 @@ kept_in sections = record {
 abbrev pub state_in : {A : Type 0} → Sections A → State
 state_in sections = state_kept (kept_in sections)
 
--- If the packet is accepted, the verdict accepts it and the first predicate is true. If the packet is refused, the
--- verdict refuses it or memory runs out, and the second predicate is true.
+-- If the packet is accepted, the verdict accepts it and `taken` is true. If the packet is refused, the verdict refuses
+-- it or memory runs out, and `left` is true.
 abbrev pub TakesOr : Verdict → Bool → Type 0 → Type 0 → Result Step Why → Type 0
 TakesOr verdict brings taken left (Ok step.Open) = (verdict ≡ Open) × taken
 TakesOr verdict brings taken left (Ok step.Whole) = (verdict ≡ Whole) × taken

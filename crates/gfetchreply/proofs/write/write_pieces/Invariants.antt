@@ -5,7 +5,7 @@ use Rattle.ggrammar.specs.Writing.{IsWriting}
 use Rattle.gfetchreply.specs.FetchReplies.{data_packet, pieces}
 use Rattle.gfetchreply.proofs.write.write_pieces.Given as goal
 
--- the pieces of what is left are to come
+-- the pieces of the rest of the pack remain to be written
 abbrev pub invariant-loop-piece : goal.invariant-loop-piece
 invariant-loop-piece g l = record {
   size : chunks_size l.piece-iterator ≡ max_band;
