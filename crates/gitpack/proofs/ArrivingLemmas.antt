@@ -1,5 +1,5 @@
 -- What is kept of a pack that arrives, as bytes are added and released.
-use Rattle.std.proofs.Common.{◌≡◌, ℕ, zero, suc, ◌+◌, ◌-◌, ◌≤◌, refl, List, [], ◌∷◌, ◌++◌, length, take, drop, sym, ap, subst, ◌∙◌, append_assoc, arith}
+use Rattle.std.proofs.Common.{◌≡◌, ℕ, ◌+◌, ◌-◌, ◌≤◌, List, ◌++◌, length, take, drop, sym, ap, subst, ◌∙◌, append_assoc, arith}
 use Rattle.std.proofs.Math.Seq.{take-add}
 use Rattle.std.proofs.lemmas.List.{append-nil, length-append, length-drop, take-append-drop}
 use Rattle.sha1.specs.Sha1.{Holds, sha1}
@@ -8,26 +8,12 @@ use Rattle.gitpack.proofs.IndexLemmas.{hashed_more}
 use Rattle.gitpack.specs.Packs.{IsFramed, pack_header}
 use Rattle.gitpack.specs.declared.frame.PackHead.{PackHead}
 use Rattle.gitpack.specs.declared.frame.PackHead.TheVariants.{Unread, Count, Wrong}
-use Rattle.gitpack.specs.steps.Arriving.{BeginsWithCount, HeadAfter, IsArriving, IsHeadOf, KeepsHead, MayRelease}
+use Rattle.gitpack.specs.steps.Arriving.{BeginsWithCount, HeadAfter, IsArriving, KeepsHead, MayRelease}
 
 -- bytes that begin with a header still begin with the header after more bytes are appended
 begins_more : (count : ℕ) (bytes more all : List ℕ) → all ≡ bytes ++ more → BeginsWithCount count bytes → BeginsWithCount count all
 begins_more count bytes more all is begins =
     (begins.0 ++ more, is ∙ ap (λ l. l ++ more) begins.1 ∙ append_assoc (pack_header count) begins.0 more)
-
--- before the first byte arrives
-pub arrives_first : (given window : List ℕ) (hasher : Sha1) → given ≡ [] → window ≡ [] → Holds hasher [] → IsArriving given window Unread hasher
-arrives_first given window hasher none empty holds = record {
-  released = [];
-  parts = none ∙ sym empty;
-  hashed = subst (λ w. Holds hasher (take (length w - 20) w)) (sym empty) holds;
-  headed = refl;
-}
-
--- a failed call changes nothing
-pub arrives_same : (given given' window window' : List ℕ) (head : PackHead) (hasher : Sha1) → given' ≡ given → window' ≡ window → IsArriving given window head hasher → IsArriving given' window' head hasher
-arrives_same given given' window window' head hasher same kept is =
-    subst (λ g. IsArriving g window' head hasher) (sym same) (subst (λ w. IsArriving given w head hasher) (sym kept) is)
 
 -- what is known about the header, after more bytes of the pack are read
 headed_more : (head head' : PackHead) (released front more body : List ℕ) → body ≡ front ++ more → HeadAfter head body head' → KeepsHead head released front → KeepsHead head' released body

@@ -1,6 +1,6 @@
 //! The header and the trailer of a pack that arrives.
 
-ghost use Rattle.std.specs.Prelude.{◌≡◌, ◌-◌, ◌++◌, ◌↔◌, [], List, ℕ, IfSome, IsTrue, OnErr, OnOk, drop, length, take};
+ghost use Rattle.std.specs.Prelude.{◌≡◌, ◌-◌, ◌≤◌, ◌++◌, ◌↔◌, [], List, ℕ, IfSome, IsTrue, OnErr, OnOk, drop, length, take};
 ghost use Rattle.gname.specs.Ids.{IsIdOf};
 ghost use Rattle.gname.specs.declared.formats.Format.TheVariants as formats;
 ghost use Rattle.gitpack.specs.Packs.{IsFramed, pack_header};
