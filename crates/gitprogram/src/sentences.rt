@@ -233,6 +233,7 @@ fn write_repository<W: fmt::Write>(
         RepositoryFault::File { path, error } => write_refused("write ", path.as_str(), error, f),
         RepositoryFault::Store(StoreFault::File(fault)) => write_store_file(fault, f),
         RepositoryFault::Form { fault, .. } => write!(f, "{path} {}", form_text(*fault)),
+        _ if fault.is_of_spool() => write!(f, "{path}: {fault}"),
         RepositoryFault::Objects => write!(
             f,
             "{path} has more than {} commits and tags: use git",
