@@ -3,7 +3,9 @@
 ghost use Rattle.std.specs.Prelude.{◌≡◌};
 ghost use Rattle.gitpack.specs.declared.fault.PackFileFault.TheVariants.{Memory};
 
+use crate::spool::SpoolFault;
 use std::alloc::{AllocError, AllocFailed};
+use std::io::ErrorKind;
 
 /// The reason why a pack is refused, or why an entry cannot be written.
 #[derive(Clone, Copy, Debug, PartialEq, Eq, Drop)]
@@ -19,9 +21,12 @@ pub enum PackFileFault {
     /// The base of a delta is not in the pack: the pack is thin, or an offset is wrong.
     Thin,
     /// A limit is exceeded: the number of objects, the size of an object, the total size, the
-    /// memory for delta bases, or the size of a written pack. A chain of more than 8,191 deltas, or
-    /// a size or offset that an entry header cannot encode, causes the same fault.
+    /// memory for delta bases, or the size of a written pack. A chain of more than 8,191 deltas, a
+    /// zlib stream of more than 128 MiB, or a size or offset that an entry header cannot encode,
+    /// causes the same fault.
     TooLarge,
+    /// The spool cannot store the pack, or cannot return its bytes.
+    Spool(ErrorKind),
     /// The id of the base of a written delta is not a SHA-1 id.
     Format,
     /// The visitor refused an object.
@@ -41,5 +46,14 @@ impl<T: Drop> From<AllocFailed<T>> for PackFileFault {
 
     fn from(_refused: AllocFailed<T>) -> PackFileFault {
         PackFileFault::Memory
+    }
+}
+
+impl From<SpoolFault> for PackFileFault {
+    fn from(fault: SpoolFault) -> PackFileFault {
+        match fault {
+            SpoolFault::Memory => PackFileFault::Memory,
+            SpoolFault::File(kind) => PackFileFault::Spool(kind),
+        }
     }
 }

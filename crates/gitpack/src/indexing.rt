@@ -37,6 +37,21 @@ pub struct IndexLimits {
     pub held: usize,
     /// The maximum total size of all objects and deltas.
     pub total: usize,
+    /// The number of bytes by which `object` and `held` are reduced for each object of the pack,
+    /// since each object needs memory for tables.
+    pub table: usize,
+}
+
+impl IndexLimits {
+    // Returns the limits for a pack of `count` objects.
+    pub(crate) fn for_count(self, count: u32) -> IndexLimits {
+        let tables = self.table.saturating_mul(count as usize);
+        IndexLimits {
+            object: self.object.saturating_sub(tables),
+            held: self.held.saturating_sub(tables),
+            ..self
+        }
+    }
 }
 
 /// An object of a pack, with its entry in the pack index and its type.
@@ -147,7 +162,7 @@ fn lines_of<A: Allocator + Copy>(
 /// Fails with `Frame` if the header or the trailer is wrong, or if bytes follow the last entry.
 /// Fails with `Entry` if an entry is malformed or missing, and with `Thin` if the base of a delta
 /// is not in the pack. Fails with `TooLarge` if the pack exceeds a limit, a chain has more than
-/// 8,191 deltas, or there are 2^31 objects or more. Fails with the visitor's fault if the visitor
+/// 8,191 deltas, an entry has more than 128 MiB, or there are 2^31 objects or more. Fails with the visitor's fault if the visitor
 /// fails, or with `Memory` if out of memory. The visitor may already have received objects when
 /// this function fails.
 pub fn index_pack<A: Allocator + Copy, V: ObjectVisitor>(
@@ -158,9 +173,9 @@ pub fn index_pack<A: Allocator + Copy, V: ObjectVisitor>(
 ) -> Result<IndexedPack<A>, PackFileFault>
     ensures { IfOk result (λ indexed. (count : ℕ) × IsFramed count indexed.checksum pack.now) }
 {
-    let mut incoming = IncomingPack::new(alloc, limits);
+    let mut incoming = IncomingPack::new(alloc, Vec::new(alloc), limits);
     incoming.feed(pack, visitor)?;
-    let (_bytes, index) = incoming.finish(visitor)?;
+    let (_spool, index) = incoming.finish(visitor)?;
     Ok(index)
 }
 

@@ -1,5 +1,5 @@
-//! Reading, indexing and writing Git packs in memory, with deltas and pack indexes
-//! (gitformat-pack(5)). This crate does not read files or the object graph.
+//! Reading, indexing and writing Git packs, with deltas and pack indexes (gitformat-pack(5)). This
+//! crate does not read files or the object graph. A [`Spool`] stores a pack that arrives.
 //!
 //! # Proved
 //!
@@ -25,9 +25,10 @@
 //!   SHA-1 of all these bytes. The functions [`put_header`] and [`put_entry`] write only a pack
 //!   header or one entry.
 //! - [`IncomingPack`] accepts only packs of version 2 whose trailer is the SHA-1 of all preceding
-//!   bytes. `IncomingPack` returns the concatenation of all received bytes. The visitor receives
-//!   each object with the id that its type and bytes determine. The returned objects are sorted by
-//!   id.
+//!   bytes. All received bytes are appended to a [`Spool`], in order, and the spool is returned. The
+//!   visitor receives each object with the id that its type and bytes determine. The returned
+//!   objects are sorted by id.
+//! - A vector is a [`Spool`], and returns the bytes that were appended to it.
 //! - [`index_pack`] gives the same guarantees for a pack in one slice.
 //! - No call panics, overflows or reads out of bounds, and every call returns.
 //!
@@ -46,6 +47,7 @@
 //!   the order of the entries. The index's own checksum is not checked.
 //! - A pack of 2^31 objects or more is refused. A thin pack is refused, and so is a pack with a
 //!   chain of more than 8,191 deltas. No Git command makes longer chains, but Git can read them.
+//!   An arriving pack with an entry of more than 128 MiB is refused.
 //! - A pack may contain the same object twice, and then the index lists both entries. Git accepts a
 //!   pack with duplicate objects, unless `--strict` is set. A pack is refused if it contains the
 //!   base of a ref delta twice, as in Git 2.39; later versions of Git accept such a pack.
@@ -61,6 +63,7 @@
 //!   returns an object that the visitor did not receive, or received with another type.
 //! - No contract rules out that indexing returns a wrong offset or CRC-32 of an object, or applies
 //!   a delta to a wrong base.
+//! - No contract rules out that indexing reads the wrong bytes from a spool.
 //! - No contract rules out that indexing accepts a thin pack. No contract rules out that it accepts
 //!   a pack with bytes after its last entry, or with the same delta base twice.
 //! - No contract rules out that indexing accepts a pack after the visitor refused an object. No
@@ -99,6 +102,7 @@ pub mod laws;
 mod numbers;
 mod resolving;
 mod scanning;
+mod spool;
 mod streams;
 mod writing;
 
@@ -109,4 +113,5 @@ pub use crate::fault::PackFileFault;
 pub use crate::incoming::IncomingPack;
 pub use crate::index::{IndexEntry, PackIndex};
 pub use crate::indexing::{IndexLimits, IndexedEntry, IndexedPack, ObjectVisitor, index_pack};
+pub use crate::spool::{Spool, SpoolFault};
 pub use crate::writing::{PackWriter, put_entry, put_header};

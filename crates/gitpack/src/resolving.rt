@@ -11,6 +11,7 @@ use crate::fault::PackFileFault;
 use crate::index::IndexEntry;
 use crate::indexing::{IndexLimits, IndexedEntry, ObjectVisitor};
 use crate::scanning::{Object, Scanned, ScannedPack};
+use crate::spool::Spool;
 use crate::streams::inflate;
 use gitobject::{ObjectType, id_of};
 use gzlib::Inflater;
@@ -33,9 +34,9 @@ struct Base<A: Allocator + Copy> {
 
 /// The state of applying the deltas of a pack.
 #[derive(Drop)]
-pub(crate) struct Resolver<'a, A: Allocator + Copy> {
+pub(crate) struct Resolver<'a, S: Spool, A: Allocator + Copy> {
     alloc: A,
-    pack: &'a [u8],
+    spool: &'a S,
     limits: IndexLimits,
     entries: Vec<Scanned, A>,
     // The inflated stream of each entry, or `None` if the stream is not in memory.
@@ -49,12 +50,12 @@ pub(crate) struct Resolver<'a, A: Allocator + Copy> {
     inflater: Inflater,
 }
 
-impl<'a, A: Allocator + Copy> Resolver<'a, A> {
+impl<'a, S: Spool, A: Allocator + Copy> Resolver<'a, S, A> {
     /// Prepares to apply the deltas of a scanned pack. Fails only if out of memory.
     pub(crate) fn new(
-        pack: &'a [u8],
+        spool: &'a S,
         scanned: ScannedPack<A>,
-    ) -> Result<Resolver<'a, A>, AllocError> {
+    ) -> Result<Resolver<'a, S, A>, AllocError> {
         let ScannedPack {
             alloc,
             limits,
@@ -65,7 +66,7 @@ impl<'a, A: Allocator + Copy> Resolver<'a, A> {
         let children = Children::new(alloc, entries.as_slice())?;
         Ok(Resolver {
             alloc,
-            pack,
+            spool,
             limits,
             entries,
             texts,
@@ -127,11 +128,20 @@ impl<'a, A: Allocator + Copy> Resolver<'a, A> {
 
     // Inflates the stream of an entry again.
     fn inflate(&mut self, place: usize, entry: &Scanned) -> Result<Vec<u8, A>, PackFileFault> {
-        let stream = self.pack.get(entry.stream..entry.end).unwrap_or(b"");
-        match inflate(self.alloc, &mut self.inflater, stream, entry.size, place)? {
+        let stream = self.read_stream(entry)?;
+        let bytes = stream.as_slice();
+        match inflate(self.alloc, &mut self.inflater, bytes, entry.size, place)? {
             Some(inflated) => Ok(inflated.body),
             None => Err(PackFileFault::Entry(place)),
         }
+    }
+
+    // Reads the zlib stream of an entry from the spool.
+    fn read_stream(&self, entry: &Scanned) -> Result<Vec<u8, A>, PackFileFault> {
+        let mut stream = Vec::new(self.alloc);
+        stream.resize(entry.end.saturating_sub(entry.stream), 0)?;
+        self.spool.read_at(entry.stream, stream.as_mut_slice())?;
+        Ok(stream)
     }
 
     // Appends an object to the chain of bases.

@@ -1,6 +1,9 @@
 //! The limits on the messages that `gitrepo` reads and writes.
 
 use ggrammar::Limits;
+use gname::MAX_PACK;
+
+pub(crate) const MAX_FETCHED_PACK: usize = MAX_PACK;
 
 /// The limits on requests and replies.
 ///

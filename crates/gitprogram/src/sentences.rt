@@ -1,7 +1,7 @@
 //! The error messages of failed commands. Each message names the file or URL, the cause, and
 //! usually a remedy.
 
-use crate::limits::LIMITS;
+use crate::limits::{LIMITS, MAX_FETCHED_PACK};
 use ganswer::{BuildFault, ServeFault};
 use gclient::{ClientFault, FetchFault, MAX_SPECS, RepoFault};
 use ggrammar::Why;
@@ -10,7 +10,7 @@ use gitobjects::{Cause, FileFault, StoreFault};
 use gitrefs::RefFault;
 use gitrepository::{FormFault, RepositoryFault};
 use gitwords::{Shown, clean_byte};
-use gname::{MAX_ID_TEXT, MAX_PACK, OUT_OF_MEMORY_TEXT, Oid};
+use gname::{MAX_ID_TEXT, OUT_OF_MEMORY_TEXT, Oid};
 use gpkt::PacketFault;
 use gtcp::MAX_SILENCE;
 use std::alloc::Global;
@@ -233,6 +233,7 @@ fn write_repository<W: fmt::Write>(
         RepositoryFault::File { path, error } => write_refused("write ", path.as_str(), error, f),
         RepositoryFault::Store(StoreFault::File(fault)) => write_store_file(fault, f),
         RepositoryFault::Form { fault, .. } => write!(f, "{path} {}", form_text(*fault)),
+        _ if fault.is_of_spool() => write!(f, "{path}: {fault}"),
         RepositoryFault::Objects => write!(
             f,
             "{path} has more than {} commits and tags: use git",
@@ -435,7 +436,7 @@ fn write_message<W: fmt::Write>(frame: u64, why: &Why, f: &mut fmt::Formatter<W>
         Why::Limit => write!(
             f,
             "the pack has more than {} MiB, or there are more than {} refs: fetch fewer refs at a time",
-            MAX_PACK / 1_048_576,
+            MAX_FETCHED_PACK / 1_048_576,
             Thousands(MAX_REFS)
         ),
         Why::Format => f.write_str("its object format is not SHA-1: use git"),
