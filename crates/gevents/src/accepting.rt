@@ -86,7 +86,7 @@ impl<C: Conversation + Drop, A: Allocator + Copy> EventLoop<'_, C, A> {
         if peers >= self.limits.at_once {
             Some(Refusal::Full)
         } else if self.addresses.count(ip) >= self.limits.at_once_of_address {
-            Some(Refusal::FullOfAddress)
+            Some(Refusal::AddressLimit)
         } else {
             None
         }

@@ -38,7 +38,7 @@ pub(crate) const FULL: &[u8] =
     b"004aERR upload-pack: the server has too many connections: try again later\n";
 
 /// The packet for a client that connects while there are too many connections from its address.
-pub(crate) const FULL_OF_ADDRESS: &[u8] =
+pub(crate) const ADDRESS_LIMIT: &[u8] =
     b"0051ERR upload-pack: there are too many connections from your address: try later\n";
 
 /// The error line for a pack that cannot be made.

@@ -5,7 +5,7 @@ use crate::disk::Disk;
 use crate::fault::Fault;
 use crate::notes::Notes;
 use crate::output::print;
-use crate::refusals::{FULL, FULL_OF_ADDRESS};
+use crate::refusals::{FULL, ADDRESS_LIMIT};
 use crate::repositories::{Closes, Repositories};
 use crate::sentences::Sentence;
 use crate::shared::{Blames, Shared};
@@ -171,7 +171,7 @@ where
 fn packet_of(why: Refusal) -> &'static [u8] {
     match why {
         Refusal::Full => FULL,
-        Refusal::FullOfAddress => FULL_OF_ADDRESS,
+        Refusal::AddressLimit => ADDRESS_LIMIT,
     }
 }
 
@@ -179,7 +179,7 @@ fn packet_of(why: Refusal) -> &'static [u8] {
 fn words_of(why: Refusal) -> &'static str {
     match why {
         Refusal::Full => "there are too many connections",
-        Refusal::FullOfAddress => "there are too many connections from this address",
+        Refusal::AddressLimit => "there are too many connections from this address",
     }
 }
 
