@@ -83,10 +83,7 @@ fn feed_pack<A: Allocator + Copy, I: Indexer<A>>(
 }
 
 // Returns the fault of a rejected pack. The indexer must not keep a part of the pack.
-fn rejection_of<F, P, A>(
-    indexer: &StoreIndexer<'_, '_, F, P, A>,
-    fault: IndexFault,
-) -> Rejection<A>
+fn rejection_of<F, P, A>(indexer: &StoreIndexer<'_, '_, F, P, A>, fault: IndexFault) -> Rejection<A>
 where
     F: ObjectFiles,
     P: PackSpools + Drop,

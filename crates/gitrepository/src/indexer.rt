@@ -24,8 +24,9 @@ use std::cell::RefCell;
 /// MiB, less 224 bytes for each object of the pack. The same maximum applies to the total size of a
 /// delta, its bases in memory and its result. The maximum size of a commit, tree or tag is 64 MiB,
 /// and the maximum total size of all objects and deltas is 64 GiB. A delta chain may have at most
-/// 8,191 deltas, and an entry of the pack at most 128 MiB. The commits, tags and named ids may use at most 112 MiB of memory. This is enough
-/// for about two million ids, or for 485,000 commits with a tree each.
+/// 8,191 deltas, and an entry of the pack at most 128 MiB. The commits, tags and named ids may use
+/// at most 112 MiB of memory. This is enough for about two million ids, or for 485,000 commits with
+/// a tree each.
 #[derive(Drop)]
 pub struct StoreIndexer<'t, 'f, F, P, A>
 where
@@ -119,10 +120,7 @@ where
     }
 
     // Indexes a complete pack, and keeps the pack for `take_received`.
-    fn receive(
-        &self,
-        feed: StoreFeed<P::Spool, A>,
-    ) -> Result<Vec<Entry<A>, A>, RepositoryFault<A>>
+    fn receive(&self, feed: StoreFeed<P::Spool, A>) -> Result<Vec<Entry<A>, A>, RepositoryFault<A>>
         ensures { IfOk result (λ entries. IsIndexed feed entries.items) }
     {
         let Ok(mut reader) = self.reader.try_borrow_mut() else {
@@ -165,11 +163,7 @@ where
         Ok(StoreFeed::new(alloc, self.spools.open()))
     }
 
-    fn feed(
-        &self,
-        feed: &mut StoreFeed<P::Spool, A>,
-        piece: &[u8],
-    ) -> Result<(), IndexFault> {
+    fn feed(&self, feed: &mut StoreFeed<P::Spool, A>, piece: &[u8]) -> Result<(), IndexFault> {
         match self.take_piece(feed, piece) {
             Ok(()) => Ok(()),
             Err(fault) => Err(self.keep(fault)),

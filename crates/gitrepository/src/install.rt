@@ -56,11 +56,7 @@ fn write_and_name<P: PackFolder>(
 }
 
 // Takes the pack, writes the index, and syncs both files.
-fn write_both<P: PackFolder>(
-    folder: &mut P,
-    pack: P::Pack,
-    index: &[u8],
-) -> Result<(), P::Fault>
+fn write_both<P: PackFolder>(folder: &mut P, pack: P::Pack, index: &[u8]) -> Result<(), P::Fault>
     requires { P.stage folder.old ≡ Start }
     ensures written { WhereKnown (P.known folder.old) (P.known folder.new)
         (λ before after. Writes (P.Pack.bytes pack) index.now before after result) }

@@ -34,8 +34,9 @@
 //!   case the entry of the tag is also returned.
 //! - The spool of a received pack was given exactly the received bytes, in order.
 //! - [`install_files`] installs a pack in a [`PackFolder`], and then its index. After `Ok` both
-//!   files exist, with the bytes that they were given. A file gets its final name only once both files are written
-//!   and synced. After a fault the folder has neither file, only the pack, or both.
+//!   files exist, with the bytes that they were given. A file gets its final name only once both
+//!   files are written and synced. After a fault the folder has neither file, only the pack, or
+//!   both.
 //! - [`MemoryFolder`] is a [`PackFolder`] that records all files it receives.
 //! - No call panics, overflows or reads out of bounds, and every call returns, whatever the files
 //!   contain.
