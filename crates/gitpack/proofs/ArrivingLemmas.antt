@@ -88,6 +88,6 @@ arrived given window count hasher sum id was digest same ends =
     record {
       entries = was.headed.0;
       parts = was.parts ∙ ap (λ l. was.released ++ l) ends ∙ sym (append_assoc was.released (take (length window - 20) window) sum) ∙ ap (λ l. l ++ sum) was.headed.1
-      ∙ ap (λ l. (pack_header count ++ was.headed.0) ++ l) (sym same);
+          ∙ ap (λ l. (pack_header count ++ was.headed.0) ++ l) (sym same);
       trails = same ∙ hash ∙ ap sha1 was.headed.1;
     }

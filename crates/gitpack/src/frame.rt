@@ -221,10 +221,7 @@ fn releasable(head: PackHead, window: &[u8], count: usize) -> usize
 }
 
 // Removes the first `count` bytes. Fails only if out of memory, and then removes nothing.
-fn drop_front<A: Allocator + Copy>(
-    window: &mut Vec<u8, A>,
-    count: usize,
-) -> Result<(), AllocError>
+fn drop_front<A: Allocator + Copy>(window: &mut Vec<u8, A>, count: usize) -> Result<(), AllocError>
     requires { count ≤ length window.old.items }
     ensures ok { OnOk result (window.new.items ≡ drop count window.old.items) }
     ensures err { OnErr result (window.new.items ≡ window.old.items) }

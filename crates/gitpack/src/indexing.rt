@@ -162,9 +162,9 @@ fn lines_of<A: Allocator + Copy>(
 /// Fails with `Frame` if the header or the trailer is wrong, or if bytes follow the last entry.
 /// Fails with `Entry` if an entry is malformed or missing, and with `Thin` if the base of a delta
 /// is not in the pack. Fails with `TooLarge` if the pack exceeds a limit, a chain has more than
-/// 8,191 deltas, an entry has more than 128 MiB, or there are 2^31 objects or more. Fails with the visitor's fault if the visitor
-/// fails, or with `Memory` if out of memory. The visitor may already have received objects when
-/// this function fails.
+/// 8,191 deltas, an entry has more than 128 MiB, or there are 2^31 objects or more. Fails with the
+/// visitor's fault if the visitor fails, or with `Memory` if out of memory. The visitor may already
+/// have received objects when this function fails.
 pub fn index_pack<A: Allocator + Copy, V: ObjectVisitor>(
     alloc: A,
     pack: &[u8],

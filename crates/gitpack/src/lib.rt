@@ -25,8 +25,8 @@
 //!   SHA-1 of all these bytes. The functions [`put_header`] and [`put_entry`] write only a pack
 //!   header or one entry.
 //! - [`IncomingPack`] accepts only packs of version 2 whose trailer is the SHA-1 of all preceding
-//!   bytes. All received bytes are appended to a [`Spool`], in order, and the spool is returned. The
-//!   visitor receives each object with the id that its type and bytes determine. The returned
+//!   bytes. All received bytes are appended to a [`Spool`], in order, and the spool is returned.
+//!   The visitor receives each object with the id that its type and bytes determine. The returned
 //!   objects are sorted by id.
 //! - A vector is a [`Spool`], and returns the bytes that were appended to it.
 //! - [`index_pack`] gives the same guarantees for a pack in one slice.
