@@ -58,8 +58,8 @@
 //! - `serve` and `upload-pack` serve only protocol version 2. `upload-pack` does not check
 //!   who owns a repository.
 //! - A request has at most 65,537 wants, 65,536 haves and 1,024 ref prefixes. A repository has at
-//!   most 65,536 refs. `clone` and `fetch` accept a pack of at most 64 MiB, and `serve` and
-//!   `upload-pack` send packs of less than 4 GiB.
+//!   most 65,536 refs. A sent or received pack has less than 4 GiB. A received pack has at most
+//!   1,048,576 objects, and entries of at most 128 MiB.
 //! - The progress line shows the object count from the pack header, and the number of received
 //!   bytes.
 //! - `ls` and `fetch` print ref names as the server sent them, unless standard output is a

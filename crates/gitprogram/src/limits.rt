@@ -1,9 +1,10 @@
 //! The limits on the messages that `gitrepo` reads and writes.
 
+use gfetchreply::MAX_STREAM;
 use ggrammar::Limits;
-use gname::MAX_PACK;
 
-pub(crate) const MAX_FETCHED_PACK: usize = MAX_PACK;
+/// The maximum size of a received pack in bytes.
+pub(crate) const MAX_FETCHED_PACK: usize = MAX_STREAM;
 
 /// The limits on requests and replies.
 ///

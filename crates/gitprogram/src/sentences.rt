@@ -1,7 +1,7 @@
 //! The error messages of failed commands. Each message names the file or URL, the cause, and
 //! usually a remedy.
 
-use crate::limits::{LIMITS, MAX_FETCHED_PACK};
+use crate::limits::LIMITS;
 use ganswer::{BuildFault, ServeFault};
 use gclient::{ClientFault, FetchFault, MAX_SPECS, RepoFault};
 use ggrammar::Why;
@@ -233,7 +233,7 @@ fn write_repository<W: fmt::Write>(
         RepositoryFault::File { path, error } => write_refused("write ", path.as_str(), error, f),
         RepositoryFault::Store(StoreFault::File(fault)) => write_store_file(fault, f),
         RepositoryFault::Form { fault, .. } => write!(f, "{path} {}", form_text(*fault)),
-        _ if fault.is_of_spool() => write!(f, "{path}: {fault}"),
+        _ if fault.is_of_spool() => write!(f, "cannot fetch into {path}: {fault}"),
         RepositoryFault::Objects => write!(
             f,
             "{path} has more than {} commits and tags: use git",
@@ -435,8 +435,7 @@ fn write_message<W: fmt::Write>(frame: u64, why: &Why, f: &mut fmt::Formatter<W>
         ),
         Why::Limit => write!(
             f,
-            "the pack has more than {} MiB, or there are more than {} refs: fetch fewer refs at a time",
-            MAX_FETCHED_PACK / 1_048_576,
+            "the pack has 4 GiB or more, or there are more than {} refs: fetch fewer refs at a time",
             Thousands(MAX_REFS)
         ),
         Why::Format => f.write_str("its object format is not SHA-1: use git"),
