@@ -4,6 +4,7 @@ It makes, reads and checks its repositories by itself (bare.py), and nothing lea
 the sentence on standard error, of what is in the directory afterwards, of memory, or of time. It is over within 40 seconds.
 """
 
+import contextlib
 import itertools
 import json
 import os
@@ -31,6 +32,8 @@ FIRST_LINE, NEXT_BYTE = 10, 60
 # The most lines of a request, and how the server says so.
 WANTS, HAVES, PREFIXES = 65_537, 65_536, 1_024
 LIMITS = b"upload-pack: a request has at most 65,537 wants, 65,536 haves and 1,024 prefixes of ref names"
+LIMITS += b" (beside 64 other clients: 1,024, 4,096 and 64)"
+BUSY, BUSY_WANTS = 64, 1_024
 KILLS = 20
 # So many steps are taken at a time, each in a process of its own. One of them only waits.
 AT_A_TIME = 5
@@ -268,6 +271,7 @@ def paths_of_clients(folder):
             check(f"a client that says {what}: an error, or the end", last and not got.endswith(b"PACK"), got[-200:])
             check(f"after a client that says {what}: the next is served", lists(server))
         limits_of_requests(server)
+        limits_beside_others(server)
         for number in range(10):
             with socket.create_connection(("127.0.0.1", server.port)) as stream:
                 stream.sendall(hello(b"/r.git") + request(b"want " + FIRST.tip.hex().encode(), b"done"))
@@ -292,6 +296,24 @@ def limits_of_requests(server):
         got = answer_to(server.port, hello(b"/r.git") + more)
         check(f"a request of {what} and one more: refused", got.endswith(packet(b"ERR " + LIMITS + b"\n")), got[-200:])
         check(f"after a request of {what} and one more: the next is served", lists(server))
+
+
+def limits_beside_others(server):
+    """Requests are smaller while many clients are connected, and may be large again afterwards."""
+    want = b"want " + FIRST.tip.hex().encode()
+    least, more = (hello(b"/r.git") + request(*[want] * count, b"done") for count in (BUSY_WANTS, BUSY_WANTS + 1))
+    with contextlib.ExitStack() as others:
+        for _ in range(BUSY):
+            stream = others.enter_context(socket.create_connection(("127.0.0.1", server.port)))
+            stream.sendall(hello(b"/r.git"))
+            stream.recv(1)
+        got = answer_to(server.port, least, "127.0.0.2")
+        check(f"{BUSY_WANTS:,} wants beside {BUSY} clients: answered", got.endswith(b"0000") and b"ERR " not in got, got[-200:])
+        got = answer_to(server.port, more, "127.0.0.2")
+        check(f"{BUSY_WANTS + 1:,} wants beside {BUSY} clients: refused", got.endswith(packet(b"ERR " + LIMITS + b"\n")), got[-200:])
+    time.sleep(SILENT)
+    got = answer_to(server.port, more)
+    check(f"{BUSY_WANTS + 1:,} wants, and no other client: answered", got.endswith(b"0000") and b"ERR " not in got, got[-200:])
 
 
 def refs_request(lines):

@@ -9,8 +9,21 @@ pub(crate) const MAX_FETCHED_PACK: usize = MAX_STREAM;
 /// The limits on requests and replies.
 ///
 /// A connection needs less than 5 MiB for its request, even if the request reaches every limit.
+/// With the default limits, a connection needs less than 256 KiB.
 pub(crate) const LIMITS: Limits = Limits {
     prefixes: 1_024,
     wants: 65_537,
     haves: 65_536,
 };
+
+// The maximum number of connections with the limits `LIMITS`.
+const LARGE: usize = 64;
+
+/// Returns the limits on the requests of a new connection, while `others` connections are open.
+pub(crate) fn limits_beside(others: usize) -> Limits {
+    if others < LARGE {
+        LIMITS
+    } else {
+        Limits::default()
+    }
+}

@@ -479,13 +479,7 @@ fn write_request_message<W: fmt::Write>(
         Why::Line(PacketFault::Io | PacketFault::Failed) => {
             f.write_str("the connection to the client was lost, or its time was over")
         }
-        Why::Limit => write!(
-            f,
-            "the request has more than {} wants, {} haves or {} prefixes of ref names",
-            Thousands(LIMITS.wants),
-            Thousands(LIMITS.haves),
-            Thousands(LIMITS.prefixes)
-        ),
+        Why::Limit => f.write_str("the request has too many wants, haves or prefixes of ref names"),
         Why::Memory | Why::Line(PacketFault::Memory) => f.write_str(OUT_OF_MEMORY_TEXT),
         _ => write!(f, "packet {frame} of the request is refused: {why}"),
     }

@@ -3,6 +3,7 @@
 use crate::directory::{Exports, open_fault};
 use crate::disk::Disk;
 use crate::fault::Fault;
+use crate::limits::limits_beside;
 use crate::notes::Notes;
 use crate::output::print;
 use crate::refusals::{ADDRESS_LIMIT, FULL};
@@ -152,7 +153,10 @@ where
     E: Write,
 {
     match clients.next(rt)? {
-        Some(Event::Connected(_)) => clients.begin(begin(rt.alloc(), host, notes)),
+        Some(Event::Connected(_)) => {
+            let limits = limits_beside(clients.peer_count());
+            clients.begin(begin(rt.alloc(), host, notes, limits));
+        }
         Some(Event::Refused(address, why)) => {
             clients.refuse(packet_of(why));
             let words = words_of(why);
