@@ -3,14 +3,14 @@
 ghost use Rattle.std.specs.Prelude.{◌≡◌, ◌-◌, ◌≤◌, ◌++◌, ◌↔◌, [], List, ℕ, IfSome, IsTrue, OnErr, OnOk, drop, length, take};
 ghost use Rattle.gname.specs.Ids.{IsIdOf};
 ghost use Rattle.gname.specs.declared.formats.Format.TheVariants as formats;
-ghost use Rattle.gitpack.specs.Packs.{IsFramed, pack_header};
+ghost use Rattle.gitpack.specs.Packs.{IsFramed, IsPart, pack_header};
 ghost use Rattle.gitpack.specs.steps.Arriving.{HeadAfter, IsHeadOf, MayRelease};
 
 use crate::spool::{Spool, SpoolFault};
 use gitobject::{ID_BYTES, id_of_bytes};
 use gname::Oid;
 use sha1::Sha1;
-use std::alloc::{AllocError, Allocator};
+use std::alloc::Allocator;
 use std::marker::Model;
 
 /// The length of a pack header.
@@ -19,7 +19,7 @@ pub(crate) const HEADER_BYTES: usize = 12;
 /// The first eight bytes of a pack: the signature, and version 2.
 pub(crate) const SIGNATURE: &[u8; 8] = b"PACK\0\0\0\x02";
 
-/// What is known about the header of a pack that arrives.
+/// The state of the header of a pack that arrives.
 #[derive(Clone, Copy, Debug, Drop)]
 pub(crate) enum PackHead {
     /// The header is incomplete.
@@ -99,7 +99,7 @@ impl<S: Spool + Drop, A: Allocator + Copy> Model for PackBytes<S, A> {
     ghost view = { λ pack. S.bytes pack.spool };
 
     ghost invariant = { λ pack.
-        IsArriving (S.bytes pack.spool) pack.window.items pack.head pack.hasher };
+        IsArriving (S.bytes pack.spool) pack.first pack.window.items pack.head pack.hasher };
 }
 
 impl<S: Spool + Drop, A: Allocator + Copy> PackBytes<S, A> {
@@ -123,7 +123,9 @@ impl<S: Spool + Drop, A: Allocator + Copy> PackBytes<S, A> {
     }
 
     /// Returns the bytes in memory, except the last twenty.
-    pub(crate) fn part(&self) -> Part<'_> {
+    pub(crate) fn part(&self) -> Part<'_>
+        ensures { IsPart self.now result.first result.bytes.now }
+    {
         Part {
             first: self.first,
             bytes: body_of(self.window.as_slice()),
@@ -142,18 +144,18 @@ impl<S: Spool + Drop, A: Allocator + Copy> PackBytes<S, A> {
         Ok(())
     }
 
-    /// Releases the memory for the bytes before this offset. The last twenty bytes remain in
-    /// memory, and so does an incomplete header. Fails only if out of memory.
-    pub(crate) fn release(&mut self, end: usize) -> Result<(), AllocError>
+    /// Drops the bytes before this offset from memory. The last twenty bytes remain in memory, and
+    /// so does an incomplete header.
+    pub(crate) fn release(&mut self, end: usize)
         ensures { self.new ≡ self.old }
     {
         let past = end.saturating_sub(self.first);
         let count = releasable(self.head, self.window.as_slice(), past);
-        if count > 0 {
-            drop_front(&mut self.window, count)?;
-            self.first = self.first.saturating_add(count);
+        if count == 0 {
+            return;
         }
-        Ok(())
+        drop_front(&mut self.window, count);
+        self.first += count;
     }
 
     /// Returns the whole pack, or `None` if the pack header is wrong, or the trailer is not the
@@ -211,7 +213,8 @@ fn store<S: Spool, A: Allocator + Copy>(
 
 // Returns how many of the first `count` bytes of the window may be released.
 fn releasable(head: PackHead, window: &[u8], count: usize) -> usize
-    ensures { MayRelease head result window.now }
+    ensures few { result ≤ count }
+    ensures may { MayRelease head result window.now }
 {
     match head {
         PackHead::Unread => 0,
@@ -220,15 +223,14 @@ fn releasable(head: PackHead, window: &[u8], count: usize) -> usize
     }
 }
 
-// Removes the first `count` bytes. Fails only if out of memory, and then removes nothing.
-fn drop_front<A: Allocator + Copy>(window: &mut Vec<u8, A>, count: usize) -> Result<(), AllocError>
+// Removes the first `count` bytes.
+fn drop_front<A: Allocator + Copy>(window: &mut Vec<u8, A>, count: usize)
     requires { count ≤ length window.old.items }
-    ensures ok { OnOk result (window.new.items ≡ drop count window.old.items) }
-    ensures err { OnErr result (window.new.items ≡ window.old.items) }
+    ensures { window.new.items ≡ drop count window.old.items }
 {
-    let rest = window.split_off(count)?;
-    *window = rest;
-    Ok(())
+    let length = window.len();
+    window.as_mut_slice().copy_within(count..length, 0);
+    window.truncate(length - count);
 }
 
 // Returns what is known about the header of a pack that begins with `body`. If `head` is not
@@ -262,7 +264,9 @@ fn body_length(pack: &[u8]) -> usize
 }
 
 // Returns all bytes of a pack except the last twenty.
-fn body_of(pack: &[u8]) -> &[u8] {
+fn body_of(pack: &[u8]) -> &[u8]
+    ensures { result.now ≡ take (length pack.now - 20) pack.now }
+{
     match pack.split_last_chunk::<ID_BYTES>() {
         Some((body, _last)) => body,
         None => b"",

@@ -46,7 +46,8 @@ impl<S: Spool + Drop, A: Allocator + Copy> IncomingPack<S, A> {
     }
 
     /// Adds the next bytes of the pack. The visitor receives each undeltified object that is
-    /// inflated in this call. Faults of the pack or of the visitor are reported by `finish`.
+    /// inflated in this call. Faults of the pack or of the visitor are reported by `finish`. After
+    /// such a fault, the remaining bytes are still appended to the spool.
     ///
     /// Fails if the spool fails, or with `Memory` if out of memory. After a fault, the pack is
     /// unusable.
@@ -63,7 +64,7 @@ impl<S: Spool + Drop, A: Allocator + Copy> IncomingPack<S, A> {
             PackHead::Count(count) => self.scanner.scan_more(count, self.bytes.part(), visitor),
             PackHead::Wrong => usize::MAX,
         };
-        self.bytes.release(end)?;
+        self.bytes.release(end);
         Ok(())
     }
 
@@ -71,7 +72,8 @@ impl<S: Spool + Drop, A: Allocator + Copy> IncomingPack<S, A> {
     /// arrived. The visitor must be the same as in all `feed` calls, and receives the remaining
     /// objects.
     ///
-    /// Fails for the same reasons as [`crate::index_pack`], or with `Spool` if the spool fails.
+    /// Fails for the same reasons as [`crate::index_pack`]. Fails with `Spool` if the spool fails,
+    /// or returns a zlib stream that cannot be inflated.
     pub fn finish<V: ObjectVisitor>(
         self,
         visitor: &mut V,
@@ -84,7 +86,14 @@ impl<S: Spool + Drop, A: Allocator + Copy> IncomingPack<S, A> {
             return Err(PackFileFault::Frame);
         };
         let scanned = scanner.finish(pack.count, pack.part(), visitor)?;
-        let FramedPack { spool, trailer, .. } = pack;
+        let FramedPack {
+            spool,
+            window,
+            trailer,
+            ..
+        } = pack;
+        // The bytes in memory are not needed any more.
+        drop(window);
         let objects = objects_of(&spool, scanned, visitor)?;
         let index = IndexedPack::new(objects, trailer)?;
         Ok((spool, index))

@@ -25,9 +25,10 @@
 //!   SHA-1 of all these bytes. The functions [`put_header`] and [`put_entry`] write only a pack
 //!   header or one entry.
 //! - [`IncomingPack`] accepts only packs of version 2 whose trailer is the SHA-1 of all preceding
-//!   bytes. All received bytes are appended to a [`Spool`], in order, and the spool is returned.
-//!   The visitor receives each object with the id that its type and bytes determine. The returned
-//!   objects are sorted by id.
+//!   bytes. All received bytes are appended to a [`Spool`], in order, and the spool is returned. A
+//!   pack is stored to its end, even if it is already known to be refused. The visitor receives
+//!   each object with the id that its type and bytes determine. The returned objects are sorted by
+//!   id.
 //! - A vector is a [`Spool`], and returns the bytes that were appended to it.
 //! - [`index_pack`] gives the same guarantees for a pack in one slice.
 //! - No call panics, overflows or reads out of bounds, and every call returns.
@@ -38,6 +39,9 @@
 //! up their objects in the index. `examples/with-git.sh` indexes packs that Git wrote, and lets Git
 //! read packs that this crate wrote.
 //!
+//! Indexing reads bytes back from a spool only if the inflated streams of a pack exceed a cache of
+//! 64 MiB. The packs of `gitcases` are smaller, so it does not test reading back.
+//!
 //! # Differences from Git
 //!
 //! - Each encoded size in a delta has at most eight bytes, and so has the encoded offset of a base.
@@ -47,7 +51,8 @@
 //!   the order of the entries. The index's own checksum is not checked.
 //! - A pack of 2^31 objects or more is refused. A thin pack is refused, and so is a pack with a
 //!   chain of more than 8,191 deltas. No Git command makes longer chains, but Git can read them.
-//!   An arriving pack with an entry of more than 128 MiB is refused.
+//!   Indexing refuses a pack with an entry of more than 128 MiB. This limit covers the entry header
+//!   and the zlib stream.
 //! - A pack may contain the same object twice, and then the index lists both entries. Git accepts a
 //!   pack with duplicate objects, unless `--strict` is set. A pack is refused if it contains the
 //!   base of a ref delta twice, as in Git 2.39; later versions of Git accept such a pack.
@@ -63,7 +68,9 @@
 //!   returns an object that the visitor did not receive, or received with another type.
 //! - No contract rules out that indexing returns a wrong offset or CRC-32 of an object, or applies
 //!   a delta to a wrong base.
-//! - No contract rules out that indexing reads the wrong bytes from a spool.
+//! - No contract says what the pack and its spool hold after a failed [`IncomingPack::feed`].
+//! - No contract rules out that indexing reads the wrong bytes from memory or from a spool. No
+//!   contract rules out that it drops bytes from memory before they are read.
 //! - No contract rules out that indexing accepts a thin pack. No contract rules out that it accepts
 //!   a pack with bytes after its last entry, or with the same delta base twice.
 //! - No contract rules out that indexing accepts a pack after the visitor refused an object. No
@@ -77,7 +84,8 @@
 //!   fault.
 //! - No contract compares the number of written entries with the count in the pack header. No
 //!   contract bounds the length of a written pack or of an entry header ([`MAX_HEAD`]).
-//! - The contracts do not cover time or memory use.
+//! - The contracts do not cover time or memory use. The limit [`IndexLimits::held`] counts neither
+//!   the cache of 64 MiB nor a zlib stream that is read back, which may have 128 MiB.
 //!
 //! # Dependencies
 //!

@@ -16,6 +16,7 @@ use crate::streams::inflate;
 use gitobject::{ObjectType, id_of};
 use gzlib::Inflater;
 use std::alloc::{AllocError, Allocator};
+use std::io::ErrorKind;
 
 // The maximum number of deltas in a chain, which is also the maximum for `--depth` in
 // git-fast-import(1). The limit bounds the cost of reading the last object of a chain.
@@ -126,17 +127,20 @@ impl<'a, S: Spool, A: Allocator + Copy> Resolver<'a, S, A> {
         self.texts.get_mut(place)?.take()
     }
 
-    // Inflates the stream of an entry again.
+    // Inflates the stream of an entry again. Fails with `Spool` if the spool returns a stream that
+    // cannot be inflated, since the received stream was inflated before.
     fn inflate(&mut self, place: usize, entry: &Scanned) -> Result<Vec<u8, A>, PackFileFault> {
         let stream = self.read_stream(entry)?;
         let bytes = stream.as_slice();
-        match inflate(self.alloc, &mut self.inflater, bytes, entry.size, place)? {
-            Some(inflated) => Ok(inflated.body),
-            None => Err(PackFileFault::Entry(place)),
+        match inflate(self.alloc, &mut self.inflater, bytes, entry.size, place) {
+            Ok(Some(inflated)) => Ok(inflated.body),
+            Err(PackFileFault::Memory) => Err(PackFileFault::Memory),
+            Ok(None) | Err(_) => Err(PackFileFault::Spool(ErrorKind::InvalidData)),
         }
     }
 
-    // Reads the zlib stream of an entry from the spool.
+    // Reads the zlib stream of an entry from the spool. The memory limit does not count the stream,
+    // which has at most 128 MiB.
     fn read_stream(&self, entry: &Scanned) -> Result<Vec<u8, A>, PackFileFault> {
         let mut stream = Vec::new(self.alloc);
         stream.resize(entry.end.saturating_sub(entry.stream), 0)?;

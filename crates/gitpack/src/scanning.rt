@@ -4,7 +4,7 @@ ghost use Rattle.gname.specs.Ids.{IsIdOf};
 ghost use Rattle.gname.specs.declared.formats.Format.TheVariants as formats;
 ghost use Rattle.std.proofs.Props.{props};
 
-use crate::entry::{EntryForm, read_head};
+use crate::entry::{EntryForm, EntryHead, MAX_HEAD, read_head};
 use crate::fault::PackFileFault;
 use crate::frame::{HEADER_BYTES, Part};
 use crate::indexing::{IndexLimits, ObjectVisitor};
@@ -18,7 +18,8 @@ use std::alloc::Allocator;
 // time on inflating incomplete entries.
 const BATCH: usize = 131_072;
 
-// The maximum length of an entry in the pack, 128 MiB. An incomplete entry is kept in memory.
+// The maximum length of the header and the zlib stream of an entry together, 128 MiB. An incomplete
+// entry is kept in memory.
 const MAX_ENTRY: usize = 134_217_728;
 
 // The maximum memory for cached inflated streams, 64 MiB.
@@ -120,7 +121,7 @@ impl<A: Allocator + Copy> Scanner<A> {
     ) -> usize {
         let end = part.end();
         if self.fault.is_none() && end >= self.enough {
-            if let Err(fault) = self.scan_arrived(count, part, visitor) {
+            if let Err(fault) = self.scan_entries(count, part, visitor) {
                 self.fault = Some(fault);
             }
             self.enough = self.next_scan(end);
@@ -166,22 +167,6 @@ impl<A: Allocator + Copy> Scanner<A> {
         end.saturating_add(waiting.max(BATCH)).min(longest)
     }
 
-    // Scans the entries that arrived. Fails with `TooLarge` if the next entry is incomplete and
-    // already too long.
-    fn scan_arrived<V: ObjectVisitor>(
-        &mut self,
-        count: u32,
-        part: Part<'_>,
-        visitor: &mut V,
-    ) -> Result<(), PackFileFault> {
-        self.scan_entries(count, part, visitor)?;
-        let waiting = part.end().saturating_sub(self.place);
-        if waiting >= MAX_ENTRY && !self.has_all(count) {
-            return Err(PackFileFault::TooLarge);
-        }
-        Ok(())
-    }
-
     fn into_pack(self, count: u32) -> ScannedPack<A> {
         let limits = self.limits.for_count(count);
         ScannedPack {
@@ -215,7 +200,8 @@ impl<A: Allocator + Copy> Scanner<A> {
         Ok(())
     }
 
-    // Scans the next entry, and returns whether it is complete.
+    // Scans the next entry, and returns whether it is complete. Fails with `TooLarge` if the entry
+    // is longer than `MAX_ENTRY`, even if it is incomplete.
     fn scan_entry<V: ObjectVisitor>(
         &mut self,
         limits: IndexLimits,
@@ -223,16 +209,16 @@ impl<A: Allocator + Copy> Scanner<A> {
         visitor: &mut V,
     ) -> Result<bool, PackFileFault> {
         let start = self.place;
-        let bytes = part.from(start);
-        let Some(head) = read_head(bytes) else {
+        let number = self.entries.len();
+        let bytes = longest_entry(part.from(start));
+        let Some(head) = arrived_head(bytes, number)? else {
             return Ok(false);
         };
         let total = self.total_with(limits, head.size)?;
         let after = bytes.get(head.length..).unwrap_or(b"");
-        let number = self.entries.len();
         let inflated = inflate(self.alloc, &mut self.inflater, after, head.size, number)?;
         let Some(inflated) = inflated else {
-            return Ok(false);
+            return wait_for_more(bytes);
         };
         let object = whole_object(head.form, inflated.body.as_slice(), visitor)?;
         let length = head.length.saturating_add(inflated.length);
@@ -272,6 +258,31 @@ impl<A: Allocator + Copy> Scanner<A> {
             self.kept = kept;
         }
         Ok(())
+    }
+}
+
+// Returns the bytes that an entry at the start of `bytes` can have at most.
+fn longest_entry(bytes: &[u8]) -> &[u8] {
+    bytes.get(..MAX_ENTRY).unwrap_or(bytes)
+}
+
+// Returns the header of the entry at position `number`, or `None` if the header is incomplete.
+// Fails with `Entry` if the header is malformed.
+fn arrived_head(bytes: &[u8], number: usize) -> Result<Option<EntryHead>, PackFileFault> {
+    match read_head(bytes) {
+        Some(head) => Ok(Some(head)),
+        None if bytes.len() < MAX_HEAD => Ok(None),
+        None => Err(PackFileFault::Entry(number)),
+    }
+}
+
+// Returns `false`, since these bytes are only a part of an entry. Fails with `TooLarge` if a whole
+// entry would be too long.
+fn wait_for_more(bytes: &[u8]) -> Result<bool, PackFileFault> {
+    if bytes.len() < MAX_ENTRY {
+        Ok(false)
+    } else {
+        Err(PackFileFault::TooLarge)
     }
 }
 

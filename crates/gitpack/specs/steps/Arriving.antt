@@ -34,9 +34,11 @@ MayRelease Unread count window = count ≡ 0
 MayRelease (Count entries) count window = count ≤ length window - 20
 MayRelease Wrong count window = count ≤ length window - 20
 
--- the received bytes are the released bytes and the window, and all bytes except the last twenty are hashed
-pub record IsArriving (given window : List ℕ) (head : PackHead) (hasher : Sha1) : Type 0 where
+-- The received bytes are the released bytes and the window, which begins at the offset `first`.
+-- All bytes except the last twenty are hashed.
+pub record IsArriving (given : List ℕ) (first : ℕ) (window : List ℕ) (head : PackHead) (hasher : Sha1) : Type 0 where
   pub released : List ℕ
   pub parts : given ≡ released ++ window
+  pub begins : first ≡ length released
   pub hashed : Holds hasher (released ++ take (length window - 20) window)
   pub headed : KeepsHead head released (take (length window - 20) window)

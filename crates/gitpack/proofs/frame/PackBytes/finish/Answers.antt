@@ -12,6 +12,6 @@ returns-clause-frame g c =
     let sum = c.finalize-sum.result in
     let parts = c.in-Some.ensures.parts in
     let ends : window ≡ take (length window - 20) window ++ sum = subst (λ l. l ≡ take (length l - 20) l ++ sum) c.as_slice.ensures.value parts.1 in
-    let was = subst (λ h. IsArriving given window h hasher) c.in-Count.is c.self.invariant in
+    let was = subst (λ h. IsArriving given c.self.inside.first window h hasher) c.in-Count.is c.self.invariant in
     subst (IsFramed c.in-Count.count c.in-Some.trailer) c.self.view_is
-    (arrived given window c.in-Count.count hasher sum c.in-Some.trailer was c.finalize-sum.ensures parts.0 ends)
+    (arrived given window c.self.inside.first c.in-Count.count hasher sum c.in-Some.trailer was c.finalize-sum.ensures parts.0 ends)
