@@ -70,7 +70,8 @@ impl<S: Spool + Drop, A: Allocator + Copy> StoreFeed<S, A> {
         reader: &mut ObjectReader<'_, F, A>,
         tips: &Tips<A>,
     ) -> Result<(Received<S, A>, Vec<Entry<A>, A>), RepositoryFault<A>>
-        ensures { IfOk result (λ it. IsIndexed self it.1.items) }
+        ensures bytes { IfOk result (λ it. S.bytes it.0.pack ≡ self) }
+        ensures entries { IfOk result (λ it. IsIndexed self it.1.items) }
     {
         let StoreFeed { pack, mut arrival } = self;
         let received = {
@@ -98,7 +99,8 @@ fn finish_pack<F: ObjectFiles, S: Spool + Drop, A: Allocator + Copy>(
     pack: IncomingPack<S, A>,
     inspector: &mut Inspector<'_, '_, '_, '_, F, A>,
 ) -> Result<Received<S, A>, RepositoryFault<A>>
-    ensures { IfOk result (λ received. (count : ℕ)
+    ensures bytes { IfOk result (λ received. S.bytes received.pack ≡ pack) }
+    ensures frame { IfOk result (λ received. (count : ℕ)
         × IsFramed count received.index.checksum pack) }
 {
     match pack.finish(inspector) {
