@@ -144,19 +144,19 @@ def silent_servers(folder):
         path, clone = copies.new(), copies.free()
         before = files_of(path)
         runs = [Running(*fetch_words(path, server.url())), Running(*clone_words(clone, server.url()))]
-        most = "objects/pack/tmp_pack_0" if place == "pack" else None
-        tries.append((f"a server that is silent after {count} bytes of its {place}", server, path, clone, before, most, runs))
+        tries.append((f"a server that is silent after {count} bytes of its {place}", server, path, clone, before, runs))
     for what, server, *_, runs in tries:
         check(f"{what}: it comes so far", server.wait_for(len(runs)), [one.texts for one in runs])
     time.sleep(SILENT)
-    for what, server, path, clone, before, most, runs in tries:
+    for what, server, path, clone, before, runs in tries:
         check(f"{what}: the client waits", not any(one.is_over() for one in runs), [one.texts for one in runs])
         ends = [one.kill() for one in runs]
         server.__exit__()
         check(f"{what}: nothing is said", all(end.out + end.told == b"" for end in ends), ends)
         fetched, cloned = files_of(path), files_of(clone)
-        arrived = fetched.pop(most, b""), cloned.pop(most, b"")
+        arrived = [files.pop(name) for files in (fetched, cloned) for name in [*files] if name.startswith("objects/pack/tmp_pack_")]
         check(f"{what}: a temporary file is a part of the pack", all(map(LONG.startswith, arrived)), [*map(len, arrived)])
+        check(f"{what}: one temporary file at most", len(arrived) <= len(runs), len(arrived))
         check(f"{what}: nothing else is left of a fetch", fetched == before, set(fetched) - set(before))
         check(f"{what}: no object and no ref of a clone", set(cloned) <= {"HEAD", "config"}, set(cloned))
 

@@ -406,7 +406,8 @@ fn print_report<R: Print + AllocGlobal>(
     }
 }
 
-/// Fetches into a repository in memory. This function writes only the temporary file of the pack.
+/// Fetches into a repository in memory. This function writes only the temporary file of the pack,
+/// and creates its folder if the folder does not exist.
 pub(crate) fn receive<'r, R, E>(
     rt: &'r R,
     found: &'r Directories,

@@ -34,7 +34,7 @@ pub trait PackFolder {
     /// The fault of a failed call.
     type Fault: Drop;
 
-    /// The spool of a received pack, which is the temporary file of the pack.
+    /// The spool of a received pack.
     type Pack: Spool + Drop;
 
     // The files that the folder received, or `None` if the contracts do not describe the files.

@@ -13,9 +13,9 @@ use crate::stored_spool::StoredSpool;
 use std::alloc::Allocator;
 use std::fs::Files;
 
-/// Installs a pack and its index in a folder of packs. The pack already is a temporary file of the
-/// folder. Both files are written and synced before either is renamed. The pack is renamed before
-/// the index.
+/// Installs a pack and its index in a folder of packs. The pack is already stored in its spool.
+/// Both files are written and synced before either is renamed. The pack is renamed before the
+/// index.
 ///
 /// Fails if a call of the folder fails. After a failure the folder has neither file, only the pack,
 /// or both.

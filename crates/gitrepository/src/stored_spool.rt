@@ -12,14 +12,14 @@ use std::io;
 use std::io::ErrorKind;
 
 /// The spool of a received pack: a temporary file in the folder of packs of a Git directory. The
-/// file is created when the first bytes arrive. If the pack is not installed, the file is removed
+/// file is created when the first piece arrives. If the pack is not installed, the file is removed
 /// when the spool is dropped.
 #[derive(Drop)]
 pub struct StoredSpool<'r, R: Files, A: Allocator + Copy> {
     alloc: A,
     files: &'r R,
     git_dir: &'r str,
-    // The file, or `None` before the first bytes arrive.
+    // The file, or `None` before the first piece arrives.
     file: Option<Temporary<'r, R, A>>,
     length: usize,
     written: Written,
@@ -40,7 +40,7 @@ impl<'r, R: Files, A: Allocator + Copy> StoredSpool<'r, R, A> {
         }
     }
 
-    /// Returns the temporary file, or `None` if no bytes arrived.
+    /// Returns the temporary file, or `None` if no piece arrived.
     pub(crate) fn into_file(self) -> Option<Temporary<'r, R, A>> {
         self.file
     }

@@ -11,6 +11,9 @@ use std::{fs, io};
 // The number of temporary file names to try.
 const MAX_TRIES: usize = 1_000;
 
+// The file from which the system returns random bytes (random(4)).
+const RANDOM: &str = "/dev/urandom";
+
 // The permissions of a pack and its index, as in Git: everyone may read, and no one may write.
 const READ_ONLY: u32 = 0o444;
 
@@ -28,7 +31,7 @@ impl<R: Files, A: Allocator + Copy> Drop for Temporary<'_, R, A> {
         let Temporary {
             files,
             path,
-            file: _closed,
+            file: _file,
             is_renamed,
         } = self;
         if !is_renamed {
@@ -38,16 +41,18 @@ impl<R: Files, A: Allocator + Copy> Drop for Temporary<'_, R, A> {
 }
 
 impl<'r, R: Files, A: Allocator + Copy> Temporary<'r, R, A> {
-    /// Creates an empty file in a folder. Its name begins with `name`. Git removes old files of
-    /// such names (git-prune(1)).
+    /// Creates an empty file in a folder. Its name begins with `name`, and ends with random digits.
+    /// Git may remove an old temporary file (git-prune(1)), and no other process then creates a file
+    /// of the same name.
     pub(crate) fn create(
         alloc: A,
         files: &'r R,
         folder: &str,
         name: &str,
     ) -> Result<Temporary<'r, R, A>, RepositoryFault<A>> {
+        let random = random_number(files);
         for number in 0..MAX_TRIES {
-            let path = format!(in alloc; "{folder}/{name}_{number}")?;
+            let path = format!(in alloc; "{folder}/{name}_{random:016x}{number}")?;
             match open_new(files, path.as_str()) {
                 Ok(file) => return Ok(Temporary {
                     files,
@@ -100,6 +105,20 @@ impl<'r, R: Files, A: Allocator + Copy> Temporary<'r, R, A> {
         self.is_renamed = true;
         Ok(())
     }
+}
+
+// Returns a random number, or 0 if the system returns no random bytes.
+fn random_number<R: Files>(files: &R) -> u64 {
+    let mut bytes = [0; 8];
+    match read_random(files, &mut bytes) {
+        Ok(()) => u64::from_be_bytes(bytes),
+        Err(_) => 0,
+    }
+}
+
+fn read_random<R: Files>(files: &R, bytes: &mut [u8]) -> io::Result<()> {
+    let mut file = File::open(files, RANDOM)?;
+    file.read_exact(bytes)
 }
 
 // Creates a new file.
