@@ -17,8 +17,8 @@ returns-clause-fetches g c =
       subst (λ (hello : Hello). FetchesFrom indexes fails
           (start_of repo c.args.specs.now c.args.limit c.args.ends) hello new result) c.in-Ok.ensures.0
           (subst (λ (limit : ℕ). FetchesFrom indexes fails
-          (start_of repo c.args.specs.now limit c.args.ends) c.in-Ok.hello new result) c.from.ensures
+          (start_of repo c.args.specs.now limit c.args.ends) c.in-Ok.hello new result) c.from-2.ensures
           (subst (λ (options : PackOptions). FetchesFrom indexes fails
-          (start_for repo c.args.specs.now c.from.result c.args.ends options) c.in-Ok.hello new result)
+          (start_for repo c.args.specs.now c.from-2.result c.args.ends options) c.in-Ok.hello new result)
           c.default.ensures c.fetch_git_on.ensures.fetches)),
     )
