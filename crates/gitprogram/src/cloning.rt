@@ -305,7 +305,9 @@ fn keep<'r, R: Files>(
     fetch: Fetch<'r, R>,
 ) -> Result<(), Fault> {
     let Fetch {
-        client, received, ..
+        client,
+        received,
+        ..
     } = fetch;
     let (refs, head) = kept_refs(alloc, &client.repo)?;
     match new.finish(received, client.repo.graph(), &refs, &head) {

@@ -67,8 +67,13 @@ pub(crate) struct Client {
 }
 
 // An indexer of packs that a Git directory on disk receives.
-type StoredIndexer<'t, 'f, 'r, R> =
-    StoreIndexer<'t, 'f, StoredFiles<'r, R>, StoredSpools<'r, R, Global>, Global>;
+type StoredIndexer<'t, 'f, 'r, R> = StoreIndexer<
+    't,
+    'f,
+    StoredFiles<'r, R>,
+    StoredSpools<'r, R, Global>,
+    Global,
+>;
 
 /// A pack that a Git directory on disk received.
 pub(crate) type StoredReceived<'r, R> = Received<StoredSpool<'r, R, Global>, Global>;

@@ -5,7 +5,7 @@ use crate::disk::Disk;
 use crate::fault::Fault;
 use crate::notes::Notes;
 use crate::output::print;
-use crate::refusals::{FULL, ADDRESS_LIMIT};
+use crate::refusals::{ADDRESS_LIMIT, FULL};
 use crate::repositories::{Closes, Repositories};
 use crate::sentences::Sentence;
 use crate::shared::{Blames, Shared};
