@@ -166,6 +166,18 @@ def by_copies(size, last):
     return delta + b"\x04" + last
 
 
+def stored(megabytes):
+    """An entry with so many megabytes of zeros that are not compressed."""
+    deflate, size = zlib.compressobj(0), megabytes * MEGABYTE
+    return head(3, size) + deflate.compress(bytes(size)) + deflate.flush()
+
+
+def long_entries():
+    """Entries that a client keeps in memory until they are whole: at most 128 MiB of a pack."""
+    yield Case("an entry of 126 MiB", pack(ALL + [stored(126)]), is_taken=True)
+    yield Case("an entry of 129 MiB", pack(ALL + [stored(129)]))
+
+
 def hogs():
     """Small packs that take much memory, if they are not refused in time."""
     empty = whole("blob", b"")
@@ -294,6 +306,7 @@ def cases():
     yield from wrong_ends()
     yield from bombs(1024)
     yield from many_bombs()
+    yield from long_entries()
     yield from hogs()
     yield from full_tables()
     yield from chains(LONGEST, True)
