@@ -129,9 +129,24 @@ where
         path: found.common.as_str(),
     };
     let mut progress = progress_of(rt.alloc(), asked.verbosity, errors);
-    let outcome = receive(rt, &found, wanted, &mut progress);
+    fetch_found(rt, &found, report, wanted, &mut progress)
+}
+
+// Fetches refs into the repository in these directories, and prints the result for each ref.
+fn fetch_found<'r, R, E>(
+    rt: &'r R,
+    found: &'r Directories,
+    report: Report,
+    wanted: Wanted<'_>,
+    progress: &mut Progress<'_, E>,
+) -> Result<(), Fault>
+where
+    R: Files + Print + AllocGlobal + Net,
+    E: Write,
+{
+    let outcome = receive(rt, found, wanted, progress);
     progress.finish();
-    conclude(rt, &found, report, outcome)
+    conclude(rt, found, report, outcome)
 }
 
 // Returns those refs of the server that could match the refspecs. Fails if a refspec names a ref
