@@ -25,10 +25,10 @@
 //!   SHA-1 of all these bytes. The functions [`put_header`] and [`put_entry`] write only a pack
 //!   header or one entry.
 //! - [`IncomingPack`] accepts only packs of version 2 whose trailer is the SHA-1 of all preceding
-//!   bytes. All received bytes are appended to a [`Spool`], in order, and the spool is returned. A
-//!   pack is stored to its end, even if it is already known to be refused. The visitor receives
-//!   each object with the id that its type and bytes determine. The returned objects are sorted by
-//!   id.
+//!   bytes. All received bytes are appended to a [`Spool`], in order, and the spool is returned.
+//!   Each successful [`IncomingPack::feed`] stores its bytes, even if the pack is already known to
+//!   be refused. The visitor receives each object with the id that its type and bytes determine.
+//!   The returned objects are sorted by id.
 //! - A vector is a [`Spool`], and returns the bytes that were appended to it.
 //! - [`index_pack`] gives the same guarantees for a pack in one slice.
 //! - No call panics, overflows or reads out of bounds, and every call returns.
@@ -65,14 +65,17 @@
 //!   applied as a check, and returned only if it makes the target.
 //! - No contract rules out that [`IncomingPack`] and [`index_pack`] refuse a valid pack.
 //! - No contract rules out that indexing omits an object. No contract rules out that indexing
-//!   returns an object that the visitor did not receive, or received with another type.
+//!   returns an object that the visitor did not receive, received twice, or received with another
+//!   type.
 //! - No contract rules out that indexing returns a wrong offset or CRC-32 of an object, or applies
 //!   a delta to a wrong base.
-//! - No contract says what the pack and its spool hold after a failed [`IncomingPack::feed`].
+//! - No contract rules out that [`IncomingPack::feed`] fails for any bytes, with any fault. No
+//!   contract says what the pack and its spool hold after a failed call.
 //! - No contract rules out that indexing reads the wrong bytes from memory or from a spool. No
 //!   contract rules out that it drops bytes from memory before they are read.
 //! - No contract rules out that indexing accepts a thin pack. No contract rules out that it accepts
-//!   a pack with bytes after its last entry, or with the same delta base twice.
+//!   a pack with bytes after its last entry, or with the same delta base twice. No contract rules
+//!   out that it accepts a pack with fewer entries than its header says.
 //! - No contract rules out that indexing accepts a pack after the visitor refused an object. No
 //!   contract rules out that the visitor receives an object that is not in the pack.
 //! - The contracts of indexing do not cover limits, faults, or the time at which the visitor

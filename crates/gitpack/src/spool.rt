@@ -1,6 +1,6 @@
 //! Spools, which store the bytes of a pack while the pack arrives.
 
-ghost use Rattle.std.specs.Prelude.{◌≡◌, ◌++◌, Bool, true, List, ℕ, IsTrue, OnErr, OnOk};
+ghost use Rattle.std.specs.Prelude.{◌≡◌, ◌<◌, ◌+◌, ◌++◌, Bool, true, List, ℕ, IsTrue, OnErr, OnOk, length};
 ghost use Rattle.gitpack.specs.Packs.{IsPart};
 ghost use Rattle.gitpack.specs.declared.spool.SpoolFault.TheVariants.{Memory};
 
@@ -36,7 +36,9 @@ pub trait Spool {
     /// Fills the buffer with the bytes starting at `start`. Fails with `File` if the spool is too
     /// short or the system refuses a call. After a fault the buffer may hold any bytes.
     fn read_at(&self, start: usize, buffer: &mut [u8]) -> Result<(), SpoolFault>
-        ensures { OnOk result (IsTrue is_known → IsPart (bytes self.now) start buffer.new) };
+        ensures ok { OnOk result (IsTrue is_known → IsPart (bytes self.now) start buffer.new) }
+        ensures err { OnErr result
+            (IsTrue is_known → length (bytes self.now) < start + length buffer.old) };
 }
 
 /// A vector stores the bytes in memory. Appending fails only if out of memory.
