@@ -86,27 +86,29 @@
 //! - No contract rules out that [`check_refs`] accepts a repository whose objects are missing or
 //!   malformed, or counts the nodes of another graph. No contract covers the number of objects that
 //!   it returns. The function [`check_repository`] has no contract.
-//! - No contract rules out that [`Tips`] loses an id, or that [`add_leaves`] adds or removes other
-//!   nodes. No contract says which repository formats are opened or refused. No contract covers the
-//!   result of [`is_bare`], or the names of peeled refs in a new repository.
+//! - No contract rules out that [`Tips`] loses an id or has other ids, or that [`add_leaves`] adds or
+//!   removes other nodes. No contract says which repository formats are opened or refused. No
+//!   contract covers the result of [`is_bare`], or the names and ids of peeled refs in a new
+//!   repository.
 //! - No contract rules out that the indexer leaves out an entry, or returns an entry for an object
 //!   that the pack does not have. No contract rules out that it accepts a pack with a malformed
-//!   object. The indexer looks up the named trees and blobs, and compares objects that the store
-//!   already has. No contract covers these look-ups and comparisons, or states when the indexer
-//!   reads an object. The indexer can miss a loose object that is added while a pack arrives.
+//!   object. The indexer looks up the named objects, and compares objects that the store already
+//!   has. No contract covers these look-ups and comparisons, or states when the indexer reads an
+//!   object. The indexer can miss a loose object that is added while a pack arrives.
 //! - No contract rules out that a parent of a commit in the graph is a tag, tree or blob. The types
 //!   of parents are checked, but no contract covers this check.
 //! - [`PackCounts`] and [`StorePacker::counts`] have no contract, because they serve only
 //!   measurements.
 //! - No contract rules out that [`StoreIndexer::kind_of`] returns the wrong type. No contract rules
 //!   out that [`StoreIndexer::take_received`] returns `None`, or a pack that was not received.
-//! - No contract rules out that a [`NewRepository`] lacks its pack, its refs or HEAD, or is removed
-//!   once it is finished.
+//! - No contract rules out that a [`NewRepository`] lacks its pack, its refs or HEAD. No contract
+//!   rules out that it is removed once it is finished, or remains after a fault.
 //! - No contract can describe the contents of a system file: only the order of the calls in
 //!   [`install_pack`] is proved. No contract rules out that [`install_pack`] installs nothing, does
 //!   not create the file `.keep`, or removes one that it did not create. No contract rules out that
-//!   its folder does not write, sync or rename a file. No contract rules out that a [`StoredSpool`]
-//!   writes or returns other bytes than it was given, or leaves its file behind.
+//!   its folder does not write, sync or rename a file, or gives a file a wrong name. No contract
+//!   rules out that a [`StoredSpool`] writes or returns other bytes than it was given, or leaves its
+//!   file behind. No contract says in which folder it creates its file.
 //! - No contract rules out that a call fails although nothing is wrong. The contracts do not cover
 //!   which fault is returned, the text of a fault, running time, or memory use.
 //!
