@@ -86,8 +86,8 @@
 //! - No contract rules out that [`check_refs`] accepts a repository whose objects are missing or
 //!   malformed, or counts the nodes of another graph. No contract covers the number of objects that
 //!   it returns. The function [`check_repository`] has no contract.
-//! - No contract rules out that [`Tips`] loses an id or has other ids, or that [`add_leaves`] adds or
-//!   removes other nodes. No contract says which repository formats are opened or refused. No
+//! - No contract rules out that [`Tips`] loses an id or has other ids, or that [`add_leaves`] adds
+//!   or removes other nodes. No contract says which repository formats are opened or refused. No
 //!   contract covers the result of [`is_bare`], or the names and ids of peeled refs in a new
 //!   repository.
 //! - No contract rules out that the indexer leaves out an entry, or returns an entry for an object
@@ -107,8 +107,8 @@
 //!   [`install_pack`] is proved. No contract rules out that [`install_pack`] installs nothing, does
 //!   not create the file `.keep`, or removes one that it did not create. No contract rules out that
 //!   its folder does not write, sync or rename a file, or gives a file a wrong name. No contract
-//!   rules out that a [`StoredSpool`] writes or returns other bytes than it was given, or leaves its
-//!   file behind. No contract says in which folder it creates its file.
+//!   rules out that a [`StoredSpool`] writes or returns other bytes than it was given, or leaves
+//!   its file behind. No contract says in which folder it creates its file.
 //! - No contract rules out that a call fails although nothing is wrong. The contracts do not cover
 //!   which fault is returned, the text of a fault, running time, or memory use.
 //!
