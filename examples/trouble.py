@@ -32,7 +32,7 @@ FIRST_LINE, NEXT_BYTE = 10, 60
 # The most lines of a request, and how the server says so.
 WANTS, HAVES, PREFIXES = 65_537, 65_536, 1_024
 LIMITS = b"upload-pack: a request has at most 65,537 wants, 65,536 haves and 1,024 prefixes of ref names"
-LIMITS += b" (beside 64 other clients: 1,024, 4,096 and 64)"
+LIMITS += b" (while 64 other clients are connected: 1,024, 4,096 and 64)"
 BUSY, BUSY_WANTS = 64, 1_024
 KILLS = 20
 # So many steps are taken at a time, each in a process of its own. One of them only waits.

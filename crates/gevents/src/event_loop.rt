@@ -145,7 +145,8 @@ impl<'l, C: Conversation + Drop, A: Allocator + Copy> EventLoop<'l, C, A> {
         Ok(None)
     }
 
-    /// Returns the number of peers whose connection has not ended.
+    /// Returns the number of peers whose connection has not ended. A new peer counts once
+    /// [`begin`](EventLoop::begin) is called.
     pub fn peer_count(&self) -> usize {
         self.slots.len().saturating_sub(self.leavers as usize)
     }

@@ -8,8 +8,8 @@ pub(crate) const MAX_FETCHED_PACK: usize = MAX_STREAM;
 
 /// The limits on requests and replies.
 ///
-/// A connection needs less than 5 MiB for its request, even if the request reaches every limit.
-/// With the default limits, a connection needs less than 256 KiB.
+/// A request that reaches every limit uses less than 5 MiB of memory. With the default limits, a
+/// request uses less than 256 KiB.
 pub(crate) const LIMITS: Limits = Limits {
     prefixes: 1_024,
     wants: 65_537,

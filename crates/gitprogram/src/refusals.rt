@@ -31,7 +31,7 @@ pub(crate) const BUSY: &[u8] =
 
 /// The error line for a request that exceeds a limit.
 pub(crate) const TOO_LARGE_REQUEST: &[u8] =
-    b"upload-pack: a request has at most 65,537 wants, 65,536 haves and 1,024 prefixes of ref names (beside 64 other clients: 1,024, 4,096 and 64)";
+    b"upload-pack: a request has at most 65,537 wants, 65,536 haves and 1,024 prefixes of ref names (while 64 other clients are connected: 1,024, 4,096 and 64)";
 
 /// The packet for a client that connects while there are too many connections.
 pub(crate) const FULL: &[u8] =

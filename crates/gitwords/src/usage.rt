@@ -61,8 +61,9 @@ const PROGRAM_NOTES: &str = "\
 Limits:
   A repository has at most 65,536 refs, and 1,048,576 commits and tags. A pack has less than
   4 GiB. A received pack has at most 1,048,576 objects, and entries of at most 128 MiB. A
-  request has at most 65,537 wants, 65,536 haves and 1,024 prefixes of ref names. A server
-  has at most 1,024 connections at once, if no option says more.
+  request has at most 65,537 wants, 65,536 haves and 1,024 prefixes of ref names, or 1,024,
+  4,096 and 64 while 64 other clients are connected. A server has at most 1,024 connections
+  at once, if no option says more.
   Version 2 of the protocol and SHA-1 only. No shallow, partial or reftable repository.
 
 'gitrepo COMMAND --help' describes a command.";
