@@ -232,9 +232,9 @@ def hello(path, more=b"\0version=2\0"):
     return packet(b"git-upload-pack %s\0host=127.0.0.1\0%s" % (path, more))
 
 
-def answer_to(port, sent):
-    """What a server writes to a client that says this and closes its half, up to the end."""
-    with socket.create_connection(("127.0.0.1", port), timeout=SECONDS) as stream:
+def answer_to(port, sent, address="127.0.0.1"):
+    """What a server writes to a client at this address that says this and closes its half, up to the end."""
+    with socket.create_connection(("127.0.0.1", port), timeout=SECONDS, source_address=(address, 0)) as stream:
         stream.sendall(sent)
         stream.shutdown(socket.SHUT_WR)
         got = b""

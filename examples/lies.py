@@ -60,6 +60,8 @@ COMMIT = b"tree %s\n%s\nm\n" % (id_of("tree", TREE).hex().encode(), WHO)
 TIP = id_of("commit", COMMIT)
 ALL = [whole("commit", COMMIT), whole("tree", TREE), whole("blob", BLOB)]
 GOOD = pack(ALL)
+# A pack of several packets: a client stores the first of them before the last ones arrive.
+LONG = pack(ALL + [whole("blob", random.Random(5).randbytes(300_000))])
 NEW = [(TIP, b"refs/heads/new")]
 
 
@@ -109,6 +111,17 @@ def broken_packs():
     yield Case("a delta of two bytes", pack(ALL + [whole("blob", b"base"), by_id(id_of("blob", b"base"), size_of(4) + size_of(0))]))
 
 
+def wrong_ends():
+    """Packs of several packets that are cut, or whose trailer is wrong."""
+    yield Case("a long pack", LONG, is_taken=True)
+    yield Case("a long pack, cut in the middle", LONG[:len(LONG) // 2])
+    yield Case("a long pack, cut in the middle, with the right trailer", with_trailer(LONG[:len(LONG) // 2]))
+    yield Case("a long pack without its last byte", LONG[:-1])
+    yield Case("a long pack with a byte more", LONG + b"x")
+    yield Case("a long pack with a wrong trailer", LONG[:-1] + bytes([LONG[-1] ^ 1]))
+    yield Case("a long pack with a bit changed", LONG[:200_000] + bytes([LONG[200_000] ^ 1]) + LONG[200_001:])
+
+
 def bombs(megabytes):
     """Streams of so many megabytes, more than 256, and a delta that makes 4 GB."""
     bomb = zip_bomb(megabytes)
@@ -151,6 +164,18 @@ def by_copies(size, last):
         delta += b"\xff" + struct.pack("<I", at) + struct.pack("<I", count)[:3]
         at += count
     return delta + b"\x04" + last
+
+
+def stored(megabytes):
+    """An entry with so many megabytes of zeros that are not compressed."""
+    deflate, size = zlib.compressobj(0), megabytes * MEGABYTE
+    return head(3, size) + deflate.compress(bytes(size)) + deflate.flush()
+
+
+def long_entries():
+    """Entries that a client keeps in memory until they are whole: at most 128 MiB of a pack."""
+    yield Case("an entry of 126 MiB", pack(ALL + [stored(126)]), is_taken=True)
+    yield Case("an entry of 129 MiB", pack(ALL + [stored(129)]))
 
 
 def hogs():
@@ -278,8 +303,10 @@ def cases():
     yield Case("the right pack", GOOD, is_taken=True)
     yield Case("an object twice", pack(ALL + [ALL[2]]), is_taken=True)
     yield from broken_packs()
+    yield from wrong_ends()
     yield from bombs(1024)
     yield from many_bombs()
+    yield from long_entries()
     yield from hogs()
     yield from full_tables()
     yield from chains(LONGEST, True)

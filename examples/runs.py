@@ -172,3 +172,16 @@ os.execv(sys.argv[2], sys.argv[2:])
 def run_limited(most, *words):
     """A run that can write no file of more bytes."""
     return run(sys.executable, "-S", "-c", LIMITED, str(most), *words)
+
+
+# A program that gives up root's right to write into any folder, and becomes another one.
+UNPRIVILEGED = """
+import ctypes, os, sys
+ctypes.CDLL(None).prctl(24, 1, 0, 0, 0)
+os.execv(sys.argv[1], sys.argv[1:])
+"""
+
+
+def run_unprivileged(*words):
+    """A run that can write only where the permissions of folders allow it, even as root."""
+    return run(sys.executable, "-S", "-c", UNPRIVILEGED, *words)

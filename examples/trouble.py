@@ -4,6 +4,7 @@ It makes, reads and checks its repositories by itself (bare.py), and nothing lea
 the sentence on standard error, of what is in the directory afterwards, of memory, or of time. It is over within 40 seconds.
 """
 
+import contextlib
 import itertools
 import json
 import os
@@ -19,8 +20,8 @@ from concurrent.futures import ThreadPoolExecutor
 
 from bare import MAIN, OLD, History, faults_of, files_of, make, pack_of, put_loose, put_pack, put_packed, put_ref, refs_of, write
 from both_ends import Gitrepo, answer_to, hello, packet
-from lies import ADVERT, GOOD, NEW, TIP, Liar, bands, bombs, chains, listing, names, packfile, progress, spoken
-from runs import Checks, Running, at_once, is_printable, run, run_limited
+from lies import ADVERT, GOOD, LONG, NEW, TIP, Liar, bands, bombs, chains, listing, names, packfile, progress, spoken, wrong_ends
+from runs import Checks, Running, at_once, is_printable, run, run_limited, run_unprivileged
 
 PROGRAM = os.path.abspath(sys.argv[1])
 HEADS, TAGS = "+refs/heads/*:refs/heads/*", "+refs/tags/*:refs/tags/*"
@@ -31,6 +32,8 @@ FIRST_LINE, NEXT_BYTE = 10, 60
 # The most lines of a request, and how the server says so.
 WANTS, HAVES, PREFIXES = 65_537, 65_536, 1_024
 LIMITS = b"upload-pack: a request has at most 65,537 wants, 65,536 haves and 1,024 prefixes of ref names"
+LIMITS += b" (while 64 other clients are connected: 1,024, 4,096 and 64)"
+BUSY, BUSY_WANTS = 64, 1_024
 KILLS = 20
 # So many steps are taken at a time, each in a process of its own. One of them only waits.
 AT_A_TIME = 5
@@ -87,7 +90,7 @@ class Stopping(Liar):
     def __init__(self, place, count, is_silent=False):
         self.place, self.count, self.is_silent = place, count, is_silent
         self.is_over, self.has_stopped = threading.Event(), threading.Semaphore(0)
-        super().__init__(ADVERT, listing(NEW), packfile(GOOD))
+        super().__init__(ADVERT, listing(NEW), packfile(LONG))
 
     def send(self, stream, place, said):
         if place != self.place:
@@ -109,7 +112,7 @@ class Stopping(Liar):
 
 def stops():
     """The places where a server stops: before a packet, in its length, in it, after it, and before the last flush."""
-    for place, said in (("advert", ADVERT), ("refs", listing(NEW)), ("pack", packfile(GOOD))):
+    for place, said in (("advert", ADVERT), ("refs", listing(NEW)), ("pack", packfile(LONG))):
         for count in (0, 2, 4, 9, len(said) // 2, len(said) - 4, len(said) - 1):
             yield place, count
 
@@ -134,7 +137,7 @@ def server_that_closes(copies, place, count):
 
 
 def silent_servers(folder):
-    """All at once: no client gives up before its deadline. Killed, it leaves nothing but a clone's empty repository."""
+    """All at once: no client gives up before its deadline. Killed, it leaves a clone's empty repository, and what arrived of a pack."""
     copies, tries = Copies(folder), []
     for place, count in stops():
         server = Stopping(place, count, True)
@@ -150,9 +153,12 @@ def silent_servers(folder):
         ends = [one.kill() for one in runs]
         server.__exit__()
         check(f"{what}: nothing is said", all(end.out + end.told == b"" for end in ends), ends)
-        check(f"{what}: nothing is left of a fetch", files_of(path) == before)
-        left = set(files_of(clone)) if os.path.exists(clone) else set()
-        check(f"{what}: no object and no ref of a clone", left <= {"HEAD", "config"}, left)
+        fetched, cloned = files_of(path), files_of(clone)
+        arrived = [files.pop(name) for files in (fetched, cloned) for name in [*files] if name.startswith("objects/pack/tmp_pack_")]
+        check(f"{what}: a temporary file is a part of the pack", all(map(LONG.startswith, arrived)), [*map(len, arrived)])
+        check(f"{what}: one temporary file at most", len(arrived) <= len(runs), len(arrived))
+        check(f"{what}: nothing else is left of a fetch", fetched == before, set(fetched) - set(before))
+        check(f"{what}: no object and no ref of a clone", set(cloned) <= {"HEAD", "config"}, set(cloned))
 
 
 def deadline(folder):
@@ -170,9 +176,9 @@ def deadline(folder):
 
 
 def lying_servers(folder):
-    """Names of refs that climb or are in each other's way, bombs, a long chain, and texts that are no answer."""
+    """Names of refs that climb or are in each other's way, wrong ends, bombs, a long chain, and texts that are no answer."""
     copies = Copies(folder)
-    at_once(lambda case: lying_server(copies, case), itertools.chain(names(), bombs(300), chains(100, True)))
+    at_once(lambda case: lying_server(copies, case), itertools.chain(names(), wrong_ends(), bombs(300), chains(100, True)))
     at_once(lambda one: server_of_no_answer(copies, *one), spoken())
 
 
@@ -265,6 +271,7 @@ def paths_of_clients(folder):
             check(f"a client that says {what}: an error, or the end", last and not got.endswith(b"PACK"), got[-200:])
             check(f"after a client that says {what}: the next is served", lists(server))
         limits_of_requests(server)
+        limits_beside_others(server)
         for number in range(10):
             with socket.create_connection(("127.0.0.1", server.port)) as stream:
                 stream.sendall(hello(b"/r.git") + request(b"want " + FIRST.tip.hex().encode(), b"done"))
@@ -289,6 +296,24 @@ def limits_of_requests(server):
         got = answer_to(server.port, hello(b"/r.git") + more)
         check(f"a request of {what} and one more: refused", got.endswith(packet(b"ERR " + LIMITS + b"\n")), got[-200:])
         check(f"after a request of {what} and one more: the next is served", lists(server))
+
+
+def limits_beside_others(server):
+    """Requests are smaller while many clients are connected, and may be large again afterwards."""
+    want = b"want " + FIRST.tip.hex().encode()
+    least, more = (hello(b"/r.git") + request(*[want] * count, b"done") for count in (BUSY_WANTS, BUSY_WANTS + 1))
+    with contextlib.ExitStack() as others:
+        for _ in range(BUSY):
+            stream = others.enter_context(socket.create_connection(("127.0.0.1", server.port)))
+            stream.sendall(hello(b"/r.git"))
+            stream.recv(1)
+        got = answer_to(server.port, least, "127.0.0.2")
+        check(f"{BUSY_WANTS:,} wants beside {BUSY} clients: answered", got.endswith(b"0000") and b"ERR " not in got, got[-200:])
+        got = answer_to(server.port, more, "127.0.0.2")
+        check(f"{BUSY_WANTS + 1:,} wants beside {BUSY} clients: refused", got.endswith(packet(b"ERR " + LIMITS + b"\n")), got[-200:])
+    time.sleep(SILENT)
+    got = answer_to(server.port, more)
+    check(f"{BUSY_WANTS + 1:,} wants, and no other client: answered", got.endswith(b"0000") and b"ERR " not in got, got[-200:])
 
 
 def refs_request(lines):
@@ -372,6 +397,17 @@ def full_disks(folder):
             cloned = run_limited(most, *clone_words(clone, server.url()))
             judge_full(f"{what}, clone", cloned, not os.path.exists(clone), clone)
     check("limits: the first fails, and the last does not", not wholes[0] and wholes[10_000_000], wholes)
+    with Liar(refs=listing(NEW), pack=packfile(LONG)) as server:
+        for most in (0, 65_515, 100_000, len(LONG) - 1):
+            what = f"a limit of {most} bytes on a long pack"
+            path, clone = shutil.copytree(base, f"{folder}/long-{most}"), f"{folder}/long-clone-{most}"
+            before = files_of(path)
+            ran = run_limited(most, *fetch_words(path, server.url()))
+            checks.refused(f"{what}, fetch", ran, f"cannot fetch into {path}: the temporary file of the pack: ")
+            check(f"{what}: nothing is left of a fetch", files_of(path) == before)
+            cloned = run_limited(most, *clone_words(clone, server.url()))
+            checks.refused(f"{what}, clone", cloned, "cannot ", clone)
+            check(f"{what}: nothing is left of a clone", not os.path.exists(clone))
     branches = listing([(tiny.tip, b"refs/heads/old"), (tiny.tip, b"refs/heads/b/1")])
     with Liar(refs=branches, pack=packfile(tiny.pack())) as server:
         path = new_repository(f"{folder}/full-refs", tiny)
@@ -397,6 +433,37 @@ def judge_full(what, ran, is_clean, path, count=BRANCHES):
     checks.refused(what, ran, "cannot ")
     check(f"{what}: nothing is left", is_clean)
     return False
+
+
+def closed_folders(folder):
+    """Folders that a client may not write to, or that are files: nothing changes in them."""
+    copies = Copies(folder)
+    with Liar(refs=listing(NEW), pack=packfile(LONG)) as server:
+        for part in ("objects/pack", "objects"):
+            what, path = f"a fetch with a closed folder {part}", copies.new()
+            before = files_of(path)
+            if part == "objects":
+                put_loose(path, "blob", b"loose")
+                shutil.rmtree(f"{path}/objects/pack")
+                put_packed(path, {})
+                before = files_of(path)
+            os.chmod(f"{path}/{part}", 0o555)
+            ran = run_unprivileged(*fetch_words(path, server.url()))
+            os.chmod(f"{path}/{part}", 0o755)
+            checks.refused(what, ran, f"cannot fetch into {path}: the temporary file of the pack: permission denied")
+            check(f"{what}: nothing is left", files_of(path) == before)
+        what, closed = "a clone into a closed folder", f"{folder}/closed"
+        os.mkdir(closed, 0o555)
+        ran = run_unprivileged(*clone_words(f"{closed}/clone", server.url()))
+        checks.refused(what, ran, "cannot ", closed)
+        check(f"{what}: nothing is left", os.listdir(closed) == [])
+        what, path = "a fetch where the folder of packs is a file", make(copies.free())
+        os.rmdir(f"{path}/objects/pack")
+        write(f"{path}/objects/pack", b"")
+        before = files_of(path)
+        ran = run(*fetch_words(path, server.url()))
+        checks.refused(what, ran, "cannot ", path)
+        check(f"{what}: nothing is left", files_of(path) == before)
 
 
 def small_disks(folder):
@@ -649,7 +716,7 @@ def terminals(folder):
 STEPS = {
     "silent client": silent_client, "kills": kills, "changing": changing, "lying": lying_servers, "full": full_disks,
     "closing": servers_that_close, "silent": silent_servers, "paths": paths_of_clients, "small disks": small_disks,
-    "terminals": terminals, "urls": wrong_urls, "two clones": two_clones,
+    "terminals": terminals, "urls": wrong_urls, "two clones": two_clones, "closed folders": closed_folders,
 }
 # This one takes a minute, and so it is only tried if it is named.
 SLOW = {"deadline": deadline}

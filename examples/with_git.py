@@ -436,21 +436,31 @@ def many_commits(folder, ours, theirs):
 
 
 def large_pack(folder, ours, theirs):
-    """A pack of more than 64 MiB: our server sends it, and our client refuses it."""
+    """A pack of more than 64 MiB: our server sends it, and our client accepts it.
+
+    Its last blobs are a text and a delta of it. By then 64 MiB are in memory, so our client reads the text back from its file.
+    """
     path = new_repository(f"{folder}/served/large.git")
     chance = random.Random(73)
-    lines = b"commit %s\ncommitter C <c@example.com> 1700000000 +0000\ndata 1\nm\n" % BRANCH.encode()
-    for number in range(11):
-        lines += b"M 100644 inline %d\ndata %d\n%s\n" % (number, 6 << 20, chance.randbytes(6 << 20))
+    text = chance.randbytes(900_000)
+    commit = b"commit %s\ncommitter C <c@example.com> 1700000000 +0000\ndata 1\nm\n" % BRANCH.encode()
+    lines = b""
+    for added in (b"", b"more"):
+        lines += commit + b"M 100644 inline text\ndata %d\n%s\n" % (len(text + added), text + added)
+    for number, size in enumerate([4 << 20] * 17 + [len(text)] * 4):
+        lines += b"M 100644 inline %d\ndata %d\n%s\n" % (number, size, chance.randbytes(size))
     # As one pack, without a search for deltas and without compression.
     settings = ("fastimport.unpackLimit=1", "core.bigFileThreshold=1m", "core.compression=0")
     git(path, *(word for setting in settings for word in ("-c", setting)), "fast-import", "--quiet", data=lines)
-    copy = f"{folder}/large"
-    done = attempt("git", "clone", "--quiet", "--mirror", ours.url("large.git"), copy)
-    if check("git clone of 66 MiB", done, done):
-        same_repository("git clone of 66 MiB", path, copy)
-    refuses("gitrepo clone of 66 MiB", gitrepo("clone", theirs.url("large.git"), f"{folder}/too-large"), "64 MiB")
-    check("gitrepo clone of 66 MiB: no folder", not os.path.exists(f"{folder}/too-large"))
+    for name, words in (
+        ("git", ["git", "clone", "--quiet", "--mirror", ours.url("large.git")]),
+        ("gitrepo", [PROGRAM, "clone", "--quiet", theirs.url("large.git")]),
+    ):
+        what, copy = f"{name} clone of 72 MiB", f"{folder}/large-{name}"
+        done = attempt(*words, copy)
+        if check(what, done, done):
+            same_repository(what, path, copy)
+            check(f"{what}: nothing left behind", not left_behind(copy), left_behind(copy))
 
 
 # ---- what is broken or refused

@@ -9,7 +9,7 @@ use crate::program::{CommandRun, Devices, RunOutcome, outcome_without_file, pack
 use crate::report::format_report;
 use case_text::{PackTool, Program, Trouble};
 use gclient::{FetchFault, Fetched, GitFetch, PackOptions, Repo, fetch_git, fetch_over};
-use gcmd::{ProgramFault, Spec, cmd_failed, finish, send_text};
+use gcmd::{ProgramFault, Spec, StreamLimit, cmd_failed, finish, send_text};
 use ggraph::{Head, Indexer, SaveFault, save};
 use gpkt::{Sink, Source};
 use gserve::{ExchangeEnd, OnePack, serve, serve_one};
@@ -153,7 +153,7 @@ fn fetch_over_devices<A: Allocator + Copy, K: Indexer<A>, I: Source, O: Sink>(
     let fetch = GitFetch {
         hello: &hello,
         specs,
-        limit,
+        limit: StreamLimit::from(limit),
         ends,
         options: PackOptions::default(),
     };

@@ -18,7 +18,7 @@ use crate::fetched::Fetched;
 use crate::send::send_request;
 use crate::turn::{ask, fetch, hear};
 use gclientrepo::Repo;
-use gfetchreply::PackLimit;
+use gfetchreply::{PackLimit, StreamLimit};
 use ggrammar::Ends;
 use ggraph::Indexer;
 use ggraph::graph_laws::distinct_are_once;
@@ -72,7 +72,7 @@ pub fn fetch_over<S: Source, W: Sink, A: Allocator + Copy, K: Indexer<A>>(
 {
     let plan = FetchPlan {
         specs,
-        limit,
+        limit: StreamLimit::from(limit),
         ends,
         options: PackOptions::default(),
     };

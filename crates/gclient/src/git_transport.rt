@@ -15,7 +15,7 @@ use crate::fault::FetchFault;
 use crate::fetched::Fetched;
 use crate::greeting::greet;
 use gclientrepo::Repo;
-use gfetchreply::PackLimit;
+use gfetchreply::StreamLimit;
 use ggrammar::Ends;
 use ggraph::Indexer;
 use ghello::Hello;
@@ -33,7 +33,7 @@ pub struct GitFetch<'a, A: Allocator + Copy> {
     /// counts.
     pub specs: &'a [Spec<A>],
     /// The maximum size of a pack in bytes.
-    pub limit: PackLimit,
+    pub limit: StreamLimit,
     /// Whether a response-end packet follows each reply.
     pub ends: Ends,
     /// The options of requests for packs.

@@ -31,7 +31,7 @@ pub(crate) fn line_in_client<A: Allocator + Copy>(fault: &ClientFault<A>) -> Opt
     }
 }
 
-/// Returns the id that the fault names: the id of a missing object, the id that two objects share,
+/// Returns the id that the fault names: the id of a missing object, an id that two objects have,
 /// an id of another object format, or an acknowledged id that is not a have of the request.
 pub(crate) fn id_in_client<A: Allocator + Copy>(fault: &ClientFault<A>) -> Option<Oid>
     ensures { result ≡ id_in_client fault.now }

@@ -103,5 +103,5 @@ pub use crate::repository::load_server;
 pub use crate::stored::{FetchOptions, OpenedFile, cmd_fetch_stored, conclude_stored, open_stored};
 pub use crate::upload::cmd_upload;
 pub use gclient::Spec;
-pub use gfetchreply::PackLimit;
+pub use gfetchreply::{PackLimit, StreamLimit};
 pub use ggrammar::Ends;

@@ -82,11 +82,10 @@ impl<C: Conversation + Drop, A: Allocator + Copy> EventLoop<'_, C, A> {
 
     // Returns the reason to refuse a peer from this IP address, if any.
     fn refusal(&self, ip: IpAddr) -> Option<Refusal> {
-        let peers = self.slots.len().saturating_sub(self.leavers as usize);
-        if peers >= self.limits.at_once {
+        if self.peer_count() >= self.limits.at_once {
             Some(Refusal::Full)
         } else if self.addresses.count(ip) >= self.limits.at_once_of_address {
-            Some(Refusal::FullOfAddress)
+            Some(Refusal::AddressLimit)
         } else {
             None
         }

@@ -13,7 +13,7 @@ pub enum Refusal {
     /// The number of connections is at its limit.
     Full,
     /// The number of connections from this IP address is at its limit.
-    FullOfAddress,
+    AddressLimit,
 }
 
 /// The reason why a connection ended.

@@ -145,6 +145,12 @@ impl<'l, C: Conversation + Drop, A: Allocator + Copy> EventLoop<'l, C, A> {
         Ok(None)
     }
 
+    /// Returns the number of peers whose connection has not ended. A new peer counts once
+    /// [`begin`](EventLoop::begin) is called.
+    pub fn peer_count(&self) -> usize {
+        self.slots.len().saturating_sub(self.leavers as usize)
+    }
+
     /// Closes the listener, and all connections that have not ended.
     pub fn close(self) {
         drop(self);

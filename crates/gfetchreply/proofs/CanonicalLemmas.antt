@@ -12,7 +12,6 @@ use Rattle.gpkt.specs.Bands.{band_form, band_payload, max_band, Data as BandData
 use Rattle.gpkt.specs.Laws.{Fits, TextOfLine}
 use Rattle.gname.specs.Ids.{IsIdOf, id_text}
 use Rattle.gname.specs.Laws.{IdsHaveTexts, IdsHaveOneFormat}
-use Rattle.gname.specs.Limits.{max_pack}
 use Rattle.gname.specs.declared.formats.Format.{Format}
 use Rattle.ggrammar.specs.Endings.{ends_with}
 use Rattle.ggrammar.specs.Kinds.{CanonicalSays}
@@ -24,6 +23,7 @@ use Rattle.ggrammar.specs.declared.limits.Limits.{Limits}
 use Rattle.gfetchreply.specs.FetchManual.{IsAck, IsAckSection, IsPackSection, IsBody, IsDataOrProgress}
 use Rattle.gfetchreply.specs.FetchReplies.{Reading, FetchReply, Acks, Ready, Pack, reply_form, ack_id, acks_of, data_of, Says}
 use Rattle.gfetchreply.specs.FetchReplies.{ack_packet, data_packet, nak_if_none, heading_packet, ready_packet, pieces, pieces_within, pack_section, body_packets, canonical_reply, IsCanonical}
+use Rattle.gfetchreply.specs.Values.{max_stream}
 use Rattle.gfetchreply.specs.WellFormed.{AreAcks, IsReplyIn}
 use Rattle.gfetchreply.proofs.ReplyForms.{ack_form-written}
 use Rattle.gfetchreply.proofs.ReplyManual.{says_from_manual}
@@ -140,7 +140,7 @@ module _ (line_is : TextOfLine) (ids_have : IdsHaveTexts) (one_format : IdsHaveO
     are = acks_say format ids are.ids;
   }
 
-  section_is : (limit : ℕ) (pack : List ℕ) → limit ≤ max_pack → length pack ≤ limit → IsPackSection limit (pack_section pack) pack
+  section_is : (limit : ℕ) (pack : List ℕ) → limit ≤ max_stream → length pack ≤ limit → IsPackSection limit (pack_section pack) pack
   unfolding pieces
   section_is limit pack within short = record {
     heading = codes "packfile" ++ line_feed ∷ [];
@@ -178,7 +178,7 @@ module _ (line_is : TextOfLine) (ids_have : IdsHaveTexts) (one_format : IdsHaveO
     }),
   )
 
-  body_is : (reading : Reading) (reply : FetchReply) → reading.limit ≤ max_pack → IsReplyIn reading reply → IsBody reading (body_packets reply) reply
+  body_is : (reading : Reading) (reply : FetchReply) → reading.limit ≤ max_stream → IsReplyIn reading reply → IsBody reading (body_packets reply) reply
   body_is reading (Acks ids) within fit = acks_body reading ids fit.0 fit.1
   body_is reading (Ready ids pack) within fit = (
     fit.0,
@@ -194,7 +194,7 @@ module _ (line_is : TextOfLine) (ids_have : IdsHaveTexts) (one_format : IdsHaveO
   )
   body_is reading (Pack pack) within fit = (fit.0, section_is reading.limit pack within fit.1)
 
-  canonical_is_read : (reading : Reading) (reply : FetchReply) → reading.limit ≤ max_pack → IsReplyIn reading reply → Says reading (canonical_reply reading.ends reply) reply
+  canonical_is_read : (reading : Reading) (reply : FetchReply) → reading.limit ≤ max_stream → IsReplyIn reading reply → Says reading (canonical_reply reading.ends reply) reply
   unfolding canonical_reply
   canonical_is_read reading reply within fit =
       says_from_manual reading (canonical_reply reading.ends reply) reply
@@ -247,6 +247,6 @@ module _ (line_is : TextOfLine) (ids_have : IdsHaveTexts) (one_format : IdsHaveO
   canonical_fits reading reply fit =
       All-append Fits (body_packets reply) (ends_with reading.ends) (body_fits reading reply fit) (ends_fit reading.ends)
 
-  pub canonical_says : (reading : Reading) → reading.limit ≤ max_pack → CanonicalSays (Says reading) (IsReplyIn reading) (IsCanonical reading.ends)
+  pub canonical_says : (reading : Reading) → reading.limit ≤ max_stream → CanonicalSays (Says reading) (IsReplyIn reading) (IsCanonical reading.ends)
   canonical_says reading within lines reply fit is =
       subst (λ (ls : List Packet). Says reading ls reply × All Fits ls) (sym is) (canonical_is_read reading reply within fit, canonical_fits reading reply fit)

@@ -16,6 +16,10 @@ use Rattle.gfetchreply.specs.FetchReplies.{max_acks}
 abbrev pub default_limit : ℕ
 default_limit = 16777216
 
+-- the maximum limit on the length of a pack that is passed to a sink, in bytes
+abbrev pub max_stream : ℕ
+max_stream = 4294967295
+
 -- acknowledged ids, their format, and the limits on their number
 pub record Acks : Type 0 where
   pub limits : Limits

@@ -46,7 +46,7 @@ abbrev pub head_result : {A : Type 0} → Result (FetchHead A) MessageFault → 
 head_result (Ok head) = Ok (head_in head)
 head_result (Err fault) = Err fault
 
-abbrev pub reading_in : FetchReading → Reading
+abbrev pub reading_in : FetchReading ℕ → Reading
 reading_in reading = record {
   limits = reading.limits;
   format = reading.format;

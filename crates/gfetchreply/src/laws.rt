@@ -2,7 +2,6 @@
 //! may rely on a law after calling its function.
 
 ghost use Rattle.std.specs.Prelude.{◌≡◌, ◌≤◌};
-ghost use Rattle.gname.specs.Limits.{max_pack};
 ghost use Rattle.ggrammar.specs.Grammar.{HasEndings, IsPrefixFree, RefusesFirstMisfits};
 ghost use Rattle.ggrammar.specs.Limits.{profile};
 ghost use Rattle.ggrammar.specs.Kinds.{AsInManual, CanonicalSays, OneMeaning, ReadsBack, ReadsExactly, SaysWhole};
@@ -10,8 +9,10 @@ ghost use Rattle.ggrammar.specs.MessageBytes.{BeginsOrIsRefused, RefusesPackets,
 ghost use Rattle.gfetchreply.specs.FetchManual.{IsFetchReply};
 ghost use Rattle.gfetchreply.specs.FetchReplies.{IsCanonical, Reading, Says, brings, judge, max_acks};
 ghost use Rattle.gfetchreply.specs.Laws.{HasShortEndings, IsInAnyLimit, IsInAnyLimits, IsRefusedOverLimit, OneInWhateverReading, ReadsBackInto, ReadsIntoOnlySaid, ReadsIntoWhereSaid};
+ghost use Rattle.gfetchreply.specs.Values.{max_stream};
 ghost use Rattle.gfetchreply.specs.WellFormed.{IsReplyIn};
 
+use crate::limit::MAX_STREAM;
 use crate::sink::PackSink;
 use crate::value::MAX_ACKS;
 use ggrammar::MessageKind;
@@ -43,9 +44,10 @@ impl MessageKind for Replies {
     ghost is_canonical = { λ given. IsCanonical given.1.ends };
 }
 
-/// Proves that the constant `MAX_ACKS` equals the default limit in the specifications.
+/// Proves that the constants `MAX_ACKS` and `MAX_STREAM` equal the limits in the specifications.
 pub fn limits_are_the_constants()
     ensures acks { MAX_ACKS ≡ max_acks profile }
+    ensures stream { MAX_STREAM ≡ max_stream }
 {}
 
 /// Proves that a list of packets is read as a reply exactly if Git's manual and the limits allow
@@ -93,9 +95,9 @@ pub fn every_input()
 
 /// Proves that the packets written for a reply encode it, and that each payload fits a packet. The
 /// reply must be well-formed and within the reader's limits (`IsReplyIn`). The reader's size limit
-/// must be the value of some [`PackLimit`](crate::PackLimit).
+/// must be the value of some [`StreamLimit`](crate::StreamLimit).
 pub fn canonical_says()
-    ensures { (reading : Reading) → reading.limit ≤ max_pack
+    ensures { (reading : Reading) → reading.limit ≤ max_stream
         → CanonicalSays (Says reading) (IsReplyIn reading) (IsCanonical reading.ends) }
 {
     ids_have_one_format();
@@ -113,10 +115,11 @@ pub fn reads_exactly()
 }
 
 /// Proves that a written reply reads back, whatever bytes follow. The reply must be well-formed for
-/// the reader (`IsReplyIn`). In particular, the pack must be within the reader's
-/// [`PackLimit`](crate::PackLimit), and the number of acknowledged ids within the reader's limits.
+/// the reader (`IsReplyIn`). In particular, the pack must be within the reader's size limit, and
+/// the number of acknowledged ids within the reader's limits. The reader's size limit must be the
+/// value of some [`StreamLimit`](crate::StreamLimit).
 pub fn reads_back()
-    ensures { (reading : Reading) → reading.limit ≤ max_pack
+    ensures { (reading : Reading) → reading.limit ≤ max_stream
         → ReadsBack (judge reading) (brings reading) (Says reading) (IsReplyIn reading)
         (IsCanonical reading.ends) }
 {
@@ -138,7 +141,7 @@ pub fn reads_into_exactly<T: PackSink>()
 /// Proves that a written reply reads back with its pack passed to a sink, whatever bytes follow.
 /// The conditions are those of [`reads_back`].
 pub fn reads_back_into<T: PackSink>()
-    ensures { (reading : Reading) → reading.limit ≤ max_pack
+    ensures { (reading : Reading) → reading.limit ≤ max_stream
         → ReadsBackInto T.taken T.refuses reading }
 {
     one_meaning();

@@ -21,9 +21,10 @@
 //! - [`Acks`] has ids of one format. Their number is within the limit on haves of its
 //!   [`ggrammar::Limits`], which is 4,096 by default. With any limits, the number is at most
 //!   4,294,967,295. [`PackBytes`] has at most `gname::MAX_PACK` bytes, and a [`PackLimit`] is at
-//!   most `gname::MAX_PACK`. A call that builds a value of these types checks the format of ids
-//!   before the limit. A failed [`Acks::push`] changes nothing. Building a reply moves existing ids
-//!   and an existing pack into it, unchanged.
+//!   most `gname::MAX_PACK`. A [`StreamLimit`], for a pack that is passed to a sink, is at most
+//!   [`MAX_STREAM`], which is 4,294,967,295. A call that builds a value of these types checks the
+//!   format of ids before the limit. A failed [`Acks::push`] changes nothing. Building a reply
+//!   moves existing ids and an existing pack into it, unchanged.
 //! - [`write_fetch_reply`] writes exactly the bytes of a reply's packets (`canonical_reply`), or a
 //!   prefix of the bytes if the sink fails. A payload is never too long. The written reply reads
 //!   back under three conditions. The reader has the id format and the limits of the
@@ -38,7 +39,8 @@
 //!   if the bytes begin with packets that encode it. Every byte sequence begins with a reply or is
 //!   rejected because of its content. If the same bytes are read for another request, the result is
 //!   the same reply or no reply. With other limits, the result is the same reply or a rejection
-//!   because of a limit. The constant `MAX_ACKS` equals the default limit in the specifications.
+//!   because of a limit. The constants `MAX_ACKS` and `MAX_STREAM` equal the limits in the
+//!   specifications.
 //!
 //! # Only tested
 //!
@@ -68,7 +70,7 @@ mod sink;
 mod value;
 mod write;
 
-pub use crate::limit::PackLimit;
+pub use crate::limit::{MAX_STREAM, PackLimit, StreamLimit};
 pub use crate::reading::{
     FetchReading, read_fetch_reply, read_fetch_reply_in, read_fetch_reply_into,
     read_fetch_reply_into_in,

@@ -17,7 +17,7 @@ ghost use Rattle.gfetchreply.specs.Views.{AreAcksOf, IsHeadOf, IsReplyOf, head_r
 ghost use Rattle.gfetchreply.specs.steps.Views.{head_after, reading_with};
 
 use crate::form::reply_form;
-use crate::limit::PackLimit;
+use crate::limit::{PackLimit, StreamLimit};
 use crate::sections::{Point, Sections, late};
 use crate::sink::PackSink;
 use crate::value::{FetchHead, FetchReply};
@@ -29,9 +29,10 @@ use gpkt::{Band, Packet, PacketReader, Source, band_of, text_of};
 use std::alloc::Allocator;
 use std::marker::{Brand, PhantomData};
 
-/// The parameters of reading a fetch reply.
+/// The parameters of reading a fetch reply. `K` is [`StreamLimit`] if the pack is passed to a sink,
+/// and [`PackLimit`] if the pack is stored in memory.
 #[derive(Clone, Copy, Debug, PartialEq, Eq)]
-pub struct FetchReading {
+pub struct FetchReading<K> {
     /// The limits on the reply. Only `haves` matters: it limits the number of acknowledged ids. A
     /// limit above 4,294,967,295 counts as 4,294,967,295.
     pub limits: Limits,
@@ -40,7 +41,7 @@ pub struct FetchReading {
     /// Whether the reply starts with the pack, as after a request with `done` or without haves.
     pub direct: bool,
     /// The maximum length of the pack in bytes.
-    pub limit: PackLimit,
+    pub limit: K,
     /// The packet that ends the reply.
     pub ends: Ends,
 }
@@ -78,7 +79,7 @@ impl<T> Lent<T> for Brand {
 // data.
 #[derive(Drop)]
 struct ReplyReader<'s, T, A: Allocator + Copy, L> {
-    reading: FetchReading,
+    reading: FetchReading<StreamLimit>,
     sections: Sections<A>,
     sink: &'s mut T,
     lent: PhantomData<L>,
@@ -86,7 +87,11 @@ struct ReplyReader<'s, T, A: Allocator + Copy, L> {
 
 impl<'s, T: PackSink, A: Allocator + Copy, L: Lent<T>> ReplyReader<'s, T, A, L> {
     // Returns the state before the first packet of a reply.
-    fn new(alloc: A, reading: FetchReading, sink: &'s mut T) -> ReplyReader<'s, T, A, L>
+    fn new(
+        alloc: A,
+        reading: FetchReading<StreamLimit>,
+        sink: &'s mut T,
+    ) -> ReplyReader<'s, T, A, L>
         ensures in_place { result.sink.ghost_name ≡ sink.entry.ghost_name }
         ensures sink { result.sink.now ≡ sink.old }
         ensures reading { result.reading ≡ reading }
@@ -228,7 +233,7 @@ impl<T: PackSink, A: Allocator + Copy, L: Lent<T>> Message for ReplyReader<'_, T
 pub fn read_fetch_reply_into<S: Source, T: PackSink, A: Allocator + Copy, B: Allocator + Copy>(
     reader: &mut PacketReader<S, A>,
     direct: bool,
-    limit: PackLimit,
+    limit: StreamLimit,
     ends: Ends,
     sink: &mut T,
     alloc: B,
@@ -269,7 +274,7 @@ pub fn read_fetch_reply_into<S: Source, T: PackSink, A: Allocator + Copy, B: All
 /// sink before the call to the sink after the call.
 pub fn read_fetch_reply_into_in<S: Source, T: PackSink, A: Allocator + Copy, B: Allocator + Copy>(
     reader: &mut PacketReader<S, A>,
-    reading: FetchReading,
+    reading: FetchReading<StreamLimit>,
     sink: &mut T,
     alloc: B,
 ) -> Result<FetchHead<B>, MessageFault>
@@ -330,7 +335,7 @@ pub fn read_fetch_reply<S: Source, A: Allocator + Copy, B: Allocator + Copy>(
 /// dropped.
 pub fn read_fetch_reply_in<S: Source, A: Allocator + Copy, B: Allocator + Copy>(
     reader: &mut PacketReader<S, A>,
-    reading: FetchReading,
+    reading: FetchReading<PackLimit>,
     alloc: B,
 ) -> Result<FetchReply<B>, MessageFault>
     ensures read { ReadsOrRefuses (judge (reading_in reading)) (brings (reading_in reading))
@@ -344,9 +349,22 @@ pub fn read_fetch_reply_in<S: Source, A: Allocator + Copy, B: Allocator + Copy>(
     // Laws.
     reading.limit.laws();
     let mut pack = Vec::new(alloc);
-    match read_fetch_reply_into_in(reader, reading, &mut pack, alloc) {
+    match read_fetch_reply_into_in(reader, streamed(reading), &mut pack, alloc) {
         Ok(head) => Ok(FetchReply::with_pack(head, pack)),
         Err(fault) => Err(fault),
+    }
+}
+
+// Returns the same parameters for a pack that is passed to a sink.
+fn streamed(reading: FetchReading<PackLimit>) -> FetchReading<StreamLimit>
+    ensures { result ≡ reading }
+{
+    FetchReading {
+        limits: reading.limits,
+        format: reading.format,
+        direct: reading.direct,
+        limit: StreamLimit::from(reading.limit),
+        ends: reading.ends,
     }
 }
 

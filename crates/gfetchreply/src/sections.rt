@@ -12,7 +12,7 @@ ghost use Rattle.gfetchreply.specs.Views.{IsHeadOf, head_in};
 ghost use Rattle.gfetchreply.specs.steps.Views.{form_in};
 
 use crate::form::ReplyForm;
-use crate::limit::PackLimit;
+use crate::limit::StreamLimit;
 use crate::value::{Acks, FetchHead};
 use ggrammar::{Ends, Limits, Step, Why, id_of_text};
 use gname::Format;
@@ -152,7 +152,7 @@ impl<A: Allocator + Copy> Sections<A> {
 
     /// Returns the length of the pack after `more` further bytes, or `None` if the bytes or a
     /// further packet would exceed a limit.
-    pub(crate) fn with_room(&self, limit: PackLimit, more: usize) -> Option<usize>
+    pub(crate) fn with_room(&self, limit: StreamLimit, more: usize) -> Option<usize>
         ensures { result ≡ (if nat_lt self.now.band_count max_packets && nat_le
             (self.now.byte_count + more) limit then Some (self.now.byte_count + more) else None) }
     {

@@ -5,7 +5,7 @@ use crate::stores::{GIT_DIR, to_memory_files};
 use crate::trouble::Trouble;
 use ggraph::{Entry, Graph, GraphFault, IndexFault, Indexer};
 use gitobjects::{ObjectFiles, ObjectReader, ObjectStore};
-use gitrepository::{RepositoryFault, StoreIndexer, Tips};
+use gitrepository::{MemorySpools, PackSpools, RepositoryFault, StoreIndexer, Tips};
 use gname::Oid;
 use std::alloc::{Allocator, Global};
 
@@ -52,7 +52,7 @@ fn receive_pack<F: ObjectFiles, A: Allocator + Copy>(
         Ok(prepared) => prepared,
         Err(fault) => return Err(Rejection::Repository(fault)),
     };
-    let indexer = StoreIndexer::new(reader, &tips);
+    let indexer = StoreIndexer::new(reader, &tips, MemorySpools::new(tested_alloc));
     match feed_pack(&indexer, tested_alloc, inputs.pack) {
         Ok(entries) => add_to_graph(tested_alloc, entries),
         Err(fault) => Err(rejection_of(&indexer, fault)),
@@ -83,10 +83,12 @@ fn feed_pack<A: Allocator + Copy, I: Indexer<A>>(
 }
 
 // Returns the fault of a rejected pack. The indexer must not keep a part of the pack.
-fn rejection_of<F: ObjectFiles, A: Allocator + Copy>(
-    indexer: &StoreIndexer<'_, '_, F, A>,
-    fault: IndexFault,
-) -> Rejection<A> {
+fn rejection_of<F, P, A>(indexer: &StoreIndexer<'_, '_, F, P, A>, fault: IndexFault) -> Rejection<A>
+where
+    F: ObjectFiles,
+    P: PackSpools + Drop,
+    A: Allocator + Copy,
+{
     if indexer.take_received().is_some() {
         return Rejection::PartKept;
     }

@@ -84,6 +84,7 @@ const LIMITS: IndexLimits = IndexLimits {
     object: 268_435_456,
     held: 268_435_456,
     total: 4_294_967_296,
+    table: 0,
 };
 
 impl<'a> Row<'a> {

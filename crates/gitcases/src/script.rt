@@ -407,6 +407,7 @@ impl<'a> Script<'a> {
             object: parse_number(object)?,
             held: parse_number(held)?,
             total: parse_number(total)?,
+            table: 0,
         };
         match self.rows.last_mut() {
             Some(row) => {

@@ -5,7 +5,7 @@ use Rattle.std.proofs.lemmas.List.Elements.{All-nil, All-push}
 use Rattle.gitconfig.specs.Values.{BeginsWithPiece, HasPieces, IsTrimmed, is_marked, is_quoted_after, mark_pieces}
 use Rattle.gitconfig.specs.Bytes.{EndsValue}
 use Rattle.gitconfig.specs.declared.pieces.Piece.{Piece}
-use Rattle.gitconfig.specs.declared.pieces.Piece.TheVariants.{Byte, Blank, Quote, Joint}
+use Rattle.gitconfig.specs.declared.pieces.Piece.TheVariants.{Byte, Blank, Quote, Continuation}
 use Rattle.gitconfig.specs.declared.reading.ValueText.{ValueText}
 use Rattle.gitconfig.specs.steps.Readings.{IsValueSoFar, Pushes}
 
@@ -28,7 +28,7 @@ marked_append [] more = refl
 marked_append (Byte b ∷ pieces) more = ap (λ l. (b, false) ∷ l) (marked_append pieces more)
 marked_append (Blank b ∷ pieces) more = ap (λ l. (b, true) ∷ l) (marked_append pieces more)
 marked_append (Quote ∷ pieces) more = marked_append pieces more
-marked_append (Joint ∷ pieces) more = marked_append pieces more
+marked_append (Continuation ∷ pieces) more = marked_append pieces more
 
 -- ---- pieces
 
@@ -158,7 +158,7 @@ pushed pieces (Byte b) old new adds has = reshaped (mark_pieces (pieces ++ Byte 
 pushed pieces (Blank b) old new (kept, inl none) has = reshaped (mark_pieces (pieces ++ Blank b ∷ [])) (mark_pieces pieces ++ (b, true) ∷ []) new (marked_append pieces (Blank b ∷ [])) (push_none (mark_pieces pieces ++ (b, true) ∷ []) old new (none.1 ∙ sym none.0) kept (push_first_blank (mark_pieces pieces) b old none.0 has))
 pushed pieces (Blank b) old new (kept, inr some) has = reshaped (mark_pieces (pieces ++ Blank b ∷ [])) (mark_pieces pieces ++ (b, true) ∷ []) new (marked_append pieces (Blank b ∷ [])) (push_blank (mark_pieces pieces) b old new some.0 some.1 kept has)
 pushed pieces Quote old new same has = reshaped (mark_pieces (pieces ++ Quote ∷ [])) (mark_pieces pieces) new (marked_append pieces (Quote ∷ []) ∙ append-nil (mark_pieces pieces)) (push_none (mark_pieces pieces) old new same.1 same.0 has)
-pushed pieces Joint old new same has = reshaped (mark_pieces (pieces ++ Joint ∷ [])) (mark_pieces pieces) new (marked_append pieces (Joint ∷ []) ∙ append-nil (mark_pieces pieces)) (push_none (mark_pieces pieces) old new same.1 same.0 has)
+pushed pieces Continuation old new same has = reshaped (mark_pieces (pieces ++ Continuation ∷ [])) (mark_pieces pieces) new (marked_append pieces (Continuation ∷ []) ∙ append-nil (mark_pieces pieces)) (push_none (mark_pieces pieces) old new same.1 same.0 has)
 
 -- the first `length kept` bytes of a value are the bytes of `kept`
 took : (kept after : List (ℕ × Bool)) → take (length kept) (bytes_of (kept ++ after)) ≡ bytes_of kept

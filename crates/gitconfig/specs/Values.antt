@@ -3,7 +3,7 @@ use Rattle.std.specs.Prelude.{◌≡◌, ◌⊎◌, ℕ, ◌==◌, ◌||◌, not
 use Rattle.std.specs.Prelude.{Option, Some, None, List, [], ◌∷◌, ◌++◌, All, map}
 use Rattle.gitconfig.specs.Bytes.{EndsValue, is_blank, is_mark}
 use Rattle.gitconfig.specs.declared.pieces.Piece.{Piece}
-use Rattle.gitconfig.specs.declared.pieces.Piece.TheVariants.{Byte, Blank, Quote, Joint}
+use Rattle.gitconfig.specs.declared.pieces.Piece.TheVariants.{Byte, Blank, Quote, Continuation}
 
 -- the byte that a backslash and this byte encode: `\n`, `\t`, `\b`, `\"` and `\\`
 abbrev pub escape : ℕ → Option ℕ
@@ -21,7 +21,7 @@ BeginsWithPiece quoted text (Byte b) rest = ((text ≡ b ∷ rest) × (is_specia
     ⊎ ((c : ℕ) × (text ≡ 92 ∷ c ∷ rest) × (escape c ≡ Some b))
 BeginsWithPiece quoted text (Blank b) rest = (text ≡ b ∷ rest) × (quoted ≡ false) × (is_blank b ≡ true)
 BeginsWithPiece quoted text Quote rest = text ≡ 34 ∷ rest
-BeginsWithPiece quoted text Joint rest = text ≡ 92 ∷ 10 ∷ rest
+BeginsWithPiece quoted text Continuation rest = text ≡ 92 ∷ 10 ∷ rest
 
 -- whether the text after a piece is inside quotes
 abbrev pub is_quoted_after : Bool → Piece → Bool
@@ -41,7 +41,7 @@ mark_pieces [] = []
 mark_pieces (Byte b ∷ pieces) = (b, false) ∷ mark_pieces pieces
 mark_pieces (Blank b ∷ pieces) = (b, true) ∷ mark_pieces pieces
 mark_pieces (Quote ∷ pieces) = mark_pieces pieces
-mark_pieces (Joint ∷ pieces) = mark_pieces pieces
+mark_pieces (Continuation ∷ pieces) = mark_pieces pieces
 
 abbrev pub is_marked : ℕ × Bool → Type 0
 is_marked b = b.1 ≡ true

@@ -15,7 +15,7 @@ pub(crate) enum Piece {
     /// A quote.
     Quote,
     /// A backslash at the end of a line: the value continues on the next line.
-    Joint,
+    Continuation,
 }
 
 /// Returns the first piece of a value, and the text after the piece, or `None` if the text does not
@@ -45,7 +45,7 @@ fn split_escape(text: &[u8]) -> Option<(Piece, &[u8])>
 {
     let (first, after) = text.split_first()?;
     match *first {
-        b'\n' => Some((Piece::Joint, after)),
+        b'\n' => Some((Piece::Continuation, after)),
         b'n' => Some((Piece::Byte(b'\n'), after)),
         b't' => Some((Piece::Byte(b'\t'), after)),
         b'b' => Some((Piece::Byte(8), after)),

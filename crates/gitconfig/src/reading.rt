@@ -254,7 +254,7 @@ impl<A: Allocator + Copy> ValueText<A> {
                 }
             }
             Piece::Quote => self.is_quoted = !self.is_quoted,
-            Piece::Joint => {}
+            Piece::Continuation => {}
         }
         Ok(())
     }

@@ -11,9 +11,7 @@ use Rattle.std.proofs.lemmas.Slice.Eq.{bytes_eq-Decides}
 use Rattle.std.proofs.lemmas.Nat.{be_bytes_4}
 use Rattle.std.proofs.Math.Seq.{take-add}
 use Rattle.std.proofs.lemmas.List.{append-nil, length-append, take-append-drop, take-append-le}
-use Rattle.sha1.specs.Sha1.{sha1}
 use Rattle.gname.specs.Ids.{Id}
-use Rattle.gitpack.specs.Packs.{with_trailer}
 use Rattle.gitpack.specs.Indexes.{begins_within, fan_out, ids_within, index_body}
 use Rattle.gitpack.specs.declared.index.IndexEntry.{IndexEntry}
 use Rattle.gitpack.specs.steps.FirstBytes.{begins_with, ids_below, ids_beginning}
@@ -31,11 +29,6 @@ hashed_more old piece new from to all is end =
     let front : take from old ≡ take from new = sym (ap (take from) all ∙ take-append-le from old piece (omega (arith, is))) in
     let sum : from + (to - from) ≡ to = omega (arith, is, end, count) in
     ap (λ l. l ++ take (to - from) (drop from new)) front ∙ sym (take-add from (to - from) new) ∙ ap (λ n. take n new) sum
-
-pub trailer_read : (n : ℕ) (pack body trailer sum id : List ℕ) → body ≡ take n pack → trailer ≡ drop n pack → sum ≡ sha1 body → sum ≡ trailer → id ≡ trailer
-    → (id ≡ sha1 body) × (pack ≡ with_trailer body)
-trailer_read n pack body trailer sum id is rest digest same bytes =
-    (bytes ∙ sym same ∙ digest, cut_at n pack body trailer is rest ∙ ap (λ l. body ++ l) (sym same ∙ digest))
 
 below_take : (n : ℕ) (l : List ℕ) → ((i : ℕ) → get_or l i 0 < 256) → (i : ℕ) → get_or (take n l) i 0 < 256
 below_take zero l h i = omega arith

@@ -1,5 +1,5 @@
 -- Packs (gitformat-pack(5), "pack-*.pack files have the following format").
-use Rattle.std.specs.Prelude.{◌≡◌, ℕ, List, ◌++◌, codes}
+use Rattle.std.specs.Prelude.{◌≡◌, ℕ, List, ◌++◌, codes, drop, length, take}
 use Rattle.std.specs.Int.{w32, to_be_bytes}
 use Rattle.sha1.specs.Sha1.{sha1}
 use Rattle.gitpack.specs.Entries.{IsHead}
@@ -30,3 +30,7 @@ pub record IsFramed (count : ℕ) (trailer pack : List ℕ) : Type 0 where
   pub entries : List ℕ
   pub parts : pack ≡ (pack_header count ++ entries) ++ trailer
   pub trails : trailer ≡ sha1 (pack_header count ++ entries)
+
+-- `part` is the part of `bytes` that begins at `start`
+abbrev pub IsPart : List ℕ → ℕ → List ℕ → Type 0
+IsPart bytes start part = part ≡ take (length part) (drop start bytes)

@@ -141,15 +141,15 @@ fn split_instruction<'a>(base: &'a [u8], text: &'a [u8]) -> Option<(&'a [u8], &'
     Some((bytes, rest))
 }
 
-// The offset and size of the range that a copy instruction reads.
+/// The offset and size of a range of bytes, as a copy instruction reads it.
 #[derive(Clone, Copy)]
-struct Range {
-    offset: usize,
-    size: usize,
+pub(crate) struct Range {
+    pub offset: usize,
+    pub size: usize,
 }
 
-// Returns this range of the base, or `None` if the range extends beyond the base.
-fn part_of(base: &[u8], range: Range) -> Option<&[u8]>
+/// Returns this range of the base, or `None` if the range extends beyond the base.
+pub(crate) fn part_of(base: &[u8], range: Range) -> Option<&[u8]>
     ensures { MatchOption result (length base.now < range.offset + range.size)
         (λ part. (range.offset + range.size ≤ length base.now)
         × (part.now ≡ take range.size (drop range.offset base.now))) }

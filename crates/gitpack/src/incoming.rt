@@ -5,25 +5,27 @@ ghost use Rattle.gitpack.specs.Indexes.{IsLine, line_of};
 ghost use Rattle.gitpack.specs.Packs.{IsFramed};
 
 use crate::fault::PackFileFault;
-use crate::frame::{FramedPack, PackBytes, body_of};
+use crate::frame::{FramedPack, PackBytes, PackHead};
 use crate::indexing::{IndexLimits, IndexedEntry, IndexedPack, ObjectVisitor};
 use crate::resolving::Resolver;
-use crate::scanning::Scanner;
-use std::alloc::{AllocError, Allocator};
+use crate::scanning::{ScannedPack, Scanner};
+use crate::spool::{Spool, SpoolFault};
+use std::alloc::Allocator;
 use std::marker::Model;
 
 /// A pack that is indexed while it arrives: call `new`, then `feed` for each piece, then `finish`.
 /// In contracts, this value is the list of received bytes.
 ///
-/// Bytes are hashed on arrival. Complete entries are inflated in batches of at least 128 KiB. If a
+/// All bytes are appended to a spool, and hashed on arrival. Only the bytes of entries that are not
+/// scanned yet stay in memory. Complete entries are inflated in batches of at least 128 KiB. If a
 /// long entry is incomplete, the next batch is larger.
 #[derive(Drop)]
-pub struct IncomingPack<A: Allocator + Copy> {
-    bytes: PackBytes<A>,
+pub struct IncomingPack<S: Spool + Drop, A: Allocator + Copy> {
+    bytes: PackBytes<S, A>,
     scanner: Scanner<A>,
 }
 
-impl<A: Allocator + Copy> Model for IncomingPack<A> {
+impl<S: Spool + Drop, A: Allocator + Copy> Model for IncomingPack<S, A> {
     ghost use Rattle.std.specs.Prelude.{ℕ, List};
 
     ghost Value = { List ℕ };
@@ -31,66 +33,82 @@ impl<A: Allocator + Copy> Model for IncomingPack<A> {
     ghost view = { λ pack. pack.bytes };
 }
 
-impl<A: Allocator + Copy> IncomingPack<A> {
-    /// Returns a pack that has received no bytes.
-    pub fn new(alloc: A, limits: IndexLimits) -> IncomingPack<A>
+impl<S: Spool + Drop, A: Allocator + Copy> IncomingPack<S, A> {
+    /// Returns a pack that has received no bytes. The spool must be empty.
+    pub fn new(alloc: A, spool: S, limits: IndexLimits) -> IncomingPack<S, A>
+        requires { S.bytes spool ≡ [] }
         ensures { result ≡ [] }
     {
         IncomingPack {
-            bytes: PackBytes::new(alloc),
+            bytes: PackBytes::new(alloc, spool),
             scanner: Scanner::new(alloc, limits),
         }
     }
 
     /// Adds the next bytes of the pack. The visitor receives each undeltified object that is
-    /// inflated in this call. Faults of the pack or of the visitor are reported by `finish`.
+    /// inflated in this call. Faults of the pack or of the visitor are reported by `finish`. After
+    /// such a fault, the remaining bytes are still appended to the spool.
     ///
-    /// Fails only if out of memory. After a fault, the pack is unusable.
+    /// Fails if the spool fails, or with `Memory` if out of memory. After a fault, the pack is
+    /// unusable.
     pub fn feed<V: ObjectVisitor>(
         &mut self,
         piece: &[u8],
         visitor: &mut V,
-    ) -> Result<(), AllocError>
+    ) -> Result<(), SpoolFault>
         ensures { OnOk result (self.new ≡ self.old ++ piece.now) }
     {
         self.bytes.push(piece)?;
-        self.scanner.scan_more(self.bytes.body(), visitor);
+        let end = match self.bytes.head() {
+            PackHead::Unread => 0,
+            PackHead::Count(count) => self.scanner.scan_more(count, self.bytes.part(), visitor),
+            PackHead::Wrong => usize::MAX,
+        };
+        self.bytes.release(end);
         Ok(())
     }
 
-    /// Returns the received pack and its objects, once all bytes have arrived. The visitor must be
-    /// the same as in all `feed` calls, and receives the remaining objects.
+    /// Returns the spool of the received pack and the objects of the pack, once all bytes have
+    /// arrived. The visitor must be the same as in all `feed` calls, and receives the remaining
+    /// objects.
     ///
-    /// Fails for the same reasons as [`crate::index_pack`].
+    /// Fails for the same reasons as [`crate::index_pack`]. Fails with `Spool` if the spool fails,
+    /// or returns a zlib stream that cannot be inflated.
     pub fn finish<V: ObjectVisitor>(
         self,
         visitor: &mut V,
-    ) -> Result<(Vec<u8, A>, IndexedPack<A>), PackFileFault>
-        ensures bytes { IfOk result (λ it. it.0.items ≡ self) }
+    ) -> Result<(S, IndexedPack<A>), PackFileFault>
+        ensures bytes { IfOk result (λ it. S.bytes it.0 ≡ self) }
         ensures frame { IfOk result (λ it. (count : ℕ) × IsFramed count it.1.checksum self) }
     {
         let IncomingPack { bytes, scanner } = self;
         let Some(pack) = bytes.finish() else {
             return Err(PackFileFault::Frame);
         };
-        let objects = objects_of(scanner, &pack, visitor)?;
-        let FramedPack { bytes, trailer, .. } = pack;
+        let scanned = scanner.finish(pack.count, pack.part(), visitor)?;
+        let FramedPack {
+            spool,
+            window,
+            trailer,
+            ..
+        } = pack;
+        // The bytes in memory are not needed any more.
+        drop(window);
+        let objects = objects_of(&spool, scanned, visitor)?;
         let index = IndexedPack::new(objects, trailer)?;
-        Ok((bytes, index))
+        Ok((spool, index))
     }
 }
 
-// Returns the objects of a complete pack. Some entries of the pack may have been scanned already.
-fn objects_of<A: Allocator + Copy, V: ObjectVisitor>(
-    scanner: Scanner<A>,
-    pack: &FramedPack<A>,
+// Returns the objects of a scanned pack.
+fn objects_of<S: Spool, A: Allocator + Copy, V: ObjectVisitor>(
+    spool: &S,
+    scanned: ScannedPack<A>,
     visitor: &mut V,
 ) -> Result<Vec<IndexedEntry, A>, PackFileFault>
     ensures { IfOk result (λ objects. All (λ e. IsLine (line_of e)) objects.items) }
 {
-    let bytes = pack.bytes.as_slice();
-    let scanned = scanner.finish(body_of(bytes), pack.count, visitor)?;
-    let mut resolver = Resolver::new(bytes, scanned)?;
+    let mut resolver = Resolver::new(spool, scanned)?;
     resolver.resolve_all(visitor)?;
     resolver.into_entries()
 }

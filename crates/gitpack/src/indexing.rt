@@ -1,6 +1,6 @@
 //! Indexing a pack that a peer sent.
 
-ghost use Rattle.std.specs.Prelude.{◌≡◌, ◌≢◌, ℕ, All, IfOk, MatchOption, Option, Some, length, map};
+ghost use Rattle.std.specs.Prelude.{◌≡◌, ◌≢◌, ◌++◌, ℕ, All, IfOk, MatchOption, OnOk, Option, Some, length, map};
 ghost use Rattle.gitobject.specs.Naming.{id_of};
 ghost use Rattle.gname.specs.Ids.{IsIdOf};
 ghost use Rattle.gname.specs.declared.formats.Format.TheVariants as formats;
@@ -11,10 +11,14 @@ use crate::fault::PackFileFault;
 use crate::incoming::IncomingPack;
 use crate::index::{IndexEntry, MAX_ENTRIES};
 use crate::index_writing::write_index;
+use crate::spool::{Spool, SpoolFault};
 use gitobject::ObjectType;
 use gname::Oid;
 use std::alloc::{AllocError, Allocator};
 use std::marker::Model;
+
+// The length of the pieces in which a pack in one slice is fed, 1 MiB.
+const PIECE: usize = 1_048_576;
 
 /// A receiver of the objects of a pack.
 pub trait ObjectVisitor {
@@ -33,10 +37,25 @@ pub struct IndexLimits {
     /// The maximum size of an object.
     pub object: usize,
     /// The maximum number of bytes in memory while deltas are applied: bases, a delta, and its
-    /// result.
+    /// result. A zlib stream of at most 128 MiB and a cache of 64 MiB are not counted.
     pub held: usize,
     /// The maximum total size of all objects and deltas.
     pub total: usize,
+    /// The number of bytes by which `object` and `held` are reduced for each object of the pack,
+    /// since each object needs memory for tables.
+    pub table: usize,
+}
+
+impl IndexLimits {
+    // Returns the limits for a pack of `count` objects.
+    pub(crate) fn for_count(self, count: u32) -> IndexLimits {
+        let tables = self.table.saturating_mul(count as usize);
+        IndexLimits {
+            object: self.object.saturating_sub(tables),
+            held: self.held.saturating_sub(tables),
+            ..self
+        }
+    }
 }
 
 /// An object of a pack, with its entry in the pack index and its type.
@@ -147,9 +166,12 @@ fn lines_of<A: Allocator + Copy>(
 /// Fails with `Frame` if the header or the trailer is wrong, or if bytes follow the last entry.
 /// Fails with `Entry` if an entry is malformed or missing, and with `Thin` if the base of a delta
 /// is not in the pack. Fails with `TooLarge` if the pack exceeds a limit, a chain has more than
-/// 8,191 deltas, or there are 2^31 objects or more. Fails with the visitor's fault if the visitor
-/// fails, or with `Memory` if out of memory. The visitor may already have received objects when
-/// this function fails.
+/// 8,191 deltas, or there are 2^31 objects or more. The same fault occurs if the header and the
+/// zlib stream of an entry have more than 128 MiB together. Fails with the visitor's fault if the
+/// visitor fails, or with `Memory` if out of memory. The visitor may already have received objects
+/// when this function fails.
+///
+/// The pack is copied into memory once.
 pub fn index_pack<A: Allocator + Copy, V: ObjectVisitor>(
     alloc: A,
     pack: &[u8],
@@ -158,10 +180,24 @@ pub fn index_pack<A: Allocator + Copy, V: ObjectVisitor>(
 ) -> Result<IndexedPack<A>, PackFileFault>
     ensures { IfOk result (λ indexed. (count : ℕ) × IsFramed count indexed.checksum pack.now) }
 {
-    let mut incoming = IncomingPack::new(alloc, limits);
-    incoming.feed(pack, visitor)?;
-    let (_bytes, index) = incoming.finish(visitor)?;
+    let mut incoming = IncomingPack::new(alloc, Vec::new(alloc), limits);
+    feed_all(&mut incoming, pack, visitor)?;
+    let (_spool, index) = incoming.finish(visitor)?;
     Ok(index)
+}
+
+// Feeds a pack in pieces, so that scanned pieces are not kept in memory.
+fn feed_all<S: Spool + Drop, A: Allocator + Copy, V: ObjectVisitor>(
+    incoming: &mut IncomingPack<S, A>,
+    pack: &[u8],
+    visitor: &mut V,
+) -> Result<(), SpoolFault>
+    ensures { OnOk result (incoming.new ≡ incoming.old ++ pack.now) }
+{
+    for piece in pack.chunks(PIECE) {
+        incoming.feed(piece, visitor)?;
+    }
+    Ok(())
 }
 
 // Returns these objects, sorted by id. Fails with `TooLarge` if there are too many objects for a

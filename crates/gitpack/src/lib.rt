@@ -1,5 +1,5 @@
-//! Reading, indexing and writing Git packs in memory, with deltas and pack indexes
-//! (gitformat-pack(5)). This crate does not read files or the object graph.
+//! Reading, indexing and writing Git packs, with deltas and pack indexes (gitformat-pack(5)). This
+//! crate does not read files or the object graph. A [`Spool`] stores a pack that arrives.
 //!
 //! # Proved
 //!
@@ -25,9 +25,11 @@
 //!   SHA-1 of all these bytes. The functions [`put_header`] and [`put_entry`] write only a pack
 //!   header or one entry.
 //! - [`IncomingPack`] accepts only packs of version 2 whose trailer is the SHA-1 of all preceding
-//!   bytes. `IncomingPack` returns the concatenation of all received bytes. The visitor receives
-//!   each object with the id that its type and bytes determine. The returned objects are sorted by
-//!   id.
+//!   bytes. All received bytes are appended to a [`Spool`], in order, and the spool is returned.
+//!   Each successful [`IncomingPack::feed`] stores its bytes, even if the pack is already known to
+//!   be refused. The visitor receives each object with the id that its type and bytes determine.
+//!   The returned objects are sorted by id.
+//! - A vector is a [`Spool`], and returns the bytes that were appended to it.
 //! - [`index_pack`] gives the same guarantees for a pack in one slice.
 //! - No call panics, overflows or reads out of bounds, and every call returns.
 //!
@@ -36,6 +38,9 @@
 //! The program `gitcases` indexes valid, malformed, hostile, truncated and altered packs, and looks
 //! up their objects in the index. `examples/with-git.sh` indexes packs that Git wrote, and lets Git
 //! read packs that this crate wrote.
+//!
+//! Indexing reads bytes back from a spool only if the inflated streams of a pack exceed a cache of
+//! 64 MiB. The packs of `gitcases` are smaller, so it does not test reading back.
 //!
 //! # Differences from Git
 //!
@@ -46,6 +51,8 @@
 //!   the order of the entries. The index's own checksum is not checked.
 //! - A pack of 2^31 objects or more is refused. A thin pack is refused, and so is a pack with a
 //!   chain of more than 8,191 deltas. No Git command makes longer chains, but Git can read them.
+//!   Indexing refuses a pack with an entry of more than 128 MiB. This limit covers the entry header
+//!   and the zlib stream.
 //! - A pack may contain the same object twice, and then the index lists both entries. Git accepts a
 //!   pack with duplicate objects, unless `--strict` is set. A pack is refused if it contains the
 //!   base of a ref delta twice, as in Git 2.39; later versions of Git accept such a pack.
@@ -58,11 +65,17 @@
 //!   applied as a check, and returned only if it makes the target.
 //! - No contract rules out that [`IncomingPack`] and [`index_pack`] refuse a valid pack.
 //! - No contract rules out that indexing omits an object. No contract rules out that indexing
-//!   returns an object that the visitor did not receive, or received with another type.
+//!   returns an object that the visitor did not receive, received twice, or received with another
+//!   type.
 //! - No contract rules out that indexing returns a wrong offset or CRC-32 of an object, or applies
 //!   a delta to a wrong base.
+//! - No contract rules out that [`IncomingPack::feed`] fails for any bytes, with any fault. No
+//!   contract says what the pack and its spool hold after a failed call.
+//! - No contract rules out that indexing reads the wrong bytes from memory or from a spool. No
+//!   contract rules out that it drops bytes from memory before they are read.
 //! - No contract rules out that indexing accepts a thin pack. No contract rules out that it accepts
-//!   a pack with bytes after its last entry, or with the same delta base twice.
+//!   a pack with bytes after its last entry, or with the same delta base twice. No contract rules
+//!   out that it accepts a pack with fewer entries than its header says.
 //! - No contract rules out that indexing accepts a pack after the visitor refused an object. No
 //!   contract rules out that the visitor receives an object that is not in the pack.
 //! - The contracts of indexing do not cover limits, faults, or the time at which the visitor
@@ -74,7 +87,8 @@
 //!   fault.
 //! - No contract compares the number of written entries with the count in the pack header. No
 //!   contract bounds the length of a written pack or of an entry header ([`MAX_HEAD`]).
-//! - The contracts do not cover time or memory use.
+//! - The contracts do not cover time or memory use. The limit [`IndexLimits::held`] counts neither
+//!   the cache of 64 MiB nor a zlib stream that is read back, which may have 128 MiB.
 //!
 //! # Dependencies
 //!
@@ -99,6 +113,7 @@ pub mod laws;
 mod numbers;
 mod resolving;
 mod scanning;
+mod spool;
 mod streams;
 mod writing;
 
@@ -109,4 +124,5 @@ pub use crate::fault::PackFileFault;
 pub use crate::incoming::IncomingPack;
 pub use crate::index::{IndexEntry, PackIndex};
 pub use crate::indexing::{IndexLimits, IndexedEntry, IndexedPack, ObjectVisitor, index_pack};
+pub use crate::spool::{Spool, SpoolFault};
 pub use crate::writing::{PackWriter, put_entry, put_header};

@@ -11,10 +11,12 @@ use crate::fault::PackFileFault;
 use crate::index::IndexEntry;
 use crate::indexing::{IndexLimits, IndexedEntry, ObjectVisitor};
 use crate::scanning::{Object, Scanned, ScannedPack};
+use crate::spool::Spool;
 use crate::streams::inflate;
 use gitobject::{ObjectType, id_of};
 use gzlib::Inflater;
 use std::alloc::{AllocError, Allocator};
+use std::io::ErrorKind;
 
 // The maximum number of deltas in a chain, which is also the maximum for `--depth` in
 // git-fast-import(1). The limit bounds the cost of reading the last object of a chain.
@@ -33,9 +35,9 @@ struct Base<A: Allocator + Copy> {
 
 /// The state of applying the deltas of a pack.
 #[derive(Drop)]
-pub(crate) struct Resolver<'a, A: Allocator + Copy> {
+pub(crate) struct Resolver<'a, S: Spool, A: Allocator + Copy> {
     alloc: A,
-    pack: &'a [u8],
+    spool: &'a S,
     limits: IndexLimits,
     entries: Vec<Scanned, A>,
     // The inflated stream of each entry, or `None` if the stream is not in memory.
@@ -49,12 +51,12 @@ pub(crate) struct Resolver<'a, A: Allocator + Copy> {
     inflater: Inflater,
 }
 
-impl<'a, A: Allocator + Copy> Resolver<'a, A> {
+impl<'a, S: Spool, A: Allocator + Copy> Resolver<'a, S, A> {
     /// Prepares to apply the deltas of a scanned pack. Fails only if out of memory.
     pub(crate) fn new(
-        pack: &'a [u8],
+        spool: &'a S,
         scanned: ScannedPack<A>,
-    ) -> Result<Resolver<'a, A>, AllocError> {
+    ) -> Result<Resolver<'a, S, A>, AllocError> {
         let ScannedPack {
             alloc,
             limits,
@@ -65,7 +67,7 @@ impl<'a, A: Allocator + Copy> Resolver<'a, A> {
         let children = Children::new(alloc, entries.as_slice())?;
         Ok(Resolver {
             alloc,
-            pack,
+            spool,
             limits,
             entries,
             texts,
@@ -125,13 +127,25 @@ impl<'a, A: Allocator + Copy> Resolver<'a, A> {
         self.texts.get_mut(place)?.take()
     }
 
-    // Inflates the stream of an entry again.
+    // Inflates the stream of an entry again. Fails with `Spool` if the spool returns a stream that
+    // cannot be inflated, since the received stream was inflated before.
     fn inflate(&mut self, place: usize, entry: &Scanned) -> Result<Vec<u8, A>, PackFileFault> {
-        let stream = self.pack.get(entry.stream..entry.end).unwrap_or(b"");
-        match inflate(self.alloc, &mut self.inflater, stream, entry.size, place)? {
-            Some(inflated) => Ok(inflated.body),
-            None => Err(PackFileFault::Entry(place)),
+        let stream = self.read_stream(entry)?;
+        let bytes = stream.as_slice();
+        match inflate(self.alloc, &mut self.inflater, bytes, entry.size, place) {
+            Ok(Some(inflated)) => Ok(inflated.body),
+            Err(PackFileFault::Memory) => Err(PackFileFault::Memory),
+            Ok(None) | Err(_) => Err(PackFileFault::Spool(ErrorKind::InvalidData)),
         }
+    }
+
+    // Reads the zlib stream of an entry from the spool. The memory limit does not count the stream,
+    // which has at most 128 MiB.
+    fn read_stream(&self, entry: &Scanned) -> Result<Vec<u8, A>, PackFileFault> {
+        let mut stream = Vec::new(self.alloc);
+        stream.resize(entry.end.saturating_sub(entry.stream), 0)?;
+        self.spool.read_at(entry.stream, stream.as_mut_slice())?;
+        Ok(stream)
     }
 
     // Appends an object to the chain of bases.

@@ -4,9 +4,9 @@ ghost use Rattle.gname.specs.Ids.{IsIdOf};
 ghost use Rattle.gname.specs.declared.formats.Format.TheVariants as formats;
 ghost use Rattle.std.proofs.Props.{props};
 
-use crate::entry::{EntryForm, read_head};
+use crate::entry::{EntryForm, EntryHead, MAX_HEAD, read_head};
 use crate::fault::PackFileFault;
-use crate::frame::{HEADER_BYTES, entry_count};
+use crate::frame::{HEADER_BYTES, Part};
 use crate::indexing::{IndexLimits, ObjectVisitor};
 use crate::streams::inflate;
 use gitobject::{ObjectType, id_of};
@@ -17,6 +17,10 @@ use std::alloc::Allocator;
 // The minimum number of bytes that must arrive between two scans. More frequent scans would waste
 // time on inflating incomplete entries.
 const BATCH: usize = 131_072;
+
+// The maximum length of the header and the zlib stream of an entry together, 128 MiB. An incomplete
+// entry is kept in memory.
+const MAX_ENTRY: usize = 134_217_728;
 
 // The maximum memory for cached inflated streams, 64 MiB.
 const MAX_KEPT: usize = 67_108_864;
@@ -106,48 +110,70 @@ impl<A: Allocator + Copy> Scanner<A> {
         }
     }
 
-    /// Scans the received bytes of a pack, except the last twenty. A fault is reported only by
-    /// `finish`, since a wrong header or trailer takes precedence.
-    pub(crate) fn scan_more<V: ObjectVisitor>(&mut self, body: &[u8], visitor: &mut V) {
-        if self.fault.is_some() || body.len() < self.enough {
-            return;
+    /// Scans the bytes that arrived of a pack with `count` entries. Returns the offset before which
+    /// no bytes are needed any more. A fault is reported only by `finish`, since a wrong trailer
+    /// takes precedence.
+    pub(crate) fn scan_more<V: ObjectVisitor>(
+        &mut self,
+        count: u32,
+        part: Part<'_>,
+        visitor: &mut V,
+    ) -> usize {
+        let end = part.end();
+        if self.fault.is_none() && end >= self.enough {
+            if let Err(fault) = self.scan_entries(count, part, visitor) {
+                self.fault = Some(fault);
+            }
+            self.enough = self.next_scan(end);
         }
-        if let Err(fault) = self.scan_entries(body, visitor) {
-            self.fault = Some(fault);
+        if self.fault.is_some() || self.has_all(count) {
+            usize::MAX
+        } else {
+            self.place
         }
-        let waiting = body.len().saturating_sub(self.place);
-        self.enough = body.len().saturating_add(waiting.max(BATCH));
     }
 
-    /// Scans the remaining entries of a complete pack. The argument `body` is the pack without its
-    /// trailer, and `count` is the entry count in its header.
+    /// Scans the remaining entries of a complete pack with `count` entries.
     pub(crate) fn finish<V: ObjectVisitor>(
         self,
-        body: &[u8],
         count: u32,
+        part: Part<'_>,
         visitor: &mut V,
     ) -> Result<ScannedPack<A>, PackFileFault> {
         let mut scanner = self;
         if let Some(fault) = scanner.fault {
             return Err(fault);
         }
-        scanner.scan_entries(body, visitor)?;
-        let number = scanner.entries.len();
-        if number < count as usize {
-            return Err(PackFileFault::Entry(number));
+        scanner.scan_entries(count, part, visitor)?;
+        if !scanner.has_all(count) {
+            return Err(PackFileFault::Entry(scanner.entries.len()));
         }
-        if scanner.place != body.len() {
+        if scanner.place != part.end() {
             return Err(PackFileFault::Frame);
         }
-        Ok(scanner.into_pack())
+        Ok(scanner.into_pack(count))
     }
 
-    fn into_pack(self) -> ScannedPack<A> {
+    // Returns whether all entries are scanned.
+    fn has_all(&self, count: u32) -> bool {
+        self.entries.len() >= count as usize
+    }
+
+    // Returns how many bytes of the pack must have arrived before the next scan, if `end` bytes
+    // have arrived.
+    fn next_scan(&self, end: usize) -> usize {
+        let waiting = end.saturating_sub(self.place);
+        let longest = self.place.saturating_add(MAX_ENTRY);
+        end.saturating_add(waiting.max(BATCH)).min(longest)
+    }
+
+    fn into_pack(self, count: u32) -> ScannedPack<A> {
+        let limits = self.limits.for_count(count);
         ScannedPack {
             alloc: self.alloc,
             limits: IndexLimits {
-                total: self.limits.total.saturating_sub(self.total),
-                ..self.limits
+                total: limits.total.saturating_sub(self.total),
+                ..limits
             },
             entries: self.entries,
             texts: self.texts,
@@ -158,51 +184,52 @@ impl<A: Allocator + Copy> Scanner<A> {
     // Scans entries until an entry is incomplete.
     fn scan_entries<V: ObjectVisitor>(
         &mut self,
-        body: &[u8],
+        count: u32,
+        part: Part<'_>,
         visitor: &mut V,
     ) -> Result<(), PackFileFault> {
-        let Some(count) = entry_count(body) else {
-            return Ok(());
-        };
-        if count as usize > self.limits.objects {
+        let limits = self.limits.for_count(count);
+        if count as usize > limits.objects {
             return Err(PackFileFault::TooLarge);
         }
         for _entry in self.entries.len()..count as usize {
-            if !self.scan_entry(body, visitor)? {
+            if !self.scan_entry(limits, part, visitor)? {
                 return Ok(());
             }
         }
         Ok(())
     }
 
-    // Scans the next entry, and returns whether it is complete.
+    // Scans the next entry, and returns whether it is complete. Fails with `TooLarge` if the entry
+    // is longer than `MAX_ENTRY`, even if it is incomplete.
     fn scan_entry<V: ObjectVisitor>(
         &mut self,
-        body: &[u8],
+        limits: IndexLimits,
+        part: Part<'_>,
         visitor: &mut V,
     ) -> Result<bool, PackFileFault> {
         let start = self.place;
-        let bytes = body.get(start..).unwrap_or(b"");
-        let Some(head) = read_head(bytes) else {
+        let number = self.entries.len();
+        let bytes = longest_entry(part.from(start));
+        let Some(head) = arrived_head(bytes, number)? else {
             return Ok(false);
         };
-        let total = self.total_with(head.size)?;
+        let total = self.total_with(limits, head.size)?;
         let after = bytes.get(head.length..).unwrap_or(b"");
-        let number = self.entries.len();
         let inflated = inflate(self.alloc, &mut self.inflater, after, head.size, number)?;
         let Some(inflated) = inflated else {
-            return Ok(false);
+            return wait_for_more(bytes);
         };
         let object = whole_object(head.form, inflated.body.as_slice(), visitor)?;
-        let stream = start.saturating_add(head.length);
-        let end = stream.saturating_add(inflated.length);
+        let length = head.length.saturating_add(inflated.length);
+        let end = start.saturating_add(length);
         self.entries.push(Scanned {
             start,
-            stream,
+            stream: start.saturating_add(head.length),
             end,
             size: head.size,
             form: head.form,
-            crc: crc32_of(body.get(start..end).unwrap_or(b"")),
+            crc: crc32_of(bytes.get(..length).unwrap_or(b"")),
             object,
         })?;
         self.keep(inflated.body)?;
@@ -213,9 +240,9 @@ impl<A: Allocator + Copy> Scanner<A> {
 
     // Returns the sum of `size` and the total size of the inflated streams so far. Fails with
     // `TooLarge` if a limit is exceeded.
-    fn total_with(&self, size: usize) -> Result<usize, PackFileFault> {
+    fn total_with(&self, limits: IndexLimits, size: usize) -> Result<usize, PackFileFault> {
         let total = self.total.saturating_add(size);
-        if size > self.limits.object || total > self.limits.total {
+        if size > limits.object || total > limits.total {
             return Err(PackFileFault::TooLarge);
         }
         Ok(total)
@@ -231,6 +258,31 @@ impl<A: Allocator + Copy> Scanner<A> {
             self.kept = kept;
         }
         Ok(())
+    }
+}
+
+// Returns the bytes that an entry at the start of `bytes` can have at most.
+fn longest_entry(bytes: &[u8]) -> &[u8] {
+    bytes.get(..MAX_ENTRY).unwrap_or(bytes)
+}
+
+// Returns the header of the entry at position `number`, or `None` if the header is incomplete.
+// Fails with `Entry` if the header is malformed.
+fn arrived_head(bytes: &[u8], number: usize) -> Result<Option<EntryHead>, PackFileFault> {
+    match read_head(bytes) {
+        Some(head) => Ok(Some(head)),
+        None if bytes.len() < MAX_HEAD => Ok(None),
+        None => Err(PackFileFault::Entry(number)),
+    }
+}
+
+// Returns `false`, since these bytes are only a part of an entry. Fails with `TooLarge` if a whole
+// entry would be too long.
+fn wait_for_more(bytes: &[u8]) -> Result<bool, PackFileFault> {
+    if bytes.len() < MAX_ENTRY {
+        Ok(false)
+    } else {
+        Err(PackFileFault::TooLarge)
     }
 }
 

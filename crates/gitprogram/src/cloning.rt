@@ -242,6 +242,7 @@ where
         specs: specs.as_slice(),
         tips,
         head_ref: HEAD_REF,
+        path: dir,
     };
     match make(rt, dir, remote, head)? {
         Ok(new) => fill(rt, &found, new, wanted, progress),
@@ -279,10 +280,10 @@ fn make<'r, R: Files + AllocGlobal>(
 }
 
 // Fetches into the new repository, and installs the pack and the refs.
-fn fill<R, E>(
-    rt: &R,
-    found: &Directories,
-    new: NewRepository<'_, R, Global>,
+fn fill<'r, R, E>(
+    rt: &'r R,
+    found: &'r Directories,
+    new: NewRepository<'r, R, Global>,
     wanted: Wanted<'_>,
     progress: &mut Progress<'_, E>,
 ) -> Result<(), Fault>
@@ -291,21 +292,25 @@ where
     E: Write,
 {
     match receive(rt, found, wanted, progress) {
-        Ok(fetch) => keep(rt.alloc(), found, new, &fetch),
+        Ok(fetch) => keep(rt.alloc(), found, new, fetch),
         Err(fault) => Err(fault),
     }
 }
 
 // Installs the pack and the refs in the new repository.
-fn keep<R: Files>(
+fn keep<'r, R: Files>(
     alloc: Global,
     found: &Directories,
-    new: NewRepository<'_, R, Global>,
-    fetch: &Fetch,
+    new: NewRepository<'r, R, Global>,
+    fetch: Fetch<'r, R>,
 ) -> Result<(), Fault> {
-    let repo = &fetch.client.repo;
-    let (refs, head) = kept_refs(alloc, repo)?;
-    match new.finish(fetch.received.as_ref(), repo.graph(), &refs, &head) {
+    let Fetch {
+        client,
+        received,
+        ..
+    } = fetch;
+    let (refs, head) = kept_refs(alloc, &client.repo)?;
+    match new.finish(received, client.repo.graph(), &refs, &head) {
         Ok(()) => Ok(()),
         Err(fault) => Err(repository_fault(alloc, found.own.as_str(), &fault)),
     }

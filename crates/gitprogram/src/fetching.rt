@@ -3,7 +3,7 @@
 use crate::current::fetched_already;
 use crate::directory::{Directories, find_repository};
 use crate::fault::Fault;
-use crate::limits::LIMITS;
+use crate::limits::{LIMITS, MAX_FETCHED_PACK};
 use crate::opening::{open_client, repository_fault};
 use crate::output::Output;
 use crate::progress::{Progress, Watched};
@@ -13,15 +13,17 @@ use gclient::{
     ClientFault, FetchFault, Fetched, GitFetch, MAX_SPECS, PackOptions, RefUpdate, Repo, Spec,
     fetch_git,
 };
-use gcmd::{Ends, PackLimit, ProgramFault, send_report};
+use gcmd::{Ends, ProgramFault, StreamLimit, send_report};
 use ggraph::{Head, Refs, Repository};
 use gitobject::ObjectType;
 use gitobjects::StoredFiles;
 use gitrefs::RefUpdate as RefMove;
-use gitrepository::{Received, RepositoryFault, StoreIndexer, Tips, install_pack};
+use gitrepository::{
+    Received, RepositoryFault, StoreIndexer, StoredSpool, StoredSpools, Tips, install_pack,
+};
 use gitwords::{FetchArgs, Verbosity};
 use glsreply::LsReply;
-use gname::{MAX_PACK, Oid, Prefix, RefName};
+use gname::{Oid, Prefix, RefName};
 use gpkt::{FromRead, ToWrite};
 use gtcp::{Peer, Silence};
 use std::alloc::{AllocError, Global};
@@ -51,6 +53,8 @@ pub(crate) struct Wanted<'a> {
     pub(crate) tips: &'a Tips<Global>,
     /// The name of the temporary ref for the HEAD of a clone.
     pub(crate) head_ref: &'a [u8],
+    /// The path of the client's repository.
+    pub(crate) path: &'a str,
 }
 
 /// A client's repository, and its refs before the fetch.
@@ -62,15 +66,27 @@ pub(crate) struct Client {
     pub(crate) repo: Repo<Global>,
 }
 
+// An indexer of packs that a Git directory on disk receives.
+type StoredIndexer<'t, 'f, 'r, R> = StoreIndexer<
+    't,
+    'f,
+    StoredFiles<'r, R>,
+    StoredSpools<'r, R, Global>,
+    Global,
+>;
+
+/// A pack that a Git directory on disk received.
+pub(crate) type StoredReceived<'r, R> = Received<StoredSpool<'r, R, Global>, Global>;
+
 /// A completed transfer, before the pack is installed and the refs are updated.
 #[derive(Drop)]
-pub(crate) struct Fetch {
+pub(crate) struct Fetch<'r, R: Files> {
     /// The client's repository after the transfer, and its earlier refs.
     pub(crate) client: Client,
     /// The report of the fetch.
     pub(crate) fetched: Fetched<Global>,
     /// The received pack.
-    pub(crate) received: Option<Received<Global>>,
+    pub(crate) received: Option<StoredReceived<'r, R>>,
 }
 
 // Whether to print the report, and whether standard output is a terminal.
@@ -110,11 +126,27 @@ where
         specs: asked.specs.as_slice(),
         tips: &tips,
         head_ref: b"",
+        path: found.common.as_str(),
     };
     let mut progress = progress_of(rt.alloc(), asked.verbosity, errors);
-    let outcome = receive(rt, &found, wanted, &mut progress);
+    fetch_found(rt, &found, report, wanted, &mut progress)
+}
+
+// Fetches refs into the repository in these directories, and prints the result for each ref.
+fn fetch_found<'r, R, E>(
+    rt: &'r R,
+    found: &'r Directories,
+    report: Report,
+    wanted: Wanted<'_>,
+    progress: &mut Progress<'_, E>,
+) -> Result<(), Fault>
+where
+    R: Files + Print + AllocGlobal + Net,
+    E: Write,
+{
+    let outcome = receive(rt, found, wanted, progress);
     progress.finish();
-    conclude(rt, &found, report, outcome)
+    conclude(rt, found, report, outcome)
 }
 
 // Returns those refs of the server that could match the refspecs. Fails if a refspec names a ref
@@ -170,20 +202,25 @@ where
 }
 
 // Installs the pack, updates the refs, and prints the report.
-fn conclude<R>(
-    rt: &R,
+fn conclude<'r, R>(
+    rt: &'r R,
     found: &Directories,
     report: Report,
-    outcome: Result<Fetch, Fault>,
+    outcome: Result<Fetch<'r, R>, Fault>,
 ) -> Result<(), Fault>
 where
     R: Files + Print + AllocGlobal,
 {
     match outcome {
         Ok(fetch) => {
-            keep(rt, found, &fetch)?;
-            report_unless(rt, report, &fetch.fetched)?;
-            check_moved(rt.alloc(), &fetch.fetched)
+            let Fetch {
+                client,
+                fetched,
+                received,
+            } = fetch;
+            keep(rt, found, &client, received)?;
+            report_unless(rt, report, &fetched)?;
+            check_moved(rt.alloc(), &fetched)
         }
         Err(fault) => Err(fault),
     }
@@ -238,12 +275,16 @@ fn has_source(listed: &LsReply<Global>, spec: &Spec<Global>) -> bool {
 
 // Installs the pack, and then updates the refs. Installs nothing if ref names conflict or there are
 // too many refs.
-fn keep<R: Files + AllocGlobal>(rt: &R, found: &Directories, fetch: &Fetch) -> Result<(), Fault> {
-    let client = &fetch.client;
+fn keep<'r, R: Files + AllocGlobal>(
+    rt: &'r R,
+    found: &Directories,
+    client: &Client,
+    received: Option<StoredReceived<'r, R>>,
+) -> Result<(), Fault> {
     let updates = updates_of(rt.alloc(), &client.before, client.repo.refs())?;
     check_head(rt, found, updates.as_slice())?;
     check_names(rt.alloc(), updates.as_slice())?;
-    match install_and_move(rt, found, &fetch.received, updates.as_slice()) {
+    match install_and_move(rt, found, received, updates.as_slice()) {
         Ok(()) => Ok(()),
         Err(fault) => Err(repository_fault(rt.alloc(), found.common.as_str(), &fault)),
     }
@@ -298,10 +339,10 @@ fn check_names(alloc: Global, updates: &[RefMove]) -> Result<(), Fault> {
     Ok(())
 }
 
-fn install_and_move<R: Files + AllocGlobal>(
-    rt: &R,
+fn install_and_move<'r, R: Files + AllocGlobal>(
+    rt: &'r R,
     found: &Directories,
-    received: &Option<Received<Global>>,
+    received: Option<StoredReceived<'r, R>>,
     updates: &[RefMove],
 ) -> Result<(), RepositoryFault<Global>> {
     let alloc = rt.alloc();
@@ -380,13 +421,14 @@ fn print_report<R: Print + AllocGlobal>(
     }
 }
 
-/// Fetches into a repository in memory. This function writes nothing to disk.
-pub(crate) fn receive<R, E>(
-    rt: &R,
-    found: &Directories,
+/// Fetches into a repository in memory. This function writes only the temporary file of the pack,
+/// and creates its folder if the folder does not exist.
+pub(crate) fn receive<'r, R, E>(
+    rt: &'r R,
+    found: &'r Directories,
     wanted: Wanted<'_>,
     progress: &mut Progress<'_, E>,
-) -> Result<Fetch, Fault>
+) -> Result<Fetch<'r, R>, Fault>
 where
     R: Files + AllocGlobal + Net,
     E: Write,
@@ -394,7 +436,8 @@ where
     let files = StoredFiles::new(rt);
     match open_client(rt.alloc(), rt, &files, found, wanted.tips) {
         Ok((repository, reader)) => {
-            let indexer = StoreIndexer::new(reader, wanted.tips);
+            let spools = StoredSpools::new(rt.alloc(), rt, found.common.as_str());
+            let indexer = StoreIndexer::new(reader, wanted.tips, spools);
             receive_with(rt, found, repository, &indexer, wanted, progress)
         }
         Err(fault) => Err(fault),
@@ -402,14 +445,14 @@ where
 }
 
 // Fetches into a repository. The indexer indexes the received pack.
-fn receive_with<R, E>(
-    rt: &R,
+fn receive_with<'r, R, E>(
+    rt: &'r R,
     found: &Directories,
     repository: Repository<Global>,
-    indexer: &StoreIndexer<'_, '_, StoredFiles<'_, R>, Global>,
+    indexer: &StoredIndexer<'_, '_, 'r, R>,
     wanted: Wanted<'_>,
     progress: &mut Progress<'_, E>,
-) -> Result<Fetch, Fault>
+) -> Result<Fetch<'r, R>, Fault>
 where
     R: Files + AllocGlobal + Net,
     E: Write,
@@ -443,13 +486,13 @@ fn make_client(
     }
 }
 
-fn receive_into<R, E>(
-    rt: &R,
+fn receive_into<'r, R, E>(
+    rt: &'r R,
     client: Client,
-    indexer: &StoreIndexer<'_, '_, StoredFiles<'_, R>, Global>,
+    indexer: &StoredIndexer<'_, '_, 'r, R>,
     wanted: Wanted<'_>,
     progress: &mut Progress<'_, E>,
-) -> Result<Fetch, Fault>
+) -> Result<Fetch<'r, R>, Fault>
 where
     R: Files + AllocGlobal + Net,
     E: Write,
@@ -474,7 +517,7 @@ fn check_commits<R: Files>(
     alloc: Global,
     wanted: Wanted<'_>,
     client: &Client,
-    indexer: &StoreIndexer<'_, '_, StoredFiles<'_, R>, Global>,
+    indexer: &StoredIndexer<'_, '_, '_, R>,
 ) -> Result<(), Fault> {
     for pair in client.repo.refs().as_slice() {
         if client.before.get(&pair.0) == Some(pair.1) {
@@ -496,7 +539,7 @@ fn check_head_commit<R: Files>(
     alloc: Global,
     remote: &Remote,
     client: &Client,
-    indexer: &StoreIndexer<'_, '_, StoredFiles<'_, R>, Global>,
+    indexer: &StoredIndexer<'_, '_, '_, R>,
     id: &Oid,
 ) -> Result<(), Fault> {
     let id = client.repo.graph().peel(id).unwrap_or(*id);
@@ -511,7 +554,7 @@ fn check_head_commit<R: Files>(
 fn is_commit<R: Files>(
     alloc: Global,
     remote: &Remote,
-    indexer: &StoreIndexer<'_, '_, StoredFiles<'_, R>, Global>,
+    indexer: &StoredIndexer<'_, '_, '_, R>,
     id: &Oid,
 ) -> Result<bool, Fault> {
     match indexer.kind_of(id) {
@@ -524,7 +567,7 @@ fn is_commit<R: Files>(
 fn converse<R, E>(
     rt: &R,
     repo: &mut Repo<Global>,
-    indexer: &StoreIndexer<'_, '_, StoredFiles<'_, R>, Global>,
+    indexer: &StoredIndexer<'_, '_, '_, R>,
     wanted: Wanted<'_>,
     progress: &mut Progress<'_, E>,
 ) -> Result<Fetched<Global>, Fault>
@@ -536,20 +579,21 @@ where
     let peer = Peer::new(stream, Silence);
     match converse_with(rt.alloc(), &peer, repo, indexer, wanted, progress) {
         Ok(fetched) => Ok(fetched),
-        Err(fault) => Err(fetch_fault(rt.alloc(), wanted.remote, indexer, &fault)),
+        Err(fault) => Err(fetch_fault(rt.alloc(), wanted, indexer, &fault)),
     }
 }
 
 // Returns the fault of a fetch, with details from the indexer if the indexer failed.
 fn fetch_fault<R: Files>(
     alloc: Global,
-    remote: &Remote,
-    indexer: &StoreIndexer<'_, '_, StoredFiles<'_, R>, Global>,
+    wanted: Wanted<'_>,
+    indexer: &StoredIndexer<'_, '_, '_, R>,
     fault: &FetchFault<Global>,
 ) -> Fault {
     match indexer.take_fault() {
-        Some(cause) => refused_pack(alloc, remote, &cause),
-        None => remote.fault(alloc, fault),
+        Some(cause) if cause.is_of_spool() => repository_fault(alloc, wanted.path, &cause),
+        Some(cause) => refused_pack(alloc, wanted.remote, &cause),
+        None => wanted.remote.fault(alloc, fault),
     }
 }
 
@@ -563,7 +607,7 @@ fn converse_with<R, S, E>(
     alloc: Global,
     peer: &Peer<S, Silence>,
     repo: &mut Repo<Global>,
-    indexer: &StoreIndexer<'_, '_, StoredFiles<'_, R>, Global>,
+    indexer: &StoredIndexer<'_, '_, '_, R>,
     wanted: Wanted<'_>,
     progress: &mut Progress<'_, E>,
 ) -> Result<Fetched<Global>, FetchFault<Global>>
@@ -593,7 +637,7 @@ fn fetch_of(wanted: Wanted<'_>, progress: bool) -> GitFetch<'_, Global> {
     GitFetch {
         hello: &wanted.remote.hello,
         specs: wanted.specs,
-        limit: PackLimit::new(MAX_PACK).unwrap_or_default(),
+        limit: StreamLimit::new(MAX_FETCHED_PACK).unwrap_or_default(),
         ends: Ends::Plain,
         options: PackOptions {
             ofs_delta: true,

@@ -57,9 +57,11 @@
 //!   permissions, and no reflog is written.
 //! - `serve` and `upload-pack` serve only protocol version 2. `upload-pack` does not check
 //!   who owns a repository.
-//! - A request has at most 65,537 wants, 65,536 haves and 1,024 ref prefixes. A repository has at
-//!   most 65,536 refs. `clone` and `fetch` accept a pack of at most 64 MiB, and `serve` and
-//!   `upload-pack` send packs of less than 4 GiB.
+//! - A request has at most 65,537 wants, 65,536 haves and 1,024 ref prefixes. If a client connects
+//!   while 64 others are connected, its requests have at most 1,024 wants, 4,096 haves and 64
+//!   prefixes. All these clients may be at one address. A repository has at most 65,536 refs. A
+//!   sent or received pack has less than 4 GiB. A received pack has at most 1,048,576 objects, and
+//!   entries of at most 128 MiB.
 //! - The progress line shows the object count from the pack header, and the number of received
 //!   bytes.
 //! - `ls` and `fetch` print ref names as the server sent them, unless standard output is a
@@ -75,6 +77,11 @@
 //! that a pack has objects of another repository. No contract rules out that a failed command exits
 //! with any status. No contract rules out that output is lost before it is written, or that a call
 //! fails.
+//!
+//! No contract rules out that a client sees the refs or objects of an earlier connection, or that
+//! `serve` serves a repository without `git-daemon-export-ok`. No contract rules out that a client
+//! without version 2 is served, or that a connection has other limits. No contract rules out that
+//! the log omits a fault, or that `fetch` reports refs as up to date that are not.
 //!
 //! No contract rules out that text is written to a terminal with control bytes. No contract rules
 //! out that `upload-pack` passes other bytes to the dialogue than it reads. No contract rules out

@@ -31,14 +31,14 @@ pub(crate) const BUSY: &[u8] =
 
 /// The error line for a request that exceeds a limit.
 pub(crate) const TOO_LARGE_REQUEST: &[u8] =
-    b"upload-pack: a request has at most 65,537 wants, 65,536 haves and 1,024 prefixes of ref names";
+    b"upload-pack: a request has at most 65,537 wants, 65,536 haves and 1,024 prefixes of ref names (while 64 other clients are connected: 1,024, 4,096 and 64)";
 
 /// The packet for a client that connects while there are too many connections.
 pub(crate) const FULL: &[u8] =
     b"004aERR upload-pack: the server has too many connections: try again later\n";
 
 /// The packet for a client that connects while there are too many connections from its address.
-pub(crate) const FULL_OF_ADDRESS: &[u8] =
+pub(crate) const ADDRESS_LIMIT: &[u8] =
     b"0051ERR upload-pack: there are too many connections from your address: try later\n";
 
 /// The error line for a pack that cannot be made.

@@ -10,7 +10,7 @@ use gitobjects::{Cause, FileFault, StoreFault};
 use gitrefs::RefFault;
 use gitrepository::{FormFault, RepositoryFault};
 use gitwords::{Shown, clean_byte};
-use gname::{MAX_ID_TEXT, MAX_PACK, OUT_OF_MEMORY_TEXT, Oid};
+use gname::{MAX_ID_TEXT, OUT_OF_MEMORY_TEXT, Oid};
 use gpkt::PacketFault;
 use gtcp::MAX_SILENCE;
 use std::alloc::Global;
@@ -233,6 +233,7 @@ fn write_repository<W: fmt::Write>(
         RepositoryFault::File { path, error } => write_refused("write ", path.as_str(), error, f),
         RepositoryFault::Store(StoreFault::File(fault)) => write_store_file(fault, f),
         RepositoryFault::Form { fault, .. } => write!(f, "{path} {}", form_text(*fault)),
+        _ if fault.is_of_spool() => write!(f, "cannot fetch into {path}: {fault}"),
         RepositoryFault::Objects => write!(
             f,
             "{path} has more than {} commits and tags: use git",
@@ -434,8 +435,7 @@ fn write_message<W: fmt::Write>(frame: u64, why: &Why, f: &mut fmt::Formatter<W>
         ),
         Why::Limit => write!(
             f,
-            "the pack has more than {} MiB, or there are more than {} refs: fetch fewer refs at a time",
-            MAX_PACK / 1_048_576,
+            "the pack has 4 GiB or more, or there are more than {} refs: fetch fewer refs at a time",
             Thousands(MAX_REFS)
         ),
         Why::Format => f.write_str("its object format is not SHA-1: use git"),
@@ -479,13 +479,7 @@ fn write_request_message<W: fmt::Write>(
         Why::Line(PacketFault::Io | PacketFault::Failed) => {
             f.write_str("the connection to the client was lost, or its time was over")
         }
-        Why::Limit => write!(
-            f,
-            "the request has more than {} wants, {} haves or {} prefixes of ref names",
-            Thousands(LIMITS.wants),
-            Thousands(LIMITS.haves),
-            Thousands(LIMITS.prefixes)
-        ),
+        Why::Limit => f.write_str("the request has too many wants, haves or prefixes of ref names"),
         Why::Memory | Why::Line(PacketFault::Memory) => f.write_str(OUT_OF_MEMORY_TEXT),
         _ => write!(f, "packet {frame} of the request is refused: {why}"),
     }

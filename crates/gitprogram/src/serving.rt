@@ -3,9 +3,10 @@
 use crate::directory::{Exports, open_fault};
 use crate::disk::Disk;
 use crate::fault::Fault;
+use crate::limits::limits_beside;
 use crate::notes::Notes;
 use crate::output::print;
-use crate::refusals::{FULL, FULL_OF_ADDRESS};
+use crate::refusals::{ADDRESS_LIMIT, FULL};
 use crate::repositories::{Closes, Repositories};
 use crate::sentences::Sentence;
 use crate::shared::{Blames, Shared};
@@ -152,7 +153,10 @@ where
     E: Write,
 {
     match clients.next(rt)? {
-        Some(Event::Connected(_)) => clients.begin(begin(rt.alloc(), host, notes)),
+        Some(Event::Connected(_)) => {
+            let limits = limits_beside(clients.peer_count());
+            clients.begin(begin(rt.alloc(), host, notes, limits));
+        }
         Some(Event::Refused(address, why)) => {
             clients.refuse(packet_of(why));
             let words = words_of(why);
@@ -171,7 +175,7 @@ where
 fn packet_of(why: Refusal) -> &'static [u8] {
     match why {
         Refusal::Full => FULL,
-        Refusal::FullOfAddress => FULL_OF_ADDRESS,
+        Refusal::AddressLimit => ADDRESS_LIMIT,
     }
 }
 
@@ -179,7 +183,7 @@ fn packet_of(why: Refusal) -> &'static [u8] {
 fn words_of(why: Refusal) -> &'static str {
     match why {
         Refusal::Full => "there are too many connections",
-        Refusal::FullOfAddress => "there are too many connections from this address",
+        Refusal::AddressLimit => "there are too many connections from this address",
     }
 }
 

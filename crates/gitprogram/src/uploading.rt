@@ -7,6 +7,7 @@ use crate::directory::{Directories, find_repository};
 use crate::disk::Disk;
 use crate::fault::Fault;
 use crate::first_line::FirstLine;
+use crate::limits::LIMITS;
 use crate::notes::Notes;
 use crate::refusals::send_error;
 use crate::repositories::Repositories;
@@ -124,7 +125,7 @@ where
     H: Host<Global, K>,
     K: ServedRepository<Global> + PartPacker<Global> + Blames + Drop,
 {
-    let mut connection = Connection::new(begin(alloc, host, notes), alloc);
+    let mut connection = Connection::new(begin(alloc, host, notes, LIMITS), alloc);
     let end = match drive(&mut connection, source, sink) {
         Ok(()) => End::Over,
         Err(TalkFault::Memory) => End::Memory,

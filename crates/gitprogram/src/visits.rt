@@ -3,14 +3,13 @@
 ghost use Rattle.gtalk.specs.Talks.{no_talk};
 
 use crate::fault::Fault;
-use crate::limits::LIMITS;
 use crate::notes::Notes;
 use crate::sentences::{Clean, Sentence};
 use crate::shared::Blames;
 use crate::visitor::Visitor;
 use gdialogue::Dialogue;
 use gevents::{End, Ended};
-use ggrammar::Ends;
+use ggrammar::{Ends, Limits};
 use gparts::PartPacker;
 use gserver::{Heard, Host, ServedRepository, ServerReply, ServerSide};
 use gtalk::{Connection, Conversation};
@@ -26,14 +25,19 @@ pub(crate) type Held<'h, H, K> = Dialogue<
     ServerReply<Global, K, <K as PartPacker<Global>>::Parts>,
 >;
 
-/// Returns a new connection.
-pub(crate) fn begin<'h, H, K>(alloc: Global, host: &'h H, notes: &'h Notes) -> Held<'h, H, K>
+/// Returns a new connection whose requests have these limits.
+pub(crate) fn begin<'h, H, K>(
+    alloc: Global,
+    host: &'h H,
+    notes: &'h Notes,
+    limits: Limits,
+) -> Held<'h, H, K>
 where
     H: Host<Global, K>,
     K: ServedRepository<Global> + PartPacker<Global> + Drop,
     ensures { ⟦<Held<'h, H, K> as Conversation>⟧.holds result no_talk }
 {
-    let side = ServerSide::within(host, alloc, Ends::Plain, LIMITS);
+    let side = ServerSide::within(host, alloc, Ends::Plain, limits);
     Dialogue::new(Visitor::new(side, notes))
 }
 

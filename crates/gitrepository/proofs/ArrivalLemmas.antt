@@ -9,7 +9,7 @@ use Rattle.gdag.proofs.Holding.{id_cases, is_has_id, node_here, node_there}
 use Rattle.gitobject.specs.Naming.{id_of}
 use Rattle.gitobject.specs.declared.types.ObjectType.TheVariants as types
 use Rattle.gobject.specs.declared.node.Entry.{Entry}
-use Rattle.gitrepository.specs.Entries.{IsNamedLeaf, IsRead}
+use Rattle.gitrepository.specs.Entries.{IsRead}
 
 -- an id that a list of entries holds is still held after more entries are appended
 holds_more : {A : Type 0} (old more : List (Entry A)) (a : Id) → Holds old a → Holds (old ++ more) a

@@ -3,7 +3,7 @@
 use ggraph::{GraphFault, MAX_NODES, MAX_PARENTS, RefsFault};
 use gitobject::ObjectFault;
 use gitobjects::{Cause, FileFault, StoreFault};
-use gitpack::PackFileFault;
+use gitpack::{PackFileFault, SpoolFault};
 use gitrefs::RefFault;
 use gname::{MAX_ID_TEXT, OUT_OF_MEMORY_TEXT, Oid, RefName};
 use std::alloc::{AllocError, AllocFailed, Allocator};
@@ -116,6 +116,11 @@ impl<A: Allocator + Copy> CheckFault<A> {
 }
 
 impl<A: Allocator + Copy> RepositoryFault<A> {
+    /// Returns whether the spool of a received pack failed. Then the pack itself is not refused.
+    pub fn is_of_spool(&self) -> bool {
+        matches!(self, RepositoryFault::Pack(PackFileFault::Spool(_)))
+    }
+
     /// Converts the fault of the object with this id.
     pub(crate) fn of_object(id: &Oid, fault: ObjectFault) -> RepositoryFault<A> {
         match fault {
@@ -255,8 +260,9 @@ fn write_pack<W: fmt::Write>(fault: PackFileFault, f: &mut fmt::Formatter<W>) ->
         ),
         PackFileFault::Thin => f.write_str("the base of a delta is not in the pack"),
         PackFileFault::TooLarge => f.write_str(
-            "the pack is too large to index: it may have 1,048,576 objects, of which 485,000 are commits; they may have 4 GiB and name two million ids; an object may have 256 MiB, or 32 MiB among a million; a chain may have 8,191 deltas",
+            "the pack is too large to index: it may have 1,048,576 objects, of which 485,000 are commits; they may have 64 GiB and name two million ids; an object may have 256 MiB, or 32 MiB among a million; an entry may have 128 MiB; a chain may have 8,191 deltas",
         ),
+        PackFileFault::Spool(kind) => write!(f, "the temporary file of the pack: {kind}"),
         PackFileFault::Format => f.write_str("the base of a delta has no SHA-1 id"),
         PackFileFault::Refused => f.write_str("an object of the pack is refused"),
     }
@@ -326,5 +332,11 @@ impl<A: Allocator + Copy> From<PackFileFault> for RepositoryFault<A> {
             PackFileFault::Memory => RepositoryFault::Memory,
             _ => RepositoryFault::Pack(fault),
         }
+    }
+}
+
+impl<A: Allocator + Copy> From<SpoolFault> for RepositoryFault<A> {
+    fn from(fault: SpoolFault) -> RepositoryFault<A> {
+        RepositoryFault::from(PackFileFault::from(fault))
     }
 }

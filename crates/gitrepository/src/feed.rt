@@ -6,19 +6,19 @@ ghost use Rattle.gitrepository.specs.Packs.{IsIndexed};
 
 use crate::arrival::{Arrival, Inspector};
 use crate::fault::RepositoryFault;
-use crate::limited::LimitedPack;
+use crate::limits::PACK_LIMITS;
 use crate::tips::Tips;
 use ggraph::Entry;
 use gitobjects::{ObjectFiles, ObjectReader};
-use gitpack::{IndexedPack, PackFileFault};
-use std::alloc::{AllocError, Allocator};
+use gitpack::{IncomingPack, IndexedPack, PackFileFault, Spool, SpoolFault};
+use std::alloc::Allocator;
 use std::marker::Model;
 
 /// A received pack and its index.
 #[derive(Drop)]
-pub struct Received<A: Allocator + Copy> {
+pub struct Received<S: Spool + Drop, A: Allocator + Copy> {
     /// The pack as received.
-    pub bytes: Vec<u8, A>,
+    pub pack: S,
     /// The index of the pack.
     pub index: IndexedPack<A>,
 }
@@ -26,12 +26,12 @@ pub struct Received<A: Allocator + Copy> {
 /// A partly received pack, and a record of its objects. Contracts treat a `StoreFeed` as the bytes
 /// received so far.
 #[derive(Drop)]
-pub struct StoreFeed<A: Allocator + Copy> {
-    pack: LimitedPack<A>,
+pub struct StoreFeed<S: Spool + Drop, A: Allocator + Copy> {
+    pack: IncomingPack<S, A>,
     arrival: Arrival<A>,
 }
 
-impl<A: Allocator + Copy> Model for StoreFeed<A> {
+impl<S: Spool + Drop, A: Allocator + Copy> Model for StoreFeed<S, A> {
     ghost use Rattle.std.specs.Prelude.{ℕ, List};
 
     ghost Value = { List ℕ };
@@ -39,24 +39,25 @@ impl<A: Allocator + Copy> Model for StoreFeed<A> {
     ghost view = { λ feed. feed.pack };
 }
 
-impl<A: Allocator + Copy> StoreFeed<A> {
-    /// Returns a `StoreFeed` without received bytes.
-    pub(crate) fn new(alloc: A) -> StoreFeed<A>
+impl<S: Spool + Drop, A: Allocator + Copy> StoreFeed<S, A> {
+    /// Returns a `StoreFeed` without received bytes. The spool must be empty.
+    pub(crate) fn new(alloc: A, spool: S) -> StoreFeed<S, A>
+        requires { S.bytes spool ≡ [] }
         ensures { result ≡ [] }
     {
         StoreFeed {
-            pack: LimitedPack::new(alloc),
+            pack: IncomingPack::new(alloc, spool, PACK_LIMITS),
             arrival: Arrival::new(alloc),
         }
     }
 
-    /// Receives the next bytes of the pack. Fails only if out of memory.
+    /// Receives the next bytes of the pack. Fails if the spool fails, or if out of memory.
     pub(crate) fn take_piece<F: ObjectFiles>(
         &mut self,
         reader: &mut ObjectReader<'_, F, A>,
         tips: &Tips<A>,
         piece: &[u8],
-    ) -> Result<(), AllocError>
+    ) -> Result<(), SpoolFault>
         ensures { OnOk result (self.new ≡ self.old ++ piece.now) }
     {
         let mut inspector = Inspector::new(&mut self.arrival, reader, tips);
@@ -68,8 +69,9 @@ impl<A: Allocator + Copy> StoreFeed<A> {
         self,
         reader: &mut ObjectReader<'_, F, A>,
         tips: &Tips<A>,
-    ) -> Result<(Received<A>, Vec<Entry<A>, A>), RepositoryFault<A>>
-        ensures { IfOk result (λ it. IsIndexed self it.1.items) }
+    ) -> Result<(Received<S, A>, Vec<Entry<A>, A>), RepositoryFault<A>>
+        ensures bytes { IfOk result (λ it. S.bytes it.0.pack ≡ self) }
+        ensures entries { IfOk result (λ it. IsIndexed self it.1.items) }
     {
         let StoreFeed { pack, mut arrival } = self;
         let received = {
@@ -81,27 +83,28 @@ impl<A: Allocator + Copy> StoreFeed<A> {
     }
 }
 
-// Feeds the next bytes to a pack. Fails only if out of memory.
-fn feed_pack<F: ObjectFiles, A: Allocator + Copy>(
-    pack: &mut LimitedPack<A>,
+// Feeds the next bytes to a pack. Fails if the spool fails, or if out of memory.
+fn feed_pack<F: ObjectFiles, S: Spool + Drop, A: Allocator + Copy>(
+    pack: &mut IncomingPack<S, A>,
     piece: &[u8],
     inspector: &mut Inspector<'_, '_, '_, '_, F, A>,
-) -> Result<(), AllocError>
+) -> Result<(), SpoolFault>
     ensures { OnOk result (pack.new ≡ pack.old ++ piece.now) }
 {
     pack.feed(piece, inspector)
 }
 
 // Indexes a complete pack. If an object was refused, fails with the fault of that object.
-fn finish_pack<F: ObjectFiles, A: Allocator + Copy>(
-    pack: LimitedPack<A>,
+fn finish_pack<F: ObjectFiles, S: Spool + Drop, A: Allocator + Copy>(
+    pack: IncomingPack<S, A>,
     inspector: &mut Inspector<'_, '_, '_, '_, F, A>,
-) -> Result<Received<A>, RepositoryFault<A>>
-    ensures { IfOk result (λ received. (count : ℕ)
+) -> Result<Received<S, A>, RepositoryFault<A>>
+    ensures bytes { IfOk result (λ received. S.bytes received.pack ≡ pack) }
+    ensures frame { IfOk result (λ received. (count : ℕ)
         × IsFramed count received.index.checksum pack) }
 {
     match pack.finish(inspector) {
-        Ok((bytes, index)) => Ok(Received { bytes, index }),
+        Ok((pack, index)) => Ok(Received { pack, index }),
         Err(PackFileFault::Refused) => Err(refusal(inspector.take_fault())),
         Err(fault) => Err(RepositoryFault::from(fault)),
     }

@@ -5,6 +5,8 @@ ghost use Rattle.gitrepository.specs.Installing.{Comes, Folder, IndexComes, MayC
 ghost use Rattle.gitrepository.specs.declared.folder.PackFileStage.{PackFileStage};
 ghost use Rattle.gitrepository.specs.declared.folder.PackFileStage.TheVariants.{Start, PackWritten, PackSynced, IndexWritten, Ready, PackNamed, Done, Failed};
 
+use gitpack::Spool;
+
 /// The progress of writing the files of a pack.
 #[derive(Clone, Copy, Debug, PartialEq, Eq)]
 pub enum PackFileStage {
@@ -32,20 +34,23 @@ pub trait PackFolder {
     /// The fault of a failed call.
     type Fault: Drop;
 
+    /// The spool of a received pack.
+    type Pack: Spool + Drop;
+
     // The files that the folder received, or `None` if the contracts do not describe the files.
     ghost known: { Self → Option Folder };
 
     // The progress of writing the current pack.
     ghost stage: { Self → PackFileStage };
 
-    /// Writes the pack to a new temporary file.
-    fn write_pack(&mut self, bytes: &[u8]) -> Result<(), Self::Fault>
+    /// Takes the temporary file of the pack.
+    fn take_pack(&mut self, pack: Self::Pack) -> Result<(), Self::Fault>
         requires { stage self.old ≡ Start }
         ensures stage { MatchResult result (λ _. stage self.new ≡ PackWritten)
             (λ _. stage self.new ≡ Failed) }
         ensures known { WhereKnown (known self.old) (known self.new)
             (λ before after. (after.arrivals ≡ before.arrivals)
-            × OnOk result (after.pack ≡ bytes.now)) };
+            × OnOk result (after.pack ≡ Self.Pack.bytes pack)) };
 
     /// Syncs the temporary file of the pack.
     fn sync_pack(&mut self) -> Result<(), Self::Fault>

@@ -5,6 +5,7 @@ ghost use Rattle.gitrepository.specs.Packs.{IsIndexed};
 
 use crate::fault::RepositoryFault;
 use crate::feed::{Received, StoreFeed};
+use crate::spools::PackSpools;
 use crate::tips::Tips;
 use ggraph::{Entry, IndexFault, Indexer};
 use gitobject::ObjectType;
@@ -22,31 +23,48 @@ use std::cell::RefCell;
 /// A pack is too large if it has more than 1,048,576 objects. The maximum size of an object is 256
 /// MiB, less 224 bytes for each object of the pack. The same maximum applies to the total size of a
 /// delta, its bases in memory and its result. The maximum size of a commit, tree or tag is 64 MiB,
-/// and the maximum total size of all objects and deltas is 4 GiB. A delta chain may have at most
-/// 8,191 deltas. The commits, tags and named ids may use at most 112 MiB of memory. This is enough
-/// for about two million ids, or for 485,000 commits with a tree each.
+/// and the maximum total size of all objects and deltas is 64 GiB. A delta chain may have at most
+/// 8,191 deltas, and an entry of the pack at most 128 MiB. The commits, tags and named ids may use
+/// at most 112 MiB of memory. This is enough for about two million ids, or for 485,000 commits with
+/// a tree each.
 #[derive(Drop)]
-pub struct StoreIndexer<'t, 'f, F: ObjectFiles, A: Allocator + Copy> {
+pub struct StoreIndexer<'t, 'f, F, P, A>
+where
+    F: ObjectFiles,
+    P: PackSpools + Drop,
+    A: Allocator + Copy,
+{
     reader: RefCell<ObjectReader<'f, F, A>>,
     tips: &'t Tips<A>,
-    received: RefCell<Option<Received<A>>>,
+    spools: P,
+    received: RefCell<Option<Received<P::Spool, A>>>,
     fault: RefCell<Option<RepositoryFault<A>>>,
 }
 
-impl<'t, 'f, F: ObjectFiles, A: Allocator + Copy> StoreIndexer<'t, 'f, F, A> {
+impl<'t, 'f, F, P, A> StoreIndexer<'t, 'f, F, P, A>
+where
+    F: ObjectFiles,
+    P: PackSpools + Drop,
+    A: Allocator + Copy,
+{
     /// Returns an indexer of packs that the reader's store receives. A tree or blob in a pack
     /// becomes a leaf of the graph if a ref of the peer points to it.
-    pub fn new(reader: ObjectReader<'f, F, A>, tips: &'t Tips<A>) -> StoreIndexer<'t, 'f, F, A> {
+    pub fn new(
+        reader: ObjectReader<'f, F, A>,
+        tips: &'t Tips<A>,
+        spools: P,
+    ) -> StoreIndexer<'t, 'f, F, P, A> {
         StoreIndexer {
             reader: RefCell::new(reader),
             tips,
+            spools,
             received: RefCell::new(None),
             fault: RefCell::new(None),
         }
     }
 
     /// Removes and returns the last accepted pack, or `None` if no pack is kept.
-    pub fn take_received(&self) -> Option<Received<A>> {
+    pub fn take_received(&self) -> Option<Received<P::Spool, A>> {
         match self.received.try_replace(None) {
             Ok(received) => received,
             Err(_) => None,
@@ -88,7 +106,11 @@ impl<'t, 'f, F: ObjectFiles, A: Allocator + Copy> StoreIndexer<'t, 'f, F, A> {
     }
 
     // Receives the next bytes of a pack.
-    fn take_piece(&self, feed: &mut StoreFeed<A>, piece: &[u8]) -> Result<(), RepositoryFault<A>>
+    fn take_piece(
+        &self,
+        feed: &mut StoreFeed<P::Spool, A>,
+        piece: &[u8],
+    ) -> Result<(), RepositoryFault<A>>
         ensures { OnOk result (feed.new ≡ feed.old ++ piece.now) }
     {
         match self.reader.try_borrow_mut() {
@@ -98,7 +120,7 @@ impl<'t, 'f, F: ObjectFiles, A: Allocator + Copy> StoreIndexer<'t, 'f, F, A> {
     }
 
     // Indexes a complete pack, and keeps the pack for `take_received`.
-    fn receive(&self, feed: StoreFeed<A>) -> Result<Vec<Entry<A>, A>, RepositoryFault<A>>
+    fn receive(&self, feed: StoreFeed<P::Spool, A>) -> Result<Vec<Entry<A>, A>, RepositoryFault<A>>
         ensures { IfOk result (λ entries. IsIndexed feed entries.items) }
     {
         let Ok(mut reader) = self.reader.try_borrow_mut() else {
@@ -123,8 +145,13 @@ impl<'t, 'f, F: ObjectFiles, A: Allocator + Copy> StoreIndexer<'t, 'f, F, A> {
     }
 }
 
-impl<F: ObjectFiles, A: Allocator + Copy> Indexer<A> for StoreIndexer<'_, '_, F, A> {
-    type Feed = StoreFeed<A>;
+impl<F, P, A> Indexer<A> for StoreIndexer<'_, '_, F, P, A>
+where
+    F: ObjectFiles,
+    P: PackSpools + Drop,
+    A: Allocator + Copy,
+{
+    type Feed = StoreFeed<P::Spool, A>;
 
     ghost indexes = { λ _ bytes entries. IsIndexed bytes entries };
 
@@ -132,18 +159,18 @@ impl<F: ObjectFiles, A: Allocator + Copy> Indexer<A> for StoreIndexer<'_, '_, F,
 
     ghost fed = { λ _ feed bytes. feed ≡ bytes };
 
-    fn start(&self, alloc: A) -> Result<StoreFeed<A>, IndexFault> {
-        Ok(StoreFeed::new(alloc))
+    fn start(&self, alloc: A) -> Result<StoreFeed<P::Spool, A>, IndexFault> {
+        Ok(StoreFeed::new(alloc, self.spools.open()))
     }
 
-    fn feed(&self, feed: &mut StoreFeed<A>, piece: &[u8]) -> Result<(), IndexFault> {
+    fn feed(&self, feed: &mut StoreFeed<P::Spool, A>, piece: &[u8]) -> Result<(), IndexFault> {
         match self.take_piece(feed, piece) {
             Ok(()) => Ok(()),
             Err(fault) => Err(self.keep(fault)),
         }
     }
 
-    fn finish(&self, feed: StoreFeed<A>) -> Result<Vec<Entry<A>, A>, IndexFault> {
+    fn finish(&self, feed: StoreFeed<P::Spool, A>) -> Result<Vec<Entry<A>, A>, IndexFault> {
         match self.receive(feed) {
             Ok(entries) => Ok(entries),
             Err(fault) => Err(self.keep(fault)),

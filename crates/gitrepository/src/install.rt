@@ -9,22 +9,24 @@ use crate::feed::Received;
 use crate::folder::PackFolder;
 use crate::kept::KeptPack;
 use crate::stored_folder::StoredFolder;
+use crate::stored_spool::StoredSpool;
 use std::alloc::Allocator;
 use std::fs::Files;
 
-/// Installs a pack and its index in a folder of packs. Both files are written under temporary names
-/// and synced before either is renamed. The pack is renamed before the index.
+/// Installs a pack and its index in a folder of packs. The pack is already stored in its spool.
+/// Both files are written and synced before either is renamed. The pack is renamed before the
+/// index.
 ///
 /// Fails if a call of the folder fails. After a failure the folder has neither file, only the pack,
 /// or both.
 pub fn install_files<P: PackFolder>(
     folder: &mut P,
-    pack: &[u8],
+    pack: P::Pack,
     index: &[u8],
 ) -> Result<(), P::Fault>
     requires { P.stage folder.old ≡ Start }
     ensures installs { WhereKnown (P.known folder.old) (P.known folder.new)
-        (λ before after. Installs pack.now index.now before after result) }
+        (λ before after. Installs (P.Pack.bytes pack) index.now before after result) }
     ensures stage { MatchResult result (λ _. P.stage folder.new ≡ Done)
         (λ _. P.stage folder.new ≡ Start) }
 {
@@ -37,11 +39,15 @@ pub fn install_files<P: PackFolder>(
     }
 }
 
-// Writes both files, and then renames them to their final names.
-fn write_and_name<P: PackFolder>(folder: &mut P, pack: &[u8], index: &[u8]) -> Result<(), P::Fault>
+// Syncs both files, and then renames them to their final names.
+fn write_and_name<P: PackFolder>(
+    folder: &mut P,
+    pack: P::Pack,
+    index: &[u8],
+) -> Result<(), P::Fault>
     requires { P.stage folder.old ≡ Start }
     ensures installs { WhereKnown (P.known folder.old) (P.known folder.new)
-        (λ before after. Installs pack.now index.now before after result) }
+        (λ before after. Installs (P.Pack.bytes pack) index.now before after result) }
     ensures stage { MatchResult result (λ _. P.stage folder.new ≡ Done)
         (λ _. P.stage folder.new ≡ Failed) }
 {
@@ -49,15 +55,15 @@ fn write_and_name<P: PackFolder>(folder: &mut P, pack: &[u8], index: &[u8]) -> R
     name_both(folder)
 }
 
-// Writes both files, and syncs them.
-fn write_both<P: PackFolder>(folder: &mut P, pack: &[u8], index: &[u8]) -> Result<(), P::Fault>
+// Takes the pack, writes the index, and syncs both files.
+fn write_both<P: PackFolder>(folder: &mut P, pack: P::Pack, index: &[u8]) -> Result<(), P::Fault>
     requires { P.stage folder.old ≡ Start }
     ensures written { WhereKnown (P.known folder.old) (P.known folder.new)
-        (λ before after. Writes pack.now index.now before after result) }
+        (λ before after. Writes (P.Pack.bytes pack) index.now before after result) }
     ensures stage { MatchResult result (λ _. P.stage folder.new ≡ Ready)
         (λ _. P.stage folder.new ≡ Failed) }
 {
-    folder.write_pack(pack)?;
+    folder.take_pack(pack)?;
     folder.sync_pack()?;
     folder.write_index(index)?;
     folder.sync_index()
@@ -86,14 +92,15 @@ pub fn install_pack<'r, R: Files, A: Allocator + Copy>(
     alloc: A,
     files: &'r R,
     git_dir: &str,
-    received: &Received<A>,
+    received: Received<StoredSpool<'r, R, A>, A>,
 ) -> Result<KeptPack<'r, R, A>, RepositoryFault<A>> {
-    if received.index.entries().is_empty() {
+    let Received { pack, index } = received;
+    if index.entries().is_empty() {
         return Ok(KeptPack::none(files));
     }
-    let index = received.index.write_index(alloc)?;
-    let mut folder = StoredFolder::new(alloc, files, git_dir, &received.index.checksum())?;
+    let text = index.write_index(alloc)?;
+    let mut folder = StoredFolder::new(alloc, files, git_dir, &index.checksum())?;
     let kept = KeptPack::make(alloc, files, folder.keep_path()?)?;
-    install_files(&mut folder, received.bytes.as_slice(), index.as_slice())?;
+    install_files(&mut folder, pack, text.as_slice())?;
     Ok(kept)
 }

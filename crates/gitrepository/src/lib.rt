@@ -9,8 +9,9 @@
 //! - A [`StorePacker`] packs commits and tags with their trees and blobs. The packer copies the
 //!   streams of stored pack entries unchanged. It sends other objects as deltas if the deltas are
 //!   smaller. A pack is returned in parts, with one entry in memory at a time.
-//! - A [`StoreIndexer`] indexes a pack while receiving it, and keeps the pack. The function
-//!   [`install_pack`] writes the received pack to the directory.
+//! - A [`StoreIndexer`] indexes a pack while receiving it, and stores the pack in a temporary file
+//!   ([`StoredSpools`]) or in memory ([`MemorySpools`]). The function [`install_pack`] writes the
+//!   index, and gives both files their final names.
 //! - [`open_store`] refuses a repository in an unsupported format, and [`is_bare`] returns whether
 //!   a repository has no work tree. A clone creates a [`NewRepository`]. [`check_repository`]
 //!   checks connectivity: every object that the refs reach exists.
@@ -31,9 +32,11 @@
 //! - A pack is accepted only if its trailer is the SHA-1 of all preceding bytes. Each entry that
 //!   the indexer returns describes an object, or is a tree or blob that a tag names. In the second
 //!   case the entry of the tag is also returned.
+//! - The spool of a received pack was given exactly the received bytes, in order.
 //! - [`install_files`] installs a pack in a [`PackFolder`], and then its index. After `Ok` both
-//!   files exist, with the given bytes. A file gets its final name only once both files are written
-//!   and synced. After a fault the folder has neither file, only the pack, or both.
+//!   files exist, with the bytes that they were given. A file gets its final name only once both
+//!   files are written and synced. After a fault the folder has neither file, only the pack, or
+//!   both.
 //! - [`MemoryFolder`] is a [`PackFolder`] that records all files it receives.
 //! - No call panics, overflows or reads out of bounds, and every call returns, whatever the files
 //!   contain.
@@ -83,26 +86,29 @@
 //! - No contract rules out that [`check_refs`] accepts a repository whose objects are missing or
 //!   malformed, or counts the nodes of another graph. No contract covers the number of objects that
 //!   it returns. The function [`check_repository`] has no contract.
-//! - No contract rules out that [`Tips`] loses an id, or that [`add_leaves`] adds or removes other
-//!   nodes. No contract says which repository formats are opened or refused. No contract covers the
-//!   result of [`is_bare`], or the names of peeled refs in a new repository.
+//! - No contract rules out that [`Tips`] loses an id or has other ids, or that [`add_leaves`] adds
+//!   or removes other nodes. No contract says which repository formats are opened or refused. No
+//!   contract covers the result of [`is_bare`], or the names and ids of peeled refs in a new
+//!   repository.
 //! - No contract rules out that the indexer leaves out an entry, or returns an entry for an object
 //!   that the pack does not have. No contract rules out that it accepts a pack with a malformed
-//!   object. The indexer looks up the named trees and blobs, and compares objects that the store
-//!   already has. No contract covers these look-ups and comparisons, or states when the indexer
-//!   reads an object. The indexer can miss a loose object that is added while a pack arrives.
+//!   object. The indexer looks up the named objects, and compares objects that the store already
+//!   has. No contract covers these look-ups and comparisons, or states when the indexer reads an
+//!   object. The indexer can miss a loose object that is added while a pack arrives.
 //! - No contract rules out that a parent of a commit in the graph is a tag, tree or blob. The types
 //!   of parents are checked, but no contract covers this check.
 //! - [`PackCounts`] and [`StorePacker::counts`] have no contract, because they serve only
 //!   measurements.
 //! - No contract rules out that [`StoreIndexer::kind_of`] returns the wrong type. No contract rules
 //!   out that [`StoreIndexer::take_received`] returns `None`, or a pack that was not received.
-//! - No contract rules out that a [`NewRepository`] lacks its pack, its refs or HEAD, or is removed
-//!   once it is finished.
+//! - No contract rules out that a [`NewRepository`] lacks its pack, its refs or HEAD. No contract
+//!   rules out that it is removed once it is finished, or remains after a fault.
 //! - No contract can describe the contents of a system file: only the order of the calls in
 //!   [`install_pack`] is proved. No contract rules out that [`install_pack`] installs nothing, does
 //!   not create the file `.keep`, or removes one that it did not create. No contract rules out that
-//!   its folder does not write, sync or rename a file.
+//!   its folder does not write, sync or rename a file, or gives a file a wrong name. No contract
+//!   rules out that a [`StoredSpool`] writes or returns other bytes than it was given, or leaves
+//!   its file behind. No contract says in which folder it creates its file.
 //! - No contract rules out that a call fails although nothing is wrong. The contracts do not cover
 //!   which fault is returned, the text of a fault, running time, or memory use.
 //!
@@ -132,7 +138,7 @@ mod indexer;
 mod install;
 mod kept;
 mod leaves;
-mod limited;
+mod limits;
 mod memory_folder;
 mod new_repository;
 mod newest;
@@ -143,9 +149,13 @@ mod packer;
 mod parts;
 mod path_hash;
 mod ref_tips;
+mod spools;
 mod stored_folder;
+mod stored_spool;
+mod temporary;
 mod tips;
 mod window;
+mod written;
 
 pub use crate::checking::{Checked, check_refs, check_repository};
 pub use crate::commit_graph::read_commit_graph;
@@ -165,4 +175,6 @@ pub use crate::opening::{open_refs, open_repository};
 pub use crate::packer::StorePacker;
 pub use crate::parts::StoreParts;
 pub use crate::ref_tips::open_tips;
+pub use crate::spools::{MemorySpools, PackSpools, StoredSpools};
+pub use crate::stored_spool::StoredSpool;
 pub use crate::tips::Tips;

@@ -71,13 +71,14 @@ impl<A: Allocator + Copy> MemoryFolder<A> {
 impl<A: Allocator + Copy> PackFolder for MemoryFolder<A> {
     type Fault = AllocError;
 
+    type Pack = Vec<u8, A>;
+
     ghost known = { λ f. Some f.folder };
 
     ghost stage = { λ f. f.stage };
 
-    fn write_pack(&mut self, bytes: &[u8]) -> Result<(), AllocError> {
-        self.stage = PackFileStage::Failed;
-        self.pack = bytes.to_vec(self.alloc)?;
+    fn take_pack(&mut self, pack: Vec<u8, A>) -> Result<(), AllocError> {
+        self.pack = pack;
         self.stage = PackFileStage::PackWritten;
         Ok(())
     }

@@ -4,6 +4,7 @@ use crate::fault::RepositoryFault;
 use crate::feed::Received;
 use crate::install::install_pack;
 use crate::kept::KeptPack;
+use crate::stored_spool::StoredSpool;
 use ggraph::{Graph, Head, Refs, Target};
 use gitconfig::bare_config;
 use gitrefs::{GitDirectory, Origin};
@@ -68,12 +69,14 @@ impl<'r, R: Files, A: Allocator + Copy> NewRepository<'r, R, A> {
     /// a fault the repository is removed. The ref names are checked before the pack is written.
     pub fn finish(
         self,
-        received: Option<&Received<A>>,
+        received: Option<Received<StoredSpool<'r, R, A>, A>>,
         graph: &Graph<A>,
         refs: &Refs<A>,
         head: &Head<A>,
     ) -> Result<(), RepositoryFault<A>> {
         let mut new = self;
+        // After a fault, the pack is dropped before the repository is removed.
+        let received = received;
         new.check_refs(refs)?;
         let _kept = new.install(received)?;
         new.write_refs(graph, refs, head)?;
@@ -91,7 +94,7 @@ impl<'r, R: Files, A: Allocator + Copy> NewRepository<'r, R, A> {
     // the pack from `git gc`.
     fn install(
         &self,
-        received: Option<&Received<A>>,
+        received: Option<Received<StoredSpool<'r, R, A>, A>>,
     ) -> Result<KeptPack<'r, R, A>, RepositoryFault<A>> {
         match received {
             Some(received) => install_pack(self.alloc, self.files, self.path, received),

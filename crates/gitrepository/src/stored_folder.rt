@@ -5,19 +5,12 @@ ghost use Rattle.gitrepository.specs.declared.folder.PackFileStage.TheVariants.{
 
 use crate::fault::RepositoryFault;
 use crate::folder::{PackFileStage, PackFolder};
+use crate::stored_spool::StoredSpool;
+use crate::temporary::{Temporary, make_folder, sync_folder};
 use gname::{MAX_ID_TEXT, Oid};
 use std::alloc::{AllocError, Allocator};
-use std::fs::{File, Files, OpenFile, OpenOptions};
-use std::io::{ErrorKind, Write};
+use std::fs::Files;
 use std::marker::Model;
-use std::os::unix::fs::OpenOptionsExt;
-use std::{fs, io};
-
-// The number of temporary file names to try.
-const MAX_TRIES: usize = 1_000;
-
-// The permissions of a pack and its index, as in Git: everyone may read, and no one may write.
-const READ_ONLY: u32 = 0o444;
 
 /// The folder of packs of a Git directory, and the names of a pack's files in this folder.
 #[derive(Drop)]
@@ -30,16 +23,9 @@ pub(crate) struct StoredFolder<'r, R: Files, A: Allocator + Copy> {
     // The paths of the pack and of the index.
     pack_path: String<A>,
     index_path: String<A>,
-    pack: Option<Temporary<R, A>>,
-    index: Option<Temporary<R, A>>,
+    pack: Option<Temporary<'r, R, A>>,
+    index: Option<Temporary<'r, R, A>>,
     stage: PackFileStage,
-}
-
-// A temporary file that this process created.
-#[derive(Drop)]
-struct Temporary<R: Files, A: Allocator + Copy> {
-    path: String<A>,
-    file: R::File,
 }
 
 impl<'r, R: Files, A: Allocator + Copy> Model for StoredFolder<'r, R, A> {
@@ -87,55 +73,27 @@ impl<'r, R: Files, A: Allocator + Copy> StoredFolder<'r, R, A> {
         Ok(kept)
     }
 
-    // Creates a new temporary file with these bytes. Git removes old temporary files
-    // (git-prune(1)).
-    fn write(&self, name: &str, bytes: &[u8]) -> Result<Temporary<R, A>, RepositoryFault<A>> {
-        for number in 0..MAX_TRIES {
-            let folder = self.path.as_str();
-            let stem = self.stem.as_str();
-            let path = format!(in self.alloc; "{folder}/tmp_{name}_{stem}_{number}")?;
-            match create(self.files, path.as_str()) {
-                Ok(file) => return self.fill(Temporary { path, file }, bytes),
-                Err(error) if error.kind() == ErrorKind::AlreadyExists => {}
-                Err(error) => return Err(RepositoryFault::of_file(
-                    self.alloc,
-                    path.as_str(),
-                    error,
-                )),
-            }
-        }
-        let error = io::Error::from(ErrorKind::AlreadyExists);
-        Err(RepositoryFault::of_file(self.alloc, self.path.as_str(), error))
-    }
-
-    // Writes bytes to a new temporary file. On failure the file is removed.
-    fn fill(
-        &self,
-        temporary: Temporary<R, A>,
-        bytes: &[u8],
-    ) -> Result<Temporary<R, A>, RepositoryFault<A>> {
-        let mut temporary = temporary;
-        match temporary.file.write_all(bytes) {
-            Ok(()) => Ok(temporary),
-            Err(error) => {
-                let path = temporary.path.as_str();
-                let _ = fs::remove_file(self.files, path);
-                Err(RepositoryFault::of_file(self.alloc, path, error))
-            }
+    // Writes the index to a new temporary file. On failure the file is removed.
+    fn write(&self, bytes: &[u8]) -> Result<Temporary<'r, R, A>, RepositoryFault<A>> {
+        let stem = self.stem.as_str();
+        let name = format!(in self.alloc; "tmp_idx_{stem}")?;
+        let file = Temporary::create(self.alloc, self.files, self.path.as_str(), name.as_str())?;
+        match file.write_at(0, bytes) {
+            Ok(()) => Ok(file),
+            Err(error) => Err(RepositoryFault::of_file(self.alloc, file.path(), error)),
         }
     }
 
     // Renames a temporary file, and syncs the folder. The file is removed if it cannot be renamed.
     fn name(
         &self,
-        temporary: Option<Temporary<R, A>>,
+        temporary: Option<Temporary<'r, R, A>>,
         path: &str,
     ) -> Result<(), RepositoryFault<A>> {
-        let Some(temporary) = temporary else {
+        let Some(mut temporary) = temporary else {
             return Err(RepositoryFault::Busy);
         };
-        if let Err(error) = fs::rename(self.files, temporary.path.as_str(), path) {
-            let _ = fs::remove_file(self.files, temporary.path.as_str());
+        if let Err(error) = temporary.rename(path) {
             return Err(RepositoryFault::of_file(self.alloc, path, error));
         }
         match sync_folder(self.files, self.path.as_str()) {
@@ -145,51 +103,14 @@ impl<'r, R: Files, A: Allocator + Copy> StoredFolder<'r, R, A> {
     }
 
     // Syncs a temporary file.
-    fn sync(&self, temporary: &Option<Temporary<R, A>>) -> Result<(), RepositoryFault<A>> {
+    fn sync(&self, temporary: &Option<Temporary<'r, R, A>>) -> Result<(), RepositoryFault<A>> {
         let Some(temporary) = temporary else {
             return Err(RepositoryFault::Busy);
         };
-        match temporary.file.sync_all() {
+        match temporary.sync() {
             Ok(()) => Ok(()),
-            Err(error) => {
-                let path = temporary.path.as_str();
-                Err(RepositoryFault::of_file(self.alloc, path, error))
-            }
+            Err(error) => Err(RepositoryFault::of_file(self.alloc, temporary.path(), error)),
         }
-    }
-}
-
-// Creates a new file.
-fn create<R: Files>(files: &R, path: &str) -> io::Result<R::File> {
-    OpenOptions::new()
-        .write(true)
-        .create_new(true)
-        .mode(READ_ONLY)
-        .open(files, path)
-}
-
-// Syncs a folder.
-fn sync_folder<R: Files>(files: &R, path: &str) -> io::Result<()> {
-    File::open(files, path)?.sync_all()
-}
-
-// Returns the path of the folder of packs. Creates the folder if it does not exist.
-fn make_folder<R: Files, A: Allocator + Copy>(
-    alloc: A,
-    files: &R,
-    git_dir: &str,
-) -> Result<String<A>, RepositoryFault<A>> {
-    let mut path = String::from_str(alloc, git_dir)?;
-    path.push_str("/objects")?;
-    let objects = String::from_str(alloc, path.as_str())?;
-    path.push_str("/pack")?;
-    match fs::create_dir(files, path.as_str()) {
-        Ok(()) => match sync_folder(files, objects.as_str()) {
-            Ok(()) => Ok(path),
-            Err(error) => Err(RepositoryFault::of_file(alloc, objects.as_str(), error)),
-        },
-        Err(error) if error.kind() == ErrorKind::AlreadyExists => Ok(path),
-        Err(error) => Err(RepositoryFault::of_file(alloc, path.as_str(), error)),
     }
 }
 
@@ -214,23 +135,18 @@ fn digits_of<A: Allocator + Copy>(alloc: A, id: &Oid) -> Result<String<A>, Alloc
     String::from_str(alloc, str::from_utf8(&digits[..count]).unwrap_or(""))
 }
 
-// Removes a temporary file, if there is one.
-fn remove<R: Files, A: Allocator + Copy>(files: &R, temporary: Option<Temporary<R, A>>) {
-    if let Some(temporary) = temporary {
-        let _ = fs::remove_file(files, temporary.path.as_str());
-    }
-}
-
-impl<R: Files, A: Allocator + Copy> PackFolder for StoredFolder<'_, R, A> {
+impl<'r, R: Files, A: Allocator + Copy> PackFolder for StoredFolder<'r, R, A> {
     type Fault = RepositoryFault<A>;
+
+    type Pack = StoredSpool<'r, R, A>;
 
     ghost known = { λ _. None };
 
     ghost stage = { λ f. f };
 
-    fn write_pack(&mut self, bytes: &[u8]) -> Result<(), RepositoryFault<A>> {
+    fn take_pack(&mut self, pack: StoredSpool<'r, R, A>) -> Result<(), RepositoryFault<A>> {
         self.stage = PackFileStage::Failed;
-        self.pack = Some(self.write("pack", bytes)?);
+        self.pack = pack.into_file();
         self.stage = PackFileStage::PackWritten;
         Ok(())
     }
@@ -244,7 +160,7 @@ impl<R: Files, A: Allocator + Copy> PackFolder for StoredFolder<'_, R, A> {
 
     fn write_index(&mut self, bytes: &[u8]) -> Result<(), RepositoryFault<A>> {
         self.stage = PackFileStage::Failed;
-        self.index = Some(self.write("idx", bytes)?);
+        self.index = Some(self.write(bytes)?);
         self.stage = PackFileStage::IndexWritten;
         Ok(())
     }
@@ -273,8 +189,8 @@ impl<R: Files, A: Allocator + Copy> PackFolder for StoredFolder<'_, R, A> {
     }
 
     fn clean(&mut self) {
-        remove(self.files, self.pack.take());
-        remove(self.files, self.index.take());
+        self.pack = None;
+        self.index = None;
         self.stage = PackFileStage::Start;
     }
 }

@@ -59,10 +59,11 @@ const PROGRAM_USAGE: &str = "gitrepo COMMAND [ARGUMENT]...";
 
 const PROGRAM_NOTES: &str = "\
 Limits:
-  A repository has at most 65,536 refs, and 1,048,576 commits and tags. A clone or a fetch
-  accepts a pack of at most 64 MiB. A server sends packs of less than 4 GiB. A request has
-  at most 65,537 wants, 65,536 haves and 1,024 prefixes of ref names. A server has at most
-  1,024 connections at once, if no option says more.
+  A repository has at most 65,536 refs, and 1,048,576 commits and tags. A pack has less than
+  4 GiB. A received pack has at most 1,048,576 objects, and entries of at most 128 MiB. A
+  request has at most 65,537 wants, 65,536 haves and 1,024 prefixes of ref names, or 1,024,
+  4,096 and 64 while 64 other clients are connected. A server has at most 1,024 connections
+  at once, if no option says more.
   Version 2 of the protocol and SHA-1 only. No shallow, partial or reftable repository.
 
 'gitrepo COMMAND --help' describes a command.";
@@ -80,8 +81,8 @@ const COMMANDS: &[Row] = &[
         ],
         notes: "\
 DIR gets the branches and tags of the server's repository, and its HEAD.
-A repository with more than 65,536 branches and tags, or whose pack would have more than
-64 MiB, cannot be cloned.",
+A repository with more than 65,536 branches and tags, or whose pack would have 4 GiB or
+more, cannot be cloned.",
     },
     Row {
         name: "fetch",

@@ -4,7 +4,6 @@
 //! kind's grammar, such as the object format and the limits on a message.
 
 ghost use Rattle.std.specs.Prelude.{◌≤◌};
-ghost use Rattle.gname.specs.Limits.{max_pack};
 ghost use Rattle.gname.specs.declared.formats.Format.{Format};
 ghost use Rattle.ggrammar.specs.Kinds.{AsInManual, CanonicalSays, OneMeaning, SaysWhole};
 ghost use Rattle.ggrammar.specs.declared.ends.Ends.{Ends};
@@ -20,6 +19,7 @@ ghost use Rattle.glsreply.specs.LsReplies as ls_reply;
 ghost use Rattle.glsreply.specs.WellFormed as ls_reply_form;
 ghost use Rattle.gfetchreply.specs.FetchManual as fetch_reply_manual;
 ghost use Rattle.gfetchreply.specs.FetchReplies as fetch_reply;
+ghost use Rattle.gfetchreply.specs.Values.{max_stream};
 ghost use Rattle.gfetchreply.specs.WellFormed as fetch_reply_form;
 ghost use Rattle.gmsg.specs.Laws.{NoneBeginsAnother, NoneBeginsAsBoth};
 
@@ -89,7 +89,7 @@ pub fn manual()
 
 /// Proves that the packets written for a message encode that message, and that each payload fits
 /// into a packet. For fetch replies, the law holds for each size limit that a
-/// [`PackLimit`](crate::PackLimit) can have.
+/// [`StreamLimit`](crate::StreamLimit) can have.
 pub fn canonical_says()
     ensures hello { CanonicalSays hello.Says hello.IsHello hello.IsCanonical }
     ensures advert { CanonicalSays advert.Says advert.AreCapabilities advert.IsCanonical }
@@ -98,7 +98,7 @@ pub fn canonical_says()
         (request_writing.IsCanonicalRequest format) }
     ensures ls_reply { (format : Format) (ends : Ends) → CanonicalSays (ls_reply.Says format ends)
         (ls_reply_form.IsLsReplyIn format) (ls_reply.IsCanonicalReply ends) }
-    ensures fetch_reply { (reading : fetch_reply.Reading) → reading.limit ≤ max_pack
+    ensures fetch_reply { (reading : fetch_reply.Reading) → reading.limit ≤ max_stream
         → CanonicalSays (fetch_reply.Says reading) (fetch_reply_form.IsReplyIn reading)
         (fetch_reply.IsCanonical reading.ends) }
 {

@@ -41,9 +41,9 @@
 pub mod laws;
 
 pub use gfetchreply::{
-    Acks, FetchHead, FetchReading, FetchReply, MAX_ACKS, PackBytes, PackLimit, PackSink,
-    read_fetch_reply, read_fetch_reply_in, read_fetch_reply_into, read_fetch_reply_into_in,
-    write_fetch_reply,
+    Acks, FetchHead, FetchReading, FetchReply, MAX_ACKS, MAX_STREAM, PackBytes, PackLimit,
+    PackSink, StreamLimit, read_fetch_reply, read_fetch_reply_in, read_fetch_reply_into,
+    read_fetch_reply_into_in, write_fetch_reply,
 };
 pub use ggrammar::compat::MsgFault;
 pub use ggrammar::{

@@ -43,7 +43,7 @@
 //!
 //! - A source or sink over std's readers and writers makes one call to the reader or writer for
 //!   each call that it receives. A flush of the sink flushes the writer.
-//! - A failed call is not retried, whatever the error is. No read requests zero bytes.
+//! - A failed call is not retried, whatever the error is. No read has an empty buffer.
 //!
 //! # What the contracts do not rule out
 //!

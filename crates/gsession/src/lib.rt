@@ -22,7 +22,7 @@
 //! - The options also contain the maximum number of new ids in a request
 //!   ([`PackOptions::max_batch`]). A batch has at most 16 ids in the first request for objects. The
 //!   number doubles with each request up to this maximum, and at most to 16,384. By default, the
-//!   maximum is 256.
+//!   maximum is 256. The batch is empty if the haves would exceed their limit.
 //! - [`Session::take_ls`] reads one ls-refs reply to its end, and nothing after it. Exactly one
 //!   update is requested for each local ref to which a refspec maps a line of the reply. The first
 //!   refspec that maps a line to the ref, and its first matching line, determine the update
@@ -63,9 +63,6 @@
 //! repeats many fetches, and each time makes a different allocation fail.
 //!
 //! # What the contracts do not rule out
-//!
-//! If the options allow fewer haves than a batch has ids, the request has no haves. The first batch
-//! can have 16 ids.
 //!
 //! No contract rules out that a call reports out of memory although memory is available, unless an
 //! earlier fault occurs. Out of memory can hide the following faults, because the session needs

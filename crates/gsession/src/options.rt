@@ -3,7 +3,7 @@
 ghost use Rattle.std.specs.Prelude.{◌≡◌};
 ghost use Rattle.gsession.specs.Sessions.{no_options};
 
-use gfetchreply::PackLimit;
+use gfetchreply::StreamLimit;
 use ggrammar::{Ends, Limits};
 use grefs::Spec;
 use std::alloc::{Allocator, Global};
@@ -49,7 +49,7 @@ pub struct FetchPlan<'a, A: Allocator + Copy = Global> {
     /// counts.
     pub specs: &'a [Spec<A>],
     /// The maximum size of a pack in bytes.
-    pub limit: PackLimit,
+    pub limit: StreamLimit,
     /// Whether a response-end packet follows each reply.
     pub ends: Ends,
     /// The options of requests for packs.

@@ -15,7 +15,7 @@ use crate::options::{FetchPlan, PackOptions};
 use crate::stage::Stage;
 use crate::taken::Settled;
 use gclientrepo::{Asks, Repo};
-use gfetchreply::PackLimit;
+use gfetchreply::{PackLimit, StreamLimit};
 use ggrammar::Ends;
 use ggraph::distinct_ids;
 use ggraph::graph_laws::{distinct_are_once, positions_are_nodes};
@@ -37,7 +37,7 @@ pub const MAX_SPECS: usize = 16;
 pub struct Session<A: Allocator + Copy = Global> {
     format: Format,
     refspecs: Vec<Spec<A>, A>,
-    limit: PackLimit,
+    limit: StreamLimit,
     ends: Ends,
     options: PackOptions,
     // The distinct ids of the local refs at the beginning of the session.
@@ -96,7 +96,7 @@ impl<A: Allocator + Copy> Session<A> {
     {
         let plan = FetchPlan {
             specs,
-            limit,
+            limit: StreamLimit::from(limit),
             ends,
             options: PackOptions::default(),
         };

@@ -15,7 +15,7 @@ ghost use Rattle.gtcp.specs.steps.Remote.{MakesRequest};
 use crate::stream::{MESSAGE_BUFFER, Peer};
 use crate::timer::Silence;
 use gclient::{FetchFault, Fetched, GitFetch, PackOptions, Repo, Spec, fetch_git, list_git};
-use gfetchreply::PackLimit;
+use gfetchreply::{PackLimit, StreamLimit};
 use ggrammar::{Ends, MessageFault};
 use ggraph::Indexer;
 use ghello::Hello;
@@ -73,7 +73,7 @@ where
     let fetch = GitFetch {
         hello: &hello,
         specs,
-        limit,
+        limit: StreamLimit::from(limit),
         ends,
         options: PackOptions::default(),
     };

@@ -13,7 +13,7 @@ use crate::timer::Silence;
 use ganswer::Server;
 use gclient::{FetchFault, Fetched, GitFetch, PackOptions, Repo, Spec, fetch_git};
 use gcmd::ProgramFault;
-use gfetchreply::PackLimit;
+use gfetchreply::StreamLimit;
 use ggrammar::{Ends, MessageFault};
 use ggraph::PlainPack;
 use ghello::Hello;
@@ -368,7 +368,7 @@ fn fetch_as_client<A: Allocator + Copy, S: Source, W: Sink>(
     let fetch = GitFetch {
         hello: &hello,
         specs,
-        limit: PackLimit::default(),
+        limit: StreamLimit::default(),
         ends: Ends::Plain,
         options: PackOptions::default(),
     };

@@ -26,7 +26,7 @@ use gcmd::{
     OpenedFile, ProgramFault, conclude_stored, finish, load_server, open_client, open_stored,
     send_report, send_text,
 };
-use gfetchreply::PackLimit;
+use gfetchreply::{PackLimit, StreamLimit};
 use ggrammar::Ends;
 use ggraph::PlainPack;
 use glockfile::Storage;
@@ -387,7 +387,7 @@ where
     let git_fetch = GitFetch {
         hello: fetch.place.hello(),
         specs: fetch.specs,
-        limit: fetch.limit,
+        limit: StreamLimit::from(fetch.limit),
         ends: fetch.ends,
         options: PackOptions::default(),
     };

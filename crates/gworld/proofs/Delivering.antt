@@ -13,6 +13,7 @@ use Rattle.glsreply.specs.LsReplies.{LsReply}
 use Rattle.glsreply.specs.RefTexts.{RefLine}
 use Rattle.gfetchreply.specs.FetchReplies.{FetchReply, Reading, Acks, Ready, Pack}
 use Rattle.gfetchreply.specs.FetchHeads.{acknowledged_by, pack_of}
+use Rattle.gfetchreply.specs.Values.{max_stream}
 use Rattle.gfetchreply.specs.WellFormed.{IsReplyIn}
 use Rattle.gobject.specs.declared.node.Entry.{Entry}
 use Rattle.gdag.specs.Graphs.{Holds, IsNode}
@@ -43,7 +44,7 @@ any_reading format asked =
     record { limits = profile; format = format; direct = is_direct asked; limit = max_pack; ends = Plain }
 
 -- the maximum pack size is a valid limit
-pub largest : max_pack ≤ max_pack
+pub largest : max_pack ≤ max_stream
 largest = omega arith
 
 module _ {A : Type 0} {tools : PackTools A} (laws : WorldLaws tools) where

@@ -1,6 +1,6 @@
 -- The steps of reading a reply: the contents of texts, parameters and values, independent of where their bytes are in
 -- memory.
-use Rattle.std.specs.Prelude.{Bool, false, Result, Ok, Err}
+use Rattle.std.specs.Prelude.{ℕ, Bool, false, Result, Ok, Err}
 use Rattle.gname.specs.declared.formats.Format.{Format}
 use Rattle.ggrammar.specs.declared.ends.Ends.TheVariants.{Plain}
 use Rattle.ggrammar.specs.declared.fault.MessageFault.{MessageFault}
@@ -31,7 +31,7 @@ KeepsFormat head reply =
     (limits : Limits) (format : Format) → IsHeadOf limits format head → IsReplyOf limits format reply
 
 -- the parameters of reading, with the limits and the format of the stored ids
-abbrev pub reading_with : {A : Type 0} → FetchReading → Sections A → Reading
+abbrev pub reading_with : {A : Type 0} → FetchReading ℕ → Sections A → Reading
 reading_with reading sections =
     record (reading_in reading) { limits = sections.acks.limits; format = sections.acks.format }
 

@@ -2,7 +2,7 @@
 use Rattle.std.specs.Prelude.{◌≡◌, ◌≢◌, ◌⊎◌, ℕ, Bool, false, List, [], ◌∷◌, ◌++◌, All, length, map}
 use Rattle.gitconfig.specs.Values.{is_marked}
 use Rattle.gitconfig.specs.declared.pieces.Piece.{Piece}
-use Rattle.gitconfig.specs.declared.pieces.Piece.TheVariants.{Byte, Blank, Quote, Joint}
+use Rattle.gitconfig.specs.declared.pieces.Piece.TheVariants.{Byte, Blank, Quote, Continuation}
 use Rattle.gitconfig.specs.declared.reading.ValueText.{ValueText}
 use Rattle.gitconfig.specs.Configs.{Item, Begins, Nothing, Sets, Setting, setting_of, settings_of}
 use Rattle.gitconfig.specs.declared.reading.Reading.{Reading}
@@ -24,7 +24,7 @@ Pushes (Byte b) old new = (new.bytes.items ≡ old.bytes.items ++ b ∷ []) × (
 Pushes (Blank b) old new = (new.kept ≡ old.kept) × (((old.bytes.items ≡ []) × (new.bytes.items ≡ []))
     ⊎ ((old.bytes.items ≢ []) × (new.bytes.items ≡ old.bytes.items ++ b ∷ [])))
 Pushes Quote old new = (new.kept ≡ old.kept) × (new.bytes.items ≡ old.bytes.items)
-Pushes Joint old new = (new.kept ≡ old.kept) × (new.bytes.items ≡ old.bytes.items)
+Pushes Continuation old new = (new.kept ≡ old.kept) × (new.bytes.items ≡ old.bytes.items)
 
 -- The value read so far: its bytes without the leading blanks, and the number of bytes before the trailing blanks.
 pub record IsValueSoFar {A : Type 0} (bytes : List (ℕ × Bool)) (value : ValueText A) : Type 0 where

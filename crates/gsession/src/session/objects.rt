@@ -10,7 +10,7 @@ use crate::session::{Session, set_pending};
 use crate::stage::Stage;
 use crate::taken::Taken;
 use gclientrepo::Repo;
-use gfetchreply::{FetchHead, FetchReading, read_fetch_reply_into_in};
+use gfetchreply::{FetchHead, FetchReading, StreamLimit, read_fetch_reply_into_in};
 use ggraph::Indexer;
 use ggraph::graph_laws::distinct_are_once;
 use gname::Oid;
@@ -86,7 +86,7 @@ impl<A: Allocator + Copy> Session<A> {
 
     // Returns the parameters for reading the reply to the open request, or `None` if no request for
     // objects is open.
-    fn reply_reading(&self) -> Option<FetchReading>
+    fn reply_reading(&self) -> Option<FetchReading<StreamLimit>>
         ensures { MatchOption result
             (¬ (AwaitsObjects self.now))
             (λ reading. (asked : FetchAsked) × Awaits self.now asked

@@ -1,4 +1,4 @@
-use Rattle.std.proofs.Common.{length, sym}
+use Rattle.std.proofs.Common.{sym}
 use Rattle.gitpack.proofs.DeltaLemmas.{commands_are, no_size}
 use Rattle.gitpack.proofs.delta.made_size.Goals as goal
 

@@ -1,4 +1,4 @@
-use Rattle.std.proofs.Common.{inl, subst}
+use Rattle.std.proofs.Common.{ℕ, inl, subst}
 use Rattle.ghello.specs.Hello.{Hello, IsHello}
 use Rattle.gsession.specs.declared.options.PackOptions.{PackOptions}
 use Rattle.gclient.specs.Conversations.{start_for, start_of}
@@ -16,7 +16,9 @@ returns-clause-fetches g c =
       subst IsHello c.in-Ok.ensures.0 c.in-Ok.ensures.1,
       subst (λ (hello : Hello). FetchesFrom indexes fails
           (start_of repo c.args.specs.now c.args.limit c.args.ends) hello new result) c.in-Ok.ensures.0
+          (subst (λ (limit : ℕ). FetchesFrom indexes fails
+          (start_of repo c.args.specs.now limit c.args.ends) c.in-Ok.hello new result) c.from-2.ensures
           (subst (λ (options : PackOptions). FetchesFrom indexes fails
-          (start_for repo c.args.specs.now c.args.limit c.args.ends options) c.in-Ok.hello new result)
-          c.default.ensures c.fetch_git_on.ensures.fetches),
+          (start_for repo c.args.specs.now c.from-2.result c.args.ends options) c.in-Ok.hello new result)
+          c.default.ensures c.fetch_git_on.ensures.fetches)),
     )

@@ -1,4 +1,4 @@
-use Rattle.std.proofs.Common.{Ok, Err, refl, subst}
+use Rattle.std.proofs.Common.{ℕ, Ok, Err, refl, subst}
 use Rattle.ghello.specs.Hello.{Hello}
 use Rattle.gsession.specs.declared.options.PackOptions.{PackOptions}
 use Rattle.gclient.specs.Conversations.{start_for, start_of}
@@ -15,10 +15,14 @@ returns-in-Ok-clause-fetches g c =
     subst (λ (hello : Hello). FetchesFrom plain_indexes (plain_index_fails g.row.A.Denot)
     (start_of c.args.repo.now fetch.specs.now fetch.limit fetch.ends) hello c.fetch_from.new.repo (Ok c.in-Ok.fetched))
     c.hello.ensures
-    (subst (λ (options : PackOptions). FetchesFrom plain_indexes (plain_index_fails g.row.A.Denot)
-    (start_for c.args.repo.now fetch.specs.now fetch.limit fetch.ends options) c.hello.result.now c.fetch_from.new.repo
+    (subst (λ (limit : ℕ). FetchesFrom plain_indexes (plain_index_fails g.row.A.Denot)
+    (start_of c.args.repo.now fetch.specs.now limit fetch.ends) c.hello.result.now c.fetch_from.new.repo
     (Ok c.in-Ok.fetched))
-    c.default.ensures c.in-Ok.ensures.fetches)
+    c.from.ensures
+    (subst (λ (options : PackOptions). FetchesFrom plain_indexes (plain_index_fails g.row.A.Denot)
+    (start_for c.args.repo.now fetch.specs.now c.from.result fetch.ends options) c.hello.result.now
+    c.fetch_from.new.repo (Ok c.in-Ok.fetched))
+    c.default.ensures c.in-Ok.ensures.fetches))
 
 pub returns-clause-fetches : goal.returns-clause-fetches
 returns-clause-fetches g c =
@@ -26,7 +30,11 @@ returns-clause-fetches g c =
     subst (λ (hello : Hello). FetchesFrom plain_indexes (plain_index_fails g.row.A.Denot)
     (start_of c.args.repo.now fetch.specs.now fetch.limit fetch.ends) hello c.fetch_from.new.repo (Err c.in-Err.fault))
     c.hello.ensures
-    (subst (λ (options : PackOptions). FetchesFrom plain_indexes (plain_index_fails g.row.A.Denot)
-    (start_for c.args.repo.now fetch.specs.now fetch.limit fetch.ends options) c.hello.result.now c.fetch_from.new.repo
+    (subst (λ (limit : ℕ). FetchesFrom plain_indexes (plain_index_fails g.row.A.Denot)
+    (start_of c.args.repo.now fetch.specs.now limit fetch.ends) c.hello.result.now c.fetch_from.new.repo
     (Err c.in-Err.fault))
-    c.default.ensures c.in-Err.ensures.fetches)
+    c.from.ensures
+    (subst (λ (options : PackOptions). FetchesFrom plain_indexes (plain_index_fails g.row.A.Denot)
+    (start_for c.args.repo.now fetch.specs.now c.from.result fetch.ends options) c.hello.result.now
+    c.fetch_from.new.repo (Err c.in-Err.fault))
+    c.default.ensures c.in-Err.ensures.fetches))
