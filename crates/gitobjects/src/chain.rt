@@ -44,8 +44,8 @@ fn refusal(delta: &[u8]) -> Cause {
 }
 
 impl<F: ObjectFiles, A: Allocator + Copy> ObjectReader<'_, F, A> {
-    /// Returns the object whose entry is at this location. If an object of its delta chain is
-    /// broken, another copy of the broken object is used, as in Git.
+    /// Returns the object whose entry is at this location. If a base in its delta chain is broken,
+    /// another copy of the base is used, as in Git. Fails if the entry at this location is broken.
     pub(crate) fn read_packed(&mut self, spot: Spot) -> Result<Object<A>, Cause> {
         let mut last = spot.start;
         for _copy in 0..MAX_COPIES {
@@ -96,7 +96,7 @@ impl<F: ObjectFiles, A: Allocator + Copy> ObjectReader<'_, F, A> {
                 return Ok(Some(object));
             }
         }
-        match self.store.read_loose(id, &mut self.inflater) {
+        match self.store.read_loose(id, &mut *self.inflater) {
             Ok(found) => Ok(found),
             Err(StoreFault::Memory) => Err(Cause::Memory),
             Err(_) => Ok(None),
@@ -166,7 +166,7 @@ impl<F: ObjectFiles, A: Allocator + Copy> ObjectReader<'_, F, A> {
         if let Some(object) = self.cache.get(spot) {
             return Ok(object.copy_in(self.store.allocator())?);
         }
-        let entry = self.store.inflate_at(spot, &mut self.inflater)?;
+        let entry = self.store.inflate_at(spot, &mut *self.inflater)?;
         match entry.form {
             EntryForm::Whole(kind) => Ok(Object {
                 kind,
@@ -205,7 +205,7 @@ impl<F: ObjectFiles, A: Allocator + Copy> ObjectReader<'_, F, A> {
 
     // Applies the delta at this location to its base, and returns the resulting object.
     fn apply(&mut self, base: &Object<A>, spot: Spot) -> Result<Object<A>, Cause> {
-        let delta = self.store.inflate_at(spot, &mut self.inflater)?;
+        let delta = self.store.inflate_at(spot, &mut *self.inflater)?;
         let alloc = self.store.allocator();
         let text = delta.text.as_slice();
         match apply_delta(alloc, base.body.as_slice(), text, MAX_OBJECT)? {

@@ -28,7 +28,7 @@ pub struct QuickReader<'f, F: ObjectFiles, A: Allocator + Copy> {
     alloc: A,
     folders: Vec<Folder<A>, A>,
     packs: Vec<QuickPack<F::Pack, A>, A>,
-    inflater: Inflater,
+    inflater: Box<Inflater, A>,
 }
 
 impl<'f, F: ObjectFiles, A: Allocator + Copy> QuickReader<'f, F, A> {
@@ -47,12 +47,13 @@ impl<'f, F: ObjectFiles, A: Allocator + Copy> QuickReader<'f, F, A> {
         for folder in &folders {
             let _listed = or_unknown(add_packs(files, alloc, folder.packs.as_str(), &mut packs))?;
         }
+        let inflater = Box::new(alloc, Inflater::new())?;
         Ok(QuickReader {
             files,
             alloc,
             folders,
             packs,
-            inflater: Inflater::new(),
+            inflater,
         })
     }
 
@@ -100,7 +101,7 @@ impl<'f, F: ObjectFiles, A: Allocator + Copy> QuickReader<'f, F, A> {
         for folder in &self.folders {
             let path = or_unknown(loose_path(self.alloc, folder.path.as_str(), id))?;
             if let Some(path) = path {
-                let kind = read_kind(self.files, self.alloc, path.as_str(), &mut self.inflater);
+                let kind = read_kind(self.files, self.alloc, path.as_str(), &mut *self.inflater);
                 if let Some(Some(kind)) = or_unknown(kind)? {
                     return Ok(Some(kind));
                 }
@@ -123,7 +124,7 @@ impl<'f, F: ObjectFiles, A: Allocator + Copy> QuickReader<'f, F, A> {
 
     fn read(&mut self, id: &Oid) -> Result<Option<Object<A>>, AllocError> {
         for pack in self.packs.iter_mut() {
-            if let Some(Some(object)) = or_unknown(pack.read(id, &mut self.inflater))? {
+            if let Some(Some(object)) = or_unknown(pack.read(id, &mut *self.inflater))? {
                 return Ok(Some(object));
             }
         }
@@ -139,7 +140,7 @@ impl<'f, F: ObjectFiles, A: Allocator + Copy> QuickReader<'f, F, A> {
                     self.files,
                     self.alloc,
                     path.as_str(),
-                    &mut self.inflater,
+                    &mut *self.inflater,
                 );
                 if let Some(Some(object)) = or_unknown(object)? {
                     return Ok(Some(object));

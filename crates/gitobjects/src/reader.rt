@@ -22,7 +22,7 @@ use std::alloc::{AllocError, Allocator};
 #[derive(Drop)]
 pub struct ObjectReader<'f, F: ObjectFiles, A: Allocator + Copy> {
     pub(crate) store: ObjectStore<'f, F, A>,
-    pub(crate) inflater: Inflater,
+    pub(crate) inflater: Box<Inflater, A>,
     pub(crate) cache: BaseCache<A>,
 }
 
@@ -30,9 +30,10 @@ impl<'f, F: ObjectFiles, A: Allocator + Copy> ObjectReader<'f, F, A> {
     /// Returns a reader of a store. Fails only if out of memory.
     pub fn new(store: ObjectStore<'f, F, A>) -> Result<ObjectReader<'f, F, A>, AllocError> {
         let cache = BaseCache::new(store.allocator())?;
+        let inflater = Box::new(store.allocator(), Inflater::new())?;
         Ok(ObjectReader {
             store,
-            inflater: Inflater::new(),
+            inflater,
             cache,
         })
     }
@@ -165,7 +166,7 @@ impl<'f, F: ObjectFiles, A: Allocator + Copy> ObjectReader<'f, F, A> {
                 Err(fault) => faults.note(fault)?,
             }
         }
-        match self.store.read_loose(id, &mut self.inflater) {
+        match self.store.read_loose(id, &mut *self.inflater) {
             Ok(Some(object)) => return Ok(Some(object)),
             Ok(None) => {}
             Err(fault) => faults.note(fault)?,
@@ -195,6 +196,6 @@ impl<'f, F: ObjectFiles, A: Allocator + Copy> ObjectReader<'f, F, A> {
                 }
             }
         }
-        self.store.kind_of_loose(id, &mut self.inflater)
+        self.store.kind_of_loose(id, &mut *self.inflater)
     }
 }

@@ -15,7 +15,7 @@ use std::{fs, io};
 const EXPORT_OK: &str = "git-daemon-export-ok";
 
 // The maximum size of a file that contains the path of another directory.
-const MAX_LINK: u64 = 65_536;
+const MAX_POINTER: u64 = 65_536;
 
 /// The directories of a repository (gitrepository-layout(5)).
 #[derive(Debug, Drop)]
@@ -149,10 +149,10 @@ fn look_at<R>(rt: &R, path: String) -> Result<Option<Directories>, Fault>
 where
     R: Files + AllocGlobal,
 {
-    match read_link(rt, path.as_str())? {
-        Link::Absent => Ok(None),
-        Link::Directory => look_into(rt, path, false),
-        Link::File(text) => match parse_git_file(text.as_slice()) {
+    match read_pointer(rt, path.as_str())? {
+        Pointer::Absent => Ok(None),
+        Pointer::Directory => look_into(rt, path, false),
+        Pointer::File(text) => match parse_git_file(text.as_slice()) {
             Some(target) => follow(rt, parent_of(path.as_str()), target),
             None => Ok(None),
         },
@@ -202,8 +202,8 @@ fn is_named_git(path: &str) -> bool {
 // Returns the common directory of a Git directory, or `None` if its file `commondir` is malformed.
 fn common_of<R: Files + AllocGlobal>(rt: &R, own: &str) -> Result<Option<String>, Fault> {
     let path = below(rt.alloc(), own, "commondir")?;
-    match read_link(rt, path.as_str())? {
-        Link::File(text) => match parse_common_dir(text.as_slice()) {
+    match read_pointer(rt, path.as_str())? {
+        Pointer::File(text) => match parse_common_dir(text.as_slice()) {
             Some(target) => Ok(target_path(rt.alloc(), own, target)?),
             None => Ok(None),
         },
@@ -214,31 +214,32 @@ fn common_of<R: Files + AllocGlobal>(rt: &R, own: &str) -> Result<Option<String>
 // The result of looking up a path. The path may name a directory, or a file that contains the path
 // of a directory.
 #[derive(Drop)]
-enum Link {
-    // Neither a directory nor a file of at most `MAX_LINK` bytes.
+enum Pointer {
+    // Neither a directory nor a file of at most `MAX_POINTER` bytes.
     Absent,
     Directory,
     // A file with this text.
     File(Vec<u8>),
 }
 
-fn read_link<R: Files + AllocGlobal>(rt: &R, path: &str) -> Result<Link, Fault> {
+// Looks up a path.
+fn read_pointer<R: Files + AllocGlobal>(rt: &R, path: &str) -> Result<Pointer, Fault> {
     match read_short(rt, path) {
-        Ok(link) => Ok(link),
-        Err(error) if is_absent(error.kind()) => Ok(Link::Absent),
+        Ok(pointer) => Ok(pointer),
+        Err(error) if is_absent(error.kind()) => Ok(Pointer::Absent),
         Err(error) => Err(open_fault(rt.alloc(), path, &error)),
     }
 }
 
-fn read_short<R: Files + AllocGlobal>(rt: &R, path: &str) -> io::Result<Link> {
+fn read_short<R: Files + AllocGlobal>(rt: &R, path: &str) -> io::Result<Pointer> {
     let metadata = rt.metadata(path)?;
     if metadata.is_dir() {
-        return Ok(Link::Directory);
+        return Ok(Pointer::Directory);
     }
-    if !metadata.is_file() || metadata.len() > MAX_LINK {
-        return Ok(Link::Absent);
+    if !metadata.is_file() || metadata.len() > MAX_POINTER {
+        return Ok(Pointer::Absent);
     }
-    Ok(Link::File(fs::read(rt, path)?))
+    Ok(Pointer::File(fs::read(rt, path)?))
 }
 
 // Returns the path of `target` relative to `directory`, or `None` if `target` is not UTF-8.

@@ -291,7 +291,7 @@ impl<A: Allocator + Copy> Copying<A> {
         Ok(Some(self.deflated_anew(reader, &object.id)?))
     }
 
-    // Adds the sent loose objects to the objects to deflate again.
+    // Adds the loose objects that are sent to `anew`, the list of objects to deflate again.
     fn add_loose(&mut self) -> Result<(), RepositoryFault<A>> {
         for number in 0..self.fates.loose_count() {
             let Some((id, fate)) = self.fates.loose_at(number) else {

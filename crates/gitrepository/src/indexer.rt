@@ -16,9 +16,9 @@ use std::cell::RefCell;
 
 /// An indexer of packs that a Git directory receives. The indexer keeps the last received pack.
 ///
-/// Each object is inflated, and its id is computed. Each object that the pack's objects name must
-/// be in the pack or in the store, with the expected type. If the store already has an object with
-/// the same id, both must have the same bytes.
+/// Each object is inflated, and its id is computed. Each object to which an object of the pack
+/// refers must be in the pack or in the store, with the expected type. If the store already has an
+/// object with the same id, both must have the same bytes.
 ///
 /// A pack is too large if it has more than 1,048,576 objects. The maximum size of an object is 256
 /// MiB, less 224 bytes for each object of the pack. The same maximum applies to the total size of a
