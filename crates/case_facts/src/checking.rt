@@ -1,4 +1,4 @@
-//! The check of one fact.
+//! The check of one fact, which returns the actual result of the call.
 
 use crate::{client_objects, history, parsing, printed_faults, size_limits};
 use case_text::{Fact, FactKind, RefusingAllocator, Trouble};
@@ -22,7 +22,8 @@ pub struct ActualResult {
     pub was_refused: bool,
 }
 
-/// The allocation to refuse. `number` is its number, counted from the call to `start_counting`.
+/// The allocation to refuse. `number` is its number, counted from 1 after the call to
+/// `start_counting`.
 #[derive(Clone, Copy)]
 pub(crate) struct RefusedAllocation<'m> {
     refusing_alloc: &'m RefusingAllocator<Global>,

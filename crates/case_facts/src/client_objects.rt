@@ -64,9 +64,9 @@ fn refs_to<A: Allocator + Copy>(
     tips: &[Oid],
 ) -> Result<Refs<A>, Trouble> {
     let mut refs = Refs::new(tested_alloc);
-    for (place, tip) in tips.iter().enumerate() {
+    for (index, tip) in tips.iter().enumerate() {
         let mut name = Vec::from_slice(alloc, b"refs/heads/")?;
-        add_padded_number(alloc, 4, place, &mut name)?;
+        add_padded_number(alloc, 4, index, &mut name)?;
         let Ok(name) = RefName::new(tested_alloc, name.as_slice()) else {
             return Err(Trouble::UnknownName);
         };
@@ -108,12 +108,12 @@ fn query_client<A: Allocator + Copy>(
     }
 }
 
-// Returns the ids of the marked objects, in the order of the graph.
+// Returns the ids of the marked objects, in the order in which the objects were added.
 fn marked_ids<A: Allocator + Copy>(alloc: Global, repo: &Repo<A>) -> Result<Vec<Oid>, Trouble> {
     let mut ids = Vec::new(alloc);
-    for place in 0..repo.graph().len() {
-        match repo.graph().at(place) {
-            Some((id, _)) if repo.marks().is_marked(place) => ids.push(*id)?,
+    for index in 0..repo.graph().len() {
+        match repo.graph().at(index) {
+            Some((id, _)) if repo.marks().is_marked(index) => ids.push(*id)?,
             _ => {}
         }
     }

@@ -55,7 +55,7 @@ fn name_result<A: Allocator + Copy>(
     }
 }
 
-// Returns the printed text of the fault in a name.
+// Returns the printed text of the fault in a name, or `ok` if the name is valid.
 fn name_fault_text(alloc: Global, text: &[u8]) -> Result<String, Trouble> {
     match RefName::check(text) {
         Ok(()) => comparison_text(alloc, true),
@@ -118,9 +118,9 @@ fn read_first_line<A: Allocator + Copy, S: Source>(
 
 fn format_hello_result<A: Allocator + Copy>(
     alloc: Global,
-    read: &Result<Hello<A>, MessageFault>,
+    outcome: &Result<Hello<A>, MessageFault>,
 ) -> Result<String, Trouble> {
-    match read {
+    match outcome {
         Ok(hello) => format_hello(alloc, hello.host(), hello.path()),
         Err(fault) => format_fault(alloc, fault.code(), fault.name()),
     }
@@ -141,7 +141,7 @@ fn repository_result<A: Allocator + Copy>(
     order: Order,
 ) -> Result<String, Trouble> {
     match load_text(tested_alloc, text, order) {
-        Ok(read) => compare_saved_text(alloc, tested_alloc, &read, text),
+        Ok(repository) => compare_saved_text(alloc, tested_alloc, &repository, text),
         Err(fault) => format_load_fault(alloc, &fault),
     }
 }
@@ -149,10 +149,10 @@ fn repository_result<A: Allocator + Copy>(
 fn compare_saved_text<A: Allocator + Copy>(
     alloc: Global,
     tested_alloc: A,
-    read: &Repository<A>,
+    repository: &Repository<A>,
     text: &[u8],
 ) -> Result<String, Trouble> {
-    match save_text(tested_alloc, read) {
+    match save_text(tested_alloc, repository) {
         Ok(saved_text) => comparison_text(alloc, saved_text.as_slice() == text),
         Err(fault) => format_fault(alloc, fault.code(), fault.name()),
     }
@@ -218,7 +218,8 @@ fn scenario_result<A: Allocator + Copy>(
     }
 }
 
-// Writes a payload as one packet, or fails without writing any byte.
+// Returns the result of writing a payload as one packet. A write that fails must not write any
+// byte.
 fn payload_result(alloc: Global, text: &[u8], max_per_call: usize) -> Result<String, Trouble> {
     let mut sink = Limited::new(VecSink::new(alloc)).with_most(max_per_call);
     let outcome = write_packet(&mut sink, text);

@@ -41,8 +41,8 @@ pub(crate) fn actual_result(alloc: Global, fact: &Fact<'_>) -> Result<String, Tr
     }
 }
 
-// Returns whether a tested fault prints the expected line and has the expected `Display` text. Each
-// tested fault of a message reports packet position 7.
+// Returns whether a tested fault prints the expected line and has the expected `Display` text. The
+// tested faults of messages report the packet at position 7.
 fn is_printed_by_any_fault(alloc: Global, expected: ExpectedPrint<'_>) -> Result<bool, Trouble> {
     Ok(
         is_packet_fault(alloc, expected)?

@@ -15,7 +15,6 @@ pub struct Exchange {
 }
 
 impl Exchange {
-    /// Returns an exchange without bytes.
     pub(crate) fn new(alloc: Global) -> Exchange {
         Exchange {
             sent_bytes: Vec::new(alloc),
@@ -36,7 +35,6 @@ pub(crate) struct Peers<'a> {
 }
 
 impl<'a> Peers<'a> {
-    /// Returns peers that are not yet connected.
     pub(crate) fn new(alloc: Global, exchanges: &'a [Exchange]) -> Peers<'a> {
         Peers {
             exchanges,
@@ -68,8 +66,9 @@ impl<'a> Peers<'a> {
         Ok(())
     }
 
-    /// Returns a stream to the address. The stream leads to the program itself if the program
-    /// listens at that address, and otherwise to the next simulated server.
+    /// Returns a stream to the address. The stream is connected to the program itself if the
+    /// program listens at that address. Otherwise the stream is connected to the next simulated
+    /// server.
     pub(crate) fn connect<R: System>(&self, rt: &R, address: SocketAddr) -> io::Result<TcpStream> {
         if address.port() == self.port() {
             let stream = TcpStream::connect(rt, address)?;
@@ -100,7 +99,6 @@ impl<'a> Peers<'a> {
         waiting_connections > 0
     }
 
-    // Returns the number of connected peers.
     fn connected_count(&self) -> usize {
         match self.streams.try_borrow() {
             Ok(streams) => streams.len(),

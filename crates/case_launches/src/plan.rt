@@ -32,7 +32,8 @@ pub struct Plan<'b> {
     /// The bytes of standard input.
     pub(crate) input: Vec<u8>,
     pub(crate) exchanges: Vec<Exchange>,
-    /// The expected standard output. `PORT` stands for the port at which the program listens.
+    /// The expected standard output. The word `PORT` is replaced by the port at which the program
+    /// listens.
     pub(crate) output: Vec<u8>,
     /// The expected standard error, if it is known.
     pub(crate) errors: Option<Vec<u8>>,

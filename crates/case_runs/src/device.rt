@@ -42,7 +42,7 @@ impl DeviceLimits {
     }
 }
 
-// A counter of calls that fails at the chosen call and at each later call.
+// A counter of calls. `count_call` fails at the chosen call and at each later call.
 #[derive(Drop)]
 struct CallCounter {
     limits: DeviceLimits,
@@ -213,7 +213,7 @@ impl Sink for Writer {
 // The error or result with which a std reader or writer fails.
 #[derive(Clone, Copy)]
 enum Failure {
-    // Errors after which callers of std often retry, or that they mistake for the end of the input.
+    // Errors after which users of std often retry, or which they mistake for the end of the input.
     Interrupted,
     WouldBlock,
     UnexpectedEof,
@@ -222,8 +222,8 @@ enum Failure {
 }
 
 impl Failure {
-    // Returns the form of failure for these limits. The four forms alternate with the number of the
-    // failing call.
+    // Returns the failure for these limits. The number of the failing call determines which of the
+    // four failures.
     fn for_limits(limits: DeviceLimits) -> Failure {
         match limits.failing_call % 4 {
             0 => Failure::WritesZero,
@@ -242,8 +242,8 @@ impl Failure {
     }
 }
 
-/// A std reader over a source, or a std writer over a sink, that reports failures in one of four
-/// forms.
+/// A std reader over a source, or a std writer over a sink. The adapter reports each failure of the
+/// source or sink as its `failure`.
 #[derive(Drop)]
 pub struct StdAdapter<D> {
     device: D,

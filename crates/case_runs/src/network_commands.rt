@@ -170,8 +170,8 @@ fn format_refs<A: Allocator + Copy>(
     if let Some(target) = reply.unborn() {
         add_unborn(&mut text, target)?;
     }
-    for place in 0..reply.len() {
-        if let Some(line) = reply.at(place) {
+    for index in 0..reply.len() {
+        if let Some(line) = reply.at(index) {
             add_ref(&mut text, line)?;
         }
     }

@@ -1,4 +1,4 @@
-//! The cases and the facts of one test file.
+//! The cases and the facts of test files.
 
 use crate::kind::FactKind;
 use crate::launch::Launch;
@@ -8,7 +8,7 @@ use crate::trouble::Trouble;
 use gname::Format;
 use std::alloc::Global;
 
-/// The end that sends a packet, or the stream on which the program prints a line.
+/// The sender of a packet, or the stream on which the program prints a line.
 #[derive(Clone, Copy, PartialEq, Eq)]
 pub enum Speaker {
     Client,
@@ -17,7 +17,7 @@ pub enum Speaker {
     Output,
     /// The standard error of the program.
     Errors,
-    /// The report of a client on the updates of its refs.
+    /// The report that a client prints about its ref updates.
     Report,
 }
 
@@ -41,7 +41,7 @@ pub struct TranscriptEntry {
 /// A case of a test file.
 #[derive(Drop)]
 pub struct Case<'a> {
-    /// The test file, and the line in which the case begins.
+    /// The name of the test file. The case begins in the line with the number `line_number`.
     pub file_name: &'a str,
     pub line_number: usize,
     pub name: &'a str,
@@ -51,7 +51,7 @@ pub struct Case<'a> {
     pub launch: Option<Launch<'a>>,
     /// The packets that the peers send and the lines that the program prints, in order.
     pub transcript: Vec<TranscriptEntry>,
-    /// The name of the text that the client's file holds afterwards, if the file changes.
+    /// The name of the text that the client's file must hold after the run, if the file changes.
     pub new_file: Option<&'a str>,
     /// The packer or indexer that the program uses instead of `PlainPack`, if any.
     pub pack_tool: Option<PackTool>,
@@ -62,7 +62,8 @@ pub struct Case<'a> {
     pub packet_offsets: Vec<usize>,
     /// The expected results when the request is truncated or one of its bytes is changed.
     pub table: Vec<TableLine<'a>>,
-    /// Whether the case is tested only with its input unchanged, whole or in pieces.
+    /// Whether the case is tested only with its unchanged input, which is read at once and in
+    /// pieces.
     pub is_long: bool,
     /// Whether each byte of the input is changed to every other value.
     pub is_deep: bool,
@@ -136,7 +137,7 @@ impl<'a> Case<'a> {
     }
 }
 
-/// A fact: a call on a text or on ids of a graph, with the expected result of the call.
+/// The expected result of one call, which runs on a text or on ids of a graph.
 #[derive(Drop)]
 pub struct Fact<'a> {
     pub file_name: &'a str,
@@ -147,7 +148,7 @@ pub struct Fact<'a> {
     pub format: Format,
     /// The name of the text block that holds the graph.
     pub graph_name: &'a str,
-    /// The expected result, and the text on which the call runs.
+    /// The expected result of the call. `text` is the argument of the call.
     pub expected: Vec<u8>,
     pub text: Vec<u8>,
 }

@@ -16,7 +16,7 @@ pub enum Program {
     Check,
     Lines,
     Simulate,
-    /// A server that answers one connection, including its first line.
+    /// A server that serves one connection, including its first line.
     Serve,
     /// A client that lists the refs of a server.
     LsClient,
@@ -90,7 +90,7 @@ pub struct Invocation<'a> {
     /// The name of the text block that holds the repository, or an empty string.
     pub repository_name: &'a str,
     /// The host and the path in the first line of a client's connection, or the path that a server
-    /// serves. Host and path are empty if the connection has no first line.
+    /// serves. `host` and `path` are empty if the connection has no first line.
     pub host: &'a str,
     pub path: &'a str,
     /// The arguments after the repository: the refspecs of a fetch, or the ref prefixes of a
@@ -114,7 +114,7 @@ impl Invocation<'_> {
     }
 }
 
-/// Parses a command line. The result uses `PlainPack` as its packer and as its indexer.
+/// Parses a command line. The returned command uses `PlainPack` as its packer and as its indexer.
 pub fn parse_command(line: &str, format: Format) -> Result<Invocation<'_>, Trouble> {
     let (name, words) = split_first_word(line);
     let words = without_option(words, "--stdio-server ");

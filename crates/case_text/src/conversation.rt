@@ -36,7 +36,7 @@ pub struct PacketStart {
     pub start: usize,
     /// The index of the packet in its message.
     pub frame: usize,
-    /// The number of output bytes that precede this message in the conversation.
+    /// The number of output bytes that precede the packet's message in the conversation.
     pub output_before: usize,
 }
 
@@ -44,7 +44,7 @@ pub struct PacketStart {
 #[derive(Drop)]
 pub struct Conversation {
     pub input: Vec<u8>,
-    /// The packets of the input; the last entry marks the end of the input.
+    /// The position of each packet in the input. The last entry marks the end of the input.
     pub packet_starts: Vec<PacketStart>,
     pub output: Vec<u8>,
     /// The offsets at which messages of the output end.
@@ -55,7 +55,8 @@ pub struct Conversation {
     frame: usize,
     output_before: usize,
     program: Program,
-    // The packets that end each reply, and whether this conversation adds the response-end packets.
+    // The packets that end each reply. `adds_response_ends` states whether response-end packets are
+    // added to the replies of the case.
     reply_ends: Ends,
     adds_response_ends: bool,
     // Whether the client has sent a request. If so, the server's next message is a reply.

@@ -5,10 +5,10 @@
 //! `{a+1}` is one digit longer than an id, and `{a-4}` is four digits shorter. `{a*64}` is
 //! sixty-four `a`, and `{ab*3}` is `ababab`. `{NAME}` is the text with this name, which has at
 //! least two characters. In a repeated line, `{#4}` is the number of the repetition, counted from
-//! 1, in four digits. `{#4+16}` is this number plus 16, and `{#4*2+16}` is twice this
-//! number plus 16. Without the digit count, as in `{#}` and `{#+16}`, the number has as many digits
-//! as an id. `{#=17}` is the number 17 in as many digits as an id. `{@2}` is the index of a packet:
-//! 2, or 3 with SHA-256, because a SHA-256 request has an extra `object-format` line.
+//! 1, in four digits. `{#4+16}` is the number of the repetition plus 16, and `{#4*2+16}` is twice
+//! that number plus 16. Without the `4`, as in `{#}` and `{#+16}`, the result has as many digits as
+//! an id. `{#=17}` is the number 17 in as many digits as an id. `{@2}` is the index of a packet: 2,
+//! or 3 with SHA-256, because a SHA-256 request has an extra `object-format` line.
 
 use crate::trouble::Trouble;
 use gname::{Format, MAX_ID_TEXT, Oid};
@@ -29,7 +29,6 @@ pub(crate) struct NamedText<'a> {
     pub(crate) bytes: Vec<u8>,
 }
 
-/// Returns the text with this name.
 pub(crate) fn find_text<'b>(texts: &'b [NamedText<'_>], name: &[u8]) -> Option<&'b [u8]> {
     for text in texts {
         if text.name == name {
@@ -124,9 +123,9 @@ fn add_braced(
     if let Some(number) = inside.strip_prefix(b"#") {
         return add_number_escape(alloc, number, escape_context, bytes);
     }
-    if let Some(place) = inside.strip_prefix(b"@") {
-        let place = parse_number(place).saturating_add(format_line_count(escape_context.format));
-        return add_padded_number(alloc, 1, place, bytes);
+    if let Some(index) = inside.strip_prefix(b"@") {
+        let index = parse_number(index).saturating_add(format_line_count(escape_context.format));
+        return add_padded_number(alloc, 1, index, bytes);
     }
     match split_at_byte(inside, b'*') {
         Some((part, count)) => add_repeated(part, parse_number(count), bytes),
@@ -169,8 +168,8 @@ fn add_text(texts: &[NamedText<'_>], name: &[u8], bytes: &mut Vec<u8>) -> Result
     }
 }
 
-// Appends a fixed number, or the number of the repetition times a factor plus an offset. The number
-// has the given count of digits, or as many digits as an id.
+// Appends a fixed number, or the number of the repetition times a factor plus an offset. The result
+// has the stated number of digits, or as many digits as an id.
 fn add_number_escape(
     alloc: Global,
     inside: &[u8],

@@ -1,5 +1,5 @@
-//! The parser of test files. A file contains facts, texts, and rows with their messages. Rows name
-//! programs, packers and indexers.
+//! The parser of test files. A file contains facts, texts, and rows. A row lists messages, and
+//! names programs, packers and indexers.
 //!
 //! A [`Script`] parses files in sequence, for ids of one format. A [`Case`] is a row of a file. A
 //! [`Fact`] is the expected result of one call. An [`Invocation`] is the command line of a row. A

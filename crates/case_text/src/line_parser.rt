@@ -57,7 +57,8 @@ impl LineParser<'_, '_> {
     }
 }
 
-// Appends the bytes in packets of side band 1, each as full as possible.
+// Splits the bytes into packets of side band 1, each as long as possible, and appends these
+// packets.
 fn add_band_packets(
     alloc: Global,
     bytes: &[u8],

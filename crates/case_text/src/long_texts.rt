@@ -65,8 +65,8 @@ fn add_chain(
     format: Format,
     text: &mut Vec<u8>,
 ) -> Result<(), Trouble> {
-    for place in 0..count {
-        add_commit(alloc, count.saturating_sub(place), count, format, text)?;
+    for index in 0..count {
+        add_commit(alloc, count.saturating_sub(index), count, format, text)?;
     }
     Ok(())
 }

@@ -161,7 +161,7 @@ impl<A: Allocator + Copy> ReceivedPack<A> {
     }
 }
 
-// Returns the single entry that this indexer reports for every pack.
+// Returns the single invalid entry that this indexer reports for every pack.
 fn invented_entries<A: Allocator + Copy>(
     pack_tool: PackTool,
     format: Format,

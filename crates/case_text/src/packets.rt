@@ -67,7 +67,6 @@ pub fn packet(alloc: Global, first: &[u8], text: &[u8], last: &[u8]) -> Result<V
     Ok(bytes)
 }
 
-// Returns the last hexadecimal digit of a number.
 fn hex_digit(number: usize) -> u8 {
     let digits = b"0123456789abcdef";
     match digits.get(number % 16) {

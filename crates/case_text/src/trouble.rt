@@ -16,7 +16,7 @@ pub enum Trouble {
     NoCurrentRow,
     /// A row names no program.
     RowWithoutProgram,
-    /// A line has no known form.
+    /// The form of a line is unknown.
     UnknownLine,
     /// A `run` line names an unknown program.
     UnknownProgram,

@@ -52,7 +52,8 @@ pub struct Row<'b> {
     /// Whether the row is also tested with a late peer, and over a socket while each allocation is
     /// refused in turn.
     pub is_late: bool,
-    /// Whether the row is tested only with its input unchanged, whole or in pieces.
+    /// Whether the row is tested only with its unchanged input, which is read at once and in
+    /// pieces.
     pub is_long: bool,
 }
 
@@ -63,11 +64,11 @@ pub enum ByteChanges {
     EveryValue,
     /// Each bit of each byte is flipped.
     EveryBit,
-    /// One bit of each byte is flipped. From byte to byte, the position of the bit moves by one.
+    /// One bit of each byte is flipped. The number of the bit is the offset of the byte modulo 8.
     OneBit,
 }
 
-/// The two ways in which an input can stop early.
+/// The way in which an input stops early.
 #[derive(Clone, Copy, PartialEq, Eq)]
 pub enum InputStop {
     /// The input ends.

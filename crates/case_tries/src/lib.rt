@@ -3,7 +3,7 @@
 //! A [`Row`] is a program with its input and its expected results. A [`RowTest`] tests the row with
 //! each [`Variation`].
 //!
-//! - The input is unchanged, and is read whole or in pieces. The row also runs on std readers and
+//! - The input is unchanged, and is read at once or in pieces. The row also runs on std readers and
 //!   writers.
 //! - The calls to the indexer are checked.
 //! - The request is changed as the row's table lists.
@@ -28,7 +28,7 @@
 //! `case_text` defines rows, their messages, and an allocator that refuses an allocation.
 //! `case_runs` runs programs on sources and sinks in memory, and `case_worlds` runs simulations.
 //! `gsimulate` is the program for simulations, and `gcmd` checks a repository. `glockfile` defines
-//! files that are replaced whole, and `gpkt` defines sources and sinks.
+//! files that are replaced as a whole, and `gpkt` defines sources and sinks.
 #![tactic(auto)]
 
 mod judge;

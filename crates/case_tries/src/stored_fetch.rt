@@ -203,8 +203,8 @@ fn changes_file(row: &Row<'_>) -> bool {
     }
 }
 
-// Returns whether the file only ever held the old text, or held the old text and then the complete
-// new text.
+// Returns whether the file held the old text throughout, or the old text and then the complete new
+// text.
 fn held_whole_texts(row: &Row<'_>, results: &StoredFetchResults) -> bool {
     match results.fetch.file.states() {
         [old] => old.as_slice() == row.repository_text,

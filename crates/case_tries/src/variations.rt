@@ -68,8 +68,7 @@ impl Variation {
         matches!(&self, Variation::ChangedBytes)
     }
 
-    /// Returns whether the option `--edge` includes this variation. The option includes the
-    /// unchanged run, launches of the program, connections, and failing files.
+    /// Returns whether the option `--edge` includes this variation.
     pub fn is_edge(self) -> bool {
         matches!(
             &self,

@@ -41,7 +41,7 @@ enum SessionStep {
     Settle,
 }
 
-/// A generator of the next event in a world.
+/// A generator of the events in a world.
 #[derive(Drop)]
 pub(crate) struct EventGenerator {
     alloc: Global,
@@ -210,8 +210,8 @@ impl EventGenerator {
         };
     }
 
-    // Ends the session if the last event was its next step, or if the fault's number is that of a
-    // fault that ends sessions.
+    // Ends the session if the last event was the next step of the session, or if a fault with this
+    // number ends a session.
     fn end_session_on_fault(&mut self, code: u32) {
         if self.was_next_step || matches!(code, 20..=54 | 84..=86) {
             self.step = SessionStep::Begin;
@@ -227,8 +227,8 @@ fn pick_word(words: &[&'static str], dice: &mut Dice) -> &'static str {
     }
 }
 
-// Appends a line with a word and the bytes in hexadecimal, or with a word and `-` if there are no
-// bytes.
+// Appends a line with the word and the bytes in hexadecimal. The line has `-` instead if there are
+// no bytes.
 fn add_bytes(word: &str, bytes: &[u8], line: &mut String) -> Result<(), AllocError> {
     line.push_str(word)?;
     if bytes.is_empty() {

@@ -37,7 +37,7 @@ const FAULTY_PACK_TOOLS: [PackTool; 12] = [
 /// The word after COUNT that requires rounds of acknowledgments to occur.
 const ROUNDS: &[u8] = b"rounds";
 
-/// The highest number of an allocation that may be refused.
+/// The highest number that the refused allocation can have.
 const MAX_REFUSED_ALLOCATION: usize = 30;
 
 // The parameters of a run of random events.
@@ -53,7 +53,7 @@ struct RandomRun<'b> {
 }
 
 /// Runs random events between a client and the server that `server` describes. Returns `whole`, or
-/// a text about the first failure.
+/// a description of the first failure.
 pub fn simulate_at_random(
     alloc: Global,
     fact: &Fact<'_>,
@@ -148,7 +148,7 @@ fn parse_random_run<'b>(text: &'b [u8], server: &'b [u8], format: Format) -> Ran
     }
 }
 
-// Runs the events in sequence. Returns a text about the first failure, if any.
+// Runs the events in sequence. Returns a description of the first failure, if any.
 fn run_random_events(alloc: Global, random_run: RandomRun<'_>) -> Result<Option<String>, Trouble> {
     let refusing_alloc = RefusingAllocator::new(alloc);
     let events = RandomEvents {
@@ -264,7 +264,7 @@ impl<A: Allocator + Copy> RandomEvents<'_, A> {
         }
     }
 
-    // Runs all events a second time, and returns the result if it differs from `text`.
+    // Runs all events a second time. Returns the result if the result differs from `text`.
     fn difference_in_second_run(&self, text: &str, log: &str) -> Result<Option<String>, Trouble> {
         let inputs = WorldInputs {
             server_text: self.random_run.inputs.server_text,
@@ -280,7 +280,8 @@ impl<A: Allocator + Copy> RandomEvents<'_, A> {
         }
     }
 
-    // Returns a text that names the first required kind of outcome that never occurred.
+    // Returns a description that names the first required kind of outcome that never occurred, if
+    // any.
     fn describe_missing_kind(&self, outcomes: &[Outcome]) -> Result<Option<String>, Trouble> {
         match self.missing_kind(outcomes) {
             Some(kind) => Ok(Some(format!(in self.alloc; "never {kind}")?)),

@@ -15,8 +15,8 @@ use std::io;
 // The first word of a command line for a server and a client in one process.
 const PAIR_COMMAND: &str = "pair ";
 
-// A case with one of its command lines. `adds_response_ends` adds response-end packets to the
-// replies.
+// A case with one of its command lines. `adds_response_ends` states whether response-end packets
+// are added to the replies.
 #[derive(Clone, Copy)]
 struct CaseRun<'b> {
     script: &'b Script<'b>,
@@ -49,7 +49,6 @@ pub fn test_case<'b, R: System>(
     Ok(())
 }
 
-// Tests a case with one of its command lines.
 fn test_command_line<R: System>(
     rt: &R,
     plain_run: CaseRun<'_>,
@@ -94,8 +93,8 @@ fn test_run<R: System>(rt: &R, run: CaseRun<'_>, tally: &mut Tally) -> io::Resul
     }
 }
 
-// Returns the row of a run, or `None` if the run adds response-end packets although they may not be
-// added.
+// Returns the row of a run, or `None` if the run adds response-end packets that the row must
+// not have.
 fn make_row<'b>(
     alloc: Global,
     script: &'b Script<'b>,
@@ -107,8 +106,8 @@ fn make_row<'b>(
     }
 }
 
-// Returns the command of a run, or `None` if the run adds response-end packets although they may
-// not be added.
+// Returns the command of a run, or `None` if the run adds response-end packets that the row must
+// not have.
 fn make_command<'b>(
     script: &'b Script<'b>,
     run: CaseRun<'b>,
@@ -150,7 +149,7 @@ fn make_row_for_command<'b>(
     })
 }
 
-// Returns the expected text of the client's file after a fetch, if the file changes.
+// Returns the text that the client's file must have after a fetch, if the file changes.
 fn expected_new_file<'b>(
     script: &'b Script<'b>,
     case: &Case<'b>,

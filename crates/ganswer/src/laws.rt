@@ -1,4 +1,5 @@
-//! Laws about answers and changes: each function does nothing, and its contract proves a law.
+//! Laws about answers and changes. Each function does nothing at run time, and its contract states
+//! the law.
 
 ghost use Rattle.gobject.specs.Packs.{MayPack};
 ghost use Rattle.ganswer.specs.Laws.{AcksAreCommon, AdvertsWelcome, AnswersAreOne, FetchAnswersFit, LsAnswersAreHeld, LsAnswersAreOne, LsAnswersFit, LsRequestsHaveAnswers, PacksAreEnough, ServersGrow, ServesWhatIsHeld};

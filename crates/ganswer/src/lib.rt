@@ -7,20 +7,20 @@
 //!   Its graph always holds all parents, the id of each ref, and the id of a detached HEAD. If an
 //!   object is missing, [`Server::new`] reports the first missing object, in a fixed order.
 //! - [`Server::add`] adds at most one object, [`Server::set_ref`] sets one ref, and
-//!   [`Server::set_head`] sets HEAD. These calls change nothing else. A call that fails reports the
-//!   first reason and changes nothing.
+//!   [`Server::set_head`] sets HEAD. These calls make no other changes. A call that fails reports
+//!   the first reason and changes nothing.
 //! - [`Server::answer`] returns an answer that `specs/Answers.antt` allows for the request, with
 //!   any packer. For ls-refs the answer lists the requested refs with the requested attributes:
 //!   HEAD first, then the names in byte order. For fetch the answer is the common ids, the pack of
 //!   the objects to send, or both. A fetch request is refused only if it has no wants, the server
 //!   does not hold a want, the packer fails, or memory runs out. The fault contains the first want
 //!   that the server does not hold. The ids of an answer have the format of the graph, and its
-//!   acknowledgments have the limits of the request. Whatever the limits, no request fails because
-//!   its answer has too many lines or too many ids.
+//!   acknowledgments have the limits of the request. For any limits, no request fails because its
+//!   answer has too many lines or too many ids.
 //! - [`Server::answer`] uses exactly one result of the packer if the answer contains a pack or the
-//!   packer fails. In all other cases, `answer` uses no result of the packer. It never reports out
-//!   of memory instead of a fault of the packer (`specs/OnePack.antt`). After a failure, the packer
-//!   is not asked for another pack ([`OnePack`]).
+//!   packer fails. In all other cases, `answer` uses no result of the packer. A fault of the packer
+//!   is never replaced by out of memory (`specs/OnePack.antt`). After a failure, the packer is not
+//!   asked for another pack ([`OnePack`]).
 //! - [`Server::answer_fetch`] has the same contract, but accepts only fetch requests.
 //! - [`Server::begin_fetch`] returns the answer to a fetch request before the objects are packed
 //!   (`specs/BegunFetches.antt`). The caller can then pack the objects in parts.

@@ -27,9 +27,9 @@ pub struct Server<A: Allocator + Copy = Global> {
     graph: Graph<A>,
     refs: Refs<A>,
     head: Head<A>,
-    // The name HEAD, which answers borrow.
+    // The ref name `HEAD`, which answers borrow.
     name_of_head: RefName<A>,
-    // The peeled ids of the refs, in the order of the refs, so that requests need not look them up.
+    // The peeled ids of the refs, in the order of the refs, so that answers need not look them up.
     // The list is empty if memory ran out, or after a ref was set.
     peels: Vec<Option<Oid>, A>,
 }
@@ -118,7 +118,8 @@ impl<A: Allocator + Copy> Server<A> {
         &self.refs
     }
 
-    /// Proves that every server satisfies its invariant.
+    /// Proves that the server is valid: its graph holds all parents, and the ids of the refs and of
+    /// a detached HEAD.
     pub fn laws(&self)
         ensures { IsServer self.now }
     {
@@ -210,7 +211,7 @@ impl<A: Allocator + Copy> Server<A> {
     }
 }
 
-// Returns the first parent that the graph does not hold.
+// Returns the first parent that the graph does not hold, if any.
 fn missing_parent<A: Allocator + Copy>(graph: &Graph<A>) -> Option<Oid>
     ensures { MatchOption result (IsClosed graph.now.entries)
         (IsFirstAbsent graph.now.entries (parents_in graph.now.entries)) }
@@ -223,7 +224,7 @@ fn missing_parent<A: Allocator + Copy>(graph: &Graph<A>) -> Option<Oid>
     first_missing_parent(graph)
 }
 
-// Returns the first parent that the graph does not hold, by looking up each parent.
+// Looks up each parent, and returns the first parent that the graph does not hold.
 fn first_missing_parent<A: Allocator + Copy>(graph: &Graph<A>) -> Option<Oid>
     ensures { MatchOption result (IsClosed graph.now.entries)
         (IsFirstAbsent graph.now.entries (parents_in graph.now.entries)) }

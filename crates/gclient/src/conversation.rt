@@ -169,13 +169,13 @@ fn converse<S: Source, W: Sink, A: Allocator + Copy, K: Indexer<A>>(
 {
     // Laws.
     rounds_are_few::<A>();
-    let unborn = talk(repo, session, reader, writer, indexer)?;
+    let unborn_target = talk(repo, session, reader, writer, indexer)?;
     let requests = session.rounds();
     let settled = close(repo, session, writer)?;
     Ok(Fetched {
         settled,
         requests,
-        unborn,
+        unborn: unborn_target,
     })
 }
 

@@ -10,8 +10,8 @@
 //!   `fetch_over` reads nothing after the last reply. The client writes each request of the session
 //!   in its canonical encoding, and a lone flush packet after the last reply. The client flushes
 //!   each request before it reads the reply. At the end `fetch_over` updates the local refs.
-//!   [`fetch_over_with`] does the same with options for packs. They contain the limits on wants,
-//!   haves and acknowledged ids, and the maximum number of new haves in a request.
+//!   [`fetch_over_with`] does the same with options for packs. These options contain the limits on
+//!   wants, haves and acknowledged ids, and the maximum number of new haves in a request.
 //! - [`Fetched`] contains the updates of the local refs, the number of requests for objects, and
 //!   the target of the server's unborn `HEAD`.
 //! - The first fault ends a conversation. With too many refspecs, or out of memory at the start,
@@ -24,8 +24,8 @@
 //!   ref stays connected.
 //! - A conversation has at most N + 1 requests for objects, if the local refs reached N ids at the
 //!   start ([`laws`]). The bound also holds for a failed conversation. The session counts each
-//!   request for objects as a round. Therefore a conversation ends, whatever bytes the server
-//!   sends, if each call of the source and the sink returns.
+//!   request for objects as a round. Therefore a conversation ends for any bytes from the server,
+//!   if each call of the source and the sink returns.
 //! - [`fetch_git`] flushes the first line before it reads anything (`specs/GitFetches.antt`). The
 //!   rest of the conversation has every guarantee of [`fetch_over_with`]. If the sink fails at the
 //!   first line, `fetch_git` reads nothing, and the repository is unchanged.
@@ -33,7 +33,7 @@
 //!   (`specs/Listings.antt`). Only `list_git` sends a first line. Both functions read the reply in
 //!   the object format that the advertisement names. The request has `unborn` exactly when the
 //!   server offers to report an unborn `HEAD`. The client flushes the request before it reads the
-//!   reply, and reads nothing after the final lone flush packet.
+//!   reply, and reads nothing after the reply.
 //! - The first fault ends a listing. The faults are out of memory, a malformed advertisement, an
 //!   unsupported server, a malformed reply, and a failed sink. The contract states which bytes were
 //!   read and written. The client reports a failed source exactly when the source failed.

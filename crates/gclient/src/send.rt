@@ -12,7 +12,7 @@ use grequest::{Request, write_request};
 use std::alloc::Allocator;
 
 /// Writes a request in its canonical encoding (gitprotocol-v2(5), "Command Request"), and flushes
-/// it.
+/// the request.
 ///
 /// Requires that the writer has not failed, and that the ids of the request have the given format.
 /// Fails if the sink fails. The sink then holds a prefix of the request, and every further call of

@@ -42,8 +42,8 @@ pub(crate) fn hear<S: Source, A: Allocator + Copy>(
     Ok(())
 }
 
-/// Makes the session's next request, and sends it. `offers` holds the state of the walk that
-/// selects haves. A request for objects updates this state.
+/// Makes and sends the session's next request. `offers` holds the state of the walk that selects
+/// haves. A request for objects updates this state.
 pub(crate) fn ask<W: Sink, A: Allocator + Copy>(
     repo: &Repo<A>,
     session: &mut Session<A>,

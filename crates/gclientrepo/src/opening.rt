@@ -62,7 +62,7 @@ fn first_lost<A: Allocator + Copy>(graph: &Graph<A>, ids: &[Oid]) -> Result<usiz
     ensures place { IfOk result (IsFirstLost graph.now.entries ids.now) }
     ensures fault { IfErr result (λ fault. fault ≡ Memory) }
 {
-    // The ids before index `connected` are connected. At least one id before index `end` is not.
+    // All ids before index `connected` are connected. Some id before index `end` is not connected.
     let mut connected = 0;
     let mut end = ids.len();
     while connected + 1 < end {

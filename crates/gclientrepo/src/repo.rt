@@ -104,7 +104,7 @@ impl<A: Allocator + Copy> Repo<A> {
         self.graph.format()
     }
 
-    /// Proves that every repository satisfies its invariants.
+    /// Proves that the repository satisfies its invariants.
     pub fn laws(&self)
         ensures whole { IsConnectedRepo self.now }
         ensures graph { IsGraph self.now.graph }
@@ -230,8 +230,8 @@ impl<A: Allocator + Copy> Repo<A> {
 
     /// Makes each requested update if the ref is new, or if the update is forced or a fast-forward.
     /// All updates happen at once, and all other refs are unchanged. Returns the outcome of each
-    /// requested update, in the order of the list. All outcomes depend on the refs before the call.
-    /// Before it moves any ref, the call marks every object that the new ids reach.
+    /// requested update, in the order of the list. Each outcome is determined from the refs before
+    /// the call. Before it moves any ref, the call marks every object that the new ids reach.
     ///
     /// Fails with `NotConnected` if the repository does not hold an id that the new ids reach.
     /// Otherwise fails with `Refs` if an update is for HEAD or if there would be too many refs.

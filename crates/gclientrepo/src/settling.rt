@@ -119,7 +119,7 @@ fn count_new<A: Allocator + Copy>(refs: &Refs<A>, asks: &Asks<A>) -> usize
 }
 
 // Makes one requested update if it is allowed, and returns the outcome. The outcome depends on the
-// old refs.
+// old refs, not on the updated refs.
 fn take_ask<A: Allocator + Copy>(
     graph: &Graph<A>,
     old: &Refs<A>,

@@ -1,4 +1,4 @@
--- `fetch`: the program that fetches into the repository of a file (as git-fetch(1)).
+-- `fetch`: the program that fetches into the repository that a file describes (as git-fetch(1)).
 use Rattle.std.specs.Prelude.{◌≡◌, ◌≢◌, ◌⊎◌, ℕ, ◌+◌, List, ◌∷◌, ◌++◌, length, All, Option, None, Some, Result, Ok, Err}
 use Rattle.std.specs.List.{AllZip}
 use Rattle.gpkt.specs.Packets.{Bytes}
@@ -155,7 +155,7 @@ module _ {A : Type 0} (old : Bytes) (specs : List Refspec) (limit : ℕ) (ends :
       pub unreported : IsUnwritten report
       pub none : file ≡ None
 
-    -- a fetch with the refspecs into the repository of the client's file
+    -- a fetch with the refspecs into the repository that the client's file describes
     pub record IsFetched (outcome : ProgramOutcome A) : Type 0 where
       pub repo : RepoState A
       pub names : NamesClient old repo

@@ -1,4 +1,5 @@
--- `ls --stdio-server` and `upload`: the programs that serve the repository of a file (as git-upload-pack(1)).
+-- `ls --stdio-server` and `upload`: the programs that serve the repository that a file describes (as
+-- git-upload-pack(1)).
 use Rattle.std.specs.Prelude.{◌≡◌, ℕ, ◌⊎◌, Result, Ok, Err}
 use Rattle.gpkt.specs.Packets.{Bytes}
 use Rattle.ggraph.specs.Loading.{StopsAt}

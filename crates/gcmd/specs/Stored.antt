@@ -112,7 +112,7 @@ module _ {A : Type 0} (specs : List Refspec) (limit : ℕ) (ends : Ends) (stored
       pub unwritten : IsUnwritten output
       pub unreported : IsUnwritten report
 
-    -- a fetch with the refspecs into the repository of the file
+    -- a fetch with the refspecs into the repository that the file describes
     pub record IsFetchedStored (outcome : ProgramOutcome A) : Type 0 where
       pub old : Bytes
       pub held : Holds stored.old old

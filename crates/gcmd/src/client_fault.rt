@@ -11,7 +11,7 @@ use ggraph::IndexFault;
 use gname::Oid;
 use std::alloc::Allocator;
 
-/// Returns the position of the packet at which a message was refused.
+/// Returns the position of the packet at which the client refused a message.
 pub(crate) fn frame_in_client<A: Allocator + Copy>(fault: &ClientFault<A>) -> Option<u64>
     ensures { result ≡ frame_in_client fault.now }
 {
@@ -31,8 +31,9 @@ pub(crate) fn line_in_client<A: Allocator + Copy>(fault: &ClientFault<A>) -> Opt
     }
 }
 
-/// Returns the id that the fault names: the id of a missing object, an id that two objects have,
-/// an id of another object format, or an acknowledged id that is not a have of the request.
+/// Returns the id in the fault, or `None` if the fault has no id. The object with this id is
+/// missing, conflicts with another object, or has another object format. Otherwise the server
+/// acknowledged this id, which is not a have of the request.
 pub(crate) fn id_in_client<A: Allocator + Copy>(fault: &ClientFault<A>) -> Option<Oid>
     ensures { result ≡ id_in_client fault.now }
 {

@@ -38,7 +38,7 @@ fn keep<A: Allocator + Copy>(specs: &mut Vec<Spec<A>, A>, spec: Spec<A>) -> Resu
     }
 }
 
-/// Returns the client's repository whose text is `file`, with either object format.
+/// Returns the client's repository whose text is `file`. The ids may have either object format.
 ///
 /// Fails with `Text` if the file is not the text of a repository, or has a HEAD. Otherwise fails
 /// with `Fetch` if a ref is not connected. Either fault may also report out of memory.

@@ -25,9 +25,10 @@ pub enum ProgramFault<A: Allocator + Copy = Global> {
     Memory,
     /// Fault 95: a file could not be read, locked, or replaced after a fetch.
     File,
-    /// Faults 64, 67 and 68: a file is not the text of a repository.
+    /// Faults 64, 67 and 68: a file is not the text of a repository, or memory ran out.
     Text(LoadFault),
-    /// Faults 64 and 71: the object of a ref or of HEAD is missing in the repository of a file.
+    /// Faults 64 and 71: the object of a ref or of HEAD is missing in the served repository, or
+    /// memory ran out.
     Build(BuildFault<A>),
     /// Faults 20 to 54, 64, 65, 73 and 74: a request was refused.
     Request(ServeFault),

@@ -14,8 +14,8 @@ use gpkt::{Sink, Source};
 use gserve::{ExchangeEnd, OnePack, serve_one};
 use std::alloc::Allocator;
 
-/// `gitv2 ls --stdio-server FILE`: reads one request from `input` and writes its reply to `output`,
-/// from the repository whose text is `file` (gitprotocol-v2(5), "Command Request"). No
+/// `gitv2 ls --stdio-server FILE`: reads one request from `input`, and writes the reply to `output`
+/// (gitprotocol-v2(5), "Command Request"). `file` is the text of the served repository. No
 /// advertisement precedes the reply. The request may be `ls-refs` or `fetch`. A fault is printed as
 /// one line on `errors`.
 ///

@@ -24,8 +24,8 @@ use gname::{HEAD, NameFault, OUT_OF_MEMORY, Oid};
 use gpkt::{Down, Sink, WriteFault};
 use std::alloc::Allocator;
 
-/// The maximum length in bytes of the line that reports a fault: its fixed words, a name of 32
-/// bytes, four numbers of 20 digits, and a text of 1,000 bytes.
+/// The maximum length in bytes of the line that reports a fault. The line has fixed words, a name
+/// of 32 bytes, four numbers of 20 digits, and a text of 1,000 bytes.
 const MAX_FAULT_LINE: usize = 1_145;
 
 /// The printed parts of a fault.

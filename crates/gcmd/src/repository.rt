@@ -7,7 +7,7 @@ use ganswer::Server;
 use ggraph::{Order, load};
 use std::alloc::Allocator;
 
-/// Returns the server of the repository whose text is `file`, with either object format.
+/// Returns a server for the repository whose text is `file`. The ids may have either object format.
 ///
 /// Fails with `Text` if the file is not the text of a repository in which each parent precedes its
 /// children. Otherwise fails with `Build` if the object of a ref or of a detached HEAD is missing.

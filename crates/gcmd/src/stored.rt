@@ -42,9 +42,10 @@ pub struct OpenedFile<A: Allocator + Copy = Global> {
 }
 
 /// `gitv2 fetch --stdio [--limit N] [--response-end] FILE SPEC...`: locks and reads the file, and
-/// fetches into its repository from the server at `input` and `output`. If the conversation
-/// succeeded, replaces the whole file, and then writes the report to `errors`, since `output` leads
-/// to the server. A fault is also printed as one line on `errors`. Returns the exit status.
+/// fetches from a server into the repository that the file describes. `input` and `output` are the
+/// connection to the server. If the conversation succeeds, the program replaces the whole file, and
+/// then writes the report to `errors`. A fault is also printed as one line on `errors`. Returns the
+/// exit status.
 ///
 /// The fault is `File` or `Memory` if the file can't be locked, read or replaced. Nothing is read
 /// from the input or written to the output before the file is locked and read. After every fault

@@ -14,8 +14,8 @@ use gpkt::{Sink, Source};
 use gserve::{End, OnePack, serve};
 use std::alloc::Allocator;
 
-/// `gitv2 upload [--response-end] FILE`: serves one connection from `input` to `output`, from the
-/// repository whose text is `file`. Writes the advertisement, and then the reply to each request
+/// `gitv2 upload [--response-end] FILE`: serves one connection over `input` and `output`. `file` is
+/// the text of the served repository. Writes the advertisement, and then the reply to each request
 /// (gitprotocol-v2(5), "Capability Advertisement", "Command Request"). With `Ends::Response` each
 /// reply ends with a response-end packet. A fault is printed as one line on `errors`.
 ///

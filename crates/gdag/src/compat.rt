@@ -8,7 +8,7 @@ use gname::Oid;
 use std::alloc::Allocator;
 
 impl<A: Allocator + Copy> Graph<A> {
-    /// An alias of [`Graph::position`].
+    /// Returns the position of the id, as [`Graph::position`] does.
     pub fn number(&self, id: &Oid) -> Option<usize>
         ensures { result ≡ position_of self.now.entries id.now }
     {

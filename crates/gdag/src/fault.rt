@@ -12,9 +12,10 @@ use std::fmt;
 /// The reason why a call on a graph failed.
 #[derive(Clone, Copy, Debug, PartialEq, Eq, Drop)]
 pub enum GraphFault {
-    /// The entry's `id`, or one of the entry's parents, does not have the graph's object format.
+    /// The entry with this id, or one of the entry's parents, does not have the object format of
+    /// the graph.
     OtherFormat { id: Oid },
-    /// The `id` already has a different node, in the graph or earlier in the list.
+    /// This id already has a different node, in the graph or earlier in the list.
     Conflict { id: Oid },
     /// The graph would have more than `MAX_NODES` nodes.
     TooMany,

@@ -1,4 +1,4 @@
-//! Insertion of entries into a graph. Either all entries of a list are inserted, or none of them.
+//! Inserting entries into a graph. Either all entries of a list are inserted, or none of them.
 
 ghost use Rattle.std.specs.Prelude.{◌≡◌, ◌<◌, ◌++◌, ◌∷◌, ◌↔◌, [], length, None, MatchResult, OnOk, IsTrue, All};
 ghost use Rattle.gobject.specs.Objects.{IsShaped, node_at};

@@ -12,7 +12,7 @@ pub fn limits_are_the_constants()
     ensures { MAX_NODES ≡ max_nodes }
 {}
 
-/// Proves that each entry of a graph could be appended to the entries before it.
+/// Proves that each entry of a graph meets the conditions for appending it to the earlier entries.
 pub fn entries_come_in_order<A: Allocator + Copy>()
     ensures { EntriesComeInOrder A }
 {}
@@ -46,14 +46,14 @@ pub fn reaching_goes_on<A: Allocator + Copy>()
     ensures { ReachingGoesOn A }
 {}
 
-/// Proves that a connected id stays connected, and reaches no further ids, if the graph keeps all
-/// its nodes.
+/// Proves that if a graph keeps all its nodes when it changes, a connected id stays connected and
+/// reaches no further ids.
 pub fn connected_stays_connected<A: Allocator + Copy>()
     ensures { ConnectedStaysConnected A }
 {}
 
-/// Proves that if two graphs agree and an id is connected in the second, each path from that id in
-/// the first graph is also a path in the second.
+/// Proves a law of two graphs that agree and an id that is connected in the second graph: each path
+/// from that id in the first graph is also a path in the second.
 #[tactic(auto, using(crate::proofs::Sharing::path_shared))]
 pub fn paths_are_shared<A: Allocator + Copy>()
     ensures { PathsAreShared A }
@@ -65,8 +65,8 @@ pub fn growing_keeps<A: Allocator + Copy>()
     ensures { GrowingKeeps A }
 {}
 
-/// Proves that growth is transitive: if `f` grows to `g` and `g` grows to `h`, then `f` grows to
-/// `h`.
+/// Proves that growth is transitive: if graph `f` grows to `g` and `g` grows to `h`, then `f` grows
+/// to `h`.
 #[tactic(auto, using(crate::proofs::Growing::grows_on))]
 pub fn growing_goes_on<A: Allocator + Copy>()
     ensures { GrowingGoesOn A }
@@ -115,7 +115,7 @@ pub fn peels_to_one<A: Allocator + Copy>()
     ensures { PeelsToOne A }
 {}
 
-/// Proves that peeling follows only tags, and an id reaches the commit to which it peels.
+/// Proves that peeling follows only tags, and that an id reaches the commit to which it peels.
 #[tactic(auto, using(crate::proofs::Sharing::peels_along_tags))]
 pub fn peels_along_tags<A: Allocator + Copy>()
     ensures { PeelsAlongTags A }
@@ -126,8 +126,8 @@ pub fn ordered_is_closed<A: Allocator + Copy>()
     ensures { OrderedIsClosed A }
 {}
 
-/// Proves that if each entry of a graph comes after its parents, an id of the graph reaches only
-/// ids of the graph, at the same or a lower position.
+/// Proves a law of graphs in which each entry comes after its parents: an id of the graph reaches
+/// only ids of the graph, at the same or a lower position.
 #[tactic(auto, using(crate::proofs::Ordering::reaching_down))]
 pub fn reaching_goes_down<A: Allocator + Copy>()
     ensures { ReachingGoesDown A }
@@ -175,8 +175,8 @@ pub fn keeping_has_all<A: Allocator + Copy>()
     ensures { KeepingHasAll A }
 {}
 
-/// Proves that the count of reachable ids is at least the length of any list of distinct ids that
-/// the graph contains and the tips reach.
+/// Proves that a list of distinct ids that the graph contains and the tips reach is at most as long
+/// as the count of reachable ids.
 pub fn reached_are_counted<A: Allocator + Copy>()
     ensures { ReachedAreCounted A }
 {}
@@ -188,10 +188,11 @@ pub fn counts_stay<A: Allocator + Copy>()
     ensures { CountsStay A }
 {}
 
-/// Proves that level k has exactly the ids at distance k from the tips. The distance of an id is
-/// the length of the shortest path from a tip to that id. Each step of a path leads from an object
-/// to a parent. No id occurs twice, either in one level or in two levels. All levels together have
-/// at most as many ids as there are tips and parents, so only finitely many levels have ids.
+/// Proves that level k of a search from the tips has exactly the ids at distance k from the tips.
+/// The distance of an id is the length of the shortest path from a tip to that id. Each step of a
+/// path leads from an object to a parent. No id occurs twice, either in one level or in two levels.
+/// All levels together have at most as many ids as there are tips and parents, so only finitely
+/// many levels have ids.
 pub fn levels_are_distances<A: Allocator + Copy>()
     ensures { LevelsAreDistances A }
 {}
@@ -201,21 +202,21 @@ pub fn levels_are_reached<A: Allocator + Copy>()
     ensures { LevelsAreReached A }
 {}
 
-/// Proves that the offer of at most `n` ids is unique. The ids of the offer are distinct, may be
-/// offered, and are reachable from a tip. An offer of fewer than `n` ids contains every id that may
-/// be offered and is reachable from a tip.
+/// Proves that the offer, which is the list of at most `n` ids that a client sends as haves, is
+/// unique. The ids of the offer are distinct, may be offered, and are reachable from a tip. An
+/// offer of fewer than `n` ids contains every id that may be offered and is reachable from a tip.
 #[tactic(auto, using(crate::proofs::OfferLaws::offers_are_exact))]
 pub fn offers_are_exact<A: Allocator + Copy>()
     ensures { OffersAreExact A }
 {}
 
-/// Proves that the common ids are the haves that the graph contains, each once.
+/// Proves that the common ids are exactly the haves that the graph contains, without repetition.
 pub fn commons_are_held<A: Allocator + Copy>()
     ensures { CommonsAreHeld A }
 {}
 
-/// Proves that the distinct ids of a list are its ids, each once, in the order of their first
-/// occurrences.
+/// Proves that the distinct ids of a list are the ids of the list, without repetition, in the order
+/// of their first occurrences.
 pub fn distinct_are_once()
     ensures { DistinctAreOnce }
 {}

@@ -1,4 +1,4 @@
-//! One end of a dialogue as a conversation of packets.
+//! One end of a dialogue, as a conversation of packets.
 
 ghost use Rattle.std.specs.Prelude.{◌≡◌, [], Bool, List, true};
 ghost use Rattle.gpkt.specs.Packets.{Packet, packet_of};
@@ -18,21 +18,22 @@ use std::mem;
 // The current stage of a dialogue.
 #[derive(Drop)]
 enum DialogueStage<M, R> {
-    // The dialogue is receiving a message. The number counts the packets received so far.
+    // The dialogue is receiving this message, and has received this number of its packets.
     Hears(M, u64),
     // The dialogue is sending this reply, and may continue after it.
     Says(R),
     // The dialogue is sending its last reply.
     Ends(R),
+    // The dialogue has ended.
     Over,
 }
 
 /// One end of a dialogue: a conversation of packets ([`Conversation`]).
 ///
 /// A dialogue receives one message after another, and sends the answer of its [`Side`] to each
-/// message, until a last answer. A message is refused at the first packet that its grammar rejects,
-/// if memory runs out for a packet, or if no more packets arrive. The answer to a refused message
-/// is the last answer.
+/// message. It ends after the last answer. A message is refused if its grammar rejects a packet, if
+/// memory runs out for a packet, or if no more packets arrive before its end. The answer to a
+/// refused message is the last answer.
 #[derive(Drop)]
 pub struct Dialogue<S, M, R> {
     side: S,
@@ -40,14 +41,14 @@ pub struct Dialogue<S, M, R> {
 }
 
 impl<S, M, R> Dialogue<S, M, R> {
-    /// Returns the side that conducts the dialogue.
+    /// Returns the side of the dialogue.
     pub fn side(&self) -> &S
         ensures { result.now ≡ self.now.side }
     {
         &self.side
     }
 
-    /// Returns the side in its current state.
+    /// Consumes the dialogue, and returns its side.
     pub fn into_side(self) -> S
     where
         S: Drop,

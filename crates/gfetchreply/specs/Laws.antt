@@ -24,8 +24,8 @@ HasShortEndings reading = (front : List Packet) → IsOpen (judge reading) front
 
 -- ---- reading the same packets with different parameters
 
--- Consider two readings with the same id format and the same `ends`. If a list of packets is a reply in one reading and
--- a prefix of it is a reply in the other, both lists and both replies are equal.
+-- Consider two readings with the same id format and the same `ends`. Suppose that a list of packets is a reply in one
+-- reading, and a prefix of this list is a reply in the other reading. Then both lists and both replies are equal.
 abbrev pub OneInWhateverReading : Type 0
 OneInWhateverReading =
     (reading other : Reading) (packets back : List Packet) (one also : FetchReply) → other.format ≡ reading.format
@@ -63,8 +63,8 @@ module _ {S : Type 0} (taken : S → Bytes → Type 0) where
     pub left : new ≡ rest
     pub pack : (before : Bytes) → taken old before → taken sink (before ++ pack_of reply)
 
-  -- A reply is read if the bytes begin with packets that encode it. The law does not apply if memory runs out, the
-  -- source fails, or the reader had failed before.
+  -- A reply is read if the input begins with packets that encode the reply. The law does not apply if memory runs out,
+  -- the source fails, or the reader had failed before.
   abbrev pub ReadsIntoWhereSaid : Bool → Reading → Type 0
   ReadsIntoWhereSaid refuses reading =
       (bytes new rest : Bytes) (old sink : S) (result : Result FetchHead MessageFault) (reply : FetchReply)
@@ -72,7 +72,7 @@ module _ {S : Type 0} (taken : S → Bytes → Type 0) where
       → IfErr result (λ fault. IsOfBytes fault.why) → SaysAtFront (Says reading) bytes rest reply
       → HasReadInto rest new old sink result reply
 
-  -- a reply is read only if the bytes begin with packets that encode it
+  -- a reply is read only if the input begins with packets that encode the reply
   abbrev pub ReadsIntoOnlySaid : Reading → Type 0
   ReadsIntoOnlySaid reading =
       (bytes new : Bytes) (old sink : S) (head : FetchHead)
@@ -80,8 +80,8 @@ module _ {S : Type 0} (taken : S → Bytes → Type 0) where
       → (reply : FetchReply) × SaysAtFront (Says reading) bytes new reply
       × HasReadInto new new old sink (Ok head) reply
 
-  -- A well-formed reply that was written reads back, whatever bytes follow. The law does not apply if memory runs out,
-  -- the source fails, or the reader had failed before.
+  -- A well-formed reply that was written reads back, even if other bytes follow. The law does not apply if memory runs
+  -- out, the source fails, or the reader had failed before.
   abbrev pub ReadsBackInto : Bool → Reading → Type 0
   ReadsBackInto refuses reading =
       (rest new : Bytes) (old sink : S) (result : Result FetchHead MessageFault) (reply : FetchReply)

@@ -135,7 +135,7 @@ impl Default for StreamLimit {
     }
 }
 
-/// The limit has the same number of bytes.
+/// Converts the limit, and keeps its number of bytes.
 impl From<PackLimit> for StreamLimit {
     ghost from_gives = { λ limit stream. stream ≡ limit };
 

@@ -24,10 +24,11 @@ use std::slice::Chunks;
 /// copies the ids or the pack.
 ///
 /// Fails with `Io` if the sink fails, after writing a prefix of the reply. Fails with `Failed` if
-/// the writer failed before the call. A written reply reads back
+/// the writer failed before the call. Reading the written bytes returns the same reply
 /// ([`reads_back`](crate::laws::reads_back)) under three conditions. The reader has the id format
 /// and the limits of the acknowledgments. The pack is within the reader's size limit. The field
-/// `direct` of [`FetchReading`](crate::FetchReading) is true exactly for a direct reply.
+/// `direct` of [`FetchReading`](crate::FetchReading) is true exactly if the reply has no
+/// acknowledgments.
 #[tactic(auto, unfolding(crate::specs::FetchReplies::canonical_reply))]
 pub fn write_fetch_reply<A: Allocator + Copy, W: Sink>(
     reply: &FetchReply<A>,
@@ -101,7 +102,7 @@ fn write_pack<W: Sink>(
     write_end(ends, writer)
 }
 
-// Writes the bytes of the pack on band 1, in pieces of the maximum size.
+// Writes the bytes of the pack on side band 1, in pieces of the maximum size.
 fn write_pieces<W: Sink>(pack: &[u8], writer: &mut PacketWriter<W>) -> Result<(), WriteFault>
     ensures { WritesPart W.contents W.passed_on W.is_down W.loans writer.old writer.new result
         (map data_packet (pieces pack.now)) }

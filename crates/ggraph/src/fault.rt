@@ -14,11 +14,11 @@ use std::fmt;
 /// The reason why a repository text was not loaded.
 #[derive(Clone, Copy, Debug, PartialEq, Eq, Drop)]
 pub enum LoadFault {
-    /// `line` is the number of the first line that is malformed, exceeds a limit or is missing.
-    /// Lines are counted from 1.
+    /// A line is malformed, exceeds a limit or is missing. `line` is the number of the first wrong
+    /// line, counted from 1.
     Text { line: usize },
-    /// `line` is the number of the first line with a parent that is not on an earlier line. Lines
-    /// are counted from 1.
+    /// A parent of a node is not on an earlier line. `line` is the number of the first line with a
+    /// later or missing parent, counted from 1.
     ParentLater { line: usize },
     /// Out of memory.
     Memory,
@@ -87,7 +87,8 @@ impl<T: Drop> From<AllocFailed<T>> for LoadFault {
 /// The reason why a repository was not saved.
 #[derive(Clone, Copy, Debug, PartialEq, Eq, Drop)]
 pub enum SaveFault {
-    /// The `id` is the first id of a ref or of `HEAD` that does not have the graph's object format.
+    /// A ref or `HEAD` has an id that does not have the graph's object format. `id` is the first
+    /// wrong id.
     OtherFormat { id: Oid },
     /// Out of memory.
     Memory,

@@ -8,7 +8,7 @@ use crate::text::text_laws;
 use gdag::laws::connected_stays_connected;
 use std::alloc::Allocator;
 
-/// Proves that connected refs stay connected when the graph keeps all its nodes.
+/// Proves that connected refs stay connected when the graph changes but keeps all its nodes.
 pub fn connected_refs_stay<A: Allocator + Copy>()
     ensures { ConnectedRefsStay A }
 {

@@ -34,8 +34,9 @@
 //!
 //! # Dependencies
 //!
-//! The crate uses `gobject`, `gdag` and `grefs` for the contents of a repository, `gname` for ids
-//! and names, `memchr` for the ends of lines, and `gwalk` to search for missing ancestors of refs.
+//! The crate uses `gobject`, `gdag` and `grefs` for the contents of a repository, and `gname` for
+//! ids and names. The crate uses `memchr` to find the ends of lines, and `gwalk` to search for
+//! missing ancestors of refs.
 #![tactic(auto)]
 
 mod connected_refs;

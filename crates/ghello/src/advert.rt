@@ -38,7 +38,7 @@ const VERSION: &[u8] = b"version 2";
 // The maximum length of a capability's text in bytes: a key, `=` and a value.
 const MAX_TEXT: usize = 2_001;
 
-// The commands that a client requires of a server.
+// The commands that a client needs a server to support.
 const LS_REFS: &[u8] = b"ls-refs";
 
 const FETCH: &[u8] = b"fetch";
@@ -186,25 +186,25 @@ impl<A: Allocator + Copy> Advert<A> {
         self.capabilities.is_empty()
     }
 
-    /// Returns the capability at a position, counted from 0, or `None` after the last capability.
+    /// Returns the capability at index `place`, or `None` after the last capability.
     pub fn at(&self, place: usize) -> Option<Capability<'_>>
         ensures capability { option_map capability_view result ≡ slice_get self.now place }
         ensures form { AreCapabilities self.now }
     {
-        let kept = self.capabilities.get(place)?;
-        Some(kept.as_capability())
+        let capability = self.capabilities.get(place)?;
+        Some(capability.as_capability())
     }
 
     /// Returns the first capability with this key, or `None` if no capability has the key.
     pub fn value_of(&self, key: &[u8]) -> Option<Capability<'_>>
         ensures { option_map capability_view result ≡ first_with key.now self.now }
     {
-        first_with(key, self.capabilities.as_slice()).map(|kept| kept.as_capability())
+        first_with(key, self.capabilities.as_slice()).map(|capability| capability.as_capability())
     }
 
     /// Returns whether the value of the first capability with this key contains `word` as one of
     /// its space-separated words. For example, a server can report an unborn `HEAD` if the value of
-    /// its `ls-refs` contains `unborn` (gitprotocol-v2(5), "ls-refs").
+    /// its `ls-refs` capability contains `unborn` (gitprotocol-v2(5), "ls-refs").
     pub fn has_feature(&self, key: &[u8], word: &[u8]) -> bool
         ensures { result ≡ has_feature key.now word.now self.now }
     {
@@ -214,9 +214,10 @@ impl<A: Allocator + Copy> Advert<A> {
         }
     }
 
-    /// Returns the format of the server's ids. The first `object-format` names the format. Without
-    /// `object-format`, the format is SHA-1 (gitprotocol-v2(5), "object-format"). Returns `None` if
-    /// the first `object-format` names neither SHA-1 nor SHA-256.
+    /// Returns the format of the server's ids. The value of the first `object-format` capability
+    /// names the format. Without this capability, the format is SHA-1 (gitprotocol-v2(5),
+    /// "object-format"). Returns `None` if the first `object-format` names neither SHA-1 nor
+    /// SHA-256.
     pub fn format(&self) -> Option<Format>
         ensures { IsFormatOf self.now result }
     {
@@ -265,7 +266,7 @@ impl<A: Allocator + Copy> Advert<A> {
     fn has_key(&self, key: &[u8]) -> bool
         ensures { result ≡ list_any (has_key key.now) self.now }
     {
-        self.capabilities.iter().any(|kept| kept.has_key(key))
+        self.capabilities.iter().any(|capability| capability.has_key(key))
     }
 
     // Returns whether the server's ids have the given format. A server without `object-format` has
@@ -306,9 +307,9 @@ fn first_with<'a, A: Allocator + Copy>(
 ) -> Option<&'a OwnedCapability<A>>
     ensures { option_copied result ≡ first_with key.now capabilities.now }
 {
-    for kept in capabilities {
-        if kept.has_key(key) {
-            return Some(kept);
+    for capability in capabilities {
+        if capability.has_key(key) {
+            return Some(capability);
         }
     }
     None
@@ -341,7 +342,7 @@ fn is_value_or_none(value: Option<&[u8]>) -> bool
     }
 }
 
-/// Reads an advertisement exactly to the end of its flush.
+/// Reads an advertisement up to and including its flush, and nothing after it.
 ///
 /// The fault states the position of the refused packet, counted from 0. A fault of the packet
 /// reader takes precedence over the end of the input, which takes precedence over an error that the
@@ -366,8 +367,8 @@ pub fn read_advert<S: Source, A: Allocator + Copy, B: Allocator + Copy>(
 }
 
 /// Writes an advertisement: the version, the capabilities in order, and a flush. A reader of the
-/// bytes returns the same advertisement ([`reads_back`](crate::laws::reads_back)). Allocates
-/// nothing.
+/// written bytes returns the same advertisement ([`reads_back`](crate::laws::reads_back)).
+/// Allocates nothing.
 ///
 /// Fails with `Io` if the sink fails; a prefix of the advertisement may then have been written.
 /// Fails with `Failed` if the writer had failed before.
@@ -415,13 +416,13 @@ fn write_capabilities<A: Allocator + Copy, W: Sink>(
 {
     // Laws.
     writes_packets::<W>();
-    for kept in capabilities {
-        kept.write(writer)?;
+    for capability in capabilities {
+        capability.write(writer)?;
     }
     Ok(())
 }
 
-// The state of reading an advertisement.
+// An advertisement that is being read.
 #[derive(Drop)]
 struct AdvertReader<A: Allocator + Copy> {
     has_version: bool,
@@ -474,8 +475,8 @@ impl<A: Allocator + Copy> AdvertReader<A> {
             ++ added_by self.old.has_version (Data payload.now)))
             result }
     {
-        if let Some(said) = peer_error(payload) {
-            return Err(Why::RemoteErr(PeerText::new(said)));
+        if let Some(error) = peer_error(payload) {
+            return Err(Why::RemoteErr(PeerText::new(error)));
         }
         let text = text_of(payload);
         if self.has_version {

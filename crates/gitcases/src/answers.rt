@@ -17,11 +17,11 @@ use std::rt::Files;
 /// The text for a success.
 pub(crate) const SUCCESS: &str = "ok";
 
-/// The text for a memory fault.
+/// The text for an out-of-memory fault.
 pub(crate) const OUT_OF_MEMORY: &str = "out of memory";
 
-/// The inputs of one test run: the check, the pack and the files of the store. After
-/// `calls_before_replacement` calls, `replacement_files` replace the files of the store.
+/// The inputs of one test run: the check, the pack and the files of the store. `replacement_files`
+/// replace `files` after `calls_before_replacement` calls.
 #[derive(Clone, Copy)]
 pub(crate) struct RunInputs<'t, 'a> {
     pub(crate) row: &'t Row<'a>,
@@ -79,8 +79,8 @@ fn index_result<A: Allocator + Copy>(
     }
 }
 
-// Returns `ok` and the number of objects in the index if the index holds all the ids, otherwise an
-// error text.
+// Returns `ok` and the number of objects in the index. Returns an error text if an id is not in the
+// index.
 fn format_index<A: Allocator + Copy>(
     alloc: Global,
     index: &IndexedPack<A>,

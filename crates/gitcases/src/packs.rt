@@ -1,4 +1,4 @@
-//! Packs, valid or not, that lines of a test file describe (gitformat-pack(5)).
+//! Valid and invalid packs that lines of a test file describe (gitformat-pack(5)).
 
 use crate::deltas::low_bits;
 use crate::names::NamedObject;
@@ -8,9 +8,10 @@ use gzlib::{Deflater, crc32_of, put_stored};
 use sha1::Sha1;
 use std::alloc::Global;
 
-/// The lengths in bytes of a pack's header and of its trailer.
+/// The length in bytes of a pack's header.
 pub(crate) const HEADER: usize = 12;
 
+/// The length in bytes of a pack's trailer.
 pub(crate) const TRAILER: usize = 20;
 
 // The type numbers of deltas in a pack.
@@ -31,7 +32,6 @@ pub(crate) struct Pack<'a> {
 }
 
 impl<'a> Pack<'a> {
-    /// Returns a pack without entries.
     pub(crate) fn new(alloc: Global, name: &'a str) -> Pack<'a> {
         Pack {
             name,
@@ -53,7 +53,6 @@ impl<'a> Pack<'a> {
         self.count = Some(count);
     }
 
-    /// Replaces the trailer of the pack.
     pub(crate) fn set_trailer(&mut self, bytes: Vec<u8>) {
         self.trailer = Some(bytes);
     }
@@ -117,8 +116,8 @@ impl<'a> Pack<'a> {
     /// before it.
     pub(crate) fn distance_of(&self, back: usize) -> Result<usize, Trouble> {
         let next = self.entry_bytes.len().saturating_add(HEADER);
-        let place = self.entry_offsets.len().wrapping_sub(back);
-        match self.entry_offsets.get(place) {
+        let index = self.entry_offsets.len().wrapping_sub(back);
+        match self.entry_offsets.get(index) {
             Some(start) => Ok(next.saturating_sub(*start)),
             None => Err(Trouble::InvalidNumber),
         }
@@ -135,14 +134,14 @@ impl<'a> Pack<'a> {
                 break;
             }
             rest = rest.wrapping_sub(1);
-            let place = first.min(self.entry_bytes.len());
-            self.entry_bytes.insert(place, low_bits(rest) | 0x80)?;
+            let index = first.min(self.entry_bytes.len());
+            self.entry_bytes.insert(index, low_bits(rest) | 0x80)?;
             rest >>= 7;
         }
         Ok(())
     }
 
-    /// Appends a delta that names its base by id, as a zlib stream of stored blocks.
+    /// Appends a ref delta as a zlib stream of stored blocks. The entry names the base by its id.
     pub(crate) fn put_ref_delta(
         &mut self,
         base: &NamedObject<'_>,
@@ -153,7 +152,6 @@ impl<'a> Pack<'a> {
         Ok(put_stored(&mut self.entry_bytes, delta)?)
     }
 
-    /// Returns all bytes of the pack.
     pub(crate) fn bytes(&self, alloc: Global) -> Result<Vec<u8>, Trouble> {
         let mut bytes = Vec::new(alloc);
         match &self.magic {
@@ -176,10 +174,10 @@ impl<'a> Pack<'a> {
 
     /// Returns the offset and the CRC-32 of the entry with this number, counted from 1.
     pub(crate) fn offset_and_crc(&self, number: usize) -> Result<(usize, u32), Trouble> {
-        let Some(place) = number.checked_sub(1) else {
+        let Some(index) = number.checked_sub(1) else {
             return Err(Trouble::InvalidNumber);
         };
-        let Some(start) = self.entry_offsets.get(place).copied() else {
+        let Some(start) = self.entry_offsets.get(index).copied() else {
             return Err(Trouble::InvalidNumber);
         };
         let end = match self.entry_offsets.get(number) {

@@ -10,10 +10,10 @@ use crate::trouble::Trouble;
 use case_text::RefusingAllocator;
 use std::rt::Files;
 
-// The eight bits of a byte.
+// The masks of the eight bits of a byte.
 const BITS: [u8; 8] = [1, 2, 4, 8, 16, 32, 64, 128];
 
-// An upper bound on the number of allocations in a run.
+// An exclusive upper bound on the number of the refused allocation.
 const MAX_REFUSED: u64 = 100_000;
 
 // An exclusive upper bound on the number of calls before the files are replaced.
@@ -44,7 +44,6 @@ pub(crate) fn test_row<R: Files + Print + AllocGlobal>(
     Ok(())
 }
 
-// Tests a call with each `Variation`.
 fn test_all_variations<R: Files + Print + AllocGlobal>(
     rt: &R,
     inputs: RunInputs<'_, '_>,
@@ -65,7 +64,6 @@ fn test_all_variations<R: Files + Print + AllocGlobal>(
     }
 }
 
-// Tests a call with one run.
 fn test_once<R: Files + Print + AllocGlobal>(
     rt: &R,
     inputs: RunInputs<'_, '_>,
@@ -119,7 +117,7 @@ fn is_right(inputs: RunInputs<'_, '_>, variation: Variation, actual_result: &str
     }
 }
 
-// Returns whether a result is the expected one, or one of the row's further results.
+// Returns whether a result is the expected result, or one of the row's further results.
 fn is_allowed_result(inputs: RunInputs<'_, '_>, actual_result: &str) -> bool {
     for expected in &inputs.row.other_results {
         if expected.as_slice() == actual_result.as_bytes() {
@@ -207,7 +205,8 @@ fn test_truncated_pack<R: Files + Print + AllocGlobal>(
     )
 }
 
-// Tests a pack with each bit of a byte flipped, with the old trailer and with a correct trailer.
+// Tests a pack with each bit of one byte flipped, first with the old trailer and then with a
+// correct trailer.
 fn test_flipped_bits<R: Files + Print + AllocGlobal>(
     rt: &R,
     inputs: RunInputs<'_, '_>,
@@ -274,8 +273,8 @@ fn test_changed_files<R: Files + Print + AllocGlobal>(
     Ok(())
 }
 
-// Tests a store with each bit of a byte flipped. Each result must be a fault, or a result that the
-// row allows.
+// Tests a store with each bit of one byte flipped. Each result must be a fault, or a result that
+// the row allows.
 fn test_flipped_file_bits<R: Files + Print + AllocGlobal>(
     rt: &R,
     inputs: RunInputs<'_, '_>,

@@ -1,4 +1,4 @@
-//! Commit-graphs of one or more files.
+//! A commit-graph of one or more files.
 
 ghost use Rattle.std.specs.Prelude.{◌≡◌, ◌==◌, ◌<◌, ◌≤◌, [], All, IfErr, IfOk, IfSome, MatchOption, OnErr, OnOk, length};
 ghost use Rattle.std.specs.List.{HoldsAt};
@@ -167,7 +167,7 @@ fn layer_at<A: Allocator + Copy>(layers: &[Layer<A>], position: usize) -> (&Laye
 }
 
 // Returns the file that has the commit at this position, and the index of the commit in the file.
-// Returns `None` for a position past the last commit.
+// Returns `None` if there is no commit at the position.
 fn find_layer<A: Allocator + Copy>(
     layers: &[Layer<A>],
     position: usize,

@@ -1,16 +1,17 @@
-//! The pieces of the text of a value.
+//! The pieces of an encoded value: bytes, blanks, quotes and line continuations.
 
 ghost use Rattle.std.specs.Prelude.{◌≡◌, ◌∷◌, ◌<◌, Bool, IfSome, length};
 ghost use Rattle.gitconfig.specs.Values.{BeginsWithPiece};
 
 use crate::bytes::is_blank;
 
-/// A piece of the text of a value.
+/// A piece of an encoded value.
 #[derive(Clone, Copy, Debug)]
 pub(crate) enum Piece {
     /// A byte of the value.
     Byte(u8),
-    /// A blank outside quotes: a byte of the value, unless the blank is at either end of the value.
+    /// A blank outside quotes, which is a byte of the value unless it is at either end of the
+    /// value.
     Blank(u8),
     /// A quote.
     Quote,

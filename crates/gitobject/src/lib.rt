@@ -1,5 +1,5 @@
-//! The objects of a Git repository as bytes in memory: their types, ids and links, and the text of
-//! a loose object. This crate does not read files or packs.
+//! The objects of a Git repository as bytes in memory: their types, ids and links, and the inflated
+//! contents of loose object files. This crate does not read files or packs.
 //!
 //! # Proved
 //!
@@ -14,7 +14,7 @@
 //! - A link consists of an id, and the type that the object with that id must have. In a tree, the
 //!   file type in the mode of an entry decides the type of the link. A directory links to a tree. A
 //!   file or a symbolic link links to a blob. A gitlink names a commit of another repository, and
-//!   is not a link.
+//!   has no link.
 //! - [`split_loose`] accepts exactly the texts that encode an object.
 //! - An object has at most one list of links, and a text encodes at most one object of fewer than
 //!   2^64 bytes (see [`laws`]).

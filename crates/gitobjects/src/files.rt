@@ -31,18 +31,19 @@ pub trait OpenPack {
         ensures bytes { bytes self.new ≡ bytes self.old };
 }
 
-/// The time of the last change of the names in a folder. Times are compared only for equality.
+/// The time of the last change of the names in a folder, and the inode number of the folder. Two
+/// values are compared only for equality.
 #[derive(Clone, Copy, Debug, PartialEq, Eq)]
 pub struct FolderTime {
-    /// The seconds since 1970.
+    /// The number of full seconds since 1970.
     pub seconds: i64,
-    /// The nanoseconds since the last full second.
+    /// The number of nanoseconds since the last full second.
     pub nanoseconds: i64,
     /// The inode number of the folder.
     pub folder: u64,
 }
 
-/// Access to the files of a Git directory that hold objects.
+/// Access to the object files of a Git directory.
 pub trait ObjectFiles {
     /// An open pack.
     type Pack: OpenPack + Drop;
@@ -77,8 +78,8 @@ pub trait ObjectFiles {
         path: &str,
     ) -> Result<Option<String<A>>, Cause>;
 
-    /// Opens a pack, and returns it with its length, or `None` if there is no such file. Fails with
-    /// `Open` if the system refuses the call.
+    /// Opens a pack or an index, and returns the open file and its length. Returns `None` if there
+    /// is no such file. Fails with `Open` if the system refuses the call.
     fn open_pack(&self, path: &str) -> Result<Option<(Self::Pack, usize)>, Cause>;
 
     /// Returns the time of the last change of the names in a folder, or `None` if there is no such

@@ -79,7 +79,7 @@ pub(crate) fn loose_kind<A: Allocator + Copy>(
     }
 }
 
-// Returns the type whose name, followed by a space, begins the text.
+// Returns the type whose name and a space begin the text, or `None` if there is no such type.
 fn kind_in(text: &[u8]) -> Option<ObjectType>
     ensures { MatchOption result ((kind : ObjectType) → ¬ (BeginsAsObject text.now kind))
         (BeginsAsObject text.now) }

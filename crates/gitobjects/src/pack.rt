@@ -1,4 +1,4 @@
-//! A pack and its index. The whole index is in memory, but only blocks of the pack are.
+//! A pack and its index. The whole index is in memory, but only some blocks of the pack.
 
 use crate::entry::RawEntry;
 use crate::fault::{Cause, StoreFault, fault_at};
@@ -22,7 +22,7 @@ pub(crate) struct PackFile<A: Allocator + Copy> {
     path: String<A>,
     index: PackIndex<A>,
     order: EntryOrder<A>,
-    // The number of the pack in the window.
+    // The number of the pack in the `Window`.
     number: usize,
 }
 
@@ -78,7 +78,7 @@ fn read_index<F: ObjectFiles, A: Allocator + Copy>(
 }
 
 // Opens the pack of an index. Returns the number of the pack in the window, and its entries in pack
-// order.
+// order. Returns `None` if the pack is missing.
 fn open_entries<F: ObjectFiles, A: Allocator + Copy>(
     files: &F,
     alloc: A,
@@ -137,7 +137,7 @@ impl<A: Allocator + Copy> PackFile<A> {
         self.path.as_str()
     }
 
-    /// Returns the index.
+    /// Returns the index of the pack.
     pub(crate) fn index(&self) -> &PackIndex<A> {
         &self.index
     }
@@ -222,8 +222,8 @@ impl<A: Allocator + Copy> PackFile<A> {
         }
     }
 
-    // Converts the form of the entry at this offset to a `LocalForm`, which names the base of a
-    // delta by offset.
+    // Converts the form of the entry at offset `start` to a `LocalForm`, which identifies the base
+    // of a delta by its offset.
     fn local_form(&self, start: usize, form: EntryForm) -> Result<LocalForm, Cause> {
         let base = match form {
             EntryForm::Whole(kind) => return Ok(LocalForm::Whole(kind)),

@@ -45,7 +45,12 @@ impl<'f, F: ObjectFiles, A: Allocator + Copy> QuickReader<'f, F, A> {
         let folders = object_folders(files, alloc, own.as_str())?;
         let mut packs = Vec::new(alloc);
         for folder in &folders {
-            let _listed = or_unknown(add_packs(files, alloc, folder.packs.as_str(), &mut packs))?;
+            let _listed = or_unknown(add_packs(
+                files,
+                alloc,
+                folder.pack_folder.as_str(),
+                &mut packs,
+            ))?;
         }
         let inflater = Box::new(alloc, Inflater::new())?;
         Ok(QuickReader {
@@ -151,7 +156,6 @@ impl<'f, F: ObjectFiles, A: Allocator + Copy> QuickReader<'f, F, A> {
     }
 }
 
-// Opens the packs of a folder.
 fn add_packs<F: ObjectFiles, A: Allocator + Copy>(
     files: &F,
     alloc: A,

@@ -23,7 +23,7 @@ impl<'r, R: Files> StoredFiles<'r, R> {
     }
 }
 
-/// An open pack.
+/// An open pack or index file.
 #[derive(Drop)]
 pub struct StoredPack<H: Read + Seek + Drop> {
     file: H,
@@ -71,7 +71,7 @@ fn read_bytes<H: Read, A: Allocator + Copy>(
     }
 }
 
-// Returns whether the error means that there is no such file.
+// Returns whether an error of this kind means that there is no such file.
 fn is_missing(kind: ErrorKind) -> bool {
     kind == ErrorKind::NotFound || kind == ErrorKind::NotADirectory
 }
@@ -104,10 +104,10 @@ fn open_file<R: Files>(files: &R, path: &str) -> Result<Option<(R::File, usize)>
     }
 }
 
-// The maximum number of bytes that one read of a folder's names returns, and the maximum number of
-// such reads.
+// The maximum number of bytes that one read of the names in a folder returns.
 const PART: usize = 16_384;
 
+// The maximum number of reads of the names in a folder.
 const MAX_PARTS: usize = MAX_NAMES / 256;
 
 // Returns the names of all files in an open folder.

@@ -40,7 +40,7 @@ pub record HasText (index : Index) : Type 0 where
 abbrev pub index_header : List ℕ
 index_header = 255 ∷ (codes "tOc" ++ to_be_bytes w32 2)
 
--- whether the first byte of an entry's id is at most this byte
+-- whether the first byte of an entry's id is at most `byte`
 abbrev pub begins_within : ℕ → IndexEntry → Bool
 begins_within byte e = nat_le (slice_index e.id 0) byte
 
@@ -60,7 +60,7 @@ id_bytes e = e.id
 abbrev pub crc_bytes : IndexEntry → List ℕ
 crc_bytes e = to_be_bytes w32 e.crc
 
--- whether the offset of an entry fits in 31 bits, so that it is in the table of 32-bit offsets
+-- whether the offset of an entry fits in 31 bits, and so is stored in the table of 32-bit offsets
 abbrev pub is_short : IndexEntry → Bool
 is_short e = nat_lt e.offset 2147483648
 

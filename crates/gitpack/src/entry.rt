@@ -15,14 +15,16 @@ pub const MAX_HEAD: usize = 29;
 // The maximum encoded length of the type and the size in an entry header.
 const MAX_TYPE_AND_SIZE: usize = 9;
 
-// The number of values of the low four bits of the first byte, which belong to the size.
+// The number of values of the low four bits of the first byte. These bits are part of the size.
 const LOW_SIZES: u8 = 16;
 
+// The number of values of the three bits of a type number.
 const TYPES: u8 = 8;
 
 // The type number of an offset delta (gitformat-pack(5), "Object types").
 pub(crate) const OFFSET_DELTA: u8 = 6;
 
+// The type number of a ref delta.
 pub(crate) const REF_DELTA: u8 = 7;
 
 /// The type of a pack entry (gitformat-pack(5), "Object types").
@@ -36,7 +38,7 @@ pub enum EntryForm {
     RefDelta(Oid),
 }
 
-/// The header of a pack entry, which precedes the zlib stream.
+/// The header of a pack entry. The zlib stream of the entry follows its header.
 #[derive(Clone, Copy, Debug, Drop)]
 pub struct EntryHead {
     /// The type of the entry.

@@ -46,8 +46,8 @@ impl<S: Spool + Drop, A: Allocator + Copy> IncomingPack<S, A> {
     }
 
     /// Adds the next bytes of the pack. The visitor receives each undeltified object that is
-    /// inflated in this call. Faults of the pack or of the visitor are reported by `finish`. After
-    /// such a fault, the remaining bytes are still appended to the spool.
+    /// inflated in this call. Faults of the pack or of the visitor are reported by `finish`. Bytes
+    /// that arrive after such a fault are still appended to the spool.
     ///
     /// Fails if the spool fails, or with `Memory` if out of memory. After a fault, the pack is
     /// unusable.
@@ -61,7 +61,7 @@ impl<S: Spool + Drop, A: Allocator + Copy> IncomingPack<S, A> {
         self.bytes.push(piece)?;
         let end = match self.bytes.head() {
             PackHead::Unread => 0,
-            PackHead::Count(count) => self.scanner.scan_more(count, self.bytes.part(), visitor),
+            PackHead::Count(count) => self.scanner.scan(count, self.bytes.part(), visitor),
             PackHead::Wrong => usize::MAX,
         };
         self.bytes.release(end);

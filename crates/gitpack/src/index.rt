@@ -12,8 +12,7 @@ use gname::Oid;
 use std::alloc::{AllocError, Allocator};
 use std::marker::Model;
 
-// The maximum number of entries of an index, because positions in the table of 64-bit offsets have
-// 31 bits.
+// The maximum number of entries of an index. Positions in the table of 64-bit offsets have 31 bits.
 pub(crate) const MAX_ENTRIES: usize = 0x7fff_ffff;
 
 /// An entry of the pack index.
@@ -159,9 +158,9 @@ impl<A: Allocator + Copy> PackIndex<A> {
     }
 }
 
-// Searches for an id by its first eight bytes, and returns the position of its entry. The search is
-// quick, since it reads only a small part of `fronts`. If two ids begin with the same eight bytes,
-// the search can miss an entry.
+// Searches for an id by its first eight bytes, and returns the position of its entry. The search
+// reads only a small part of `fronts`. If two ids begin with the same eight bytes, the search can
+// miss an entry.
 fn find_front(entries: &[IndexEntry], fronts: &[u64], ends: &[u32; 256], id: &Oid) -> Option<usize>
     ensures { IfSome result (HoldsAt (λ e. e.id ≡ id.now) entries.now) }
 {

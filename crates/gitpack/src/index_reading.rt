@@ -9,7 +9,7 @@ use crate::index::{IndexEntry, MAX_ENTRIES};
 use gitobject::{ID_BYTES, id_of_bytes};
 use std::alloc::{AllocError, Allocator};
 
-// The offset of the last number in the fan-out table, which counts all ids.
+// The offset in the index of the last number of the fan-out table. This number counts all ids.
 const COUNT: usize = 1_028;
 
 // The bit that marks a position in the table of 64-bit offsets.
@@ -25,8 +25,8 @@ struct Tables<'a> {
 }
 
 /// Returns the entries of a pack index, or `None` if there are too few bytes or at least 2^31
-/// entries. The argument `bytes` is the index without its two checksums. The signature, the fan-out
-/// table and the order of the ids are not checked.
+/// entries. `bytes` is the index without its two checksums. The signature, the fan-out table and
+/// the order of the ids are not checked.
 ///
 /// Fails only if out of memory.
 pub(crate) fn read_entries<A: Allocator + Copy>(

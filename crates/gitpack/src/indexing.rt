@@ -17,7 +17,7 @@ use gname::Oid;
 use std::alloc::{AllocError, Allocator};
 use std::marker::Model;
 
-// The length of the pieces in which a pack in one slice is fed, 1 MiB.
+// The length of the pieces into which `index_pack` splits a pack, 1 MiB.
 const PIECE: usize = 1_048_576;
 
 /// A receiver of the objects of a pack.
@@ -186,7 +186,7 @@ pub fn index_pack<A: Allocator + Copy, V: ObjectVisitor>(
     Ok(index)
 }
 
-// Feeds a pack in pieces, so that scanned pieces are not kept in memory.
+// Feeds a pack in pieces. The pieces that are already scanned do not stay in memory.
 fn feed_all<S: Spool + Drop, A: Allocator + Copy, V: ObjectVisitor>(
     incoming: &mut IncomingPack<S, A>,
     pack: &[u8],

@@ -17,14 +17,13 @@ pub enum SpoolFault {
     File(ErrorKind),
 }
 
-/// A spool stores the bytes of a pack while the pack arrives. Stored bytes can be read in any
-/// order.
+/// A store for the bytes of a pack while the pack arrives. Stored bytes can be read in any order.
 pub trait Spool {
     // All appended bytes.
     ghost bytes: { Self → List ℕ };
 
-    // Whether the contracts describe the bytes that are read back. No contract can describe the
-    // contents of a system file.
+    // Whether the contract of `read_at` describes the bytes that are read. No contract can describe
+    // the contents of a system file.
     ghost is_known: { Bool };
 
     /// Appends bytes. Fails with `File` if the system refuses a call, or with `Memory` if out of
@@ -41,7 +40,7 @@ pub trait Spool {
             (IsTrue is_known → length (bytes self.now) < start + length buffer.old) };
 }
 
-/// A vector stores the bytes in memory. Appending fails only if out of memory.
+/// A spool in memory. Appending fails only if out of memory.
 impl<A: Allocator + Copy> Spool for Vec<u8, A> {
     ghost bytes = { λ spool. spool.items };
 

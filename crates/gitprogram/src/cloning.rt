@@ -1,4 +1,5 @@
-//! `gitrepo clone`: a bare repository with the branches and tags of a server.
+//! The command `gitrepo clone`, which makes a bare repository with the branches and tags of a
+//! server.
 
 ghost use Rattle.std.specs.Prelude.{◌≡◌, true, IfOk, Some};
 ghost use Rattle.gitprogram.specs.Heads.{IsHead, IsListedHead, IsSymrefOf, IsUnbornHead, default_branch, is_branch};
@@ -41,7 +42,7 @@ const BRANCHES: &[u8] = b"refs/heads/";
 // The branch for HEAD if the server does not report its HEAD.
 const DEFAULT_BRANCH: &[u8] = b"refs/heads/main";
 
-// The HEAD of a server.
+// The HEAD for the clone of a server.
 #[derive(Drop)]
 enum ServerHead {
     // A HEAD that points at this branch, which may be unborn.
@@ -50,37 +51,37 @@ enum ServerHead {
     Detached,
 }
 
-// The HEAD of a server, and the ids of its refs.
+// The HEAD for the clone of a server, and the ids of the server's refs.
 #[derive(Drop)]
-struct Source {
+struct ServerRefs {
     head: ServerHead,
     tips: Tips<Global>,
 }
 
 /// Clones a server's repository into a new or empty directory, as a bare repository. A failed clone
 /// removes all files that it created.
-pub(crate) fn clone_remote<R, E>(rt: &R, asked: &CloneArgs<'_>, errors: &mut E) -> Result<(), Fault>
+pub(crate) fn clone_remote<R, E>(rt: &R, args: &CloneArgs<'_>, errors: &mut E) -> Result<(), Fault>
 where
     R: Files + AllocGlobal + Net,
     E: Write + IsTerminal,
 {
-    check_vacant(rt, asked.dir)?;
-    let remote = Remote::new(rt.alloc(), &asked.url)?;
-    let source = source_of(rt, &remote)?;
-    let mut progress = progress_of(rt.alloc(), asked.verbosity, errors);
-    let outcome = clone_source(rt, asked.dir, &remote, &source, &mut progress);
+    check_vacant(rt, args.dir)?;
+    let remote = Remote::new(rt.alloc(), &args.url)?;
+    let server = server_refs_of(rt, &remote)?;
+    let mut progress = progress_of(rt.alloc(), args.verbosity, errors);
+    let outcome = clone_server(rt, args.dir, &remote, &server, &mut progress);
     progress.finish();
     outcome
 }
 
-// Returns the server's HEAD and the ids of its refs. The names of the refs can use much memory, so
-// this function drops them. The fetch lists the refs again.
-fn source_of<R: AllocGlobal + Net>(rt: &R, remote: &Remote) -> Result<Source, Fault> {
+// Returns the HEAD for the clone, and the ids of the server's refs. The names of the refs can use
+// much memory, so this function drops them. The fetch lists the refs again.
+fn server_refs_of<R: AllocGlobal + Net>(rt: &R, remote: &Remote) -> Result<ServerRefs, Fault> {
     let alloc = rt.alloc();
     let listed = list(rt, remote)?;
     let head = head_of(alloc, &listed)?;
     let tips = tips_of(alloc, &listed)?;
-    Ok(Source { head, tips })
+    Ok(ServerRefs { head, tips })
 }
 
 // Lists HEAD, the branches and the tags of the server.
@@ -138,7 +139,7 @@ fn push_spec(alloc: Global, specs: &mut Vec<Spec>, text: &[u8]) -> Result<(), Fa
     }
 }
 
-// Returns the server's HEAD, according to the server's reply to ls-refs.
+// Returns the HEAD for the clone, given the server's reply to ls-refs.
 fn head_of(alloc: Global, reply: &LsReply<Global>) -> Result<ServerHead, Fault>
     ensures { IfOk result (IsHead reply.now.unborn reply.now.lines) }
 {
@@ -159,7 +160,7 @@ fn unborn_head(alloc: Global, name: &RefName<Global>) -> Result<ServerHead, Faul
     }
 }
 
-// Returns the server's HEAD according to the first line of the reply. If HEAD is not in the first
+// Returns the HEAD for the clone, given the first line of the reply. If HEAD is not in the first
 // line, the result points at the default branch.
 fn listed_head(alloc: Global, reply: &LsReply<Global>) -> Result<ServerHead, Fault>
     ensures { IfOk result (IsListedHead reply.now.lines) }
@@ -222,11 +223,11 @@ fn default_target(alloc: Global) -> Result<Target<Global>, Fault>
 }
 
 // Creates the repository, and fetches the server's refs into it.
-fn clone_source<R, E>(
+fn clone_server<R, E>(
     rt: &R,
     dir: &str,
     remote: &Remote,
-    source: &Source,
+    server: &ServerRefs,
     progress: &mut Progress<'_, E>,
 ) -> Result<(), Fault>
 where
@@ -234,7 +235,7 @@ where
     E: Write,
 {
     let alloc = rt.alloc();
-    let Source { head, tips } = source;
+    let ServerRefs { head, tips } = server;
     let specs = specs(alloc, head)?;
     let found = Directories::of_bare(alloc, dir)?;
     let wanted = Wanted {
@@ -316,8 +317,8 @@ fn keep<'r, R: Files>(
     }
 }
 
-// Returns the branches and tags of the clone, and its HEAD if HEAD is detached. A HEAD that points
-// at a tag is peeled to the tag's commit.
+// Returns the branches and tags of the clone, and its HEAD if HEAD is detached. A HEAD that is
+// detached at a tag is peeled to the tag's commit.
 fn kept_refs(alloc: Global, repo: &Repo<Global>) -> Result<(Refs<Global>, Head<Global>), Fault> {
     let mut kept = Refs::new(alloc);
     let mut head = Head::None;

@@ -31,7 +31,7 @@ impl<'s, S: Source> FirstLine<'s, S> {
     }
 }
 
-// Copies bytes into `room` until it is full or no bytes remain. Returns the number of copied bytes.
+// Copies bytes until `room` is full or no bytes remain. Returns the number of copied bytes.
 fn copy_front(bytes: &[u8], room: &mut [u8]) -> usize
     ensures { result ≤ length room.new }
 {

@@ -41,18 +41,18 @@
 //!   clone's HEAD is detached at the tag's commit. Git refuses to clone from a server whose HEAD is
 //!   detached at a tag.
 //! - `fetch` fast-forwards a tag without force, like any other ref. If a destination is a symbolic
-//!   ref, `fetch` fails. `fetch` updates a branch even if another worktree has checked it out. A
-//!   repository has a work tree if `core.bare` is false in the file `config`. If `core.bare` is not
-//!   set, a repository has a work tree if its directory is named `.git`.
+//!   ref, `fetch` fails. `fetch` refuses to update the checked-out branch of a work tree, unless
+//!   the branch is checked out only in another worktree. If `core.bare` is not set in the file
+//!   `config`, a repository has a work tree if its directory is named `.git`.
 //! - By default, `serve` accepts at most 1,024 connections at once, and at most 64 from one
 //!   address. A client must send its first line within 10 seconds, the first byte of a request
-//!   within 60 seconds, and the rest of the request within another 60 seconds. A client may stall
-//!   for at most 60 seconds. A connection may last 10 minutes, plus a second for each 8,192 bytes
-//!   sent to the client. No client waits for the input or output of another client. All clients
-//!   wait while the server reads a history, or looks up or deflates objects, for one client. At
-//!   most 16 repositories have open objects at once, and `serve` refuses a client that needs the
-//!   objects of another repository. In Git, `--max-connections=0` means no limit; `serve` refuses
-//!   this value. `upload-pack` waits for its client without a time limit.
+//!   within 60 seconds, and the rest of the request within another 60 seconds. A client that
+//!   accepts no byte for 60 seconds is disconnected. A connection may last 10 minutes, plus a
+//!   second for each 8,192 bytes sent to the client. No client waits for the input or output of
+//!   another client. All clients wait while the server reads a history, or looks up or deflates
+//!   objects, for one client. At most 16 object stores are open at once, and `serve` refuses a
+//!   client that needs the objects of another repository. In Git, `--max-connections=0` means no
+//!   limit; `serve` refuses this value. `upload-pack` waits for its client without a time limit.
 //! - `core.sharedRepository` and `core.logAllRefUpdates` are ignored: new files have the default
 //!   permissions, and no reflog is written.
 //! - `serve` and `upload-pack` serve only protocol version 2. `upload-pack` does not check
@@ -80,14 +80,14 @@
 //!
 //! No contract rules out that a client sees the refs or objects of an earlier connection, or that
 //! `serve` serves a repository without `git-daemon-export-ok`. No contract rules out that a client
-//! without version 2 is served, or that a connection has other limits. No contract rules out that
-//! the log omits a fault, or that `fetch` reports refs as up to date that are not.
+//! that does not request version 2 is served, or that a connection has other limits. No contract
+//! rules out that the log omits a fault, or that `fetch` reports refs as up to date that are not.
 //!
-//! No contract rules out that text is written to a terminal with control bytes. No contract rules
-//! out that `upload-pack` passes other bytes to the dialogue than it reads. No contract rules out
-//! that a client whose first packet is malformed gets no error packet. No contract rules out that a
-//! server ends its replies with a response-end packet. No contract rules out that a pack lacks
-//! entries, since the contract of `gitrepository` allows any pack.
+//! No contract rules out that control bytes are written to a terminal. No contract rules out that
+//! `upload-pack` passes other bytes to the dialogue than it reads. No contract rules out that a
+//! client whose first packet is malformed gets no error packet. No contract rules out that a server
+//! ends its replies with a response-end packet. No contract rules out that a pack lacks entries,
+//! since the contract of `gitrepository` allows any pack.
 //!
 //! # Dependencies
 //!

@@ -1,4 +1,4 @@
-//! `gitrepo ls`: the refs of a server.
+//! The command `gitrepo ls`, which prints the refs of a server.
 
 ghost use Rattle.std.specs.Prelude.{◌≡◌, ◌<◌, ◌++◌, IfOk, OnOk, Some, length, nat_eq, slice_get};
 ghost use Rattle.std.specs.List.{list_any, starts_with};
@@ -17,13 +17,13 @@ use std::net::Net;
 
 /// Prints the refs of a server as git-ls-remote(1) does. On a terminal, non-printable bytes of ref
 /// names are replaced.
-pub(crate) fn list_refs<R>(rt: &R, asked: &LsArgs<'_>, is_terminal: bool) -> Result<(), Fault>
+pub(crate) fn list_refs<R>(rt: &R, args: &LsArgs<'_>, is_terminal: bool) -> Result<(), Fault>
 where
     R: Print + AllocGlobal + Net,
 {
     let alloc = rt.alloc();
-    let remote = Remote::new(alloc, &asked.url)?;
-    let prefixes = asked.prefixes.as_slice();
+    let remote = Remote::new(alloc, &args.url)?;
+    let prefixes = args.prefixes.as_slice();
     let reply = remote.list(rt, alloc, prefixes_to_ask(prefixes))?;
     let text = reply_text(alloc, &reply, prefixes)?;
     print_peer(rt, is_terminal, text.as_slice())

@@ -9,9 +9,9 @@ use std::cell::{Cell, RefCell};
 #[derive(Drop)]
 pub(crate) struct Notes {
     alloc: Global,
-    // The requested path, from the first line of a connection, and the fault of the most recent
-    // failed call.
+    // The requested path, from the first line of a connection.
     path: RefCell<Vec<u8>>,
+    // The fault of the most recent failed call.
     fault: RefCell<Option<Fault>>,
     // Whether the message that is being refused is the first line of a connection, and not a
     // request.

@@ -35,12 +35,12 @@ pub(crate) enum Sentence<'a> {
         path: &'a str,
         error: &'a io::Error,
     },
-    /// A file or object of a repository is missing or malformed.
+    /// Reading or writing a repository failed.
     Repository {
         path: &'a str,
         fault: &'a RepositoryFault<Global>,
     },
-    /// An object that a ref reaches is missing or malformed.
+    /// A ref, or an object that a ref reaches, is missing or malformed.
     BrokenRef {
         path: &'a str,
         name: &'a [u8],

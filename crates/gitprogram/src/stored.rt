@@ -4,8 +4,8 @@ use crate::directory::{Directories, Exports, find_served};
 use crate::disk::{Disk, Ticket};
 use crate::fault::Fault;
 use crate::opening::{
-    Extent, Listed, NotOpened, ObjectPacker, open_history, open_objects, open_shown, read_listed,
-    repository_fault,
+    Extent, Listed, NotOpened, ObjectPacker, open_for_ls_refs, open_history, open_objects,
+    read_listed, repository_fault,
 };
 use crate::slots::{MAX_OPEN, Slots};
 use ganswer::Server;
@@ -83,8 +83,8 @@ impl<R: Files + AllocGlobal, F: ObjectFiles> Disk for Stored<'_, '_, R, F> {
         read_listed(self.rt.alloc(), self.rt, self.files, found)
     }
 
-    fn show(&self, found: &Directories, listed: Listed) -> Result<Extent, NotOpened> {
-        open_shown(self.rt.alloc(), self.files, found, listed)
+    fn open_for_ls_refs(&self, found: &Directories, listed: Listed) -> Result<Extent, NotOpened> {
+        open_for_ls_refs(self.rt.alloc(), self.files, found, listed)
     }
 
     fn change_time(&self, found: &Directories) -> Option<SystemTime> {
@@ -124,13 +124,13 @@ impl<R: Files + AllocGlobal, F: ObjectFiles> Disk for Stored<'_, '_, R, F> {
         self.slots.at(**ticket).begin(alloc, entries)
     }
 
-    fn part(
+    fn copy_part(
         &self,
         ticket: &Ticket,
         parts: &mut StoreParts<Global>,
         out: &mut [u8],
     ) -> Result<usize, PackFault> {
-        self.slots.at(**ticket).part(parts, out)
+        self.slots.at(**ticket).copy_part(parts, out)
     }
 
     fn take_fault(&self, ticket: &Ticket, found: &Directories) -> Option<Fault> {

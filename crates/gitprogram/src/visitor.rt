@@ -99,8 +99,8 @@ where
             return ServerReply::Speech(Speech::silent());
         }
         self.notes.note_first(!self.has_path);
-        let said = self.side.refuse(fault);
+        let reply = self.side.refuse(fault);
         self.take_notes();
-        said
+        reply
     }
 }

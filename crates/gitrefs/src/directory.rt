@@ -43,7 +43,7 @@ const FILES: [&str; 3] = ["HEAD", "config", "packed-refs"];
 
 // The directories that are removed with a new repository. While `objects` exists, no other process
 // can create a repository here, so `objects` is removed last.
-const FOLDERS: [&str; 2] = ["refs", OBJECTS];
+const REMOVED_DIRECTORIES: [&str; 2] = ["refs", OBJECTS];
 
 /// The state of a directory before a repository was created in it.
 #[derive(Clone, Copy, Debug, PartialEq, Eq, Drop)]
@@ -98,9 +98,9 @@ impl<'r, R: Files, A: Allocator + Copy> GitDirectory<'r, R, A> {
     /// a directory. Fails with `Exists` if another process creates a repository there at the same
     /// time. Fails with `System` if a system call fails, and then removes the new repository.
     pub fn make(&self, config: &[u8], branch: &Target<A>) -> Result<Origin, RefFault<A>> {
-        let origin = self.make_own()?;
+        let origin = self.create_directory()?;
         if let Err(fault) = self.claim() {
-            self.leave(origin);
+            self.remove_directory(origin);
             return Err(fault);
         }
         match self.fill(config, branch) {
@@ -112,8 +112,8 @@ impl<'r, R: Files, A: Allocator + Copy> GitDirectory<'r, R, A> {
         }
     }
 
-    /// Removes a new repository, as far as the system permits. A directory that existed before
-    /// `make` remains, and is empty again.
+    /// Removes a repository that `make` created, as far as the system permits. A directory that
+    /// existed before `make` remains, and is empty again.
     pub fn unmake(&self, origin: Origin) {
         match origin {
             Origin::Made => {
@@ -127,7 +127,7 @@ impl<'r, R: Files, A: Allocator + Copy> GitDirectory<'r, R, A> {
 
     // Creates the directory and its parents. Fails with `Exists` if the directory exists and is not
     // empty.
-    fn make_own(&self) -> Result<Origin, RefFault<A>> {
+    fn create_directory(&self) -> Result<Origin, RefFault<A>> {
         if let Some(parent) = Path::new(self.path).parent() {
             if let Err(error) = fs::create_dir_all(self.files, parent) {
                 return Err(RefFault::system(self.alloc, parent.as_str(), error));
@@ -147,7 +147,7 @@ impl<'r, R: Files, A: Allocator + Copy> GitDirectory<'r, R, A> {
     }
 
     // Creates the first directory of a new repository. Fails with `Exists` if another process has
-    // created it.
+    // created this directory.
     fn claim(&self) -> Result<(), RefFault<A>> {
         let path = self.path_below(OBJECTS)?;
         match fs::create_dir(self.files, path.as_str()) {
@@ -159,8 +159,9 @@ impl<'r, R: Files, A: Allocator + Copy> GitDirectory<'r, R, A> {
         }
     }
 
-    // Removes the directory of the repository if this process created it and it is still empty.
-    fn leave(&self, origin: Origin) {
+    // Removes the directory of the repository if this process created the directory and the
+    // directory is still empty.
+    fn remove_directory(&self, origin: Origin) {
         if origin == Origin::Made {
             let _ = fs::remove_dir(self.files, self.path);
         }
@@ -180,7 +181,7 @@ impl<'r, R: Files, A: Allocator + Copy> GitDirectory<'r, R, A> {
             let path = self.path_below(name)?;
             let _ = fs::remove_file(self.files, path.as_str());
         }
-        for name in FOLDERS {
+        for name in REMOVED_DIRECTORIES {
             let path = self.path_below(name)?;
             let _ = self.files.remove_dir_all(self.alloc, path.as_str());
         }

@@ -9,8 +9,8 @@ use gname::laws::{
     texts_have_one_reading,
 };
 
-/// Proves that parsing a written text of `packed-refs` returns the refs that were written, with or
-/// without peeled ids.
+/// Proves that parsing a written text of `packed-refs` returns the written refs and peeled ids, if
+/// all ids are SHA-1 ids.
 pub fn written_refs_read_back()
     ensures { WrittenRefsReadBack }
 {

@@ -47,7 +47,7 @@ impl PackCounts {
 }
 
 /// The next entry to send: its form, the size of its inflated stream, and a buffer. The zlib stream
-/// extends from offset `from` to the end of the buffer.
+/// extends from offset `from` to the end of the buffer `bytes`.
 #[derive(Drop)]
 pub(crate) struct NextEntry<A: Allocator + Copy> {
     pub(crate) form: EntryForm,
@@ -71,8 +71,8 @@ struct Packed {
     path: PathHash,
 }
 
-// An object to deflate again: its id, the hash of its path, and the number of objects to deflate
-// again that were found before this object.
+// An object to deflate again: its id, the hash of its path, and its index in the unsorted list of
+// objects to deflate again.
 #[derive(Clone, Copy, Drop)]
 struct ToDeflate {
     id: Oid,
@@ -101,9 +101,9 @@ pub(crate) struct Copying<A: Allocator + Copy> {
     // The offset is 0 if the entry was not copied.
     starts: Vec<usize, A>,
     // The objects to deflate again, how many of them are already deflated, and a window of the most
-    // recently deflated objects. The list `anew` is sorted once all packs have been examined.
-    anew: Vec<ToDeflate, A>,
-    renewed: usize,
+    // recently deflated objects. The list `to_deflate` is sorted once all packs have been examined.
+    to_deflate: Vec<ToDeflate, A>,
+    deflated: usize,
     is_sorted: bool,
     window: Window<A>,
 }
@@ -118,8 +118,8 @@ impl<A: Allocator + Copy> Copying<A> {
             counts: PackCounts::NONE,
             progress: Progress { pack: 0, number: 0 },
             starts: Vec::new(alloc),
-            anew: Vec::new(alloc),
-            renewed: 0,
+            to_deflate: Vec::new(alloc),
+            deflated: 0,
             is_sorted: false,
             window: Window::new(alloc),
         })
@@ -146,7 +146,7 @@ impl<A: Allocator + Copy> Copying<A> {
                 number: 0,
             };
         }
-        self.next_anew(reader)
+        self.deflate_next(reader)
     }
 
     // Returns the next entry to copy from the current pack, or `None` if no entries remain.
@@ -184,7 +184,7 @@ impl<A: Allocator + Copy> Copying<A> {
         let id = reader.store().index(pack)?.id(place)?;
         match self.fates.of(&id, Found::Packed { pack, place }) {
             Fate::Sent(path) => Some(Packed { id, place, path }),
-            Fate::Open | Fate::Left => None,
+            Fate::Undecided | Fate::NotSent => None,
         }
     }
 
@@ -197,12 +197,12 @@ impl<A: Allocator + Copy> Copying<A> {
         object: Packed,
         position: usize,
     ) -> Result<Option<NextEntry<A>>, RepositoryFault<A>> {
-        let Some(entry) = whole_entry(reader, pack, object.place)? else {
-            self.renew(object)?;
+        let Some(entry) = intact_entry(reader, pack, object.place)? else {
+            self.deflate_later(object)?;
             return Ok(None);
         };
         let Some(form) = self.form_of(reader, pack, &entry, position) else {
-            self.renew(object)?;
+            self.deflate_later(object)?;
             return Ok(None);
         };
         if let Some(slot) = self.starts.get_mut(object.place) {
@@ -212,16 +212,16 @@ impl<A: Allocator + Copy> Copying<A> {
     }
 
     // Adds a packed object to the objects to deflate again.
-    fn renew(&mut self, object: Packed) -> Result<(), RepositoryFault<A>> {
+    fn deflate_later(&mut self, object: Packed) -> Result<(), RepositoryFault<A>> {
         self.counts.renewed = self.counts.renewed.saturating_add(1);
-        self.add_anew(&object.id, object.path)
+        self.add_to_deflate(&object.id, object.path)
     }
 
-    fn add_anew(&mut self, id: &Oid, path: PathHash) -> Result<(), RepositoryFault<A>> {
-        self.anew.push(ToDeflate {
+    fn add_to_deflate(&mut self, id: &Oid, path: PathHash) -> Result<(), RepositoryFault<A>> {
+        self.to_deflate.push(ToDeflate {
             id: *id,
             path,
-            number: self.anew.len(),
+            number: self.to_deflate.len(),
         })?;
         Ok(())
     }
@@ -276,22 +276,22 @@ impl<A: Allocator + Copy> Copying<A> {
     }
 
     // Deflates the next object again, or returns `None` if no objects remain.
-    fn next_anew<F: ObjectFiles>(
+    fn deflate_next<F: ObjectFiles>(
         &mut self,
         reader: &mut ObjectReader<'_, F, A>,
     ) -> Result<Option<NextEntry<A>>, RepositoryFault<A>> {
         if !self.is_sorted {
             self.add_loose()?;
-            self.sort_anew();
+            self.sort_to_deflate();
         }
-        let Some(object) = self.anew.get(self.renewed).copied() else {
+        let Some(object) = self.to_deflate.get(self.deflated).copied() else {
             return Ok(None);
         };
-        self.renewed = self.renewed.saturating_add(1);
-        Ok(Some(self.deflated_anew(reader, &object.id)?))
+        self.deflated = self.deflated.saturating_add(1);
+        Ok(Some(self.deflate_object(reader, &object.id)?))
     }
 
-    // Adds the loose objects that are sent to `anew`, the list of objects to deflate again.
+    // Adds the loose objects that are sent to `to_deflate`, the list of objects to deflate again.
     fn add_loose(&mut self) -> Result<(), RepositoryFault<A>> {
         for number in 0..self.fates.loose_count() {
             let Some((id, fate)) = self.fates.loose_at(number) else {
@@ -299,7 +299,7 @@ impl<A: Allocator + Copy> Copying<A> {
             };
             if let Fate::Sent(path) = fate {
                 self.counts.loose = self.counts.loose.saturating_add(1);
-                self.add_anew(&id, path)?;
+                self.add_to_deflate(&id, path)?;
             }
         }
         Ok(())
@@ -307,15 +307,15 @@ impl<A: Allocator + Copy> Copying<A> {
 
     // Sorts the objects to deflate again, so that objects whose paths have the same ending are
     // adjacent. A delta between two such objects is probably small.
-    fn sort_anew(&mut self) {
-        self.anew
+    fn sort_to_deflate(&mut self) {
+        self.to_deflate
             .sort_unstable_by_key(|object| (object.path, object.number));
         self.is_sorted = true;
     }
 
     // Returns a new entry for an object: a delta or the whole object. The id of the object is
     // checked.
-    fn deflated_anew<F: ObjectFiles>(
+    fn deflate_object<F: ObjectFiles>(
         &mut self,
         reader: &mut ObjectReader<'_, F, A>,
         id: &Oid,
@@ -354,7 +354,7 @@ impl<A: Allocator + Copy> Copying<A> {
 
 // Returns a stored entry unchanged, or `None` if the entry is broken. The store may have an intact
 // copy of the object elsewhere.
-fn whole_entry<F: ObjectFiles, A: Allocator + Copy>(
+fn intact_entry<F: ObjectFiles, A: Allocator + Copy>(
     reader: &mut ObjectReader<'_, F, A>,
     pack: usize,
     place: usize,

@@ -116,12 +116,12 @@ impl<A: Allocator + Copy> CheckFault<A> {
 }
 
 impl<A: Allocator + Copy> RepositoryFault<A> {
-    /// Returns whether the spool of a received pack failed. Then the pack itself is not refused.
+    /// Returns whether the spool of a received pack failed. In this case, the pack is not refused.
     pub fn is_of_spool(&self) -> bool {
         matches!(self, RepositoryFault::Pack(PackFileFault::Spool(_)))
     }
 
-    /// Converts the fault of the object with this id.
+    /// Converts the fault of parsing the object with this id.
     pub(crate) fn of_object(id: &Oid, fault: ObjectFault) -> RepositoryFault<A> {
         match fault {
             ObjectFault::Malformed => RepositoryFault::object_fault(id, ObjectCause::Malformed),

@@ -10,7 +10,7 @@ use gitpack::Spool;
 /// The progress of writing the files of a pack.
 #[derive(Clone, Copy, Debug, PartialEq, Eq)]
 pub enum PackFileStage {
-    /// No file is written.
+    /// No file has been written.
     Start,
     /// The pack is in a temporary file.
     PackWritten,

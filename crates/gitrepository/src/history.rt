@@ -34,9 +34,9 @@ pub(crate) struct History<'g, A: Allocator + Copy> {
     // The objects whose whole ancestry was read.
     graph: Graph<A>,
     // A path of objects, in which each object is a parent of the previous object. For each object
-    // of the path, `looked` has the number of parents visited so far.
+    // of the path, `visited` has the number of parents visited so far.
     path: Vec<Entry<A>, A>,
-    looked: Vec<usize, A>,
+    visited: Vec<usize, A>,
 }
 
 impl<'g, A: Allocator + Copy> Model for History<'g, A> {
@@ -66,7 +66,7 @@ impl<'g, A: Allocator + Copy> History<'g, A> {
             commits,
             graph,
             path: Vec::new(alloc),
-            looked: Vec::new(alloc),
+            visited: Vec::new(alloc),
         }
     }
 
@@ -143,7 +143,7 @@ impl<'g, A: Allocator + Copy> History<'g, A> {
         ensures same { self.new ≡ self.old }
         ensures known { IfSome result (λ entry. IsKnown self.old.commits entry) }
     {
-        let _looked = self.looked.pop();
+        let _visited = self.visited.pop();
         self.path.pop()
     }
 
@@ -164,10 +164,10 @@ impl<'g, A: Allocator + Copy> History<'g, A> {
         ensures { self.new ≡ self.old }
     {
         let entry = self.path.last()?;
-        let looked = self.looked.last_mut()?;
-        let id = *entry.node.parents.as_slice().get(*looked)?;
+        let visited = self.visited.last_mut()?;
+        let id = *entry.node.parents.as_slice().get(*visited)?;
         let child = entry.node.kind;
-        *looked = looked.saturating_add(1);
+        *visited = visited.saturating_add(1);
         Some(Parent { id, child })
     }
 
@@ -188,7 +188,7 @@ impl<'g, A: Allocator + Copy> History<'g, A> {
             return Err(RepositoryFault::Objects);
         }
         let entry = self.find(reader, parent)?;
-        self.looked.push(0)?;
+        self.visited.push(0)?;
         self.path.push(entry)?;
         Ok(())
     }

@@ -32,14 +32,14 @@
 //! - A pack is accepted only if its trailer is the SHA-1 of all preceding bytes. Each entry that
 //!   the indexer returns describes an object, or is a tree or blob that a tag names. In the second
 //!   case the entry of the tag is also returned.
-//! - The spool of a received pack was given exactly the received bytes, in order.
+//! - The spool that stores a received pack was given exactly the received bytes, in order.
 //! - [`install_files`] installs a pack in a [`PackFolder`], and then its index. After `Ok` both
 //!   files exist, with the bytes that they were given. A file gets its final name only once both
 //!   files are written and synced. After a fault the folder has neither file, only the pack, or
 //!   both.
 //! - [`MemoryFolder`] is a [`PackFolder`] that records all files it receives.
-//! - No call panics, overflows or reads out of bounds, and every call returns, whatever the files
-//!   contain.
+//! - For any contents of the files, no call panics, overflows or reads out of bounds, and every
+//!   call returns.
 //!
 //! # Differences from Git
 //!
@@ -49,7 +49,7 @@
 //! - The packer assumes that the client has every unlisted parent of a listed commit, and
 //!   everything that the trees of these parents reach.
 //! - New deltas are made only for objects that are not copied: loose objects, stored deltas whose
-//!   base is not sent, and objects with broken entries. Only such objects are bases of new deltas.
+//!   base is not sent, and objects with broken entries. Only these objects are bases of new deltas.
 //!   Git also makes new deltas for objects that are stored whole in a pack.
 //! - Before deltas are made, objects are sorted by the ends of their paths, but not by size. No new
 //!   delta is made for an object of more than 8 MiB; Git's limit is 512 MiB.
@@ -87,9 +87,9 @@
 //!   malformed, or counts the nodes of another graph. No contract covers the number of objects that
 //!   it returns. The function [`check_repository`] has no contract.
 //! - No contract rules out that [`Tips`] loses an id or has other ids, or that [`add_leaves`] adds
-//!   or removes other nodes. No contract says which repository formats are opened or refused. No
-//!   contract covers the result of [`is_bare`], or the names and ids of peeled refs in a new
-//!   repository.
+//!   or removes other nodes. No contract covers the result of [`Tips::contains`]. No contract says
+//!   which repository formats are opened or refused. No contract covers the result of [`is_bare`],
+//!   or the names and ids of peeled refs in a new repository.
 //! - No contract rules out that the indexer leaves out an entry, or returns an entry for an object
 //!   that the pack does not have. No contract rules out that it accepts a pack with a malformed
 //!   object. The indexer looks up the named objects, and compares objects that the store already
@@ -101,16 +101,20 @@
 //!   measurements.
 //! - No contract rules out that [`StoreIndexer::kind_of`] returns the wrong type. No contract rules
 //!   out that [`StoreIndexer::take_received`] returns `None`, or a pack that was not received.
-//! - No contract rules out that a [`NewRepository`] lacks its pack, its refs or HEAD. No contract
-//!   rules out that it is removed once it is finished, or remains after a fault.
+//! - No contract rules out that a [`NewRepository`] lacks its configuration, its pack, its refs or
+//!   HEAD. No contract rules out that it is removed once it is finished, or remains after a fault.
 //! - No contract can describe the contents of a system file: only the order of the calls in
-//!   [`install_pack`] is proved. No contract rules out that [`install_pack`] installs nothing, does
-//!   not create the file `.keep`, or removes one that it did not create. No contract rules out that
-//!   its folder does not write, sync or rename a file, or gives a file a wrong name. No contract
-//!   rules out that a [`StoredSpool`] writes or returns other bytes than it was given, or leaves
-//!   its file behind. No contract says in which folder it creates its file.
+//!   [`install_pack`] is proved. No contract rules out that [`install_pack`] installs nothing, or
+//!   does not create the file `.keep`. No contract rules out that the folder of [`install_pack`]
+//!   does not write, sync or rename a file, gives a file a wrong name, or leaves temporary files.
+//! - No contract rules out that a dropped [`KeptPack`] does not remove the file `.keep`, or removes
+//!   a file that [`install_pack`] did not create. No contract rules out that a [`StoredSpool`]
+//!   writes or returns wrong bytes, does not remove its file, or creates its file in the wrong
+//!   folder.
+//! - No contract rules out that `MemoryFolder::clean` keeps the bytes of the pack and the index.
 //! - No contract rules out that a call fails although nothing is wrong. The contracts do not cover
-//!   which fault is returned, the text of a fault, running time, or memory use.
+//!   which fault is returned, the text of a fault, running time, or memory use. No contract covers
+//!   the result of [`RepositoryFault::is_of_spool`].
 //!
 //! This crate has no tests.
 //!

@@ -107,7 +107,7 @@ fn put_named<A: Allocator + Copy>(
     }
 }
 
-// Adds a ref to an object, if the graph holds it.
+// Adds a ref to an object, if the graph holds the object.
 fn put<A: Allocator + Copy>(
     graph: &Graph<A>,
     refs: &mut Refs<A>,
@@ -156,11 +156,11 @@ fn height_at<A: Allocator + Copy>(graph: &Graph<A>, heights: &[usize], place: us
     let Some((_id, node)) = graph.at(place) else {
         return 0;
     };
-    let mut below: usize = 0;
+    let mut highest: usize = 0;
     for parent in node.parents.as_slice() {
-        below = below.max(height_of(graph, heights, parent));
+        highest = highest.max(height_of(graph, heights, parent));
     }
-    below.saturating_add(1)
+    highest.saturating_add(1)
 }
 
 // Returns the height of the object with this id, or 0 if the height is unknown.

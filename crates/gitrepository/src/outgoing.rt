@@ -99,10 +99,10 @@ impl<A: Allocator + Copy> Outgoing<A> {
             return Err(RepositoryFault::Count);
         }
         self.is_between_entries = false;
-        let most = MAX_PARTS.saturating_sub(TRAILER).saturating_sub(self.made);
+        let max_length = MAX_PARTS.saturating_sub(TRAILER).saturating_sub(self.made);
         self.bytes.clear();
         self.given = 0;
-        put_entry(&mut self.bytes, form, size, stream, most)?;
+        put_entry(&mut self.bytes, form, size, stream, max_length)?;
         self.sum.update(self.bytes.as_slice());
         self.made = self.made.saturating_add(self.bytes.len());
         self.put += 1;

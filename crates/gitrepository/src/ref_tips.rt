@@ -43,7 +43,7 @@ pub fn open_tips<F: ObjectFiles, A: Allocator + Copy>(
     let alloc = reader.allocator();
     let peels = held_peels(reader, peels)?;
     let mut graph = Graph::new(alloc);
-    graph.make_room(peels.fronts.len());
+    graph.make_room(peels.prefixes.len());
     for pair in listed.as_slice() {
         if !add_tip(&mut graph, reader, &peels, &pair.1)? {
             return Ok(None);
@@ -65,7 +65,7 @@ pub fn open_tips<F: ObjectFiles, A: Allocator + Copy>(
 struct HeldPeels<A: Allocator + Copy> {
     peels: Vec<(Oid, Peel), A>,
     // The first eight bytes of each object's id, as a number.
-    fronts: Vec<u64, A>,
+    prefixes: Vec<u64, A>,
 }
 
 impl<A: Allocator + Copy> HeldPeels<A> {
@@ -73,7 +73,7 @@ impl<A: Allocator + Copy> HeldPeels<A> {
     // search can also miss an object if two ids begin with the same eight bytes. The caller then
     // reads the object.
     fn get(&self, id: &Oid) -> Option<Peel> {
-        let place = self.fronts.binary_search(&front_of(id)).ok()?;
+        let place = self.prefixes.binary_search(&prefix_of(id)).ok()?;
         match self.peels.get(place) {
             Some(pair) if pair.0 == *id => Some(pair.1),
             _ => None,
@@ -86,8 +86,8 @@ impl<A: Allocator + Copy> HeldPeels<A> {
     }
 }
 
-// Looks up the objects of `packed-refs` in the order of their ids, so that each part of an index is
-// read once.
+// Returns the peeled ids of objects in the store. Looks up the objects in the order of their ids,
+// so that each part of a pack index is read once.
 fn held_peels<F: ObjectFiles, A: Allocator + Copy>(
     reader: &mut QuickReader<'_, F, A>,
     peels: &PackedPeels<A>,
@@ -100,15 +100,15 @@ fn held_peels<F: ObjectFiles, A: Allocator + Copy>(
             peels.push(*pair)?;
         }
     }
-    let fronts = peels.iter().map(|pair| front_of(&pair.0)).collect(alloc)?;
-    Ok(HeldPeels { peels, fronts })
+    let prefixes = peels.iter().map(|pair| prefix_of(&pair.0)).collect(alloc)?;
+    Ok(HeldPeels { peels, prefixes })
 }
 
 // Returns the first eight bytes of an id as a big-endian number. Numbers are compared faster than
 // ids.
-fn front_of(id: &Oid) -> u64 {
+fn prefix_of(id: &Oid) -> u64 {
     match id.as_bytes().first_chunk::<8>() {
-        Some(front) => u64::from_be_bytes(*front),
+        Some(prefix) => u64::from_be_bytes(*prefix),
         None => 0,
     }
 }

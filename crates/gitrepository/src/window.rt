@@ -12,15 +12,15 @@ const MAX_BASES: usize = 10;
 const MAX_BYTES: usize = 33_554_432;
 
 // The minimum and maximum size of an object in the window: 50 bytes, and 8 MiB.
-const LEAST_BODY: usize = 50;
+const MIN_SIZE: usize = 50;
 
-const MOST_BODY: usize = 8_388_608;
+const MAX_SIZE: usize = 8_388_608;
 
 // The maximum length of a delta chain.
 const MAX_CHAIN: usize = 50;
 
 // The length of the base id that precedes a delta.
-const BASE_ID: usize = 20;
+const BASE_ID_LENGTH: usize = 20;
 
 // The maximum ratio of the size of a base to the size of its target.
 const MAX_RATIO: usize = 32;
@@ -73,12 +73,12 @@ impl<A: Allocator + Copy> Window<A> {
         object: &Object<A>,
     ) -> Result<Option<Delta<A>>, AllocError> {
         let target = object.body.as_slice();
-        if !has_fit_size(target.len()) {
+        if !has_suitable_size(target.len()) {
             return Ok(None);
         }
         let mut best: Option<(usize, Delta<A>)> = None;
-        for less in 0..self.bases.len() {
-            let place = self.bases.len().wrapping_sub(less).wrapping_sub(1);
+        for from_end in 0..self.bases.len() {
+            let place = self.bases.len().wrapping_sub(from_end).wrapping_sub(1);
             let Some(base) = self.bases.get(place) else {
                 break;
             };
@@ -110,7 +110,7 @@ impl<A: Allocator + Copy> Window<A> {
     ) -> Result<(), AllocError> {
         let size = object.body.len();
         let depth = depth_of(delta);
-        if !has_fit_size(size) || depth >= MAX_CHAIN {
+        if !has_suitable_size(size) || depth >= MAX_CHAIN {
             return Ok(());
         }
         self.make_room(size);
@@ -158,7 +158,7 @@ impl<A: Allocator + Copy> Base<A> {
         }
         let (most, depth) = match best {
             Some((_, delta)) => (delta.text.len().saturating_sub(1), delta.depth),
-            None => ((size / 2).saturating_sub(BASE_ID), 1),
+            None => ((size / 2).saturating_sub(BASE_ID_LENGTH), 1),
         };
         // The longer the delta chain, the more bytes a delta must save.
         let left = MAX_CHAIN.saturating_sub(self.depth);
@@ -180,8 +180,8 @@ impl<A: Allocator + Copy> Base<A> {
 }
 
 // Returns whether an object of this size may be a base or be sent as a delta.
-fn has_fit_size(size: usize) -> bool {
-    LEAST_BODY <= size && size <= MOST_BODY
+fn has_suitable_size(size: usize) -> bool {
+    MIN_SIZE <= size && size <= MAX_SIZE
 }
 
 // Returns the depth of the delta chain of an object: 0 if the object is sent whole.

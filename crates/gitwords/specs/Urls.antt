@@ -16,7 +16,7 @@ is_name_byte b =
     (nat_le 65 b && nat_le b 90) || (nat_le 97 b && nat_le b 122) || (nat_le 48 b && nat_le b 57)
     || b == 45 || b == 46 || b == 95
 
--- the maximum length of a host in bytes; the first line of a connection has the same limit
+-- the maximum length of a host in bytes; the first line of a `git://` connection has the same limit
 abbrev pub max_host : ℕ
 max_host = 255
 
@@ -60,7 +60,7 @@ pub record IsListenAddress (text : List ℕ) : Type 0 where
 abbrev pub is_path_byte : ℕ → Bool
 is_path_byte b = nat_le 32 b && nat_le b 126 && not (b == 37)
 
--- the maximum length of a path in bytes; the first line of a connection has the same limit
+-- the maximum length of a path in bytes; the first line of a `git://` connection has the same limit
 abbrev pub max_path : ℕ
 max_path = 1000
 

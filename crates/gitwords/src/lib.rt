@@ -1,5 +1,5 @@
-//! The command line of the program `gitrepo`, and other short texts: URLs, paths from clients, and
-//! bytes from a peer that a terminal shows. The crate opens no files and no sockets.
+//! The command line of the program `gitrepo`, `git://` URLs, paths from clients, and the bytes from
+//! a peer that a terminal shows. The crate opens no files and no sockets.
 //!
 //! # Proved
 //!
@@ -9,7 +9,7 @@
 //!   reported cause is correct for the text. The printed text of a fault is the sentence for its
 //!   cause (`specs/Faults.antt`).
 //! - [`ServedPath::parse`] accepts exactly the paths of `specs/Served.antt`. No component of an
-//!   accepted path is empty or begins with a dot, and the path may end with one slash. A path names
+//!   accepted path is empty or begins with a dot, but the path may end with one slash. A path names
 //!   at most one directory ([`paths_have_one_reading`](laws::paths_have_one_reading)).
 //! - [`ServedPath::candidate`] returns the path without its first slash and an optional slash at
 //!   its end, followed by an [`Ending`] such as `.git`. No component of the result is empty, `.` or

@@ -1,4 +1,4 @@
-//! The directories that the path of a request may name.
+//! The path of a request, and the directories that it may name.
 
 ghost use Rattle.std.specs.Prelude.{◌≡◌, ◌≢◌, ◌⊎◌, ◌++◌, ◌∷◌, [], IfOk, List, ℕ, MatchOption, string_bytes};
 ghost use Rattle.std.specs.List.{list_all};
@@ -96,7 +96,7 @@ impl<'a> ServedPath<'a> {
     }
 }
 
-// Returns the text without the slash at its end, if there is one.
+// Returns the text without the last slash if it ends with a slash, or the unchanged text otherwise.
 fn without_last_slash(text: &str) -> &str
     ensures { (text.now ≡ result.now ++ 47 ∷ [])
         ⊎ ((text.now ≡ result.now) × ((front : List ℕ) → text.now ≢ front ++ 47 ∷ [])) }

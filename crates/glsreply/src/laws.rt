@@ -1,5 +1,5 @@
 //! Laws about ls-refs replies. Each function does nothing at run time, and its contract states the
-//! law. A caller's proof may use a law after calling its function.
+//! law. A proof can use a law after it calls the function.
 
 ghost use Rattle.std.specs.Prelude.{◌≡◌, ◌+◌, List, length};
 ghost use Rattle.gname.specs.declared.formats.Format.{Format};
@@ -136,7 +136,7 @@ pub fn reads_exactly()
     kinds_are_read::<Replies>();
 }
 
-/// Proves that a written reply reads back as the same reply, whatever bytes follow it.
+/// Proves that a written reply reads back as the same reply, even if other bytes follow.
 pub fn reads_back()
     ensures { (format : Format) (ends : Ends)
         → ReadsBack (judge format ends) brings (Says format ends) (IsLsReplyIn format)

@@ -1,4 +1,4 @@
-//! Writing of a reply.
+//! Writing an ls-refs reply, whole or line by line.
 
 ghost use Rattle.std.specs.Prelude.{◌≡◌, ◌≢◌, ◌≤◌, ◌++◌, [], ◌∷◌, length, map, IfSome};
 ghost use Rattle.std.specs.Option.{option_copied};
@@ -22,8 +22,8 @@ use gname::laws::ids_have_one_format;
 use gpkt::{PacketWriter, Sink, WriteFault};
 use std::alloc::Allocator;
 
-/// Writes a reply: an unborn `HEAD` if there is one, each ref, a flush, and a response-end if
-/// `ends` requires one (gitprotocol-v2(5), "ls-refs"). Allocates nothing.
+/// Writes a reply: the line of an unborn `HEAD` if there is one, each ref, a flush, and a
+/// response-end if `ends` requires one (gitprotocol-v2(5), "ls-refs"). Allocates nothing.
 ///
 /// Fails with `Io` if the sink fails; a prefix of the reply may then have been written. Fails with
 /// `Failed` if the writer had failed before. Never fails with `Payload`. A written reply reads back

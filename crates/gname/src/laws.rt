@@ -41,8 +41,9 @@ pub fn texts_have_one_reading()
     ensures { TextsHaveOneReading }
 {}
 
-/// Proves that a ref name has 1 to 1,000 bytes, and no control character, DEL, space or any of `~ ^
-/// : ? * [ \`. A ref name is `HEAD` or begins with `refs/`. Every ref name is also a valid prefix.
+/// Proves that a ref name has 1 to 1,000 bytes. It has no control character, DEL, space or any of
+/// `~ ^ : ? * [ \`. A ref name is `HEAD` or begins with `refs/`. Every ref name is also a valid
+/// prefix.
 pub fn names_are_clean()
     ensures { NamesAreClean }
 {}

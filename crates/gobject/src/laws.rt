@@ -30,8 +30,8 @@ pub fn packs_have_no_bad_line<A: Allocator + Copy>()
     texts_spell_one_id();
 }
 
-/// Proves that a sequence of bytes has at most one bad line. An indexer reports this line,
-/// regardless of how the bytes are split into pieces.
+/// Proves that a sequence of bytes has at most one bad line. So the line that an indexer reports
+/// does not depend on how the bytes are split into pieces.
 pub fn bad_lines_have_one_place<A: Allocator + Copy>()
     ensures { BadLinesHaveOnePlace A }
 {

@@ -1,5 +1,4 @@
-//! Laws about packets. Each function does nothing at run time, and its contract proves a law for
-//! the caller.
+//! Laws about packets. Each function does nothing at run time, and its contract states the law.
 
 ghost use Rattle.std.specs.Prelude.{◌≡◌};
 ghost use Rattle.gpkt.specs.Bands.{BandFits, BandIsPayload, BandIsRead, max_band};
@@ -57,8 +56,8 @@ pub fn canonical_spells()
     ensures joins { CanonicalJoins }
 {}
 
-/// Proves that bytes encode two concatenated lists of packets exactly when they are an encoding of
-/// the first list followed by an encoding of the second.
+/// Proves that the encodings of two concatenated lists of packets are exactly the encodings of the
+/// first list followed by encodings of the second.
 #[tactic(auto, using(crate::proofs::Readings::spellings_join_lem, crate::proofs::Readings::spellings_split_lem))]
 pub fn spellings_join()
     ensures join { SpellingsJoin }

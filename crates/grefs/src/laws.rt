@@ -17,7 +17,7 @@ pub fn refs_come_in_order()
     ensures { RefsComeInOrder }
 {}
 
-/// Proves that two lists of refs are equal if every name has the same id in both.
+/// Proves that two lists of refs are equal if every name has the same id in both lists.
 #[tactic(auto, using(crate::proofs::RefLemmas::alike_same))]
 pub fn refs_are_their_look_ups()
     ensures { RefsAreTheirLookUps }

@@ -153,7 +153,7 @@ impl<A: Allocator + Copy> Refs<A> {
         ensures err { OnErr result (self.new ≡ self.old) }
         ensures refs { IsRefs self.new }
     {
-        // Laws.
+        // The proof uses this law.
         names_are_clean();
         let count = self.refs.len();
         if name.is_head() {
@@ -208,8 +208,8 @@ fn are_below<A: Allocator + Copy>(refs: &[(RefName<A>, Oid)], name: &[u8]) -> bo
     }
 }
 
-// Returns the position of the ref with this name, or in `Err` the position at which a ref with this
-// name would be inserted.
+// Returns the position of the ref with this name. If no ref has the name, returns `Err` with the
+// position at which to insert the ref.
 fn place_of<A: Allocator + Copy>(
     refs: &[(RefName<A>, Oid)],
     name: &RefName<A>,
@@ -217,7 +217,7 @@ fn place_of<A: Allocator + Copy>(
     requires { IsRefs refs.now }
     ensures { MatchResult result (IsFound refs.now name.now) (IsGap refs.now name.now) }
 {
-    // Callers usually set refs in the order of their names.
+    // A fast path: callers usually set refs in the order of their names.
     if are_below(refs, name.as_bytes()) {
         return Err(refs.len());
     }

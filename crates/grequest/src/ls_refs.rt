@@ -30,7 +30,7 @@ use std::marker::Model;
 
 /// An ls-refs request (gitprotocol-v2(5), "ls-refs").
 ///
-/// Its limits bound the number of prefixes. A limit above 2^30 counts as 2^30.
+/// The limits of the request bound the number of its prefixes. A limit above 2^30 counts as 2^30.
 #[derive(Debug, Drop)]
 pub struct LsRefsRequest<A: Allocator + Copy = Global> {
     limits: Limits,
@@ -93,7 +93,7 @@ impl<A: Allocator + Copy> LsRefsRequest<A> {
         self.limits
     }
 
-    /// Proves that every ls-refs request satisfies its invariant.
+    /// Proves that the request is well-formed and within its limits.
     pub fn laws(&self)
         ensures { IsLsRefsAsked self.now.limits self.now.asked }
     {
@@ -115,8 +115,8 @@ impl<A: Allocator + Copy> LsRefsRequest<A> {
         self.flags[flag.number()]
     }
 
-    /// Returns a boolean for each flag, which is true if the flag is set. The index is the number
-    /// of the flag.
+    /// Returns an array with a boolean for each flag: whether the flag is set. The index of a flag
+    /// in the array is its number.
     pub(crate) fn flags(&self) -> &[bool; MAX_FLAGS]
         ensures { flags_at ls_number ls_flags result.now ≡ self.now.asked.flags }
     {
@@ -250,7 +250,7 @@ impl<A: Allocator + Copy> LsRefsRequest<A> {
         }
     }
 
-    // Adds an argument to a request that has `arguments` arguments so far.
+    // Adds the argument that `text` encodes to a request with `arguments` earlier arguments.
     pub(crate) fn take_argument(&mut self, arguments: u32, text: &[u8]) -> Result<(), Why>
         ensures adds { AddsAs (judge_ls_argument self.old.limits arguments self.old.asked.prefixes
             (ls_argument text.now)) (ls_argument_brings (ls_argument text.now))

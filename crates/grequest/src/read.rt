@@ -51,10 +51,9 @@ pub fn read_request_in<S: Source, A: Allocator + Copy, B: Allocator + Copy>(
 }
 
 /// Reads a request to its end, and nothing after it (gitprotocol-v2(5), "Command Request").
-/// `format` is the format of the repository's objects. The request is within `limits`, and has
-/// these limits. A limit above 2^30 counts as 2^30. Returns `None` if the input ends before the
-/// first packet. If the call returns a request, the reader has not failed and can read the next
-/// request.
+/// `format` is the format of the repository's objects. The returned request has the limits
+/// `limits`. A limit above 2^30 counts as 2^30. Returns `None` if the input ends before the first
+/// packet. If the call returns a request, the reader has not failed and can read the next request.
 ///
 /// A fault contains the reason, and the position of the first packet that does not fit, counted
 /// from zero. A fault of the packet reader ([`Why::Line`]) takes precedence. The end of the input
@@ -82,7 +81,7 @@ pub fn read_request_within<S: Source, A: Allocator + Copy, B: Allocator + Copy>(
     let mut reading = RequestReader::within(alloc, format, limits);
     match read_message(reader, &mut reading) {
         Ok(()) => {
-            // The contract of `read_message` does not say that the limits stay the same.
+            // The contract of `read_message` does not state that the limits are unchanged.
             let mut request = reading.finish();
             request.set_limits(limits);
             Ok(Some(request))

@@ -27,12 +27,11 @@ use gpkt::{PacketWriter, Sink, WriteFault};
 use std::alloc::Allocator;
 
 /// Writes a request as its canonical list of packets (gitprotocol-v2(5), "Command Request").
-/// `format` is the format of the repository's objects. A fetch request must be for ids of this
-/// format.
+/// `format` is the format of the repository's objects. A fetch request must have this format.
 ///
 /// Allocates nothing. Fails with `Io` if the sink fails, after writing a prefix of the request.
 /// Fails with `Failed` if the writer failed before the call. Every request meets the conditions of
-/// [`reads_back`](crate::laws::reads_back), so a written request reads back.
+/// [`reads_back`](crate::laws::reads_back), so reading a written request returns the same request.
 pub fn write_request<A: Allocator + Copy, W: Sink>(
     request: &Request<A>,
     format: Format,
@@ -49,42 +48,42 @@ pub fn write_request<A: Allocator + Copy, W: Sink>(
     request.laws();
     match request {
         Request::Empty => writer.flush_pkt(),
-        Request::Ls(asked) => write_ls_refs(asked, format, writer),
-        Request::Fetch(asked) => write_fetch(asked, format, writer),
+        Request::Ls(ls) => write_ls_refs(ls, format, writer),
+        Request::Fetch(fetch) => write_fetch(fetch, format, writer),
     }
 }
 
 fn write_ls_refs<A: Allocator + Copy, W: Sink>(
-    asked: &LsRefsRequest<A>,
+    request: &LsRefsRequest<A>,
     format: Format,
     writer: &mut PacketWriter<W>,
 ) -> Result<(), WriteFault>
     ensures { WritesPackets W.contents W.passed_on W.is_down W.loans writer.old writer.new result
-        (canonical_request format (Ls asked.now.asked)) }
+        (canonical_request format (Ls request.now.asked)) }
 {
     // Laws.
     writes_packets::<W>();
-    write_head(Command::LsRefs, asked.agent(), format, writer)?;
-    write_flags(LS_REFS_FLAGS, asked.flags(), writer)?;
-    write_prefixes(asked.prefixes(), writer)?;
+    write_head(Command::LsRefs, request.agent(), format, writer)?;
+    write_flags(LS_REFS_FLAGS, request.flags(), writer)?;
+    write_prefixes(request.prefixes(), writer)?;
     writer.flush_pkt()
 }
 
 fn write_fetch<A: Allocator + Copy, W: Sink>(
-    asked: &FetchRequest<A>,
+    request: &FetchRequest<A>,
     format: Format,
     writer: &mut PacketWriter<W>,
 ) -> Result<(), WriteFault>
     ensures { WritesPackets W.contents W.passed_on W.is_down W.loans writer.old writer.new result
-        (canonical_request format (Fetches asked.now.asked)) }
+        (canonical_request format (Fetches request.now.asked)) }
 {
     // Laws.
     writes_packets::<W>();
-    write_head(Command::Fetch, asked.agent(), format, writer)?;
-    write_flags(FETCH_FLAGS, &asked.early_flags(), writer)?;
-    write_ids(b"want ", asked.wants(), writer)?;
-    write_ids(b"have ", asked.haves(), writer)?;
-    write_flag(b"done", asked.has(FetchFlag::Done), writer)?;
+    write_head(Command::Fetch, request.agent(), format, writer)?;
+    write_flags(FETCH_FLAGS, &request.early_flags(), writer)?;
+    write_ids(b"want ", request.wants(), writer)?;
+    write_ids(b"have ", request.haves(), writer)?;
+    write_flag(b"done", request.has(FetchFlag::Done), writer)?;
     writer.flush_pkt()
 }
 

@@ -1,4 +1,4 @@
-//! The arguments of a line: all its words but the first.
+//! The arguments of a line, which are all words after the first.
 
 ghost use Rattle.std.specs.Prelude.{◌≡◌, ◌≢◌, ◌∷◌, [], ℕ, List, MatchOption, MatchResult, ⊤};
 ghost use Rattle.gname.specs.Names.{Name};
@@ -31,14 +31,14 @@ pub(crate) fn event_of<A: Allocator + Copy>(
 {
     match command {
         EventWord::Begin => begin(alloc, tail),
-        EventWord::Ask => Ok(alone(tail, Event::Ask)),
+        EventWord::Ask => Ok(without_arguments(tail, Event::Ask)),
         EventWord::Serve => Ok(serve(tail)),
         EventWord::Deliver => Ok(deliver(tail)),
         EventWord::Forge => forge(alloc, tail),
         EventWord::StrangeRequest => strange_request(alloc, tail),
-        EventWord::Settle => Ok(alone(tail, Event::Settle)),
-        EventWord::RestartClient => Ok(alone(tail, Event::RestartClient)),
-        EventWord::RestartServer => Ok(alone(tail, Event::RestartServer)),
+        EventWord::Settle => Ok(without_arguments(tail, Event::Settle)),
+        EventWord::RestartClient => Ok(without_arguments(tail, Event::RestartClient)),
+        EventWord::RestartServer => Ok(without_arguments(tail, Event::RestartServer)),
         EventWord::ServerAdd => server_add(alloc, tail),
         EventWord::ServerRef => server_ref(alloc, tail),
         EventWord::ClientAdd => client_add(alloc, tail),
@@ -46,8 +46,8 @@ pub(crate) fn event_of<A: Allocator + Copy>(
     }
 }
 
-// Returns the event if `tail` has no words. A command without arguments denotes only one event.
-fn alone<A: Allocator + Copy>(tail: &[u8], event: Event<A>) -> Option<Event<A>>
+// Returns the event of a command without arguments, or `None` if `tail` has words.
+fn without_arguments<A: Allocator + Copy>(tail: &[u8], event: Event<A>) -> Option<Event<A>>
     ensures { MatchOption result (words_after tail.now ≢ [])
         (λ found. (found ≡ event) × (words_after tail.now ≡ [])) }
 {
@@ -152,7 +152,7 @@ fn client_ref<A: Allocator + Copy>(alloc: A, tail: &[u8]) -> Result<Option<Event
 
 // ---- arguments that several kinds of event share
 
-// Returns the number in `tail`, if it is the only argument.
+// Returns the number that is the only argument, or `None` otherwise.
 fn number_alone(tail: &[u8]) -> Option<usize>
     ensures { MatchOption result (((number : ℕ) → IsOneNumber (words_after tail.now) number → ⊥))
         (IsOneNumber (words_after tail.now)) }
@@ -239,7 +239,7 @@ fn entry_of<A: Allocator + Copy>(alloc: A, tail: &[u8]) -> Result<Option<Entry<A
     }
 }
 
-// Returns the object of this kind. The arguments are its id and the ids of its parents.
+// Returns the object of this kind. The arguments are the object's id and the ids of its parents.
 fn entry_of_kind<A: Allocator + Copy>(
     alloc: A,
     kind: Kind,

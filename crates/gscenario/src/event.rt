@@ -21,7 +21,7 @@ pub enum Event<A: Allocator + Copy = Global> {
     /// appended to the list of kept replies.
     Serve(usize),
     /// The client receives the first `count` bytes of the kept reply at index `reply` as the reply
-    /// to its open request. A reply with fewer bytes arrives complete.
+    /// to its open request. If the reply has fewer bytes, the complete reply arrives.
     Deliver { reply: usize, count: usize },
     /// The client receives these bytes as the reply to its open request, although the server did
     /// not send them.

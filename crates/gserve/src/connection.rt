@@ -1,4 +1,4 @@
-//! Serving a connection, from the advertisement to its end.
+//! Serving a connection, from the advertisement to the last reply or error packet.
 
 ghost use Rattle.std.specs.Prelude.{◌≡◌, false, OnOk};
 ghost use Rattle.gpkt.specs.Packets.{canonical_all};
@@ -36,7 +36,7 @@ pub enum End {
     WriteFailed,
 }
 
-/// The number of replies on a connection, and its end.
+/// The number of replies on a connection, and how the connection ended.
 #[derive(Debug, Drop)]
 pub struct Served {
     /// The number of replies written and flushed.
@@ -215,7 +215,7 @@ fn advertise<W: Sink, A: Allocator + Copy>(
     }
 }
 
-// Writes the error packet for a connection that runs out of memory at its start.
+// Writes and flushes the error packet for a connection that runs out of memory at its start.
 fn refuse_first<W: Sink>(fault: ServeFault, writer: &mut PacketWriter<W>) -> End
     requires { writer.old.failed ≡ false }
     ensures refused { RefusesFirst fault (output_of W.contents W.passed_on W.is_down

@@ -20,8 +20,9 @@ pub fn limits_are_the_constants()
     ensures text { MAX_ERR_TEXT ≡ max_err_text }
 {}
 
-/// Proves that a connection is a conversation over the bytes of its source, if the bytes are known
-/// and neither the source nor the sink fails. All output of the connection is flushed.
+/// Proves that each connection satisfies `Talks` (`specs/Talks.antt`), a relation between the
+/// client's bytes, the output and the end of the connection. The premises are that the bytes are
+/// known, and that neither the source nor the sink fails. All output of the connection is flushed.
 pub fn serving_is_talking<A: Allocator + Copy, K: Packer<A>>()
     ensures { (packer : K) → ServingIsTalking A (MayPack (K.packs packer)) (K.pack_fails packer) }
 {}

@@ -90,8 +90,8 @@ module _ {A R : Type 0} (server_of : R → Server A) where
     AnswersHello Finds new kept said goes = Greets Finds new said goes ⊎ Refuses (CannotGreet Finds new kept) said goes
 
     module _ (packs_of : R → Packs A) (fails_of : R → PackFails A) (Opens : Result R Bytes → Type 0) (ends : Ends) where
-      -- the host opens the repository again; the server answers the fetch request from the opened repository, which it
-      -- then serves
+      -- the host opens the repository again; the server answers the fetch request from the opened repository, and
+      -- serves this repository from then on
       pub record SendsFrom (asked : FetchAsked) (goes_on : Bool) (new : Option R) (said : List Packet)
           (goes : Bool) : Type 0 where
         pub found : R
@@ -137,13 +137,13 @@ pub record Stays {A H R : Type 0} (old new : ServerSide A H R) : Type 0 where
   pub ends : new.ends ≡ old.ends
   pub limits : new.limits ≡ old.limits
 
--- a side that has received no message
+-- a server side that has received no message
 pub record IsFresh {A H R : Type 0} (side : ServerSide A H R) : Type 0 where
   pub repo : side.repo ≡ None
   pub requests : side.requests ≡ 0
   pub fault : side.fault ≡ None
 
--- a side that has received no message opens the dialogue without a packet
+-- a server side that has received no message opens the dialogue without a packet
 abbrev pub OpensFresh : {A H R : Type 0} → ServerSide A H R → List Packet → Bool → Type 0
 OpensFresh side said goes = IsFresh side × SaysNothing said goes
 

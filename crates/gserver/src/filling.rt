@@ -62,11 +62,11 @@ fn fill<A: Allocator + Copy, K: PartPacker<A>>(
 {
     let mut count = 0;
     while count < out.len() {
-        let given = put_part::<A, K>(packer, parts, out, count)?;
-        if given == 0 {
+        let added = put_part::<A, K>(packer, parts, out, count)?;
+        if added == 0 {
             return Ok(count);
         }
-        count += given;
+        count += added;
     }
     Ok(count)
 }

@@ -7,7 +7,7 @@ use ganswer::{ServeFault, Server};
 use ghello::Hello;
 use std::alloc::{AllocError, Allocator};
 
-/// A handle to a repository that a connection serves. One repository may have several handles.
+/// A handle to a repository that a server serves. Several handles may refer to the same repository.
 pub trait ServedRepository<A: Allocator + Copy> {
     ghost use Rattle.ganswer.specs.Servers.{Server};
 

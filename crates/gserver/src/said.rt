@@ -89,7 +89,7 @@ pub(crate) fn step<A: Allocator + Copy, B: Allocator + Copy, R: PartPacker<A> + 
     }
 }
 
-// Returns the state of the reply after the heading of the acknowledgments.
+// Returns the rest of the reply after the heading of the acknowledgments.
 fn after_heading<A: Allocator + Copy, R: Drop, P: Drop>(
     acks: Acks<A>,
     pack: Option<(R, P)>,

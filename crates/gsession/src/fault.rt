@@ -18,8 +18,8 @@ use std::fmt;
 /// The reason why a call of a session failed.
 #[derive(Debug, Drop)]
 pub enum ClientFault<A: Allocator + Copy = Global> {
-    /// The session rejected a packet of the reply. The number of the fault is 20 to 25, 29, 30 or
-    /// 41 to 54.
+    /// A packet of the reply is unreadable or rejected. The number of the fault is 20 to 25, 29, 30
+    /// or 41 to 54.
     Message(MessageFault),
     /// Fault 66: the indexer rejected the pack.
     Index(IndexFault),
@@ -51,7 +51,8 @@ impl<A: Allocator + Copy> ClientFault<A> {
         self.fault_row().1
     }
 
-    /// Returns whether the fault ends the session. Every fault except `NoOpenRequest` does.
+    /// Returns whether the fault ends the session. Every fault except `NoOpenRequest` ends the
+    /// session.
     pub fn ends_session(&self) -> bool
         ensures { result ≡ ends_session self.now }
     {

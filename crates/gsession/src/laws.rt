@@ -73,7 +73,7 @@ pub fn done_is_last<A: Allocator + Copy, K: Indexer<A>>()
     ensures { (k : K) → DoneIsLast (K.indexes k) (K.index_fails k) }
 {}
 
-/// Proves that no request follows a request with `done`, whatever the later calls return.
+/// Proves that no request follows a request with `done`, even if later calls fail.
 #[tactic(auto, using(crate::proofs::BoundLemmas::done_laws))]
 pub fn none_follows_done<A: Allocator + Copy, K: Indexer<A>>()
     ensures last { DoneAsksLast A }
@@ -81,7 +81,8 @@ pub fn none_follows_done<A: Allocator + Copy, K: Indexer<A>>()
     ensures none { NoneFollows A }
 {}
 
-/// Proves that each request for objects, except the last one, offered at least one new id.
+/// Proves that a session has made at most as many requests for objects as it has offered ids, or
+/// one more if it has made its last request.
 pub fn requests_are_counted<A: Allocator + Copy, K: Indexer<A>>()
     ensures begins { BeginsCounted A }
     ensures stays { (k : K) → CountedStays (K.indexes k) (K.index_fails k) }
@@ -97,8 +98,8 @@ pub fn rounds_are_few<A: Allocator + Copy>()
     reached_are_counted::<A>();
 }
 
-/// Proves that a session makes at most N + 1 requests for objects, if its tips reach N ids and each
-/// request except the last offered a new id.
+/// Proves that a session that satisfies `IsCounted` makes at most N + 1 requests for objects, if
+/// its tips reach N ids in the graph with which it began.
 pub fn counted_are_few<A: Allocator + Copy>()
     ensures { CountedAreFew A }
 {

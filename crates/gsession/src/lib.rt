@@ -16,9 +16,9 @@
 //!   [`Session::request_on`] makes the same request, but continues the walk of the previous request
 //!   (`specs/Offering.antt`). This call requires that the graph has not changed since the previous
 //!   request.
-//! - The session's options contain its limits ([`ggrammar::Limits`]). They bound the numbers of
-//!   wants, haves and acknowledged ids. By default, the limits are 1,024 wants, 4,096 haves and
-//!   4,096 acknowledged ids.
+//! - The session's options contain its limits ([`ggrammar::Limits`]) on the numbers of wants, haves
+//!   and acknowledged ids. By default, the limits are 1,024 wants, 4,096 haves and 4,096
+//!   acknowledged ids.
 //! - The options also contain the maximum number of new ids in a request
 //!   ([`PackOptions::max_batch`]). A batch has at most 16 ids in the first request for objects. The
 //!   number doubles with each request up to this maximum, and at most to 16,384. By default, the

@@ -78,10 +78,10 @@ impl<A: Allocator + Copy> Session<A> {
     ghost use Rattle.gsession.specs.Sessions.{Begins, BeginsWith, Hears, IsBegun, IsSession, after_fault, over};
     ghost use Rattle.gsession.specs.SettlingRefs.{SettlesSession};
 
-    /// Begins a session that fetches the refs that match these refspecs. The client has sent
-    /// nothing to the server yet. The session stores the distinct ids of the local refs, in the
-    /// order of their names, and offers these ids and their ancestors as haves. A session without
-    /// refspecs requests no ref updates.
+    /// Begins a session that fetches the refs that match these refspecs. The call sends nothing to
+    /// the server. The session stores the distinct ids of the local refs, in the order of their
+    /// names, and offers these ids and their ancestors as haves. A session without refspecs
+    /// requests no ref updates.
     ///
     /// Uses the default pack options. Fails with `TooManySpecs` for more than 16 refspecs, and with
     /// `Repo` if out of memory.
@@ -205,7 +205,7 @@ impl<A: Allocator + Copy> Session<A> {
         self.rounds
     }
 
-    /// Proves that every session satisfies its invariants.
+    /// Proves that the session satisfies its invariants.
     pub fn laws(&self)
         ensures { IsSession self.now }
     {

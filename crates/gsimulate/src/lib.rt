@@ -29,7 +29,7 @@
 //! event whenever `gcmd`, `gscenario` or `gworld` can do so. No contract rules out that a
 //! simulation reports out of memory for the output, even if the output is empty. The contracts do
 //! not limit how often the sinks are called, or how long a call takes. No contract rules out that
-//! formatting a fault returns `fmt::Error` for no reason.
+//! formatting a fault returns `fmt::Error` without a failure of the formatter.
 //!
 //! # Dependencies
 //!

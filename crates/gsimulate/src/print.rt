@@ -17,8 +17,8 @@ use gworld::{ScenarioFault, WorldFault};
 use itoa::Buffer;
 use std::alloc::Allocator;
 
-/// A bound in bytes on the length of the line that reports a fault. The line has fixed words, and
-/// the digits of an id or of a number.
+/// The maximum length in bytes of the line that reports a fault. The line consists of fixed words,
+/// and of the digits of an id or a number.
 const MAX_LINE: usize = 128;
 
 /// The line of a fault that reports out of memory for an event or for the scenario.

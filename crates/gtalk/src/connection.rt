@@ -1,4 +1,4 @@
-//! The parts of a connection.
+//! A conversation over bytes.
 
 ghost use Rattle.gtalk.specs.Partial.{IsPartial};
 
@@ -24,7 +24,7 @@ pub struct Connection<C, A: Allocator + Copy = Global> {
     pub(crate) incoming: Incoming<A>,
     // The send queue, or `None` until the conversation first speaks.
     pub(crate) outgoing: Option<Outgoing<A>>,
-    // The number of bytes of the send queue that were sent.
+    // The number of bytes of the send queue that have been sent.
     pub(crate) sent: usize,
     ghost part: { ∥ IsPartial stopped incoming ∥₁ },
 }

@@ -59,8 +59,8 @@ impl<C: Conversation, A: Allocator + Copy> Connection<C, A> {
         }
     }
 
-    /// Returns which end has the turn. If the conversation listens but no more packets arrive, the
-    /// turn is [`Turn::Done`].
+    /// Returns the turn of the conversation, or [`Turn::Done`] if the conversation listens but no
+    /// more packets arrive.
     pub fn turn(&self) -> Turn
         ensures { IsTurn C.turn self.now result }
     {

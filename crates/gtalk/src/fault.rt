@@ -1,4 +1,4 @@
-//! The reasons why a conversation was aborted.
+//! The faults that abort a conversation.
 
 ghost use Rattle.std.specs.Prelude.{◌≡◌, Some};
 ghost use Rattle.gtalk.specs.Faults.{talk_fault_text};

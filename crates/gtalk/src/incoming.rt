@@ -40,8 +40,8 @@ impl<A: Allocator + Copy> Incoming<A> {
         }
     }
 
-    /// Returns the number of bytes that are missing from the digits. If the digits are complete,
-    /// returns the number of bytes that are missing from the packet.
+    /// Returns the number of bytes that are missing from the four digits. If the digits are
+    /// complete, returns the number of bytes that are missing from the packet.
     pub(crate) fn lacks(&self) -> usize
         ensures lacks { Lacks self.now result }
         ensures some { IsPartialPacket self.now → 0 < result }
@@ -60,7 +60,7 @@ impl<A: Allocator + Copy> Incoming<A> {
         self.bytes.extend_from_slice(bytes)
     }
 
-    /// Returns the packet, or `None` if it is incomplete.
+    /// Returns the packet, or `None` if the packet is incomplete.
     pub(crate) fn line(&self) -> Result<Option<Packet<'_>>, PacketFault>
         ensures found { IsFound self.now (read_of result) }
         ensures fault { IfErr result (λ fault. IsByBytes (Some (Stop.Refused fault))) }
@@ -68,8 +68,8 @@ impl<A: Allocator + Copy> Incoming<A> {
         packet_within(self.as_bytes())
     }
 
-    /// Returns the reason to report if the input ends after these bytes. The bytes must be empty or
-    /// an incomplete packet.
+    /// Returns the reason to report if the input ends after the stored bytes. The stored bytes must
+    /// be empty or an incomplete packet.
     pub(crate) fn end(&self) -> Stop
         ensures stopped { IsPartialPacket self.now → IsStopped (Some result) self.now }
         ensures end { IsByEnd (Some result) }
@@ -96,8 +96,8 @@ impl<A: Allocator + Copy> Incoming<A> {
     }
 }
 
-// Returns the number of bytes that `bytes` lacks to complete the digits. If the digits are
-// complete, returns the number of bytes that are missing from the packet.
+// Returns the number of bytes that are missing from the four digits. If the digits are complete,
+// returns the number of bytes that are missing from the packet.
 #[tactic(auto, using(crate::proofs::Partials::lacks_digits, crate::proofs::Partials::lacks_none, crate::proofs::Partials::partial_none))]
 fn lacks_after(bytes: &[u8]) -> usize
     requires { IsWithinPacket bytes.now }

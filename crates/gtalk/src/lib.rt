@@ -1,5 +1,5 @@
-//! A packet conversation as a value. It takes in received packets and queues the packets to send,
-//! and does no I/O itself.
+//! A conversation of packets as a value. The value receives packets and queues packets to send, but
+//! does no I/O itself.
 //!
 //! A [`Conversation`] is one end of a protocol. A [`Connection`] is a conversation over bytes. The
 //! bytes arrive in pieces of any size, and the caller sends as many pending bytes as it can.

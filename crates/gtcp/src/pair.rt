@@ -24,8 +24,7 @@ use std::alloc::Allocator;
 use std::io::{BufReader, Read, Write};
 use std::net::{Net, OpenListener, OpenStream, SocketAddr, TcpListener, TcpStream};
 
-// The input of the client. If the client reads more after it has read all bytes that the server
-// flushed, the server runs first.
+// The input of the client. If the client reads and no unread bytes are left, the server runs first.
 #[derive(Drop)]
 struct ClientInput<'a, N, F, W, A: Allocator + Copy> {
     server: &'a Server<A>,
@@ -132,14 +131,14 @@ fn greet<A: Allocator + Copy, F: Source, W: Sink>(server: &Server<A>, far: &mut 
     }
 }
 
-// Writes only the advertisement, as to a client that sends no request.
+// Writes only the advertisement. The server finds no request in the empty source.
 fn advertise<A: Allocator + Copy, W: Sink>(server: &Server<A>, sink: &mut W) {
     let mut nothing = SliceSource::new(b"");
     let mut packer = OnePack::new(&PlainPack);
     let _served = serve(server, &mut packer, Ends::Plain, &mut nothing, sink);
 }
 
-// Writes the error line of a refusal, and flushes it. Allocates no memory.
+// Writes and flushes the error packet of a refusal. Allocates no memory.
 fn refuse<W: Sink>(fault: &ServeFault, sink: &mut W) {
     let mut text = [0; MAX_ERR_TEXT];
     let len = err_text(fault, &mut text);
@@ -156,20 +155,20 @@ struct Joined<S> {
     far: S,
 }
 
-// The maximum number of connections to accept. One of them must be the client's own connection, and
-// the others come from other processes.
-const MAX_STRANGERS: usize = 16;
+// The maximum number of connections to accept until the client's own connection arrives. All other
+// connections come from other processes.
+const MAX_ACCEPTS: usize = 16;
 
-// The address at which client and server connect, with any free port. `HOST` and `PATH` are the
-// host and the path in the first line of the client.
-const MEETING: &str = "127.0.0.1:0";
+// The address at which the server listens, with any free port. `HOST` and `PATH` are the host and
+// the path in the first line of the client.
+const LOCAL_ADDRESS: &str = "127.0.0.1:0";
 
 const HOST: &[u8] = b"127.0.0.1";
 
 const PATH: &[u8] = b"/";
 
 fn connect<N: Net>(net: &N) -> Option<Joined<N::Stream>> {
-    let listener = TcpListener::bind(net, MEETING).ok()?;
+    let listener = TcpListener::bind(net, LOCAL_ADDRESS).ok()?;
     join(net, &listener)
 }
 
@@ -183,7 +182,7 @@ fn join<N: Net>(net: &N, listener: &N::Listener) -> Option<Joined<N::Stream>> {
 
 // Accepts connections until the connection of this client arrives.
 fn accept_from<L: OpenListener>(listener: &L, client: SocketAddr) -> Option<L::Stream> {
-    for _ in 0..MAX_STRANGERS {
+    for _ in 0..MAX_ACCEPTS {
         let (stream, peer) = listener.accept().ok()?;
         if peer == client {
             return Some(stream);

@@ -25,7 +25,7 @@ const MAX_INTERRUPTS: u32 = 1_024;
 // The number of seconds that a single write waits. A wait counts as silence only if the peer
 // accepts no byte during the whole wait. A peer that stops in the middle of a wait therefore times
 // out up to five seconds late.
-const TAKING_WAIT: u64 = 5;
+const WRITE_WAIT: u64 = 5;
 
 /// Connects to an address given as HOST:PORT. Tries the addresses of the host in order, and uses
 /// the first address that accepts a connection within [`MAX_CONNECT`] seconds.
@@ -113,8 +113,8 @@ impl<S: Write + OpenStream, T: Timer> Write for &Peer<S, T> {
         let Ok(mut stream) = self.stream.try_borrow_mut() else {
             return Err(in_use());
         };
-        stream.set_write_timeout(Some(Duration::from_secs(TAKING_WAIT)))?;
-        for _ in 0..MAX_SILENCE / TAKING_WAIT {
+        stream.set_write_timeout(Some(Duration::from_secs(WRITE_WAIT)))?;
+        for _ in 0..MAX_SILENCE / WRITE_WAIT {
             match stream.write(buf) {
                 Err(error) if is_waiting(error.kind()) => {}
                 written => return written,

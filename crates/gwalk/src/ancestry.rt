@@ -78,7 +78,7 @@ pub fn missing_known<A: Allocator + Copy>(
     let walk = walk_past(graph, known.as_slice(), ids)?;
     let count = Count {
         ids: walk.met.len() as u64,
-        parents: walk.parents,
+        parents: walk.parent_count,
     };
-    Ok((walk.lost, count))
+    Ok((walk.missing, count))
 }

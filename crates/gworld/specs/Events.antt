@@ -192,7 +192,7 @@ module _ {A : Type 0} (packs : Packs A) (pack_fails : PackFails A) where
       × (new ≡ w)
   ServesRequest w (Some asked) _ new = ⊥
 
-  -- `StrangeRequest`: the server talks to an unknown client, and the world is unchanged
+  -- `StrangeRequest`: the server holds a conversation with an unknown client, and the world is unchanged
   abbrev pub HearsStranger : WorldState A → Bytes → Outcome → WorldState A → Type 0
   HearsStranger w bytes outcome new = (new ≡ w) × TalksTo w.server packs pack_fails bytes outcome
 

@@ -1,4 +1,5 @@
-//! Laws of worlds. Each function does nothing, and its contract states a proved property.
+//! Laws of worlds. Each function does nothing, and its contract states a proved property. A world
+//! is sound if it satisfies the invariants of `IsSound` (`specs/Sound.antt`).
 
 ghost use Rattle.std.specs.Prelude.{◌≡◌, false};
 ghost use Rattle.gworld.specs.Fetching.{FetchesComplete, OnlyLimitsRefuse};
@@ -28,9 +29,10 @@ use gsession::laws::{
 };
 use std::alloc::Allocator;
 
-/// Proves that each step from a sound world leads to a sound world, and keeps its promises. The
-/// premise is that both ends are connected before and after the step. [`ends_stay_connected`]
-/// proves that a step keeps both ends connected, if refs are sorted and the session is valid.
+/// Proves that each step from a sound world (`IsSound`) leads to a sound world, and keeps its
+/// promises (`Promises`). The premise is that `AreEndsConnected` holds before and after the step.
+/// [`ends_stay_connected`] proves that a step preserves `AreEndsConnected`, if refs are sorted and
+/// the session is valid.
 pub fn steps_keep<A: Allocator + Copy, K: Packer<A> + Indexer<A>>()
     ensures { (k : K) → StepsKeep (tools_of (K.packs k) (K.pack_fails k) (K.indexes k)
         (K.index_fails k)) }
@@ -97,16 +99,15 @@ pub fn refs_stay_connected<A: Allocator + Copy, K: Packer<A> + Indexer<A>>()
         (K.index_fails k)) }
 {}
 
-/// Proves that a client's session whose tips reach N ids has made at most N + 1 requests for
-/// objects after any run, if this bound held before the run. The tips are the ids of the client's
-/// refs when the session began.
+/// Proves that any run preserves a bound. The session has made at most N + 1 requests for objects
+/// if its tips reach N ids. The tips are the ids of the client's refs when the session began.
 pub fn requests_stay_few<A: Allocator + Copy, K: Packer<A> + Indexer<A>>()
     ensures { (k : K) → RequestsStayFew (tools_of (K.packs k) (K.pack_fails k) (K.indexes k)
         (K.index_fails k)) }
 {}
 
-/// Proves that both ends hold each common id after any run without forged bytes, if both ends held
-/// each common id before the run and no bytes had been forged.
+/// Proves that both ends hold each common id after a run, if both ends held each common id before
+/// the run. The other premise is that no bytes were forged before or during the run.
 pub fn commons_stay_shared<A: Allocator + Copy, K: Packer<A> + Indexer<A>>()
     ensures { (k : K) → CommonsStayShared (tools_of (K.packs k) (K.pack_fails k) (K.indexes k)
         (K.index_fails k)) }
@@ -169,10 +170,9 @@ pub fn honest_runs_keep_all<A: Allocator + Copy, K: Faithful<A>>(tools: &K)
     faithful_lose_nothing::<A, K>(tools);
 }
 
-/// Proves that each step leaves both ends connected, if both ends were connected before. The ends
-/// are connected if no object of the server is missing, and each ref of the client is connected.
-/// The other premise is that after the step refs are sorted and the session is valid. This premise
-/// does not follow from the definition of a step.
+/// Proves that each step preserves `AreEndsConnected`: no object of the server is missing, and each
+/// ref of the client is connected. The premise is that after the step refs are sorted and the
+/// session is valid. This premise does not follow from the definition of a step.
 pub fn ends_stay_connected<A: Allocator + Copy, K: Packer<A> + Indexer<A>>()
     ensures { (k : K) → EndsStayConnected (tools_of (K.packs k) (K.pack_fails k) (K.indexes k)
         (K.index_fails k)) }
@@ -186,8 +186,9 @@ pub fn ends_stay_connected<A: Allocator + Copy, K: Packer<A> + Indexer<A>>()
     setting_stays_connected::<A>();
 }
 
-/// Proves that a new world is sound. Each run from a sound world with connected ends keeps its
-/// promises, and leads to a sound world with connected ends.
+/// Proves that a new world is sound. Each run from a sound world that satisfies `AreEndsConnected`
+/// keeps its promises, and the last world of the run is also sound and satisfies
+/// `AreEndsConnected`.
 pub fn runs_keep_promises<A: Allocator + Copy, K: Packer<A> + Indexer<A>>()
     ensures begins { (k : K) → NewWorldsAreSound (tools_of (K.packs k) (K.pack_fails k) (K.indexes k)
         (K.index_fails k)) }

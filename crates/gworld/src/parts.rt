@@ -61,7 +61,9 @@ pub(crate) struct Parts<A: Allocator + Copy> {
     session: Option<Session<A>>,
     sent: Vec<Sent<A>, A>,
     kept: Vec<KeptReply<A>, A>,
+    // Whether bytes were ever forged.
     forged: bool,
+    // Whether the session accepted the pack of a complete reply to its open request.
     answered: bool,
 }
 

@@ -37,7 +37,8 @@ impl<K: Packer<A> + Indexer<A> + Drop, A: Allocator + Copy> Model for World<K, A
 }
 
 impl<K: Packer<A> + Indexer<A> + Drop, A: Allocator + Copy> World<K, A> {
-    /// Makes a world of this server, this client's repository, and this packer and indexer.
+    /// Makes a world from a server, a client's repository, and tools that implement a packer and an
+    /// indexer.
     ///
     /// A new world has no session, no messages and no forged bytes. Fails with `TwoFormats` if the
     /// two repositories have different object formats. Otherwise fails with `Disagree` if both
@@ -94,12 +95,12 @@ impl<K: Packer<A> + Indexer<A> + Drop, A: Allocator + Copy> World<K, A> {
     ///   (`NotHeld`) if the id is not connected. Otherwise both fail with 69 (`Refs`) or 64
     ///   (`Memory`). The world is unchanged.
     ///
-    /// If there is not enough memory for a list of the world or for a buffer, the run stops with
-    /// `Memory`. The fault `Memory` contains the outcomes of the completed events. The completed
-    /// events keep their effects, and the next event has not begun. The run stops only before an
-    /// event that needs memory. An event that would fail at once with fault 83, 90 or 93 needs no
-    /// memory. The list of outcomes is allocated before the first event. If that allocation fails,
-    /// the run executes no event.
+    /// If there is not enough memory for one of the world's lists or for a buffer, the run stops
+    /// with `Memory`. The fault `Memory` contains the outcomes of the completed events. The
+    /// completed events keep their effects, and the next event has not begun. The run stops only
+    /// before an event that needs memory. An event that would fail at once with fault 83, 90 or 93
+    /// needs no memory. The list of outcomes is allocated before the first event. If that
+    /// allocation fails, the run executes no event.
     ///
     /// `Promises` (specs/Promises.antt) defines the promises of each step. After any run each ref
     /// of the client is connected.

@@ -58,7 +58,8 @@ fn other_id<A: Allocator + Copy>(
     }
 }
 
-// Returns the first id, among those of the refs, that does not have the format.
+// Returns the id of the first ref whose id does not have the format, or `None` if there is no such
+// ref.
 fn other_ref<A: Allocator + Copy>(format: Format, refs: &[(RefName<A>, Oid)]) -> Option<Oid>
     ensures { MatchOption result (All (IsIdOf format) (ref_ids refs.now))
         (IsFirstOther format (ref_ids refs.now)) }

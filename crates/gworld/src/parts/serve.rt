@@ -9,7 +9,7 @@ ghost use Rattle.gworld.specs.Events.{HearsStranger, ServesRequest, TalksTo, str
 ghost use Rattle.gworld.specs.declared.outcome.Outcome.TheVariants as outcome;
 
 use super::{KeptReply, Parts, sent_at};
-use crate::fault::NO_SUCH;
+use crate::fault::NO_SUCH_INDEX;
 use crate::outcome::Outcome;
 use ganswer::{OnePack, Reply, ServeFault, Server};
 use ggrammar::Ends;
@@ -48,7 +48,7 @@ impl<A: Allocator + Copy> Parts<A> {
     {
         let alloc = self.repo.graph().allocator();
         match sent_at(&self.sent, number) {
-            None => Ok(Outcome::Fault { code: NO_SUCH }),
+            None => Ok(Outcome::Fault { code: NO_SUCH_INDEX }),
             Some(sent) => match self.server.answer(&sent.request, &mut OnePack::new(packer)) {
                 Ok(reply) => keep(alloc, &mut self.kept, &sent.request, reply),
                 Err(fault) => Ok(refuse_request(fault)),

@@ -17,7 +17,7 @@ use gname::Oid;
 use std::alloc::Allocator;
 
 impl<A: Allocator + Copy> Parts<A> {
-    /// Returns a new world of this server and this client's repository, or the reason why they
+    /// Returns a new world with this server and this client's repository, or the reason why they
     /// can't form a world. Allocates nothing.
     pub(crate) fn new(server: Server<A>, repo: Repo<A>) -> Result<Parts<A>, WorldFault>
         ensures { MatchResult result
