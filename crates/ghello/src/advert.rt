@@ -266,7 +266,9 @@ impl<A: Allocator + Copy> Advert<A> {
     fn has_key(&self, key: &[u8]) -> bool
         ensures { result ≡ list_any (has_key key.now) self.now }
     {
-        self.capabilities.iter().any(|capability| capability.has_key(key))
+        self.capabilities
+            .iter()
+            .any(|capability| capability.has_key(key))
     }
 
     // Returns whether the server's ids have the given format. A server without `object-format` has

@@ -125,7 +125,11 @@ impl<A: Allocator + Copy> Offers<A> {
         if self.marked_commons >= commons.len() {
             return Ok(());
         }
-        let walk = walk_past(graph, self.known.as_slice(), &commons[self.marked_commons..])?;
+        let walk = walk_past(
+            graph,
+            self.known.as_slice(),
+            &commons[self.marked_commons..],
+        )?;
         self.known = either(walk.marks, self.known.as_slice())?;
         self.marked_commons = commons.len();
         Ok(())

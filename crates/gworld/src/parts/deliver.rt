@@ -60,14 +60,22 @@ impl<A: Allocator + Copy> Parts<A> {
             × IsSome (slice_get self.old.kept number) × IsSome (waiting_session self.old.session)) }
     {
         match kept_at(&self.kept, number) {
-            None => Ok(Outcome::Fault { code: NO_SUCH_INDEX }),
+            None => Ok(Outcome::Fault {
+                code: NO_SUCH_INDEX,
+            }),
             Some(kept) => match &mut self.session {
                 None => Ok(Outcome::Fault {
                     code: NO_OPEN_REQUEST,
                 }),
                 Some(session) => {
                     let delivery = Delivery { kept, count };
-                    bring(delivery, session, &mut self.repo, &mut self.answered, indexer)
+                    bring(
+                        delivery,
+                        session,
+                        &mut self.repo,
+                        &mut self.answered,
+                        indexer,
+                    )
                 }
             },
         }

@@ -48,7 +48,9 @@ impl<A: Allocator + Copy> Parts<A> {
     {
         let alloc = self.repo.graph().allocator();
         match sent_at(&self.sent, number) {
-            None => Ok(Outcome::Fault { code: NO_SUCH_INDEX }),
+            None => Ok(Outcome::Fault {
+                code: NO_SUCH_INDEX,
+            }),
             Some(sent) => match self.server.answer(&sent.request, &mut OnePack::new(packer)) {
                 Ok(reply) => keep(alloc, &mut self.kept, &sent.request, reply),
                 Err(fault) => Ok(refuse_request(fault)),
