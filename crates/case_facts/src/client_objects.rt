@@ -126,7 +126,7 @@ fn missing_and_count<A: Allocator + Copy>(
     repo: &Repo<A>,
     ids: &[Oid],
 ) -> Result<(Option<Oid>, Count), GraphFault> {
-    // Laws.
+    // Laws that the proof uses.
     repo.laws();
     missing_known(repo.graph(), ids, repo.marks())
 }

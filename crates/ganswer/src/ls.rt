@@ -100,7 +100,7 @@ impl<A: Allocator + Copy> Server<A> {
             → IsAnswering self.now request.now.asked (front ++ (name.now, id) ∷ []) reply.new) }
         ensures fault { IfErr result (λ fault. fault ≡ Memory) }
     {
-        // Laws.
+        // Laws that the proof uses.
         positions_are_nodes::<A>();
         ids_have_one_format();
         self.laws();

@@ -106,7 +106,7 @@ pub fn fetch_over_with<S: Source, W: Sink, A: Allocator + Copy, K: Indexer<A>>(
     let mut writer = PacketWriter::new(sink);
     let fetched = fetch_to(repo, source, &mut writer, indexer, plan);
     let _sink = writer.into_inner();
-    // Laws.
+    // Laws that the proof uses.
     repo.laws();
     fetched
 }
@@ -167,7 +167,7 @@ fn converse<S: Source, W: Sink, A: Allocator + Copy, K: Indexer<A>>(
     ensures source_loans { S.loans reader.new.source ≡ S.loans reader.old.source }
     ensures sink_loans { W.loans writer.new.sink ≡ W.loans writer.old.sink }
 {
-    // Laws.
+    // Laws that the proof uses.
     rounds_are_few::<A>();
     let unborn_target = talk(repo, session, reader, writer, indexer)?;
     let requests = session.rounds();
@@ -203,7 +203,7 @@ fn talk<S: Source, W: Sink, A: Allocator + Copy, K: Indexer<A>>(
     ensures source_loans { S.loans reader.new.source ≡ S.loans reader.old.source }
     ensures sink_loans { W.loans writer.new.sink ≡ W.loans writer.old.sink }
 {
-    // Laws.
+    // Laws that the proof uses.
     reads_join();
     distinct_are_once();
     began_stays::<A>();
@@ -248,7 +248,7 @@ fn fetch_all<S: Source, W: Sink, A: Allocator + Copy, K: Indexer<A>>(
     ensures source_loans { S.loans reader.new.source ≡ S.loans reader.old.source }
     ensures sink_loans { W.loans writer.new.sink ≡ W.loans writer.old.sink }
 {
-    // Laws.
+    // Laws that the proof uses.
     reads_join();
     began_stays::<A>();
     let mut offers = None;

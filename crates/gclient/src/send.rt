@@ -29,7 +29,7 @@ pub fn send_request<W: Sink, A: Allocator + Copy>(
     ensures goes_on { OnOk result (writer.new.failed ≡ false) }
     ensures loans { W.loans writer.new.sink ≡ W.loans writer.old.sink }
 {
-    // Laws.
+    // Laws that the proof uses.
     writes_join::<W>();
     match write_request(request, format, writer) {
         Ok(()) => writer.push(),

@@ -43,7 +43,7 @@ fn first_absent<A: Allocator + Copy>(graph: &Graph<A>, refs: &Refs<A>) -> Option
     ensures { MatchOption result (All (IsConnected graph.now.entries) (values_of refs.now))
         (IsFirstLost graph.now.entries (values_of refs.now)) }
 {
-    // Laws.
+    // Laws that the proof uses.
     ordered_is_closed::<A>();
     closed_is_connected::<A>();
     graph.laws();

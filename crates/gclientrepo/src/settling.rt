@@ -86,7 +86,7 @@ pub(crate) fn cannot_set<A: Allocator + Copy>(refs: &Refs<A>, name: &RefName<A>)
 pub(crate) fn cannot_settle<A: Allocator + Copy>(refs: &Refs<A>, asks: &Asks<A>) -> bool
     ensures { IsTrue result ↔ CannotSettle refs.now asks.now }
 {
-    // Laws.
+    // Laws that the proof uses.
     limits_are_the_constants();
     asks_for_head(asks) || count_new(refs, asks) > MAX_REFS - refs.len()
 }

@@ -122,7 +122,7 @@ impl<'s, T: PackSink, A: Allocator + Copy, L: Lent<T>> ReplyReader<'s, T, A, L> 
             (data_there (place_in self.old.sections.place) (packet_of line.entry))
             self.old.sink.now self.new.sink.now result }
     {
-        // Laws.
+        // Laws that the proof uses.
         T::laws();
         match line {
             Packet::Data(payload) => self.take_payload(payload),
@@ -146,7 +146,7 @@ impl<'s, T: PackSink, A: Allocator + Copy, L: Lent<T>> ReplyReader<'s, T, A, L> 
             (data_there (place_in self.old.sections.place) (Data payload.now)) self.old.sink.now
             self.new.sink.now result }
     {
-        // Laws.
+        // Laws that the proof uses.
         T::laws();
         if let Some(error) = peer_error(payload) {
             return Err(Why::RemoteErr(PeerText::new(error)));
@@ -173,7 +173,7 @@ impl<'s, T: PackSink, A: Allocator + Copy, L: Lent<T>> ReplyReader<'s, T, A, L> 
             (kept_in self.new.sections)
             (data_in (band_form payload.now)) self.old.sink.now self.new.sink.now result }
     {
-        // Laws.
+        // Laws that the proof uses.
         T::laws();
         match band_of(payload) {
             Ok(Band::Data(bytes)) => self.take_data(bytes),
@@ -193,7 +193,7 @@ impl<'s, T: PackSink, A: Allocator + Copy, L: Lent<T>> ReplyReader<'s, T, A, L> 
             (with_band (kept_in self.old.sections) (length bytes.now)) (kept_in self.new.sections)
             bytes.now self.old.sink.now self.new.sink.now result }
     {
-        // Laws.
+        // Laws that the proof uses.
         T::laws();
         let total = match self.sections.with_room(self.reading.limit, bytes.len()) {
             Some(total) => total,
@@ -225,7 +225,7 @@ impl<T: PackSink, A: Allocator + Copy, L: Lent<T>> Message for ReplyReader<'_, T
     fn laws() {}
 
     fn accept_packet(&mut self, line: Packet<'_>) -> Result<Step, Why> {
-        // Laws.
+        // Laws that the proof uses.
         T::laws();
         self.take_packet(line)
     }
@@ -289,7 +289,7 @@ pub fn read_fetch_reply_into_in<S: Source, T: PackSink, A: Allocator + Copy, B: 
     ensures loans { S.loans reader.new.source ≡ S.loans reader.old.source }
     ensures reader { LeavesReader S.is_down reader.old reader.new result }
 {
-    // Laws.
+    // Laws that the proof uses.
     T::laws();
     let direct = reading.direct;
     let mut reply = ReplyReader::<T, B, Brand>::new(alloc, reading, sink);
@@ -349,7 +349,7 @@ pub fn read_fetch_reply_in<S: Source, A: Allocator + Copy, B: Allocator + Copy>(
     ensures loans { S.loans reader.new.source ≡ S.loans reader.old.source }
     ensures reader { LeavesReader S.is_down reader.old reader.new result }
 {
-    // Laws.
+    // Laws that the proof uses.
     reading.limit.laws();
     let mut pack = Vec::new(alloc);
     match read_fetch_reply_into_in(reader, streamed(reading), &mut pack, alloc) {

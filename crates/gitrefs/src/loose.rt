@@ -30,7 +30,7 @@ pub fn parse_loose_ref<A: Allocator + Copy>(alloc: A, text: &[u8]) -> Result<Loo
     ensures { MatchResult result (λ value. LooseRefOf text.now value)
         (IsTextFault (IsLooseRefFile text.now)) }
 {
-    // Laws.
+    // Laws that the proof uses.
     texts_have_one_reading();
     if let Some(target) = strip(b"ref:", text) {
         return match parse_target(alloc, target) {
@@ -53,7 +53,7 @@ fn parse_target<A: Allocator + Copy>(alloc: A, text: &[u8]) -> Result<RefName<A>
     ensures { MatchResult result (λ name. IsTarget text.now name)
         (IsTextFault ((name : Name) × IsTarget text.now name)) }
 {
-    // Laws.
+    // Laws that the proof uses.
     names_are_clean();
     let (_, padded) = skip_blank(text);
     let (word, rest) = cut_word(padded);

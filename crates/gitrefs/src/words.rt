@@ -39,7 +39,7 @@ pub(crate) fn cut_id(text: &[u8]) -> Option<(Oid, &[u8])>
         ((id : Id) (rest : List ℕ) → ¬ (BeginsWithId text.now id rest))
         (λ parts. BeginsWithId text.now parts.0 parts.1.now) }
 {
-    // Laws.
+    // Laws that the proof uses.
     texts_have_one_reading();
     let Some((digits, rest)) = split_front(ID_TEXT, text) else {
         return None;

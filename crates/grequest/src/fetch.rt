@@ -406,7 +406,7 @@ fn id_in(format: Format, text: &[u8]) -> Option<Oid>
     ensures id { result ≡ id_of_text format text.now }
     ensures same { IfSome result (λ id. has_format format id ≡ true) }
 {
-    // Laws.
+    // Laws that the proof uses.
     texts_have_one_reading();
     id_of_text(format, text)
 }

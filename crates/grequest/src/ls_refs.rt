@@ -237,7 +237,7 @@ impl<A: Allocator + Copy> LsRefsRequest<A> {
                   { prefixes = self.old.asked.prefixes ++ prefix.now ∷ [] };
             }) result }
     {
-        // Laws.
+        // Laws that the proof uses.
         rules_never_report_memory();
         match Prefix::new(*self.prefixes.allocator(), prefix) {
             Ok(prefix) if has_room => match self.prefixes.push(prefix) {

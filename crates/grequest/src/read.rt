@@ -76,7 +76,7 @@ pub fn read_request_within<S: Source, A: Allocator + Copy, B: Allocator + Copy>(
     ensures reader { LeavesReader S.is_down reader.old reader.new result }
     ensures not_ended { IfErr result (λ fault. fault.why ≡ Why.Ended → 0 < fault.frame) }
 {
-    // Laws.
+    // Laws that the proof uses.
     manual();
     let mut reading = RequestReader::within(alloc, format, limits);
     match read_message(reader, &mut reading) {

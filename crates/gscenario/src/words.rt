@@ -147,7 +147,7 @@ pub(crate) fn bytes_of<A: Allocator + Copy>(
 pub(crate) fn id_of(text: &[u8]) -> Option<Oid>
     ensures { MatchOption result (NoId text.now) (IsIdText text.now) }
 {
-    // Laws.
+    // Laws that the proof uses.
     id_texts_are_digits();
     ids_have_one_format();
     let format = if text.len() == Format::Sha256.id_text_length() {
@@ -170,7 +170,7 @@ pub(crate) fn name_of<A: Allocator + Copy>(
         (λ found. MatchOption found (¬ (IsRefName text.now))
         (λ name. (name ≡ text.now) × IsRefName text.now)) (λ _. ⊤) }
 {
-    // Laws.
+    // Laws that the proof uses.
     rules_never_report_memory();
     match RefName::new(alloc, text) {
         Ok(name) => Ok(Some(name)),

@@ -71,7 +71,7 @@ pub(crate) fn write_refusal<W: Sink>(
     ensures { WritesPackets W.contents W.passed_on W.is_down W.loans writer.old writer.new result
         (err_packets fault.now) }
 {
-    // Laws.
+    // Laws that the proof uses.
     writes_packets::<W>();
     let text = text_of(fault);
     writer.text2(b"ERR ", text.as_slice())

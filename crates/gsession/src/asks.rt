@@ -127,7 +127,7 @@ pub(crate) fn wants_of<A: Allocator + Copy>(
         → All (IsIdOf format) wants.items) }
     ensures fault { IfErr result (λ fault. fault ≡ Memory) }
 {
-    // Laws.
+    // Laws that the proof uses.
     distinct_are_once();
     let alloc = repo.graph().allocator();
     let asked = asks.ids(alloc)?;
@@ -160,7 +160,7 @@ fn is_connected<A: Allocator + Copy>(repo: &Repo<A>, id: &Oid) -> Result<bool, G
 fn is_known<A: Allocator + Copy>(repo: &Repo<A>, id: &Oid) -> bool
     ensures { result ≡ true → IsConnected repo.now.graph.entries id.now }
 {
-    // Laws.
+    // Laws that the proof uses.
     positions_are_nodes::<A>();
     repo.laws();
     match repo.graph().position(id) {

@@ -309,7 +309,7 @@ fn tips_of<A: Allocator + Copy>(alloc: A, repo: &Repo<A>) -> Result<Vec<Oid, A>,
     ensures tips { IfOk result (λ tips. tips.items ≡ distinct_of (values_of repo.now.refs)) }
     ensures ids { IfOk result (λ tips. All (IsIdOf repo.now.graph.format) tips.items) }
 {
-    // Laws.
+    // Laws that the proof uses.
     distinct_are_once();
     positions_are_nodes::<A>();
     repo.laws();

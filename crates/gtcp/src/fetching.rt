@@ -64,7 +64,7 @@ where
         → CountsReached repo.old.graph.entries (tips_of repo.old) held parents
         → fetched.requests ≤ held + 1) }
 {
-    // Laws.
+    // Laws that the proof uses.
     repo.laws();
     let hello = match Hello::new(repo.graph().allocator(), path, host) {
         Ok(hello) => hello,
@@ -131,7 +131,7 @@ where
         → CountsReached repo.old.graph.entries (tips_of repo.old) held parents
         → fetched.requests ≤ held + 1) }
 {
-    // Laws.
+    // Laws that the proof uses.
     repo.laws();
     let alloc = repo.graph().allocator();
     let Ok(mut reader) = BufReader::new(alloc, peer) else {

@@ -118,7 +118,7 @@ impl<K: Packer<A> + Indexer<A> + Drop, A: Allocator + Copy> World<K, A> {
             self.old.world events.now (outcomes_before fault) self.new.world) }
     {
         let result = self.parts.run_events(events, &self.tools);
-        // Laws.
+        // Laws that the proof uses.
         self.parts.laws();
         result
     }

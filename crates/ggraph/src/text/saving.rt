@@ -32,7 +32,7 @@ pub fn save<A: Allocator + Copy>(
         (SaveRefuses graph.now.format refs.now head.now) }
     ensures loadable { IfOk result (λ text. IsLoadable Order.Any graph.now refs.now head.now) }
 {
-    // Laws.
+    // Laws that the proof uses.
     gdag::laws::entries_come_in_order::<A>();
     grefs::laws::refs_come_in_order();
     if let Some(id) = other_id(graph.format(), refs.as_slice(), head) {
@@ -110,7 +110,7 @@ fn text_of_repository<A: Allocator + Copy>(
     ensures head { IfOk result (λ _. PointsBelowRefs head.now) }
     ensures text { IfOk result (λ text. text.items ≡ repository_text graph.now refs.now head.now) }
 {
-    // Laws.
+    // Laws that the proof uses.
     graph.laws();
     head.laws();
     let mut text = Vec::new(alloc);

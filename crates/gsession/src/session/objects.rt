@@ -179,7 +179,7 @@ impl<A: Allocator + Copy> Session<A> {
         ensures commons { OnOk result (AreCommons self.now.options.limits self.now.format
             (distinct_of (self.now.commons ++ acks.now))) }
     {
-        // Laws.
+        // Laws that the proof uses.
         distinct_are_once();
         self.laws();
         match first_strange(self.allocator(), self.open_haves(), acks) {

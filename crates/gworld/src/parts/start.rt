@@ -88,7 +88,7 @@ fn first_disagreement<A: Allocator + Copy>(server: &Graph<A>, client: &Graph<A>)
     ensures { MatchOption result (Agree server.now.entries client.now.entries)
         (IsFirstDisagreement server.now.entries client.now.entries) }
 {
-    // Laws.
+    // Laws that the proof uses.
     positions_are_nodes::<A>();
     for place in 0..server.len() {
         if let Some(id) = disagreement_at(server, client, place) {
