@@ -120,8 +120,8 @@ fn marked_ids<A: Allocator + Copy>(alloc: Global, repo: &Repo<A>) -> Result<Vec<
     Ok(ids)
 }
 
-// Returns an ancestor of `ids` that the graph lacks, and the counts of visited objects. The walk
-// does not continue past marked objects.
+// Returns an ancestor of `ids` that the graph lacks, or `None` if it lacks no ancestor, and the
+// counts of visited objects. The walk does not continue past marked objects.
 fn missing_and_count<A: Allocator + Copy>(
     repo: &Repo<A>,
     ids: &[Oid],

@@ -213,7 +213,7 @@ pub fn add_padded_number(
     Ok(())
 }
 
-// Splits the text at the first occurrence of `byte`.
+// Splits the text at the first occurrence of `byte`. Returns `None` if the text lacks `byte`.
 fn split_at_byte(text: &[u8], byte: u8) -> Option<(&[u8], &[u8])> {
     let mut parts = text.splitn(2, |other| *other == byte);
     let before = parts.next()?;

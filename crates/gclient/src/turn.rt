@@ -42,8 +42,8 @@ pub(crate) fn hear<S: Source, A: Allocator + Copy>(
     Ok(())
 }
 
-/// Makes and sends the session's next request. `offers` holds the state of the walk that selects
-/// haves. A request for objects updates this state.
+/// Makes and sends the session's next request. `offers` is the state of the walk that selects
+/// haves, or `None` before the walk starts. A request for objects updates this state.
 pub(crate) fn ask<W: Sink, A: Allocator + Copy>(
     repo: &Repo<A>,
     session: &mut Session<A>,

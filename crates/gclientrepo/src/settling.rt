@@ -58,8 +58,8 @@ fn take_asks<A: Allocator + Copy>(
     Ok(updates)
 }
 
-/// Returns the first new id of the requested updates that the graph does not hold. Allocates
-/// nothing.
+/// Returns the first new id of the requested updates that the graph does not hold, if any.
+/// Allocates nothing.
 pub(crate) fn first_absent<A: Allocator + Copy>(graph: &Graph<A>, asks: &Asks<A>) -> Option<Oid>
     ensures { MatchOption result (All (Holds graph.now.entries) (asked_ids asks.now))
         (λ id. Contains (asked_ids asks.now) id × (node_at graph.now.entries id ≡ None)) }

@@ -31,9 +31,9 @@ enum DialogueStage<M, R> {
 /// One end of a dialogue: a conversation of packets ([`Conversation`]).
 ///
 /// A dialogue receives one message after another, and sends the answer of its [`Side`] to each
-/// message. It ends after the last answer. A message is refused if its grammar rejects a packet, if
-/// memory runs out for a packet, or if no more packets arrive before its end. The answer to a
-/// refused message is the last answer.
+/// message. The dialogue ends after the last answer. A message is refused if its grammar rejects a
+/// packet, if memory runs out for a packet, or if no more packets arrive and the message is
+/// incomplete. The answer to a refused message is the last answer.
 #[derive(Drop)]
 pub struct Dialogue<S, M, R> {
     side: S,

@@ -46,9 +46,9 @@ pub struct FetchReading<K> {
     pub ends: Ends,
 }
 
-// Ghost values that describe one call that reads a reply. The proof of such a call chooses the
-// values for the type `Brand`, in `Invariants.antt`. The values belong to a type because the trait
-// `Message` describes only a reader and its packets.
+// Ghost values that describe one call that reads a reply. The values are members of a type, since
+// the contract of the trait `Message` mentions only a reader and its packets. The proof of each
+// call chooses the values for the type `Brand`, in `Invariants.antt`.
 trait Lent<T> {
     ghost use Rattle.gfetchreply.specs.FetchReplies.{Reading};
 
@@ -65,7 +65,7 @@ trait Lent<T> {
     ghost state_before: { T → Type 0 };
 }
 
-// Placeholders, which no call uses.
+// Placeholders. The proof of each call chooses other values.
 impl<T> Lent<T> for Brand {
     ghost use Rattle.gfetchreply.specs.steps.Views.{no_reading};
 
@@ -260,7 +260,7 @@ pub fn read_fetch_reply_into<S: Source, T: PackSink, A: Allocator + Copy, B: All
 }
 
 /// Reads one fetch reply to its end, and nothing after it (gitprotocol-v2(5), "fetch"). The pack is
-/// passed to the sink in pieces, straight from the reader's buffer. No piece is empty. The ids are
+/// passed to the sink in pieces, directly from the reader's buffer. No piece is empty. The ids are
 /// allocated with `alloc`.
 ///
 /// A fault contains the reason, and the position of the first packet that does not fit. A fault of

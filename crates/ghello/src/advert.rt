@@ -38,7 +38,7 @@ const VERSION: &[u8] = b"version 2";
 // The maximum length of a capability's text in bytes: a key, `=` and a value.
 const MAX_TEXT: usize = 2_001;
 
-// The commands that a client needs a server to support.
+// The commands that a client requires of a server.
 const LS_REFS: &[u8] = b"ls-refs";
 
 const FETCH: &[u8] = b"fetch";
@@ -195,7 +195,8 @@ impl<A: Allocator + Copy> Advert<A> {
         Some(capability.as_capability())
     }
 
-    /// Returns the first capability with this key, or `None` if no capability has the key.
+    /// Returns the first capability with this key and its value, or `None` if no capability has the
+    /// key.
     pub fn value_of(&self, key: &[u8]) -> Option<Capability<'_>>
         ensures { option_map capability_view result ≡ first_with key.now self.now }
     {

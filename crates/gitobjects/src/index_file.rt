@@ -212,7 +212,7 @@ impl<P: OpenPack + Drop, A: Allocator + Copy> IndexFile<P, A> {
         }
     }
 
-    // Looks up an id among the ids at these positions, after reading them if necessary.
+    // Looks up an id among the ids at these positions, which are first read if necessary.
     fn look(&mut self, part: Places, wanted: &[u8]) -> Result<SearchResult, Cause> {
         let count = part
             .high
@@ -251,7 +251,8 @@ impl<P: OpenPack + Drop, A: Allocator + Copy> IndexFile<P, A> {
         self.long_offset(table, short - LONG)
     }
 
-    // Returns entry `number` of the table of long offsets, which begins at offset `table`.
+    // Returns entry `number` of the table of long offsets, which begins at offset `table`. Returns
+    // `None` if the entry does not fit in a `usize`.
     fn long_offset(&mut self, table: usize, number: u32) -> Result<Option<usize>, Cause> {
         let start = (number as usize)
             .saturating_mul(2 * WORD)

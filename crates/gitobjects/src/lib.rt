@@ -34,17 +34,17 @@
 //!
 //! # Differences from Git
 //!
-//! - A pack stays open once found. Git opens packs as needed, and closes some.
+//! - A pack stays open once found. Git opens packs as needed, and may close them again.
 //! - If an object is not found, Git lists all packs again. This crate lists only folders in which
 //!   names have changed, and each folder at most twice after a change.
 //! - Packs with an index of version 1 and packs of version 3 are ignored. Git reads both.
 //!   Multi-pack indexes, bitmaps and commit-graphs are not read.
 //! - Each open pack uses a file descriptor. A repository with about a thousand packs needs `git gc`
 //!   first, because the system limits open files.
-//! - If an object is missing and a pack was ignored, the fault names that pack. Git reports a
-//!   missing object.
+//! - If an object is missing and a pack was ignored, the fault names that pack. Git reports only
+//!   that the object is missing.
 //! - If a delta base is broken in its pack, another copy is used, as in Git. In this crate the copy
-//!   must be no larger than 4 MiB, and all its own bases must be intact. At most 15 bases of a
+//!   must be no larger than 4 MiB, and all bases of the copy must be intact. At most 15 bases of a
 //!   chain may be replaced by copies.
 //! - A quoted path in `info/alternates`, or a path that is not UTF-8, is a fault. Git reads quoted
 //!   paths and paths that are not UTF-8.
@@ -81,8 +81,9 @@
 //! - No contract rules out that a loose object is accepted although bytes follow its stream.
 //! - No contract says which alternates are read, where a relative path begins, or how the open
 //!   packs are ordered.
-//! - No contract rules out that [`ObjectReader::refresh`] finds nothing new. No contract rules out
-//!   that a folder is listed more or less often than the proved function decides.
+//! - No contract rules out that [`ObjectReader::refresh`] finds nothing new. The private function
+//!   that returns whether to list a pack folder again is proved, but no contract says that its
+//!   callers list the folder exactly if the result is `true`.
 //! - No contract rules out that [`MemoryFiles`] returns bytes that differ from the added bytes.
 //! - No contract rules out that a [`QuickReader`] finds no object, reports an object that does not
 //!   exist, or returns a wrong type. A quick reader does not check a whole index.

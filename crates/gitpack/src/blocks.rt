@@ -91,9 +91,9 @@ impl<A: Allocator + Copy> Blocks<A> {
         }
     }
 
-    /// Returns the first match of at least one block whose offset in the target is in `from..to`.
-    /// Returns `None` if the search finds no match. The match ends where the target and the base
-    /// differ.
+    /// Returns the first match that begins in `from..to` of the target and has at least the length
+    /// of a block. Returns `None` if the search finds no match. The match ends where the target and
+    /// the base differ, or where one of them ends.
     pub(crate) fn next_match(
         &self,
         base: &[u8],

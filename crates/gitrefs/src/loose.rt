@@ -48,7 +48,8 @@ pub fn parse_loose_ref<A: Allocator + Copy>(alloc: A, text: &[u8]) -> Result<Loo
     }
 }
 
-// Returns the ref name in a text, without the surrounding white space.
+// Returns the ref name in a text, without the surrounding white space. Fails with `Malformed` if
+// there is no valid ref name, or with `Memory` if out of memory.
 fn parse_target<A: Allocator + Copy>(alloc: A, text: &[u8]) -> Result<RefName<A>, TextFault>
     ensures { MatchResult result (λ name. IsTarget text.now name)
         (IsTextFault ((name : Name) × IsTarget text.now name)) }

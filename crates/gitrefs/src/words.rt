@@ -91,7 +91,8 @@ fn space_at(text: &[u8]) -> Option<usize>
     text.iter().position(|byte| is_space(*byte))
 }
 
-// Returns the position of the first byte that is not white space, or `None` if there is none.
+// Returns the position of the first byte that is not white space, or `None` if there is no such
+// byte.
 fn other_at(text: &[u8]) -> Option<usize>
     ensures { result ≡ position is_other text.now }
 {

@@ -1,5 +1,5 @@
-//! A Git directory as a repository: its commit graph, refs and HEAD, the packs it sends and the
-//! packs it receives (gitrepository-layout(5), gitformat-pack(5)).
+//! A Git directory as a repository: its graph of commits and tags, its refs and HEAD, and the packs
+//! that it sends and receives (gitrepository-layout(5), gitformat-pack(5)).
 //!
 //! - [`open_repository`] returns the graph of everything the refs reach. The function
 //!   [`read_commit_graph`] reads the commit-graph, which lists the parents of commits. A commit
@@ -102,7 +102,7 @@
 //! - No contract rules out that [`StoreIndexer::kind_of`] returns the wrong type. No contract rules
 //!   out that [`StoreIndexer::take_received`] returns `None`, or a pack that was not received.
 //! - No contract rules out that a [`NewRepository`] lacks its configuration, its pack, its refs or
-//!   HEAD. No contract rules out that it is removed once it is finished, or remains after a fault.
+//!   HEAD. No contract rules out that its files are removed by `finish`, or remain after a fault.
 //! - No contract can describe the contents of a system file: only the order of the calls in
 //!   [`install_pack`] is proved. No contract rules out that [`install_pack`] installs nothing, or
 //!   does not create the file `.keep`. No contract rules out that the folder of [`install_pack`]

@@ -32,18 +32,19 @@ enum ArgFault<'a> {
     Address(&'a str),
     // This argument is not a number of connections from 1 to 1,000,000.
     Connections(&'a str),
+    // Out of memory.
     Memory,
 }
 
 /// Parses the arguments, the first of which is the program name, into a command. The returned
 /// command is well-formed (`specs/Commands.antt`).
 ///
-/// Fails with the answer to print: the requested help or version, a mistake in the arguments, or
-/// out of memory.
-pub fn read_words<'a>(alloc: Global, words: &'a [String]) -> Result<GitrepoCommand<'a>, Answer>
+/// Fails with the answer to print if the arguments request help or the version, if the arguments
+/// are wrong, or if out of memory.
+pub fn read_words<'a>(alloc: Global, arguments: &'a [String]) -> Result<GitrepoCommand<'a>, Answer>
     ensures { IfOk result IsCommand }
 {
-    let matches = match parse(alloc, words) {
+    let matches = match parse(alloc, arguments) {
         Ok(matches) => matches,
         Err(error) => return Err(answer_of_clap(alloc, error)),
     };
@@ -56,8 +57,8 @@ pub fn read_words<'a>(alloc: Global, words: &'a [String]) -> Result<GitrepoComma
     }
 }
 
-fn parse<'a>(alloc: Global, words: &'a [String]) -> Result<ArgMatches<'a>, clap::Error> {
-    program(alloc)?.try_get_matches_from(words)
+fn parse<'a>(alloc: Global, arguments: &'a [String]) -> Result<ArgMatches<'a>, clap::Error> {
+    program(alloc)?.try_get_matches_from(arguments)
 }
 
 // Returns the answer for an error of `clap`: wrong arguments, help or the version.

@@ -26,9 +26,9 @@ use std::alloc::Allocator;
 /// response-end if `ends` requires one (gitprotocol-v2(5), "ls-refs"). Allocates nothing.
 ///
 /// Fails with `Io` if the sink fails; a prefix of the reply may then have been written. Fails with
-/// `Failed` if the writer had failed before. Never fails with `Payload`. A written reply reads back
-/// ([`reads_back`](crate::laws::reads_back)), since every reply meets the conditions of that law in
-/// the format of its ids.
+/// `Failed` if the writer had failed before. Never fails with `Payload`, since no payload is too
+/// long. A reader for the format of the ids returns the same reply
+/// ([`reads_back`](crate::laws::reads_back)).
 pub fn write_ls_reply<A: Allocator + Copy, W: Sink>(
     reply: &LsReply<A>,
     ends: Ends,

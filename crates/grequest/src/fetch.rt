@@ -368,7 +368,8 @@ fn has_room(arguments: u32, len: usize, limit: usize) -> bool
     arguments < MAX_ARGUMENTS && len < limit
 }
 
-// Appends the id if it has this format and `has_room` is true.
+// Appends the id. Fails if the id has another format, if `has_room` is false, or if memory runs
+// out.
 fn keep_id<A: Allocator + Copy>(
     format: Format,
     ids: &mut Vec<Oid, A>,

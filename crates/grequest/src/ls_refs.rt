@@ -227,7 +227,8 @@ impl<A: Allocator + Copy> LsRefsRequest<A> {
         Ok(())
     }
 
-    // Appends a prefix if it is well-formed and `has_room` is true.
+    // Appends a prefix. Fails if the prefix is malformed, if `has_room` is false, or if memory runs
+    // out.
     fn keep_prefix(&mut self, has_room: bool, prefix: &[u8]) -> Result<(), NotKept>
         requires { has_room ≡ true
             → length self.old.asked.prefixes < max_prefixes self.old.limits }

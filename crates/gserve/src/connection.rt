@@ -36,10 +36,10 @@ pub enum End {
     WriteFailed,
 }
 
-/// The number of replies on a connection, and how the connection ended.
+/// The number of requests that were answered on a connection, and how the connection ended.
 #[derive(Debug, Drop)]
 pub struct Served {
-    /// The number of replies written and flushed.
+    /// The number of requests whose replies were written and flushed.
     pub requests: u32,
     /// How the connection ended.
     pub end: End,

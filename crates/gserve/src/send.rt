@@ -1,5 +1,5 @@
-//! Writing and flushing a reply, the advertisement, and the error packet. A writer fails in these
-//! calls only if its sink fails.
+//! Writing and flushing a reply, the advertisement, and the error packet. These calls fail only if
+//! the sink fails.
 
 ghost use Rattle.std.specs.Prelude.{◌≡◌, false, OnOk};
 ghost use Rattle.gpkt.specs.Sending.{output_of};

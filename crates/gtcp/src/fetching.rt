@@ -180,7 +180,7 @@ fn fetch_between<A: Allocator + Copy, K: Indexer<A>, R: Read, W: Write>(
 ///
 /// Fails with `Limit` (48) if there are more than 64 prefixes. Fails with `BadText` (42) if the
 /// host or the path is not well-formed. Both faults report packet position 0. Fails with `Memory`
-/// (53) if out of memory for the request or the first line, and with `NoBuffer` (28) if out of
+/// (53) if out of memory for the request or the first line. Fails with `NoBuffer` (28) if out of
 /// memory for the buffers of the stream. After these faults nothing was read or written. Otherwise
 /// fails with the faults of `gclient::list_git`. A read fails if the server sends no byte for
 /// [`MAX_SILENCE`](crate::MAX_SILENCE) seconds, and a write fails if the server accepts no byte for

@@ -83,7 +83,7 @@ fn have_one_format<A: Allocator + Copy>(server: &Server<A>, repo: &Repo<A>) -> b
 }
 
 // Returns the first of the server's ids, in insertion order, under which the client holds a
-// different object.
+// different object. Returns `None` if there is no such id.
 fn first_disagreement<A: Allocator + Copy>(server: &Graph<A>, client: &Graph<A>) -> Option<Oid>
     ensures { MatchOption result (Agree server.now.entries client.now.entries)
         (IsFirstDisagreement server.now.entries client.now.entries) }
