@@ -189,7 +189,8 @@ impl<'l, C: Conversation + Drop, A: Allocator + Copy> EventLoop<'l, C, A> {
         }
     }
 
-    // Waits until sockets are ready, and stores their keys.
+    // Waits until sockets are ready or the time to wait is over, and stores the keys of the ready
+    // sockets.
     fn wait<R: Clock>(&mut self, rt: &R) -> io::Result<()> {
         let timeout = self.timeout();
         match self.poll.poll(&mut self.events, timeout) {

@@ -138,7 +138,8 @@ impl Oid {
         }
     }
 
-    /// Proves that an id has the length of its format.
+    /// Proves that the id has the number of bytes that its format requires: 20 for SHA-1, or 32 for
+    /// SHA-256.
     pub fn laws(&self)
         ensures { IsId self.now }
     {

@@ -89,8 +89,7 @@ pub fn bands_are_read()
     ensures fits { BandFits }
 {}
 
-/// Proves that consecutive reads of packets have the effect of one read of the list of all the
-/// packets.
+/// Proves that consecutive reads of packets consume the encodings of all the packets, in sequence.
 #[tactic(auto, using(crate::proofs::Joins::reads_none, crate::proofs::Joins::reads_next, crate::proofs::Joins::reads_join))]
 pub fn reads_join()
     ensures none { ReadsNone }
@@ -98,8 +97,8 @@ pub fn reads_join()
     ensures join { ReadsJoin }
 {}
 
-/// Proves that consecutive writes have the effect of one write of all the bytes, and that a push
-/// flushes all the bytes.
+/// Proves that consecutive writes have the effect of a single write of all the bytes, and that a
+/// push flushes all the written bytes.
 #[tactic(auto, using(crate::proofs::Joins::writes_join, crate::proofs::Joins::fails_of_more, crate::proofs::Joins::pushes_written))]
 pub fn writes_join<W: Sink>()
     ensures join { WritesJoin W.contents W.passed_on W.is_down W.loans }

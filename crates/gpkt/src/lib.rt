@@ -35,9 +35,9 @@
 //!   reason to reject it. The canonical form of a packet is one of its encodings. If the same bytes
 //!   begin with the encodings of two lists of packets, one list is a prefix of the other. Every
 //!   byte sequence is empty, or begins with an encoded packet, or is rejected by a reader with a
-//!   fault. Consecutive reads have the effect of one read, and consecutive writes the effect of one
-//!   write. A payload decodes to a band exactly when it consists of the band byte followed by the
-//!   bytes of that band ([`laws`]).
+//!   fault. Consecutive reads consume the encodings of all their packets, in sequence. Consecutive
+//!   writes have the effect of a single write of all the bytes. A payload decodes to a band exactly
+//!   when it consists of the band byte followed by the bytes of that band ([`laws`]).
 //! - Each fault has the number, the name and the text that `specs/Faults.antt` states.
 //!
 //! # Only tested

@@ -1,4 +1,4 @@
-//! The faults of calls on refs.
+//! The faults of setting a ref.
 
 ghost use Rattle.std.specs.Prelude.{◌≡◌, Some};
 ghost use Rattle.grefs.specs.Faults.{refs_fault_row, refs_fault_text};
