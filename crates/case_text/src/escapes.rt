@@ -133,7 +133,8 @@ fn add_braced(
     }
 }
 
-// Appends an id, an id of a wrong length, or the text with this name.
+// Appends the bytes that `inside` stands for: an id of one repeated digit, an id whose length is
+// wrong by the number after `+` or `-`, or the text with the name `inside`.
 fn add_id_or_text(
     texts: &[NamedText<'_>],
     inside: &[u8],

@@ -14,7 +14,7 @@ use crate::trouble::Trouble;
 use gname::Format;
 use std::alloc::Global;
 
-/// The contents of the test files parsed so far, for ids of one format.
+/// The contents of the test files that were parsed so far. All ids in them have one format.
 #[derive(Drop)]
 pub struct Script<'a> {
     pub format: Format,

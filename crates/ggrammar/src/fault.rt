@@ -63,8 +63,8 @@ pub enum Why {
     Line(PacketFault),
     /// The payload does not begin with a valid side band (faults 29 and 30).
     Band(BandFault),
-    /// The grammar does not allow this flush, delimiter or response-end, or requires a response-end
-    /// (fault 41).
+    /// The grammar does not allow this flush, delimiter or response-end here, or the packet is not
+    /// the response-end that the grammar requires (fault 41).
     UnexpectedFrame,
     /// The text matches no rule of the grammar (fault 42).
     BadText,

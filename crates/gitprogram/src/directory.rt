@@ -71,7 +71,7 @@ impl Directories {
 
     /// Returns access to the ref files of the repository.
     pub(crate) fn refs<'r, R: Files>(&'r self, alloc: Global, rt: &'r R) -> GitDirectory<'r, R> {
-        GitDirectory::linked_worktree(alloc, rt, self.common.as_str(), self.own.as_str())
+        GitDirectory::with_common_directory(alloc, rt, self.common.as_str(), self.own.as_str())
     }
 }
 

@@ -37,9 +37,9 @@
 //!
 //! # Differences from Git
 //!
-//! - `clone` fetches only HEAD, branches and tags. If the server's HEAD is detached at a tag, the
-//!   clone's HEAD is detached at the tag's commit. Git refuses to clone from a server whose HEAD is
-//!   detached at a tag.
+//! - `clone` fetches only HEAD, branches and tags. If the server's HEAD holds the id of a tag
+//!   object, the clone's HEAD holds the id of the tag's commit. Git refuses to clone from such a
+//!   server.
 //! - A refspec without `+` allows `fetch` to fast-forward a tag. In Git, only a refspec with `+`
 //!   allows a tag to move. `fetch` fails if a destination is a symbolic ref. `fetch` refuses to
 //!   update the branch that is checked out in the work tree of its argument DIR. A branch that is

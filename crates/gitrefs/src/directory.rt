@@ -67,7 +67,7 @@ impl<'r, R: Files, A: Allocator + Copy> GitDirectory<'r, R, A> {
 
     /// Returns the Git directory of a linked worktree (git-worktree(1)), without opening anything.
     /// HEAD is in the directory `own`, and all refs below `refs/` are in the directory `common`.
-    pub fn linked_worktree(
+    pub fn with_common_directory(
         alloc: A,
         files: &'r R,
         common: &'r str,

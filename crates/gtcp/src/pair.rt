@@ -124,8 +124,12 @@ impl<N: Source, F: Source, W: Sink, A: Allocator + Copy> Source for ClientInput<
 
 // Acts as the server: reads the client's first line, and writes the advertisement or the reason to
 // refuse the line.
-fn greet<A: Allocator + Copy, F: Source, W: Sink>(server: &Server<A>, far: &mut F, sink: &mut W) {
-    match hear(far, server.graph().allocator()) {
+fn greet<A: Allocator + Copy, S: Source, W: Sink>(
+    server: &Server<A>,
+    source: &mut S,
+    sink: &mut W,
+) {
+    match hear(source, server.graph().allocator()) {
         Ok(_hello) => advertise(server, sink),
         Err(fault) => refuse(&fault, sink),
     }
