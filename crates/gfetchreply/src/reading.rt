@@ -352,14 +352,14 @@ pub fn read_fetch_reply_in<S: Source, A: Allocator + Copy, B: Allocator + Copy>(
     // Laws that the proof uses.
     reading.limit.laws();
     let mut pack = Vec::new(alloc);
-    match read_fetch_reply_into_in(reader, streamed(reading), &mut pack, alloc) {
+    match read_fetch_reply_into_in(reader, with_stream_limit(reading), &mut pack, alloc) {
         Ok(head) => Ok(FetchReply::with_pack(head, pack)),
         Err(fault) => Err(fault),
     }
 }
 
 // Returns these parameters, with the limit converted to a [`StreamLimit`].
-fn streamed(reading: FetchReading<PackLimit>) -> FetchReading<StreamLimit>
+fn with_stream_limit(reading: FetchReading<PackLimit>) -> FetchReading<StreamLimit>
     ensures { result ≡ reading }
 {
     FetchReading {

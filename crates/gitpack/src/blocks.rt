@@ -149,7 +149,7 @@ impl<A: Allocator + Copy> Blocks<A> {
 impl Match {
     /// Returns the match, extended backwards as long as the bytes of base and target are equal. The
     /// extended match does not begin before offset `start` of the target.
-    pub(crate) fn extended_back(self, base: &[u8], target: &[u8], start: usize) -> Match {
+    pub(crate) fn extend_back(self, base: &[u8], target: &[u8], start: usize) -> Match {
         let more = common_back(base.get(..self.offset), target.get(start..self.at));
         Match {
             at: self.at.wrapping_sub(more),

@@ -100,7 +100,7 @@ impl<A: Allocator + Copy> DeltaBase<A> {
             let Some(found) = self.blocks.next_match(base, target, done, end) else {
                 break;
             };
-            let copy = found.extended_back(base, target, done);
+            let copy = found.extend_back(base, target, done);
             put_insertions(&mut delta, target.get(done..copy.at))?;
             put_copies(&mut delta, copy.offset, copy.length)?;
             done = copy.at.wrapping_add(copy.length);

@@ -197,7 +197,7 @@ impl<'a, S: Spool, A: Allocator + Copy> Resolver<'a, S, A> {
     fn next_delta(&mut self) -> Option<usize> {
         let last = self.bases.last_mut()?;
         let current = last.remaining;
-        last.remaining = self.children.advanced(&current);
+        last.remaining = self.children.cursor_after(&current);
         self.children.peek(&current)
     }
 

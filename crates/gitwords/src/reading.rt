@@ -104,10 +104,10 @@ fn read_command<'a>(
         "ls" => ls_command(alloc, args),
         "serve" => serve_command(args),
         "upload-pack" => Ok(GitrepoCommand::UploadPack {
-            dir: required(args, "DIR")?,
+            dir: required_arg(args, "DIR")?,
         }),
         "check" => Ok(GitrepoCommand::Check {
-            dir: required(args, "DIR")?,
+            dir: required_arg(args, "DIR")?,
         }),
         _ => Err(ArgFault::Missing("COMMAND")),
     }
@@ -119,7 +119,7 @@ fn clone_command<'a>(args: &ArgMatches<'a>) -> Result<GitrepoCommand<'a>, ArgFau
     Ok(GitrepoCommand::Clone(CloneArgs {
         verbosity: verbosity(args),
         url: url(args)?,
-        dir: required(args, "DIR")?,
+        dir: required_arg(args, "DIR")?,
     }))
 }
 
@@ -131,7 +131,7 @@ fn fetch_command<'a>(
 {
     Ok(GitrepoCommand::Fetch(FetchArgs {
         verbosity: verbosity(args),
-        dir: required(args, "DIR")?,
+        dir: required_arg(args, "DIR")?,
         url: url(args)?,
         specs: specs(alloc, args)?,
     }))
@@ -155,12 +155,12 @@ fn serve_command<'a>(args: &ArgMatches<'a>) -> Result<GitrepoCommand<'a>, ArgFau
         max_connections: connections(args, "max-connections")?,
         max_per_address: connections(args, "max-per-address")?,
         export_all: args.get_flag("export-all"),
-        base: required(args, "BASE")?,
+        base: required_arg(args, "BASE")?,
     }))
 }
 
 // Returns the argument with this name. Fails with `Missing` if the argument is absent.
-fn required<'a>(args: &ArgMatches<'a>, name: &'static str) -> Result<&'a str, ArgFault<'a>> {
+fn required_arg<'a>(args: &ArgMatches<'a>, name: &'static str) -> Result<&'a str, ArgFault<'a>> {
     match args.get_str(name) {
         Some(text) => Ok(text),
         None => Err(ArgFault::Missing(name)),
@@ -170,7 +170,7 @@ fn required<'a>(args: &ArgMatches<'a>, name: &'static str) -> Result<&'a str, Ar
 fn url<'a>(args: &ArgMatches<'a>) -> Result<GitUrl<'a>, ArgFault<'a>>
     ensures { IfOk result IsUrl }
 {
-    match GitUrl::parse(required(args, "URL")?) {
+    match GitUrl::parse(required_arg(args, "URL")?) {
         Ok(url) => Ok(url),
         Err(fault) => Err(ArgFault::Url(fault)),
     }
@@ -179,7 +179,7 @@ fn url<'a>(args: &ArgMatches<'a>) -> Result<GitUrl<'a>, ArgFault<'a>>
 fn listen<'a>(args: &ArgMatches<'a>) -> Result<&'a str, ArgFault<'a>>
     ensures { IfOk result (λ address. IsListenAddress address.now) }
 {
-    let address = required(args, "listen")?;
+    let address = required_arg(args, "listen")?;
     if is_listen_address(address) {
         Ok(address)
     } else {
