@@ -15,8 +15,8 @@ use ggraph::{Count, Graph, GraphFault, Order, Refs, missing_known};
 use gname::{Oid, RefName};
 use std::alloc::{Allocator, Global};
 
-/// Returns the result of a fact about a client with this repository text. `refusal` states which
-/// allocation of the client to refuse, if any.
+/// Makes the call that a fact describes, on a client with this repository text, and returns its
+/// actual result. `refusal` states which allocation of the client to refuse, if any.
 pub(crate) fn actual_result<A: Allocator + Copy>(
     alloc: Global,
     tested_alloc: A,

@@ -72,7 +72,7 @@ fn run_and_compare<R: System>(
     let output = runtime.written_bytes()?;
     let steps = journal.text()?;
     let is_right = has_expected_status(plan, status)
-        && has_expected_output(alloc, plan, peers.port(), output.as_slice())?
+        && has_expected_output(alloc, plan, peers.program_port(), output.as_slice())?
         && has_expected_errors(plan, errors.written.as_slice())
         && has_expected_steps(plan, steps.as_str())
         && peers.have_received_expected(alloc);

@@ -23,7 +23,7 @@ pub enum Variation {
     /// The request is changed as the row's table lists.
     TableChanges,
     RefusedAllocations,
-    /// A call to the client's file fails.
+    /// An operation on the client's file fails.
     FailingFile,
 }
 

@@ -11,7 +11,7 @@ use case_worlds::simulate_at_random;
 use std::alloc::Global;
 use std::io;
 
-/// Checks a fact, and prints each unexpected result.
+/// Checks a fact of these test files, and prints each unexpected result.
 pub fn check_fact<R: System>(
     rt: &R,
     script: &Script<'_>,

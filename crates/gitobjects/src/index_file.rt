@@ -266,14 +266,14 @@ impl<P: OpenPack + Drop, A: Allocator + Copy> IndexFile<P, A> {
 }
 
 // Returns the likely position of an id among these positions, assuming that ids are evenly
-// distributed.
+// distributed. The ids at these positions begin with the same byte.
 fn likely_place(places: Places, wanted: &[u8]) -> usize {
-    let next = number_of(wanted.get(1..).unwrap_or(b""));
+    let after_first_byte = number_of(wanted.get(1..).unwrap_or(b""));
     let width = places.high.saturating_sub(places.low) as u64;
-    let before = width.saturating_mul(u64::from(next)) >> 32;
+    let ids_before = width.saturating_mul(u64::from(after_first_byte)) >> 32;
     places
         .low
-        .saturating_add(usize::try_from(before).unwrap_or(0))
+        .saturating_add(usize::try_from(ids_before).unwrap_or(0))
 }
 
 fn halfway(places: Places) -> usize {

@@ -70,24 +70,21 @@
 //! # What the contracts do not rule out
 //!
 //! No contract covers any behaviour that "Proved" does not list. Most behaviour depends on files,
-//! streams and sockets, which contracts cannot describe. No contract says how many repositories are
-//! cached, or that an object store is ever closed. A cached repository lists its refs even if their
-//! objects have since been removed. No contract rules out that `Repositories` finds a wrong
-//! repository or reports a wrong text. No contract rules out that a packer fails with a wrong
-//! fault, or that a pack has objects of another repository. No contract rules out that a failed
-//! command exits with a wrong status. No contract rules out that output is lost before it is
-//! written, or that a call fails without a reason.
+//! streams and sockets, which contracts cannot describe. The contracts leave all of this open:
 //!
-//! No contract rules out that a client sees the refs or objects of an earlier connection, or that
-//! `serve` serves a repository without `git-daemon-export-ok`. No contract rules out that a client
-//! that does not request version 2 is served, or that a connection has other limits. No contract
-//! rules out that the log omits a fault, or that `fetch` reports refs as up to date that are not.
-//!
-//! No contract rules out that control bytes are written to a terminal. No contract rules out that
-//! `upload-pack` passes other bytes to the dialogue than it reads. No contract rules out that a
-//! client whose first packet is malformed gets no error packet. No contract rules out that a server
-//! ends its replies with a response-end packet. No contract rules out that a pack lacks entries,
-//! since the contract of `gitrepository` allows any pack.
+//! - No contract says how many repositories are cached, or that an object store is ever closed. A
+//!   cached repository lists its refs even if their objects have since been removed.
+//! - `Repositories` may find a wrong repository or report a wrong text. A packer may fail with a
+//!   wrong fault, and a pack may have objects of another repository, or lack entries.
+//! - A failed command may exit with a wrong status. Output may be lost before it is written, and a
+//!   call may fail without a reason.
+//! - A client may see the refs or objects of an earlier connection. `serve` may serve a repository
+//!   without `git-daemon-export-ok`. A client that does not request version 2 may be served, and a
+//!   connection may have other limits.
+//! - The log may omit a fault, and `fetch` may report refs as up to date that are not.
+//! - Control bytes may be written to a terminal.
+//! - `upload-pack` may pass other bytes to the dialogue than it reads. A client whose first packet
+//!   is malformed may get no error packet. A server may end its replies with a response-end packet.
 //!
 //! # Dependencies
 //!

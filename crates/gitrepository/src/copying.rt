@@ -190,25 +190,25 @@ impl<A: Allocator + Copy> Copying<A> {
         }
     }
 
-    // Returns a stored entry to be written at this offset. If the entry cannot be copied, returns
-    // `None`, and its object is deflated again later.
+    // Returns a stored entry, to be copied to this offset of the new pack. If the entry cannot be
+    // copied, returns `None`, and its object is deflated again later.
     fn copy_entry<F: ObjectFiles>(
         &mut self,
         reader: &mut ObjectReader<'_, F, A>,
         pack: usize,
         object: Packed,
-        position: usize,
+        offset: usize,
     ) -> Result<Option<NextEntry<A>>, RepositoryFault<A>> {
         let Some(entry) = intact_entry(reader, pack, object.place)? else {
             self.deflate_later(object)?;
             return Ok(None);
         };
-        let Some(form) = self.form_of(reader, pack, &entry, position) else {
+        let Some(form) = self.form_of(reader, pack, &entry, offset) else {
             self.deflate_later(object)?;
             return Ok(None);
         };
         if let Some(slot) = self.starts.get_mut(object.place) {
-            *slot = position;
+            *slot = offset;
         }
         Ok(Some(self.reuse_entry(form, entry)))
     }

@@ -27,9 +27,9 @@ use std::alloc::Allocator;
 use std::io::{BufReader, BufWriter, Read, Write};
 use std::net::OpenStream;
 
-/// Fetches with the refspecs from the server at the other end of the stream. Writes the first line
-/// of a `git://` connection (gitprotocol-pack(5), "Git Transport"), which names the host and the
-/// path, and then fetches like `gclient::fetch_over`.
+/// Fetches from the server at the other end of the stream, with these refspecs. Writes the first
+/// line of a `git://` connection (gitprotocol-pack(5), "Git Transport"), which names the host and
+/// the path, and then fetches like `gclient::fetch_over`.
 ///
 /// Fails with `BadText` (42) if the host or the path is not well-formed. The fault reports packet
 /// position 0. Fails with `Memory` (53) if out of memory for the first line, and with `NoBuffer`
