@@ -120,13 +120,13 @@ fn marked_ids<A: Allocator + Copy>(alloc: Global, repo: &Repo<A>) -> Result<Vec<
     Ok(ids)
 }
 
-// Returns an ancestor of `ids` that the graph lacks, or `None` if it lacks no ancestor, and the
-// counts of visited objects. The walk does not continue past marked objects.
+// Searches the ancestry of `ids` for an id that the graph lacks, without walking past marked
+// objects. Returns the missing id, if any, and the counts of visited objects.
 fn missing_and_count<A: Allocator + Copy>(
     repo: &Repo<A>,
     ids: &[Oid],
 ) -> Result<(Option<Oid>, Count), GraphFault> {
-    // Laws that the proof uses.
+    // This call makes laws of the repository available to the proof.
     repo.laws();
     missing_known(repo.graph(), ids, repo.marks())
 }

@@ -186,8 +186,8 @@ fn find_haves<A: Allocator + Copy>(
     Ok(SearchResult::Ids(haves(graph, tips, commons, &[], count)?))
 }
 
-// Returns whether the first of the two ids reaches the second. The result for any other list is
-// `none`.
+// Returns whether the first of the two ids reaches the second. If the list does not have exactly
+// two ids, the result is `none`.
 fn check_reach<A: Allocator + Copy>(
     graph: &Graph<A>,
     ids: &[Oid],

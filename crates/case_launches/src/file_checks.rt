@@ -9,7 +9,7 @@ use std::os::unix::fs::{MetadataExt, PermissionsExt};
 // The bits of a file mode that are permissions.
 const PERMISSION_BITS: u32 = 0o7777;
 
-/// The inode numbers of files.
+/// The names and inode numbers of files that a launch must not replace.
 #[derive(Drop)]
 pub(crate) struct InodeNumbers<'b> {
     numbers: Vec<(&'b str, u64)>,

@@ -57,8 +57,8 @@ fn denies_owner(initial_items: &[InitialItem<'_>]) -> bool {
     false
 }
 
-// Runs the program. Returns the program's results if the status, streams or operations differ from
-// the plan, or `None` otherwise.
+// Runs the program. Returns a description of the results if the status, streams or operations
+// differ from the plan, or `None` otherwise.
 fn run_and_compare<R: System>(
     rt: &R,
     plan: &Plan<'_>,

@@ -217,7 +217,7 @@ enum Failure {
     Interrupted,
     WouldBlock,
     UnexpectedEof,
-    // A write that returns 0.
+    // A write that returns 0, or a read that fails with `ErrorKind::Interrupted`.
     WritesZero,
 }
 

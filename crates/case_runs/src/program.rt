@@ -34,7 +34,7 @@ pub struct RunOutcome {
     pub status: u8,
     /// The new text of the client's file, if the command writes the file.
     pub new_file: Option<Vec<u8>>,
-    /// The text of the client's repository at the end, if it is known.
+    /// The text of the client's repository at the end, or `None` if the command does not return it.
     pub final_repository_text: Option<Vec<u8>>,
     /// Whether the run reached the allocation to refuse.
     pub was_refused: bool,

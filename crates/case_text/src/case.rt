@@ -17,7 +17,7 @@ pub enum Speaker {
     Output,
     /// The standard error of the program.
     Errors,
-    /// The report that a client prints about its ref updates.
+    /// The report that a client prints: its ref updates, or the listed refs.
     Report,
 }
 
@@ -38,7 +38,7 @@ pub struct TranscriptEntry {
     pub bytes: Vec<u8>,
 }
 
-/// A case of a test file.
+/// A case of a test file: messages, the programs to run, and the expected results.
 #[derive(Drop)]
 pub struct Case<'a> {
     /// The name of the test file.
@@ -56,7 +56,8 @@ pub struct Case<'a> {
     pub new_file: Option<&'a str>,
     /// The packer or indexer that the program uses instead of `PlainPack`, if any.
     pub pack_tool: Option<PackTool>,
-    /// The fault lines expected when an allocation is refused, in order.
+    /// The fault lines that the program must print, in this order, as each allocation is refused in
+    /// turn.
     pub memory_faults: Vec<Vec<u8>>,
     /// The offsets at which packets begin in the last message that the program reads. The list is
     /// empty if the case lists no offsets.
@@ -66,17 +67,17 @@ pub struct Case<'a> {
     /// Whether the case is tested only with its unchanged input, which is read at once and in
     /// pieces.
     pub is_long: bool,
-    /// Whether each byte of the input is changed to every other value.
+    /// Whether the tests change each byte of the input to every other value.
     pub is_deep: bool,
-    /// Whether the case is also tested with a late peer, and over a socket while each allocation is
-    /// refused in turn.
+    /// Whether the case is also tested with a peer that sends or accepts bytes late, and over a
+    /// socket while each allocation is refused in turn.
     pub is_late: bool,
-    /// Whether no response-end packets may be added to the replies.
+    /// Whether the tests must not add response-end packets to the replies.
     pub forbids_response_ends: bool,
 }
 
 impl<'a> Case<'a> {
-    /// Returns a case before any of its lines is read.
+    /// Returns an empty case with this name, which begins at this line of the file.
     pub(crate) fn new(
         alloc: Global,
         file_name: &'a str,
@@ -102,7 +103,7 @@ impl<'a> Case<'a> {
         }
     }
 
-    /// Reads a line of the file, and returns whether the line belongs to a case.
+    /// Reads a line of the file. Returns `false` if the line does not belong to the case.
     pub(crate) fn read_line(
         &mut self,
         alloc: Global,
@@ -139,7 +140,7 @@ impl<'a> Case<'a> {
     }
 }
 
-/// The expected result of one function call, whose argument is a text or ids of a graph.
+/// The expected result of one function call on a text, or on ids of a graph.
 #[derive(Drop)]
 pub struct Fact<'a> {
     /// The name of the test file.

@@ -11,13 +11,13 @@ use std::alloc::Allocator;
 pub enum Program {
     /// A server that answers one request.
     LsStdioServer,
-    /// A server that serves one connection without a first line.
+    /// A server that serves one connection without a first line (the packet that names a path).
     Upload,
     /// A client that fetches into its repository.
     Fetch,
     /// A check of a repository.
     Check,
-    /// A program that shows each packet of its input on a line.
+    /// A program that prints one line for each packet of its input.
     Lines,
     /// A simulation of a server and a client.
     Simulate,
@@ -36,7 +36,7 @@ impl Program {
         }
     }
 
-    /// Returns whether the program reports a rejected request to the client.
+    /// Returns whether the program is a server, which reports a rejected request to the client.
     pub fn is_server(self) -> bool {
         match self {
             Program::LsStdioServer | Program::Upload | Program::Serve => true,
@@ -115,7 +115,8 @@ pub struct Invocation<'a> {
 }
 
 impl Invocation<'_> {
-    /// Returns whether the client's first packet names a host and a path.
+    /// Returns whether the connection has a first line, in which the client names a host and a
+    /// path.
     pub fn has_hello(&self) -> bool {
         !self.path.is_empty()
     }

@@ -75,7 +75,7 @@ impl PackTool {
         )
     }
 
-    /// Returns whether this is an indexer other than `CheckingIndexer`.
+    /// Returns whether this is an indexer that fails or breaks its contract.
     pub(crate) fn is_faulty_indexer(self) -> bool {
         !self.is_packer() && self != PackTool::CheckingIndexer
     }
@@ -106,7 +106,7 @@ impl PackTool {
         }
     }
 
-    /// Appends a piece of the pack. Fails if this is `FailingFeedIndexer`, or if out of memory.
+    /// Appends a piece of the pack. Fails if this is `FailingFeedIndexer`, or if memory runs out.
     pub fn feed<A: Allocator + Copy>(
         self,
         received_pack: &mut ReceivedPack<A>,
@@ -166,7 +166,7 @@ impl<A: Allocator + Copy> ReceivedPack<A> {
     }
 }
 
-// Returns the single invalid entry that this indexer reports for every pack.
+// Returns the one invented entry that this indexer reports for every pack.
 fn invented_entries<A: Allocator + Copy>(
     pack_tool: PackTool,
     format: Format,

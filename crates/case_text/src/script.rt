@@ -1,7 +1,7 @@
 //! The parser of test files.
 //!
-//! `crates/conformance/FORMAT.md` describes the format of rows (cases), facts, texts and talks. A
-//! talk is a named list of lines that cases can use.
+//! `crates/conformance/FORMAT.md` describes the format of cases (there called rows), facts, texts
+//! and talks. A talk is a named list of lines that cases can use.
 
 use crate::case::{Case, Fact, TranscriptEntry};
 use crate::command::split_first_word;
@@ -14,7 +14,7 @@ use crate::trouble::Trouble;
 use gname::Format;
 use std::alloc::Global;
 
-/// The contents of the test files that were parsed so far. All ids in them have one format.
+/// The contents of the test files parsed so far. All ids in the contents have one format.
 #[derive(Drop)]
 pub struct Script<'a> {
     pub format: Format,
@@ -52,7 +52,7 @@ enum OpenBlock {
 }
 
 impl<'a> Script<'a> {
-    /// Returns a script for ids of this format, before any file is parsed.
+    /// Returns an empty script for ids of this format.
     pub fn new(alloc: Global, format: Format) -> Script<'a> {
         Script {
             format,

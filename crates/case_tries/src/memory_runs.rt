@@ -78,7 +78,7 @@ pub struct RunResults {
     pub(crate) status: u8,
     /// The new text of the client's file, if the run changed the file.
     pub(crate) new_file: Option<Vec<u8>>,
-    /// The text of the client's repository at the end, if it is known.
+    /// The text of the client's repository at the end, or `None` if the command does not return it.
     pub(crate) final_repository_text: Option<Vec<u8>>,
     pub(crate) output: Writer,
     pub(crate) report: Writer,

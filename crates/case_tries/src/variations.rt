@@ -1,6 +1,6 @@
-//! The variations with which a row is tested.
+//! The ways in which a row is tested.
 
-/// A variation with which a row is tested.
+/// A way in which a row is tested, such as with a truncated input.
 #[derive(Clone, Copy)]
 pub enum Variation {
     WholeInput,

@@ -9,7 +9,7 @@ use gworld::Outcome;
 use std::alloc::{AllocError, Global};
 use std::ops::Range;
 
-// The numbers of unused ids, which no repository contains at first.
+// The numbers of the unused ids, which neither repository contains at the start of a run.
 const NEW_IDS: Range<usize> = 900..924;
 
 const REF_NAMES: [&str; 5] = [
@@ -113,15 +113,15 @@ impl EventGenerator {
 
     // Appends a step of the session that is out of order.
     fn add_step_out_of_order(&mut self, roll: usize, line: &mut String) -> Result<(), AllocError> {
-        let request = self.dice.roll(self.request_count.saturating_add(1));
-        let reply = self.dice.roll(self.reply_count.saturating_add(1));
+        let request_index = self.dice.roll(self.request_count.saturating_add(1));
+        let reply_index = self.dice.roll(self.reply_count.saturating_add(1));
         let step = match roll {
             60..=62 => SessionStep::Begin,
             63..=65 => SessionStep::Ask,
-            66..=69 => SessionStep::Serve(request),
-            70..=73 => SessionStep::Deliver(reply),
+            66..=69 => SessionStep::Serve(request_index),
+            70..=73 => SessionStep::Deliver(reply_index),
             74..=75 => SessionStep::Settle,
-            _ => SessionStep::DeliverPart(reply, self.dice.roll(300)),
+            _ => SessionStep::DeliverPart(reply_index, self.dice.roll(300)),
         };
         self.add_step(step, line)
     }
@@ -233,7 +233,7 @@ fn pick_word(words: &[&'static str], dice: &mut Dice) -> &'static str {
     }
 }
 
-// Appends a line with the word and the bytes in hexadecimal. The line has `-` instead if there are
+// Appends a line with the word and the bytes in hexadecimal, or with the word and `-` if there are
 // no bytes.
 fn add_bytes(word: &str, bytes: &[u8], line: &mut String) -> Result<(), AllocError> {
     line.push_str(word)?;

@@ -13,7 +13,7 @@
 //! # What the contracts do not rule out
 //!
 //! No contract states the results of this crate. The tests were run against deliberately wrong
-//! programs, to check that they detect a client whose refs are not connected.
+//! programs, to check that the tests detect a client whose refs are not connected.
 //!
 //! # Dependencies
 //!

@@ -72,8 +72,8 @@ fn first_failure_when_silent(
     runs: &mut u64,
 ) -> Result<Option<usize>, Trouble> {
     for packet_start in row.conversation.packet_starts.as_slice() {
-        for more in [0usize, 1, 5] {
-            let silent_from = packet_start.start.saturating_add(more);
+        for offset_in_packet in [0usize, 1, 5] {
+            let silent_from = packet_start.start.saturating_add(offset_in_packet);
             if silent_from < row.conversation.input.len()
                 && !is_as_expected_when_silent(alloc, row, silent_from, runs)?
             {
@@ -136,8 +136,8 @@ fn first_failure_when_full(
     runs: &mut u64,
 ) -> Result<Option<usize>, Trouble> {
     for end in row.conversation.message_ends.as_slice() {
-        for less in [0usize, 1] {
-            let max_accepted = end.saturating_sub(less);
+        for unaccepted_len in [0usize, 1] {
+            let max_accepted = end.saturating_sub(unaccepted_len);
             *runs = runs.saturating_add(1);
             if max_accepted < row.conversation.output.len()
                 && !drops_client_that_stops_reading(alloc, row, max_accepted)?
@@ -266,7 +266,7 @@ fn drops_client_that_stops_reading(
     )
 }
 
-// Returns whether a server reads no bytes from its client if its clock fails or goes back.
+// Returns whether a server reads no bytes from its client if the clock fails or goes back.
 fn fails_with_faulty_clock(
     alloc: Global,
     row: &Row<'_>,

@@ -11,7 +11,7 @@ use case_worlds::simulate_at_random;
 use std::alloc::Global;
 use std::io;
 
-/// Checks a fact of these test files, and prints each unexpected result.
+/// Checks a fact of the script's test files, and prints each unexpected result.
 pub fn check_fact<R: System>(
     rt: &R,
     script: &Script<'_>,
@@ -52,8 +52,8 @@ fn print_wrong_fact<R: Print>(
     tally.count_failure();
     let file_name = fact.file_name;
     let line_number = fact.line_number;
-    let kind = fact.keyword;
-    println!(rt; "{file_name}:{line_number}: {kind} {actual_result}")
+    let keyword = fact.keyword;
+    println!(rt; "{file_name}:{line_number}: {keyword} {actual_result}")
 }
 
 // The maximum length of a text that is also checked with refused allocations.

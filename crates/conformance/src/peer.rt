@@ -175,11 +175,11 @@ impl<'r> Peer<'r> {
     /// Reads all bytes that the program has written. Fails if the connection is reset.
     pub fn receive_all(&self) -> io::Result<()> {
         for _ in 0..u64::MAX {
-            let left = self
+            let unread_len = self
                 .program_written_len
                 .get()
                 .saturating_sub(self.received_len());
-            if left == 0 || self.receive_some(left)? == 0 {
+            if unread_len == 0 || self.receive_some(unread_len)? == 0 {
                 break;
             }
         }

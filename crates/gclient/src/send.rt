@@ -16,7 +16,7 @@ use std::alloc::Allocator;
 ///
 /// Requires that the writer has not failed, and that the ids of the request have the given format.
 /// Fails if the sink fails. The sink has then received a prefix of the request, and every further
-/// call of the writer fails.
+/// call on the writer fails.
 pub fn send_request<W: Sink, A: Allocator + Copy>(
     request: &Request<A>,
     format: Format,

@@ -1,4 +1,4 @@
-//! The turns of a conversation.
+//! The turns of a conversation. A turn is a request and its reply.
 
 ghost use Rattle.std.specs.Prelude.{◌≡◌, ℕ, true, false, Option, None, IfOk, IfSome, OnOk};
 ghost use Rattle.gname.specs.Names.{Name};

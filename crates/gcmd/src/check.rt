@@ -42,7 +42,7 @@ pub fn cmd_check<A: Allocator + Copy, W: Sink, E: Sink>(
     finish(check(alloc, file, output), errors)
 }
 
-// Writes the report of a file.
+// Checks the repository that a file describes, and writes the report.
 fn check<A: Allocator + Copy, W: Sink>(
     alloc: A,
     file: &[u8],

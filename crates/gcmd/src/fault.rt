@@ -38,7 +38,7 @@ pub enum ProgramFault<A: Allocator + Copy = Global> {
     /// refspecs.
     Spec(SpecFault),
     /// Faults 20 to 25, 27 to 30, 41 to 54, 60 to 64, 66, 69, 75, 80, 82 and 84 to 86: the fetch
-    /// into the client's repository failed, or memory ran out. Fault 80 reports an unconnected ref.
+    /// into the client's repository failed, or memory ran out. Fault 80: a ref is not connected.
     Fetch(FetchFault<A>),
     /// Fault 27: the output failed.
     WriteFailed,

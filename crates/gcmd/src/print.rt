@@ -211,7 +211,7 @@ fn as_number(place: Option<usize>) -> Option<u64>
     place.map(|place| place as u64)
 }
 
-// Appends a word and a number. Appends nothing if there is no number.
+// Appends a word and a number. Appends nothing if `place` is `None`.
 fn add_place(word: &[u8], place: Option<u64>, text: &mut ArrayVec<u8, MAX_FAULT_LINE>)
     requires { length text.old.items + length word.now + max_decimal ≤ max_fault_line }
     ensures text { text.new.items ≡ text.old.items ++ number_part word.now place }

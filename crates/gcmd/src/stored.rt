@@ -155,7 +155,7 @@ fn fetch_opened<A: Allocator + Copy, T: Storage, S: Source, W: Sink, R: Sink>(
 
 /// Locks a client's file, reads it, and opens its repository.
 ///
-/// Fails with `File` if the file can't be locked or read, with `Memory` if out of memory, and with
+/// Fails with `File` if the file can't be locked or read, with `Memory` if out of memory, or with
 /// the faults of `open_client`. After a fault the program holds no lockfile.
 pub fn open_stored<A: Allocator + Copy, T: Storage>(
     alloc: A,

@@ -20,7 +20,7 @@ pub(crate) const SUCCESS: &str = "ok";
 /// The text for an out-of-memory fault.
 pub(crate) const OUT_OF_MEMORY: &str = "out of memory";
 
-/// The inputs of one test run: the check, the pack and the files of the store. After
+/// The inputs of one test run: the call to test, the pack and the files of the store. After
 /// `calls_before_replacement` calls to the file system, `replacement_files` replace `files`.
 #[derive(Clone, Copy)]
 pub(crate) struct RunInputs<'t, 'a> {

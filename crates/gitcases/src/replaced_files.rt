@@ -77,7 +77,7 @@ impl<'f, A: Allocator + Copy> ObjectFiles for ReplacedFiles<'f, A> {
         self.files().open_pack(path)
     }
 
-    // Returns the change time of a folder, which is later after the files are replaced.
+    // Returns the change time of a folder. The time is later once the files are replaced.
     fn change_time(&self, path: &str) -> Result<Option<FolderTime>, Cause> {
         let is_replaced = self.calls_left.get() == 0;
         match self.files().change_time(path)? {

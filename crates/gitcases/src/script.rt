@@ -421,8 +421,8 @@ impl<'a> Script<'a> {
     }
 }
 
-// Returns the offset that `offset` states. An empty text means `start`, and a leading `+` means a
-// distance from `start`.
+// Parses the offset of an entry. An empty text means `start`, and a leading `+` marks a distance
+// from `start`.
 fn entry_offset(start: usize, offset: &str) -> Result<u64, Trouble> {
     if offset.is_empty() {
         return Ok(start as u64);

@@ -16,7 +16,7 @@ use std::alloc::Allocator;
 struct Chain<A: Allocator + Copy> {
     // The offsets of the deltas, with the requested object first.
     deltas: Vec<usize, A>,
-    // The offset of the entry after the last delta: a whole object, a cached object or a broken
+    // The offset of the entry that ends the chain: a whole object, a cached object or a broken
     // entry.
     end: usize,
 }
@@ -192,7 +192,7 @@ impl<F: ObjectFiles, A: Allocator + Copy> ObjectReader<'_, F, A> {
         let mut object = base;
         let mut base_start = end;
         while let Some(start) = deltas.pop() {
-            let made = at(start, self.apply(&object, Spot { pack, start }))?;
+            let result = at(start, self.apply(&object, Spot { pack, start }))?;
             let base_spot = Spot {
                 pack,
                 start: base_start,
@@ -203,7 +203,7 @@ impl<F: ObjectFiles, A: Allocator + Copy> ObjectReader<'_, F, A> {
                     cause: Cause::Memory,
                 });
             }
-            object = made;
+            object = result;
             base_start = start;
         }
         Ok(object)

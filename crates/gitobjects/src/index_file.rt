@@ -16,7 +16,7 @@ const COUNTS: usize = 256;
 // The offset at which the fan-out table ends.
 const TABLE_END: usize = 1_032;
 
-// The length of a count, of a CRC-32 and of a short offset.
+// The length in bytes of a count, of a CRC-32 and of a short offset.
 const WORD: usize = 4;
 
 // The total length of the two checksums at the end of an index.
@@ -212,7 +212,7 @@ impl<P: OpenPack + Drop, A: Allocator + Copy> IndexFile<P, A> {
         }
     }
 
-    // Looks up an id among the ids at these positions, which are first read if necessary.
+    // Looks up an id among the ids at these positions. Reads these ids if they are not in memory.
     fn look(&mut self, part: Places, wanted: &[u8]) -> Result<SearchResult, Cause> {
         let count = part
             .high
@@ -281,7 +281,7 @@ fn halfway(places: Places) -> usize {
     places.low.saturating_add(width / 2)
 }
 
-// Returns the positions around `middle` that are inside the range.
+// Returns the positions in `places` that are at most `NEAR` or `FAR` from `middle`.
 fn part_around(places: Places, middle: usize) -> Places {
     let around = if places.high.saturating_sub(places.low) <= FEW {
         NEAR

@@ -7,7 +7,8 @@
 //! - [`ObjectReader::raw_entry`] returns a pack entry unchanged, so that a packer can copy it.
 //! - A [`QuickReader`] looks up and reads a few objects. A quick reader reads indexes in parts,
 //!   while an [`ObjectStore`] reads whole indexes.
-//! - [`StoredFiles`] are the files of the system, and [`MemoryFiles`] are files in memory.
+//! - [`StoredFiles`] accesses files through the operating system, and [`MemoryFiles`] holds files
+//!   in memory.
 //!
 //! # Proved
 //!
@@ -22,8 +23,9 @@
 //!   if the folder was listed at least twice since the names in it last changed.
 //! - The path of a loose object consists of a folder and the digits of the id. The paths in
 //!   `info/alternates` are read in the order of its lines.
-//! - A private function reads the names in a pack folder, and returns exactly the packs whose index
-//!   is among the names. The name of an index ends in `.idx`, is UTF-8 and has no slash.
+//! - A private function parses the list of the names in a pack folder, and returns the names of
+//!   exactly the packs whose index is listed. The name of an index ends in `.idx`, is UTF-8 and has
+//!   no slash.
 //! - No call panics, overflows or reads out of bounds, and every call returns, for any contents of
 //!   the files. A delta chain may be cyclic.
 //!
@@ -39,8 +41,8 @@
 //!   names have changed, and each folder at most twice after a change.
 //! - Packs with an index of version 1 and packs of version 3 are ignored. Git reads both.
 //!   Multi-pack indexes, bitmaps and commit-graphs are not read.
-//! - Each open pack uses a file descriptor. A repository with about a thousand packs needs `git gc`
-//!   first, because the system limits open files.
+//! - Each open pack uses a file descriptor, and the system limits the number of open files. A
+//!   repository with about a thousand packs must be repacked with `git gc`.
 //! - If an object is missing and a pack was ignored, the fault names that pack. Git reports only
 //!   that the object is missing.
 //! - If a delta base is broken in its pack, another copy is used, as in Git. In this crate the copy
@@ -55,7 +57,7 @@
 //!
 //! # What the contracts do not rule out
 //!
-//! The contracts leave all of this open:
+//! No contract rules out any of the following:
 //!
 //! - [`ObjectReader::read`] may return an object with another id. The method trusts the files and
 //!   does not compute ids. A contract cannot describe the contents of a system file.
@@ -80,9 +82,9 @@
 //! - A loose object may be accepted although bytes follow its stream.
 //! - No contract says which alternates are read, where a relative path begins, or how the open
 //!   packs are ordered.
-//! - [`ObjectReader::refresh`] may find nothing new. The private function that returns whether to
-//!   list a pack folder again is proved, but no contract says that its callers list the folder
-//!   exactly if the result is `true`.
+//! - [`ObjectReader::refresh`] may miss new packs and alternates. The private function that returns
+//!   whether to list a pack folder again is proved, but no contract says that its callers list the
+//!   folder exactly if the result is `true`.
 //! - [`MemoryFiles`] may return bytes that differ from the added bytes.
 //! - A [`QuickReader`] may find no object, report an object that does not exist, or return a wrong
 //!   type. A quick reader does not check a whole index.

@@ -26,7 +26,8 @@ pub(crate) struct EntryOrder<A: Allocator + Copy> {
 
 impl<A: Allocator + Copy> EntryOrder<A> {
     /// Returns the entries of a pack, the last of which ends at `end`. Fails with `Offset` if an
-    /// offset of the index is outside the entries, or with `Memory` if out of memory.
+    /// offset in the index is not between the pack header and `end`, or with `Memory` if out of
+    /// memory.
     pub(crate) fn new(alloc: A, index: &PackIndex<A>, end: usize) -> Result<EntryOrder<A>, Cause> {
         let mut starts = Vec::with_capacity(alloc, index.len())?;
         for place in 0..index.len() {

@@ -42,7 +42,7 @@ struct QuickEntry<A: Allocator + Copy> {
     text: Vec<u8, A>,
 }
 
-// The form of a pack entry, with the offset of the base of a delta.
+// The form of a pack entry: a whole object, or a delta with the offset of its base.
 #[derive(Clone, Copy, Debug)]
 enum LocalForm {
     // A whole object of this type.
@@ -158,7 +158,8 @@ impl<P: OpenPack + Drop, A: Allocator + Copy> QuickPack<P, A> {
         Ok(None)
     }
 
-    // Returns at most `most` bytes of the pack starting at `start`, and none after the last entry.
+    // Returns at most `most` bytes of the pack starting at `start`, without any bytes after the
+    // last entry.
     fn front(&mut self, start: usize, most: usize) -> Result<Vec<u8, A>, Cause> {
         let count = self.end.saturating_sub(start).min(most);
         self.file.read_at(self.alloc, start, count)

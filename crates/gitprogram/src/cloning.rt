@@ -59,8 +59,8 @@ struct ServerRefs {
     tips: Tips<Global>,
 }
 
-/// Clones a server's repository into a new or empty directory, as a bare repository. A failed clone
-/// removes all files that it created.
+/// Clones a server's repository into a new or empty directory, as a bare repository. If the clone
+/// fails, all files that it created are removed.
 pub(crate) fn clone_remote<R, E>(rt: &R, args: &CloneArgs<'_>, errors: &mut E) -> Result<(), Fault>
 where
     R: Files + AllocGlobal + Net,

@@ -35,8 +35,9 @@ use std::rt::Files;
 // The size of a connection buffer.
 const BUFFER: usize = 65_536;
 
-// The maximum number of new haves in a request. Git doubles this number from request to request, up
-// to 16,384. `gitv2` as a server accepts 4,096 haves, so this maximum leaves room for common ids.
+// The maximum number of new haves in a request. Git doubles the number of new haves from request to
+// request, up to 16,384. `gitv2` as a server accepts at most 4,096 haves in a request, so this
+// maximum leaves room for common ids.
 const MAX_BATCH: usize = 2_048;
 
 // The prefix of branch names.
@@ -149,8 +150,8 @@ where
     conclude(rt, found, report, outcome)
 }
 
-// Returns those refs of the server that could match the refspecs. Fails if a refspec names a ref
-// that the server does not have.
+// Returns the server's refs whose names begin with a prefix of a refspec. The server may also list
+// other refs. Fails if a refspec names a ref that the server does not have.
 fn list_sources<R>(
     rt: &R,
     remote: &Remote,

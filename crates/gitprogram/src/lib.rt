@@ -27,7 +27,8 @@
 //!   `GIT_PROTOCOL` (`specs/Versions.antt`).
 //! - `serve` and `upload-pack` run each connection as a `Dialogue`, so the proofs of `gserver`
 //!   apply to each connection. `serve` runs the dialogues in an event loop of `gevents`, and
-//!   `upload-pack` runs one dialogue by `gtalk::drive`. A pack that is sent to its end is complete.
+//!   `upload-pack` runs one dialogue by `gtalk::drive`. If no fault ends the sending of a pack, the
+//!   pack is complete.
 //!
 //! # Only tested
 //!
@@ -70,21 +71,24 @@
 //! # What the contracts do not rule out
 //!
 //! No contract covers any behaviour that "Proved" does not list. Most behaviour depends on files,
-//! streams and sockets, which contracts cannot describe. The contracts leave all of this open:
+//! streams and sockets, which contracts cannot describe. No contract rules out any of the
+//! following:
 //!
 //! - No contract says how many repositories are cached, or that an object store is ever closed. A
 //!   cached repository lists its refs even if their objects have since been removed.
-//! - `Repositories` may find a wrong repository or report a wrong text. A packer may fail with a
-//!   wrong fault, and a pack may have objects of another repository, or lack entries.
+//! - `Repositories` may find a wrong repository or report a wrong error text. A packer may fail
+//!   with a wrong fault, and a pack may have objects of another repository, or lack entries.
 //! - A failed command may exit with a wrong status. Output may be lost before it is written, and a
 //!   call may fail without a reason.
 //! - A client may see the refs or objects of an earlier connection. `serve` may serve a repository
 //!   without `git-daemon-export-ok`. A client that does not request version 2 may be served, and a
-//!   connection may have other limits.
-//! - The log may omit a fault, and `fetch` may report refs as up to date that are not.
+//!   connection may have limits other than those above.
+//! - The log may omit a fault, and `fetch` may report that refs are up to date although they are
+//!   not.
 //! - Control bytes may be written to a terminal.
-//! - `upload-pack` may pass other bytes to the dialogue than it reads. A client whose first packet
-//!   is malformed may get no error packet. A server may end its replies with a response-end packet.
+//! - `upload-pack` may pass bytes to the dialogue that differ from the bytes it reads. A client
+//!   whose first packet is malformed may get no error packet. A server may end its replies with a
+//!   response-end packet.
 //!
 //! # Dependencies
 //!

@@ -148,7 +148,7 @@ impl Packets {
         }
     }
 
-    // Compares bytes of a payload with those of `PACKFILE` at offset `before`.
+    // Clears `matches_packfile` if bytes of a payload differ from `PACKFILE` at offset `before`.
     fn compare(&mut self, bytes: &[u8], before: u16) {
         let rest = PACKFILE.get(before as usize..).unwrap_or(&[]);
         if !rest.starts_with(bytes) {

@@ -115,8 +115,8 @@ where
     served
 }
 
-// Serves clients until the allowed number of connections was accepted and all of them have ended.
-// Fails if no further connection can be accepted.
+// Serves clients until the allowed number of connections was accepted and every connection has
+// ended. Fails if no further connection can be accepted.
 fn serve_each<'h, R, H, K, E>(
     rt: &R,
     host: &'h H,

@@ -74,8 +74,8 @@ impl<'f, F: ObjectFiles> Slot<'f, F> {
         }
     }
 
-    /// Puts an object store with its tickets into the slot. Returns `false` if the slot is
-    /// borrowed.
+    /// Puts an object store with its tickets into the slot. Returns `false`, and changes nothing,
+    /// if the slot is borrowed.
     pub(crate) fn fill(&self, tickets: Weak<u64, Global>, packer: ObjectPacker<'f, F>) -> bool {
         match self.content.try_borrow_mut() {
             Ok(mut content) => {

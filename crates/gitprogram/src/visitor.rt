@@ -35,8 +35,8 @@ impl<'n, S> Visitor<'n, S> {
         }
     }
 
-    /// Returns the side, the requested path, and the fault to log, or `None` if no call failed. The
-    /// path is empty if the client sent no path.
+    /// Returns the side, the requested path, and the fault to log. The path is empty if the client
+    /// sent no path, and the fault is `None` if no call failed.
     pub(crate) fn into_parts(self) -> (S, Vec<u8>, Option<Fault>)
     where
         S: Drop,

@@ -307,8 +307,8 @@ impl<A: Allocator + Copy> Copying<A> {
         Ok(())
     }
 
-    // Sorts the objects that must be deflated again by the hash of their paths. Objects whose paths
-    // have the same ending are then adjacent, and a delta between two of them is probably small.
+    // Sorts the list `to_deflate` by the hashes of the objects' paths. Objects whose paths have the
+    // same ending are then adjacent, and a delta between two of them is probably small.
     fn sort_to_deflate(&mut self) {
         self.to_deflate
             .sort_unstable_by_key(|object| (object.path, object.number));

@@ -86,7 +86,7 @@ pub enum RepositoryFault<A: Allocator + Copy> {
 /// The reason why the check of a repository failed.
 #[derive(Drop)]
 pub enum CheckFault<A: Allocator + Copy> {
-    /// The repository cannot be read, or out of memory.
+    /// The repository cannot be read, or memory ran out.
     Repository(RepositoryFault<A>),
     /// An object that a ref or HEAD reaches is missing or refused, or a ref file is malformed.
     Ref {
@@ -122,7 +122,7 @@ impl<A: Allocator + Copy> RepositoryFault<A> {
         matches!(self, RepositoryFault::Pack(PackFileFault::Spool(_)))
     }
 
-    /// Converts the fault of parsing the object with this id.
+    /// Converts the fault of parsing the object with this id to a `RepositoryFault`.
     pub(crate) fn of_object(id: &Oid, fault: ObjectFault) -> RepositoryFault<A> {
         match fault {
             ObjectFault::Malformed => RepositoryFault::object_fault(id, ObjectCause::Malformed),

@@ -25,7 +25,8 @@ const FALSE_VALUES: [&[u8]; 5] = [b"", b"false", b"no", b"off", b"0"];
 /// refuses a repository whose configuration names an unknown version, or an unknown extension of
 /// version 1 (git-config(1), "core.repositoryFormatVersion", "extensions").
 ///
-/// Fails with `Form` if the format is unsupported. Other faults are those of [`ObjectStore::open`].
+/// Fails with `Form` if the format is unsupported. Also fails for the same reasons as
+/// [`ObjectStore::open`].
 pub fn open_store<'f, F: ObjectFiles, A: Allocator + Copy>(
     files: &'f F,
     alloc: A,
@@ -162,7 +163,7 @@ fn check_shallow<F: ObjectFiles, A: Allocator + Copy>(
     }
 }
 
-// Refuses a partial clone, which has packs of promised objects (git-index-pack(1), `--promisor`).
+// Refuses a partial clone, which has promisor packs (git-index-pack(1), `--promisor`).
 fn check_promisors<F: ObjectFiles, A: Allocator + Copy>(
     files: &F,
     alloc: A,

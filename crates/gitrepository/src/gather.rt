@@ -81,8 +81,8 @@ impl<'r, 'f, F: ObjectFiles, A: Allocator + Copy> Gathering<'r, 'f, F, A> {
         Ok(())
     }
 
-    // Marks the unlisted parents of listed commits, and the trees and blobs that they reach, as not
-    // sent. The peer has all of them.
+    // Marks the unlisted parents of listed commits, and the trees and blobs that these parents
+    // reach, as not sent, because the peer has them.
     fn leave_out_parents(&mut self, entries: &[Entry<A>]) -> Result<(), RepositoryFault<A>> {
         for entry in entries {
             self.leave_out(entry.node.parents.as_slice())?;

@@ -17,7 +17,7 @@ use std::alloc::Allocator;
 use std::marker::Model;
 
 // A parent to visit, and the kind of its child. An object that a ref points to counts as the parent
-// of a tag, because its type is not restricted either.
+// of a tag, because refs and tags may point to objects of any type.
 #[derive(Clone, Copy, Drop)]
 struct Parent {
     id: Oid,
@@ -172,8 +172,8 @@ impl<'g, A: Allocator + Copy> History<'g, A> {
         Some(Parent { id, child })
     }
 
-    // Adds a parent to the path, unless the graph holds it. Fails with `Objects` if the path is too
-    // long, as in a cycle of parents.
+    // Adds a parent to the path, unless the graph already holds the parent. Fails with `Objects` if
+    // the path is too long, as in a cycle of parents.
     #[tactic(auto, using(crate::proofs::HistoryLemmas::known_pushed))]
     fn reach<F: ObjectFiles>(
         &mut self,
@@ -194,8 +194,7 @@ impl<'g, A: Allocator + Copy> History<'g, A> {
         Ok(())
     }
 
-    // Returns the graph entry of an object. Reads the object if the commit-graph does not give the
-    // entry.
+    // Returns the graph entry of an object. Reads the object if [`known_entry`] returns `None`.
     fn find<F: ObjectFiles>(
         &self,
         reader: &mut ObjectReader<'_, F, A>,

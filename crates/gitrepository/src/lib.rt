@@ -56,7 +56,7 @@
 //! - A graph holds at most 1,048,576 commits and tags, with at most 64 parents each.
 //! - A copied delta names its base by offset if the base was already copied, even if the client
 //!   does not request `ofs-delta`. A new delta names its base by id.
-//! - Git looks for signs of a SHA-1 attack when it computes an id. This crate does not.
+//! - Git looks for signs of a SHA-1 collision attack when it computes an id. This crate does not.
 //! - A received pack has a file `.keep` until refs reach its objects, as in Git.
 //! - The commit-graph of an alternate is not read. `core.commitGraph` is read only from the file
 //!   `config` of the repository.
@@ -67,7 +67,7 @@
 //!
 //! # What the contracts do not rule out
 //!
-//! The contracts leave all of this open:
+//! No contract rules out any of the following:
 //!
 //! - The packer may send unwanted objects, leave out listed commits and tags, or send one object's
 //!   entry in place of another's. No contract says which trees and blobs are sent.
@@ -106,14 +106,14 @@
 //!   removed by `finish`, or may remain after a fault.
 //! - A contract cannot describe the contents of a system file, so only the order of the calls in
 //!   [`install_pack`] is proved. The function may install nothing, or may not create the file
-//!   `.keep`. Its folder may fail to write, sync or rename a file, may give a file a wrong name, or
-//!   may leave temporary files.
+//!   `.keep`. The folder of packs may fail to write, sync or rename a file, may give a file a wrong
+//!   name, or may leave temporary files.
 //! - A dropped [`KeptPack`] may leave its file `.keep`, or may remove another file.
 //! - A [`StoredSpool`] may write or return wrong bytes, may leave its file, or may create its file
 //!   in the wrong folder.
 //! - `MemoryFolder::clean` may keep the bytes of the pack and the index.
-//! - A call may fail although nothing is wrong. The contracts do not cover which fault is returned,
-//!   the text of a fault, running time, or memory use. No contract covers the result of
+//! - A call may fail without a reason. The contracts do not cover which fault is returned, the text
+//!   of a fault, running time, or memory use. No contract covers the result of
 //!   [`RepositoryFault::is_of_spool`].
 //!
 //! This crate has no tests.

@@ -29,8 +29,8 @@ struct Tag {
 /// directly to that object.
 ///
 /// Returns `None` if an object is missing or unreadable, if there are too many objects, or if
-/// `packed-refs` contradicts itself or a tag that was read. The caller must then open the
-/// repository. Fails only if out of memory.
+/// `packed-refs` contradicts itself or a tag that was read. The caller must then call
+/// [`crate::open_repository`] or [`crate::open_refs`]. Fails only if out of memory.
 pub fn open_tips<F: ObjectFiles, A: Allocator + Copy>(
     reader: &mut QuickReader<'_, F, A>,
     peels: &PackedPeels<A>,

@@ -302,7 +302,7 @@ fn count(requests: &mut u32) -> bool
     goes_on
 }
 
-// Returns an error packet as the last answer.
+// Returns an answer that is an error packet with this text, and ends the connection.
 fn refusal_of<A: Allocator + Copy, R: ServedRepository<A> + PartPacker<A>>(
     text: ErrText,
 ) -> Answer<ServerReply<A, R, R::Parts>>

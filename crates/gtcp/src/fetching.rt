@@ -108,7 +108,7 @@ where
     fetch_from(&Peer::new(stream, Silence), repo, indexer, fetch)
 }
 
-/// Fetches like [`fetch_git_on`] from a peer.
+/// Fetches like [`fetch_git_on`], over the stream to a peer.
 pub(crate) fn fetch_from<A, K, S>(
     peer: &Peer<S, Silence>,
     repo: &mut Repo<A>,

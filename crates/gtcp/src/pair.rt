@@ -111,8 +111,8 @@ impl<N: Source, F: Source, W: Sink, A: Allocator + Copy> Source for ClientInput<
         if self.far_sink.has_failed() {
             return self.fail();
         }
-        let room = buf.len().min(self.bytes_left());
-        match self.near.read(&mut buf[..room]) {
+        let max = buf.len().min(self.bytes_left());
+        match self.near.read(&mut buf[..max]) {
             Ok(count) => {
                 self.read = self.read.saturating_add(count);
                 Ok(count)
@@ -159,8 +159,8 @@ struct Joined<S> {
     far: S,
 }
 
-// The maximum number of connections to accept until the client's own connection arrives. All other
-// connections come from other processes.
+// The maximum number of connections to accept until the client's own connection arrives. Other
+// processes may also connect to the listener.
 const MAX_ACCEPTS: usize = 16;
 
 // The address at which the server listens, with any free port. `HOST` and `PATH` are the host and
@@ -197,8 +197,8 @@ fn accept_from<L: OpenListener>(listener: &L, client: SocketAddr) -> Option<L::S
     None
 }
 
-/// Fetches with the refspecs from the server into the repository, over a connection inside this
-/// process and with plain packs.
+/// Fetches from the server into the repository, over a connection inside this process and with
+/// plain packs. The refspecs select the refs.
 ///
 /// Fails with `PairLimit` if a message would have more than [`MAX_MESSAGE`](crate::MAX_MESSAGE)
 /// bytes. In that case no byte of the message is written, and client and server stop. Fails with

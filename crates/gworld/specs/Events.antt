@@ -167,7 +167,7 @@ module _ {A : Type 0} where
 
 -- ---- the server
 
--- the number of bytes that the server wrote, or the number of its fault if it ran out of memory
+-- the number of bytes that the server wrote, or the number of the server's fault if memory ran out
 abbrev pub stranger_outcome : ℕ → End → Outcome
 stranger_outcome written (end.Refused fault) =
     if lacks_memory fault then outcomes.Fault (serve_fault_row fault).code else outcomes.StrangerServed written

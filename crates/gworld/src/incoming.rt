@@ -128,7 +128,7 @@ fn objects_outcome<A: Allocator + Copy>(taking: Result<Taken, ClientFault<A>>) -
     }
 }
 
-// Returns a buffer for packets.
+// Returns an empty buffer for packets. Fails only if out of memory.
 fn line_buffer<A: Allocator + Copy>(alloc: A) -> Result<PacketBuffer<A>, AllocError>
     ensures { IsOkUnless result alloc_error }
 {

@@ -131,7 +131,7 @@ pub fn refs_are_always_connected<A: Allocator + Copy, K: Packer<A> + Indexer<A>>
         (K.index_fails k)) }
 {}
 
-/// Proves that over any run the graphs of both ends only grow: no object is lost or changed.
+/// Proves that a run only adds objects to the graphs of both ends: no object is lost or changed.
 pub fn graphs_only_grow<A: Allocator + Copy, K: Packer<A> + Indexer<A>>()
     ensures { (k : K) → GraphsOnlyGrow (tools_of (K.packs k) (K.pack_fails k) (K.indexes k)
         (K.index_fails k)) }
@@ -202,9 +202,9 @@ pub fn runs_keep_promises<A: Allocator + Copy, K: Packer<A> + Indexer<A>>()
 }
 
 /// Proves that a new session whose tips reach N ids can settle after at most N + 2 rounds. The
-/// premises are that no bytes were forged, and that the packer and the indexer are faithful. In a
-/// round the reply arrives complete, and no event fails. After these rounds the event `Settle`
-/// makes every allowed update of refs, unless there would be too many refs or the client is out of
+/// premises are that no bytes were forged, that the packer and the indexer are faithful, that each
+/// reply of these rounds arrives complete, and that no event fails. The event `Settle` then makes
+/// every allowed update of refs, unless there would be too many refs or the client is out of
 /// memory.
 pub fn fetches_complete<A: Allocator + Copy, K: Packer<A> + Indexer<A>>()
     ensures { (k : K) → FetchesComplete (tools_of (K.packs k) (K.pack_fails k) (K.indexes k)

@@ -61,12 +61,11 @@
 //!
 //! # What the contracts do not rule out
 //!
-//! No contract rules out that a run stops with `Memory` although memory is available, before its
-//! first event or before any event that needs memory. Nor do the contracts rule out that an event
-//! that allocates reports out of memory although memory is available. The contracts do not state
-//! which end's allocator the lists of requests and replies use. The contracts limit neither the
-//! time of a call nor the memory that a call takes. Formatting a fault may return `fmt::Error` even
-//! if every write succeeds.
+//! A run may stop with `Memory` although memory is available, before its first event or before any
+//! event that needs memory. An event that allocates may report out of memory although memory is
+//! available. The lists of requests and replies may use the allocator of either end. The contracts
+//! limit neither the time of a call nor the memory that a call takes. Formatting a fault may return
+//! `fmt::Error` even if every write succeeds.
 //!
 //! # Dependencies
 //!

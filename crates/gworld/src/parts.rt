@@ -83,8 +83,8 @@ impl<A: Allocator + Copy> Model for Parts<A> {
     } };
 }
 
-// Returns the value of the flag `answered` after a fault. A fault that ends the session clears the
-// flag.
+// Returns the value of the flag `answered` after a fault. `mark` is its value before the fault. A
+// fault that ends the session clears the flag.
 fn mark_after<A: Allocator + Copy>(fault: &ClientFault<A>, mark: bool) -> bool
     ensures { result ≡ mark_after fault.now mark }
 {

@@ -98,8 +98,8 @@ fn first_disagreement<A: Allocator + Copy>(server: &Graph<A>, client: &Graph<A>)
     None
 }
 
-// Returns the id at this index of the server's graph if the client holds a different object under
-// that id, or `None` otherwise.
+// Returns the id at position `place` of the server's graph if the client holds a different object
+// under that id, or `None` otherwise.
 fn disagreement_at<A: Allocator + Copy>(
     server: &Graph<A>,
     client: &Graph<A>,
