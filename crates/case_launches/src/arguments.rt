@@ -140,5 +140,9 @@ const UNNAMED_FILE: &str = "none";
 
 /// Returns the name of the file that holds the text with this name.
 pub(crate) fn file_name_for(text_name: &str) -> &str {
-    if text_name.is_empty() { UNNAMED_FILE } else { text_name }
+    if text_name.is_empty() {
+        UNNAMED_FILE
+    } else {
+        text_name
+    }
 }

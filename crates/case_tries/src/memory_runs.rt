@@ -11,7 +11,7 @@ use gsimulate::{Simulation, cmd_simulate};
 use std::alloc::{Allocator, Global};
 
 /// The parameters of a run: the limits of the sources and sinks, and the number of the allocation
-/// to refuse, or 0.
+/// to refuse. The number 0 refuses no allocation.
 #[derive(Clone, Copy)]
 pub(crate) struct RunParameters {
     pub(crate) read_limits: DeviceLimits,

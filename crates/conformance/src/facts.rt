@@ -98,7 +98,7 @@ fn first_wrong_result(
 }
 
 // Returns the first result that is neither the expected result nor an out-of-memory fault, if any.
-// The runs refuse one allocation after another.
+// The first run refuses the first allocation, the second run the second, and so on.
 fn first_wrong_result_with_refusals(
     alloc: Global,
     fact: &Fact<'_>,

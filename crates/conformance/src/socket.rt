@@ -55,8 +55,8 @@ where
     Ok(None)
 }
 
-// Returns whether the row is tested at this pace. The row must have a first line and short messages,
-// and must not name a packer or an indexer. At the pace `AtOnce`, clients that fail are
+// Returns whether the row is tested at this pace. The row must have a first line and short
+// messages, and must not name a packer or an indexer. At the pace `AtOnce`, clients that fail are
 // skipped, because their unread input would reset the connection.
 fn applies_to_row(row: &Row<'_>, pace: Pace) -> bool {
     let command = row.command;

@@ -19,7 +19,7 @@ const MAX_REFUSED: u64 = 100_000;
 // An exclusive upper bound on the number of file-system calls before the files are replaced.
 const MAX_CALLS: u64 = 60;
 
-/// Tests a row with each `Variation`.
+/// Tests each call of a row, with each `Variation` that applies to the row.
 pub(crate) fn test_row<R: Files + Print + AllocGlobal>(
     rt: &R,
     script: &Script<'_>,
