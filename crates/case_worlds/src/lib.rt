@@ -17,9 +17,10 @@
 //!
 //! # Dependencies
 //!
-//! `gworld` defines worlds and their events. `gcmd` loads the server and the client, `ggraph`
-//! defines packers and indexers, `gpkt` sinks, and `gname` the formats of ids. `case_text` defines
-//! faulty packers and indexers, packets, and an allocator that refuses an allocation.
+//! `gworld` defines worlds and their events. `gcmd` loads the server and the client. `ggraph`
+//! defines packers and indexers, `gpkt` defines sinks, and `gname` defines the formats of ids.
+//! `case_text` defines faulty packers and indexers, packets, and an allocator that refuses one
+//! chosen allocation.
 #![tactic(auto)]
 
 mod dice;

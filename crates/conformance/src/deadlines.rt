@@ -28,10 +28,10 @@ const SILENCE_SECONDS: u64 = 60;
 /// The maximum number of seconds until a server answers a prompt client after two silent clients.
 const ANSWER_SECONDS: u64 = 25;
 
-/// The delays in milliseconds before each byte of a slow peer. With some of these delays, a first
-/// line or a request is complete before its deadline. With the other delays, the first line or the
-/// request is too late. The last delay equals `SILENCE_SECONDS`, and the previous delay is one
-/// millisecond shorter.
+/// The tested delays. With each delay, a slow peer waits this many milliseconds before every byte.
+/// With some of these delays, a first line or a request is complete before its deadline. With the
+/// other delays, the first line or the request is too late. The last delay equals
+/// `SILENCE_SECONDS`, and the previous delay is one millisecond shorter.
 const DELAYS: [u64; 8] = [100, 240, 250, 400, 900, 6_000, 59_999, 60_000];
 
 // The expected timing of a connection.

@@ -308,8 +308,8 @@ fn is_parent_line(commit: &[u8], number: usize) -> bool {
     }
 }
 
-// Returns the entry of the tree or blob that a tag names, or `None` if the tag names a commit or a
-// tag.
+// Returns the graph entry for the tree or blob that a tag names, or `None` if the tag names a
+// commit or a tag.
 fn named_leaf<A: Allocator + Copy>(alloc: A, tag: &[u8]) -> Option<Entry<A>>
     ensures { IfSome result (λ entry. (entries : List (Entry A))
         → Holds entries (id_of types.Tag tag.now) → IsRead entries entry) }
