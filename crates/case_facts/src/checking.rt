@@ -1,10 +1,12 @@
-//! The check of one fact.
+//! The check of one fact. `actual_result` calls the function that the fact tests, and returns the
+//! actual result.
 
 use crate::{client_objects, history, parsing, printed_faults, size_limits};
 use case_text::{Fact, FactKind, RefusingAllocator, Trouble};
 use std::alloc::{Allocator, Global};
 
-/// The limits of a check: the maximum number of bytes in a call, and the allocation to refuse.
+/// The limits of a check: the maximum number of bytes in one read or write, and the allocation to
+/// refuse.
 #[derive(Clone, Copy)]
 pub struct Limits {
     /// The maximum number of bytes in one read or write.
@@ -22,7 +24,8 @@ pub struct ActualResult {
     pub was_refused: bool,
 }
 
-/// The allocation to refuse. `number` is its number, counted from the call to `start_counting`.
+/// The allocation to refuse. `number` is its number, counted from 1 after the call to
+/// `start_counting`.
 #[derive(Clone, Copy)]
 pub(crate) struct RefusedAllocation<'m> {
     refusing_alloc: &'m RefusingAllocator<Global>,

@@ -15,8 +15,8 @@ use ggraph::{Count, Graph, GraphFault, Order, Refs, missing_known};
 use gname::{Oid, RefName};
 use std::alloc::{Allocator, Global};
 
-/// Returns the result of a fact about a client with this repository text. `refusal` states which
-/// allocation of the client to refuse, if any.
+/// Makes the call that a fact describes, on a client with this repository text, and returns its
+/// actual result. `refusal` states which allocation of the client to refuse, if any.
 pub(crate) fn actual_result<A: Allocator + Copy>(
     alloc: Global,
     tested_alloc: A,
@@ -64,9 +64,9 @@ fn refs_to<A: Allocator + Copy>(
     tips: &[Oid],
 ) -> Result<Refs<A>, Trouble> {
     let mut refs = Refs::new(tested_alloc);
-    for (place, tip) in tips.iter().enumerate() {
+    for (index, tip) in tips.iter().enumerate() {
         let mut name = Vec::from_slice(alloc, b"refs/heads/")?;
-        add_padded_number(alloc, 4, place, &mut name)?;
+        add_padded_number(alloc, 4, index, &mut name)?;
         let Ok(name) = RefName::new(tested_alloc, name.as_slice()) else {
             return Err(Trouble::UnknownName);
         };
@@ -108,25 +108,25 @@ fn query_client<A: Allocator + Copy>(
     }
 }
 
-// Returns the ids of the marked objects, in the order of the graph.
+// Returns the ids of the marked objects, in the order in which the objects were added.
 fn marked_ids<A: Allocator + Copy>(alloc: Global, repo: &Repo<A>) -> Result<Vec<Oid>, Trouble> {
     let mut ids = Vec::new(alloc);
-    for place in 0..repo.graph().len() {
-        match repo.graph().at(place) {
-            Some((id, _)) if repo.marks().is_marked(place) => ids.push(*id)?,
+    for index in 0..repo.graph().len() {
+        match repo.graph().at(index) {
+            Some((id, _)) if repo.marks().is_marked(index) => ids.push(*id)?,
             _ => {}
         }
     }
     Ok(ids)
 }
 
-// Returns an ancestor of `ids` that the graph lacks, and the counts of visited objects. The walk
-// does not continue past marked objects.
+// Searches the ancestry of `ids` for an id that the graph lacks, without walking past marked
+// objects. Returns the missing id, if any, and the counts of visited objects.
 fn missing_and_count<A: Allocator + Copy>(
     repo: &Repo<A>,
     ids: &[Oid],
 ) -> Result<(Option<Oid>, Count), GraphFault> {
-    // Laws.
+    // This call makes laws of the repository available to the proof.
     repo.laws();
     missing_known(repo.graph(), ids, repo.marks())
 }

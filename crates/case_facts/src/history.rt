@@ -119,7 +119,7 @@ fn search<A: Allocator + Copy>(
         "ready" => check_ready(graph, first_ids, second_ids),
         "offered" => find_haves(graph, first_ids, second_ids, arguments.count),
         "reaches" => check_reach(graph, first_ids),
-        _ => Ok(peel_id(graph, first_ids)),
+        _ => Ok(peel_single_id(graph, first_ids)),
     }
 }
 
@@ -186,7 +186,8 @@ fn find_haves<A: Allocator + Copy>(
     Ok(SearchResult::Ids(haves(graph, tips, commons, &[], count)?))
 }
 
-// Returns whether the first of the ids reaches the second.
+// Returns whether the first of the two ids reaches the second. If the list does not have exactly
+// two ids, the result is `none`.
 fn check_reach<A: Allocator + Copy>(
     graph: &Graph<A>,
     ids: &[Oid],
@@ -197,7 +198,9 @@ fn check_reach<A: Allocator + Copy>(
     }
 }
 
-fn peel_id<A: Allocator + Copy>(graph: &Graph<A>, ids: &[Oid]) -> SearchResult<A> {
+// Returns the id to which the id in `ids` peels. If `ids` does not have exactly one id, the result
+// is `no`.
+fn peel_single_id<A: Allocator + Copy>(graph: &Graph<A>, ids: &[Oid]) -> SearchResult<A> {
     match ids {
         [id] => SearchResult::Id(graph.peel(id)),
         _ => SearchResult::YesNo(false),
@@ -216,9 +219,9 @@ fn format_result<A: Allocator + Copy>(
             alloc, *missing, *count,
         ),
         SearchResult::Number(count) => Ok(format!(in alloc; "{count}")?),
-        SearchResult::YesNo(is_so) => Ok(String::from_str(
+        SearchResult::YesNo(answer) => Ok(String::from_str(
             alloc,
-            if *is_so { "yes" } else { "no" },
+            if *answer { "yes" } else { "no" },
         )?),
     }
 }

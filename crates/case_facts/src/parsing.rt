@@ -55,7 +55,7 @@ fn name_result<A: Allocator + Copy>(
     }
 }
 
-// Returns the printed text of the fault in a name.
+// Returns the printed text of the fault in a name, or `ok` if the name is valid.
 fn name_fault_text(alloc: Global, text: &[u8]) -> Result<String, Trouble> {
     match RefName::check(text) {
         Ok(()) => comparison_text(alloc, true),
@@ -118,9 +118,9 @@ fn read_first_line<A: Allocator + Copy, S: Source>(
 
 fn format_hello_result<A: Allocator + Copy>(
     alloc: Global,
-    read: &Result<Hello<A>, MessageFault>,
+    outcome: &Result<Hello<A>, MessageFault>,
 ) -> Result<String, Trouble> {
-    match read {
+    match outcome {
         Ok(hello) => format_hello(alloc, hello.host(), hello.path()),
         Err(fault) => format_fault(alloc, fault.code(), fault.name()),
     }
@@ -141,7 +141,7 @@ fn repository_result<A: Allocator + Copy>(
     order: Order,
 ) -> Result<String, Trouble> {
     match load_text(tested_alloc, text, order) {
-        Ok(read) => compare_saved_text(alloc, tested_alloc, &read, text),
+        Ok(repository) => compare_saved_text(alloc, tested_alloc, &repository, text),
         Err(fault) => format_load_fault(alloc, &fault),
     }
 }
@@ -149,10 +149,10 @@ fn repository_result<A: Allocator + Copy>(
 fn compare_saved_text<A: Allocator + Copy>(
     alloc: Global,
     tested_alloc: A,
-    read: &Repository<A>,
+    repository: &Repository<A>,
     text: &[u8],
 ) -> Result<String, Trouble> {
-    match save_text(tested_alloc, read) {
+    match save_text(tested_alloc, repository) {
         Ok(saved_text) => comparison_text(alloc, saved_text.as_slice() == text),
         Err(fault) => format_fault(alloc, fault.code(), fault.name()),
     }
@@ -181,7 +181,7 @@ fn pack_result<A: Allocator + Copy>(
     }
 }
 
-// Passes a pack to the indexer in pieces, and returns the number of its entries.
+// Passes a pack to the indexer in pieces, and returns the number of the pack's entries.
 fn count_entries<A: Allocator + Copy>(
     tested_alloc: A,
     text: &[u8],
@@ -190,12 +190,12 @@ fn count_entries<A: Allocator + Copy>(
     let mut feed = PlainPack.start(tested_alloc)?;
     let mut unread = text;
     for _ in 0..text.len() {
-        let (piece, others) = unread.split_at(max_per_call.min(unread.len()));
+        let (piece, remaining) = unread.split_at(max_per_call.min(unread.len()));
         if piece.is_empty() {
             break;
         }
         PlainPack.feed(&mut feed, piece)?;
-        unread = others;
+        unread = remaining;
     }
     Ok(PlainPack.finish(feed)?.len())
 }
@@ -218,7 +218,8 @@ fn scenario_result<A: Allocator + Copy>(
     }
 }
 
-// Writes a payload as one packet, or fails without writing any byte.
+// Returns the result of writing a payload as one packet. A write that fails must not write any
+// byte.
 fn payload_result(alloc: Global, text: &[u8], max_per_call: usize) -> Result<String, Trouble> {
     let mut sink = Limited::new(VecSink::new(alloc)).with_most(max_per_call);
     let outcome = write_packet(&mut sink, text);
@@ -241,7 +242,7 @@ fn write_packet(sink: &mut Limited<VecSink>, text: &[u8]) -> Result<(), WriteFau
     outcome
 }
 
-// Returns the side band of a payload and the number of bytes on it.
+// Returns the side band of a payload, and the number of bytes after the band byte.
 fn band_result(alloc: Global, text: &[u8]) -> Result<String, Trouble> {
     let (word, bytes) = match band_of(text) {
         Ok(Band::Data(bytes)) => ("data", bytes),

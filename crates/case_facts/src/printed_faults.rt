@@ -11,9 +11,10 @@ use gpkt::memory::VecSink;
 use gpkt::{BandFault, PacketFault};
 use std::alloc::Global;
 
-/// The hexadecimal digits of the ids in the tested faults: `ID` for SHA-1, `LONG_ID` for SHA-256.
+/// The hexadecimal digits of the SHA-1 id in the tested faults.
 const ID: &[u8] = b"00112233445566778899aabbccddeeff00112233";
 
+/// The hexadecimal digits of the SHA-256 id in the tested faults.
 const LONG_ID: &[u8] = b"00112233445566778899aabbccddeeff00112233445566778899aabbccddeeff";
 
 /// The ref name in the tested faults.
@@ -41,8 +42,8 @@ pub(crate) fn actual_result(alloc: Global, fact: &Fact<'_>) -> Result<String, Tr
     }
 }
 
-// Returns whether a tested fault prints the expected line and has the expected `Display` text. Each
-// tested fault of a message reports packet position 7.
+// Returns whether a tested fault prints the expected line and has the expected `Display` text. The
+// tested faults of messages report the packet at position 7.
 fn is_printed_by_any_fault(alloc: Global, expected: ExpectedPrint<'_>) -> Result<bool, Trouble> {
     Ok(
         is_packet_fault(alloc, expected)?

@@ -3,7 +3,6 @@
 use ggraph::{LoadFault, Order, Repository, SaveFault, load, save};
 use std::alloc::Allocator;
 
-/// Parses the text of a repository.
 pub(crate) fn load_text<A: Allocator + Copy>(
     tested_alloc: A,
     text: &[u8],
@@ -12,7 +11,6 @@ pub(crate) fn load_text<A: Allocator + Copy>(
     load(tested_alloc, text, order)
 }
 
-/// Returns the text of a repository.
 pub(crate) fn save_text<A: Allocator + Copy>(
     tested_alloc: A,
     repository: &Repository<A>,

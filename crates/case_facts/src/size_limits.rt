@@ -1,4 +1,4 @@
-//! Facts about the limits: a graph with the maximum number of objects, and a pack of the maximum
+//! Facts about size limits: a graph with the maximum number of objects, and a pack of the maximum
 //! size.
 
 use crate::formatting::{format_fault, format_fault_at};
@@ -48,7 +48,7 @@ fn pack_size(alloc: Global, commits: &[Entry]) -> Result<String, Trouble> {
     };
     let length = pack.len();
     match PlainPack.index(alloc, pack.as_slice()) {
-        Ok(read) if read.len() == commits.len() => Ok(format!(in alloc; "ok {length}")?),
+        Ok(entries) if entries.len() == commits.len() => Ok(format!(in alloc; "ok {length}")?),
         Ok(_) => Ok(String::from_str(alloc, "another list")?),
         Err(fault) => format_fault(alloc, fault.code(), fault.name()),
     }
@@ -72,8 +72,8 @@ fn wide_commits(
 // Returns the commit with this number. The parents of the commit have the next `count` numbers.
 fn commit(alloc: Global, format: Format, number: usize, count: usize) -> Result<Entry, Trouble> {
     let mut parents = Parents::new(alloc);
-    for place in 1..=count {
-        parents.push(id_of_number(format, number.wrapping_add(place))?)?;
+    for offset in 1..=count {
+        parents.push(id_of_number(format, number.wrapping_add(offset))?)?;
     }
     Ok(Entry {
         id: id_of_number(format, number)?,

@@ -1,5 +1,5 @@
-//! The files that a launched program uses. Each file records its calls, and forwards them to a real
-//! file.
+//! The files that a launched program uses. Each file records the calls that it receives, and
+//! forwards the calls to a real file.
 
 use crate::journal::Journal;
 use std::fs::{Metadata, OpenFile, Permissions};
@@ -23,7 +23,7 @@ impl<F: Read> Read for RecordedFile<'_, F> {
     }
 }
 
-// A write accepts at most `MAX_WRITE_LEN` bytes.
+// Each write accepts at most `MAX_WRITE_LEN` bytes.
 impl<F: Write> Write for RecordedFile<'_, F> {
     fn write(&mut self, buf: &[u8]) -> io::Result<usize> {
         self.journal.record_file_step("write", self.name.as_str())?;

@@ -1,5 +1,5 @@
-//! The journal of a program's operations. A chosen operation fails whenever the program performs
-//! it.
+//! A journal of the operations that a program performs. A chosen operation fails whenever the
+//! program performs it.
 
 use std::alloc::{AllocError, Global};
 use std::cell::RefCell;
@@ -37,7 +37,7 @@ impl<'a> Journal<'a> {
         self.fail_if_chosen(step)
     }
 
-    /// Records an operation unless it repeats the last one. Fails if the operation is
+    /// Records an operation unless it repeats the previous operation. Fails if the operation is
     /// `failing_step`.
     pub(crate) fn record_once(&self, step: &str) -> io::Result<()> {
         if self.is_last_step(step) {
@@ -46,8 +46,8 @@ impl<'a> Journal<'a> {
         self.record(step)
     }
 
-    /// Records an operation on a file unless it repeats the last one. Fails if the operation is
-    /// `failing_step`.
+    /// Records an operation on a file unless it repeats the previous operation. Fails if the
+    /// operation is `failing_step`.
     pub(crate) fn record_file_step(&self, step: &str, path: &str) -> io::Result<()> {
         let name = match path.strip_prefix(self.folder.as_str()) {
             Some("") => ".",
@@ -58,7 +58,6 @@ impl<'a> Journal<'a> {
         self.record_once(line.as_str())
     }
 
-    /// Returns all recorded operations.
     pub(crate) fn text(&self) -> Result<String, AllocError> {
         match self.steps.try_borrow() {
             Ok(steps) => String::from_str(self.alloc, steps.as_str()),

@@ -4,8 +4,9 @@
 //! A [`Plan`] holds the arguments, files and peers of the program, and all expected results. A plan
 //! is made from a row, a pair of repositories, a command line, or a case that describes a launch.
 //! The function [`launch`] creates the folder `launch`, runs the program in this folder, and
-//! removes the folder. The test itself acts as the peers. The simulated clients connect when the
-//! program prints its port. A simulated server accepts a connection when the program connects.
+//! removes the folder. The test itself sends and receives the bytes of the peers. The simulated
+//! clients connect when the program prints its port. A simulated server accepts a connection when
+//! the program connects.
 //!
 //! # Proved
 //!

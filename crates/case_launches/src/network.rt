@@ -1,4 +1,4 @@
-//! The sockets of a launch.
+//! The sockets of a launched program.
 
 use crate::journal::Journal;
 use crate::launch_runtime::LaunchRuntime;
@@ -81,8 +81,8 @@ impl<'a, R: System> Net for LaunchRuntime<'a, R> {
         self.peers.connect(self.rt, addr)
     }
 
-    // Every host name resolves to the local host. The name `two` first resolves to an address at
-    // which no server listens.
+    // Every host name resolves to the local host. `TWO_ADDRESSES` resolves to two addresses: first
+    // `unused_address`, and then the local host.
     fn lookup_host(
         &self,
         host: &str,

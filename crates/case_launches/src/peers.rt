@@ -15,7 +15,6 @@ pub struct Exchange {
 }
 
 impl Exchange {
-    /// Returns an exchange without bytes.
     pub(crate) fn new(alloc: Global) -> Exchange {
         Exchange {
             sent_bytes: Vec::new(alloc),
@@ -36,7 +35,6 @@ pub(crate) struct Peers<'a> {
 }
 
 impl<'a> Peers<'a> {
-    /// Returns peers that are not yet connected.
     pub(crate) fn new(alloc: Global, exchanges: &'a [Exchange]) -> Peers<'a> {
         Peers {
             exchanges,
@@ -47,7 +45,7 @@ impl<'a> Peers<'a> {
     }
 
     /// Returns the port at which the program listens, or 0 if the program does not listen.
-    pub(crate) fn port(&self) -> u16 {
+    pub(crate) fn program_port(&self) -> u16 {
         self.port.get()
     }
 
@@ -68,10 +66,11 @@ impl<'a> Peers<'a> {
         Ok(())
     }
 
-    /// Returns a stream to the address. The stream leads to the program itself if the program
-    /// listens at that address, and otherwise to the next simulated server.
+    /// Returns a stream to the address. The stream is connected to the program itself if the
+    /// program listens at that address. Otherwise the stream is connected to the next simulated
+    /// server.
     pub(crate) fn connect<R: System>(&self, rt: &R, address: SocketAddr) -> io::Result<TcpStream> {
-        if address.port() == self.port() {
+        if address.port() == self.program_port() {
             let stream = TcpStream::connect(rt, address)?;
             self.count_waiting_connection();
             return Ok(stream);
@@ -100,7 +99,6 @@ impl<'a> Peers<'a> {
         waiting_connections > 0
     }
 
-    // Returns the number of connected peers.
     fn connected_count(&self) -> usize {
         match self.streams.try_borrow() {
             Ok(streams) => streams.len(),

@@ -1,4 +1,4 @@
-//! Launching a program, and comparing its output and files with those that the case expects.
+//! A launch of a program, and the comparison of its output and files with the plan.
 
 use crate::file_checks::{InodeNumbers, first_wrong_file, first_wrong_mode};
 use crate::folder::{
@@ -20,8 +20,8 @@ const PORT_WORD: &str = "PORT";
 // The permissions that allow a file's owner to read and write.
 const OWNER_READ_WRITE: u32 = 0o600;
 
-/// Runs the program in a separate folder. Returns a text with the unexpected results, or `None` if
-/// all results match the plan.
+/// Runs the program in a separate folder. Returns a description of the unexpected results, or
+/// `None` if all results match the plan.
 pub fn launch<R: System>(rt: &R, plan: &Plan<'_>) -> Result<Option<String>, Trouble> {
     enter_folder(rt)?;
     let difference = launch_in_folder(rt, plan);
@@ -31,7 +31,7 @@ pub fn launch<R: System>(rt: &R, plan: &Plan<'_>) -> Result<Option<String>, Trou
 }
 
 fn launch_in_folder<R: System>(rt: &R, plan: &Plan<'_>) -> Result<Option<String>, Trouble> {
-    if bars_owner(plan.initial_items.as_slice()) && ignores_permissions(rt)? {
+    if denies_owner(plan.initial_items.as_slice()) && ignores_permissions(rt)? {
         return Ok(None);
     }
     create_items(rt, plan.script, plan.initial_items.as_slice())?;
@@ -45,8 +45,8 @@ fn launch_in_folder<R: System>(rt: &R, plan: &Plan<'_>) -> Result<Option<String>
     compare_files(rt, plan, &inode_numbers)
 }
 
-// Returns whether the permissions of an item prevent its owner from reading or writing it.
-fn bars_owner(initial_items: &[InitialItem<'_>]) -> bool {
+// Returns whether the permissions of an item deny its owner reading or writing.
+fn denies_owner(initial_items: &[InitialItem<'_>]) -> bool {
     for item in initial_items {
         match item {
             InitialItem::Mode { name: _, mode } if mode & OWNER_READ_WRITE != OWNER_READ_WRITE =>
@@ -57,8 +57,8 @@ fn bars_owner(initial_items: &[InitialItem<'_>]) -> bool {
     false
 }
 
-// Runs the program. If the status, streams or operations differ from the plan, returns the
-// program's results.
+// Runs the program. Returns a description of the results if the status, streams or operations
+// differ from the plan, or `None` otherwise.
 fn run_and_compare<R: System>(
     rt: &R,
     plan: &Plan<'_>,
@@ -72,7 +72,7 @@ fn run_and_compare<R: System>(
     let output = runtime.written_bytes()?;
     let steps = journal.text()?;
     let is_right = has_expected_status(plan, status)
-        && has_expected_output(alloc, plan, peers.port(), output.as_slice())?
+        && has_expected_output(alloc, plan, peers.program_port(), output.as_slice())?
         && has_expected_errors(plan, errors.written.as_slice())
         && has_expected_steps(plan, steps.as_str())
         && peers.have_received_expected(alloc);
@@ -133,7 +133,7 @@ fn has_expected_steps(plan: &Plan<'_>, steps: &str) -> bool {
     }
 }
 
-// Returns a text about the first file that differs from the plan, if any.
+// Returns a description that names the first file that differs from the plan, if any.
 fn compare_files<R: System>(
     rt: &R,
     plan: &Plan<'_>,

@@ -42,7 +42,7 @@ impl DeviceLimits {
     }
 }
 
-// A counter of calls that fails at the chosen call and at each later call.
+// A counter of calls. `count_call` fails at the chosen call and at each later call.
 #[derive(Drop)]
 struct CallCounter {
     limits: DeviceLimits,
@@ -213,17 +213,16 @@ impl Sink for Writer {
 // The error or result with which a std reader or writer fails.
 #[derive(Clone, Copy)]
 enum Failure {
-    // Errors after which callers of std often retry, or that they mistake for the end of the input.
+    // Errors of kinds that callers often retry, or mistake for the end of the input.
     Interrupted,
     WouldBlock,
     UnexpectedEof,
-    // A write that returns 0.
+    // A write that returns 0, or a read that fails with `ErrorKind::Interrupted`.
     WritesZero,
 }
 
 impl Failure {
-    // Returns the form of failure for these limits. The four forms alternate with the number of the
-    // failing call.
+    // Returns one of the four failures, which the number of the failing call determines.
     fn for_limits(limits: DeviceLimits) -> Failure {
         match limits.failing_call % 4 {
             0 => Failure::WritesZero,
@@ -242,8 +241,8 @@ impl Failure {
     }
 }
 
-/// A std reader over a source, or a std writer over a sink, that reports failures in one of four
-/// forms.
+/// A std reader over a source, or a std writer over a sink. The adapter reports each failure of the
+/// source or sink as its `failure`.
 #[derive(Drop)]
 pub struct StdAdapter<D> {
     device: D,

@@ -1,5 +1,5 @@
 //! The inputs of programs: a server, a client's repository, and refspecs. The functions of this
-//! module have no contracts, which keeps the proofs of their callers short.
+//! module have no contracts, to keep the proofs of their callers short.
 
 use gclient::Repo;
 use gcmd::{ProgramFault, Spec, load_server, open_client, read_specs};

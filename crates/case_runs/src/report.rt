@@ -13,8 +13,8 @@ pub(crate) fn format_report<A: Allocator + Copy>(
 ) -> Result<Vec<u8>, Trouble> {
     let mut text = Vec::new(alloc);
     let updates = fetched.settled.updates.as_slice();
-    for (place, update) in updates.iter().enumerate() {
-        if let Some((name, id)) = fetched.settled.asks.at(place) {
+    for (index, update) in updates.iter().enumerate() {
+        if let Some((name, id)) = fetched.settled.asks.at(index) {
             add_update(&mut text, *update, name, id)?;
         }
     }

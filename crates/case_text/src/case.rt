@@ -1,4 +1,4 @@
-//! The cases and the facts of one test file.
+//! The cases and the facts of test files.
 
 use crate::kind::FactKind;
 use crate::launch::Launch;
@@ -8,7 +8,7 @@ use crate::trouble::Trouble;
 use gname::Format;
 use std::alloc::Global;
 
-/// The end that sends a packet, or the stream on which the program prints a line.
+/// The sender of a packet, or the stream on which the program prints a line.
 #[derive(Clone, Copy, PartialEq, Eq)]
 pub enum Speaker {
     Client,
@@ -17,7 +17,7 @@ pub enum Speaker {
     Output,
     /// The standard error of the program.
     Errors,
-    /// The report of a client on the updates of its refs.
+    /// The report that a client prints: its ref updates, or the listed refs.
     Report,
 }
 
@@ -38,11 +38,12 @@ pub struct TranscriptEntry {
     pub bytes: Vec<u8>,
 }
 
-/// A case of a test file.
+/// A case of a test file: messages, the programs to run, and the expected results.
 #[derive(Drop)]
 pub struct Case<'a> {
-    /// The test file, and the line in which the case begins.
+    /// The name of the test file.
     pub file_name: &'a str,
+    /// The number of the line in which the case begins.
     pub line_number: usize,
     pub name: &'a str,
     /// The command lines, each of which runs one end of the conversation.
@@ -51,30 +52,32 @@ pub struct Case<'a> {
     pub launch: Option<Launch<'a>>,
     /// The packets that the peers send and the lines that the program prints, in order.
     pub transcript: Vec<TranscriptEntry>,
-    /// The name of the text that the client's file holds afterwards, if the file changes.
+    /// The name of the text that the client's file must hold after the run, if the file changes.
     pub new_file: Option<&'a str>,
     /// The packer or indexer that the program uses instead of `PlainPack`, if any.
     pub pack_tool: Option<PackTool>,
-    /// The fault lines expected when an allocation is refused, in order.
+    /// The fault lines that the program must print, in this order, as each allocation is refused in
+    /// turn.
     pub memory_faults: Vec<Vec<u8>>,
     /// The offsets at which packets begin in the last message that the program reads. The list is
     /// empty if the case lists no offsets.
     pub packet_offsets: Vec<usize>,
     /// The expected results when the request is truncated or one of its bytes is changed.
     pub table: Vec<TableLine<'a>>,
-    /// Whether the case is tested only with its input unchanged, whole or in pieces.
+    /// Whether the case is tested only with its unchanged input, which is read at once and in
+    /// pieces.
     pub is_long: bool,
-    /// Whether each byte of the input is changed to every other value.
+    /// Whether the tests change each byte of the input to every other value.
     pub is_deep: bool,
-    /// Whether the case is also tested with a late peer, and over a socket while each allocation is
-    /// refused in turn.
+    /// Whether the case is also tested with a peer that sends or accepts bytes late, and over a
+    /// socket while each allocation is refused in turn.
     pub is_late: bool,
-    /// Whether no response-end packets may be added to the replies.
+    /// Whether the tests must not add response-end packets to the replies.
     pub forbids_response_ends: bool,
 }
 
 impl<'a> Case<'a> {
-    /// Returns a case before any of its lines is read.
+    /// Returns an empty case with this name, which begins at this line of the file.
     pub(crate) fn new(
         alloc: Global,
         file_name: &'a str,
@@ -100,7 +103,7 @@ impl<'a> Case<'a> {
         }
     }
 
-    /// Reads a line of the file, and returns whether the line belongs to a case.
+    /// Reads a line of the file. Returns `false` if the line does not belong to the case.
     pub(crate) fn read_line(
         &mut self,
         alloc: Global,
@@ -126,7 +129,8 @@ impl<'a> Case<'a> {
         Ok(true)
     }
 
-    // Reads a line about a launch of the program.
+    // Reads a line about a launch of the program. Returns `false` if the line is not about the
+    // launch, or if the case has no launch.
     fn read_launch_line(&mut self, keyword: &str, value: &'a str) -> Result<bool, Trouble> {
         let entry_count = self.transcript.len();
         match &mut self.launch {
@@ -136,10 +140,12 @@ impl<'a> Case<'a> {
     }
 }
 
-/// A fact: a call on a text or on ids of a graph, with the expected result of the call.
+/// The expected result of one function call on a text, or on ids of a graph.
 #[derive(Drop)]
 pub struct Fact<'a> {
+    /// The name of the test file.
     pub file_name: &'a str,
+    /// The number of the fact's line.
     pub line_number: usize,
     pub kind: FactKind,
     /// The first word of the fact's line in the file.
@@ -147,7 +153,8 @@ pub struct Fact<'a> {
     pub format: Format,
     /// The name of the text block that holds the graph.
     pub graph_name: &'a str,
-    /// The expected result, and the text on which the call runs.
+    /// The expected result of the call.
     pub expected: Vec<u8>,
+    /// The argument of the call.
     pub text: Vec<u8>,
 }

@@ -18,7 +18,7 @@ pub enum InitialItem<'a> {
 }
 
 /// An item that is expected in the folder after a launch. A file that existed before the launch
-/// must keep its contents unless an item names it.
+/// must keep its contents, unless an item names that file.
 #[derive(Clone, Copy)]
 pub enum FinalItem<'a> {
     /// A file that holds the named text of the test file.
@@ -33,8 +33,8 @@ pub enum FinalItem<'a> {
     SameFile { name: &'a str },
 }
 
-/// The arguments of a launch, and the files and exit status expected afterwards. The messages of
-/// the case are sent over standard streams or sockets.
+/// The arguments of a launch, and the expected files and exit status after the launch. The messages
+/// of the case are sent over standard streams or sockets.
 #[derive(Drop)]
 pub struct Launch<'a> {
     /// The arguments after the program's name, separated by spaces; `""` is the empty argument.
@@ -85,7 +85,7 @@ impl<'a> Launch<'a> {
     }
 
     // Reads a line about an item that exists before the launch, or about an item expected after the
-    // launch.
+    // launch. Returns `false` for any other line.
     fn read_initial_item(&mut self, keyword: &str, value: &'a str) -> Result<bool, Trouble> {
         let (name, value) = split_first_word(value);
         match keyword {
@@ -106,7 +106,7 @@ impl<'a> Launch<'a> {
         Ok(true)
     }
 
-    // Reads a line about an item expected after the launch.
+    // Reads a line about an item expected after the launch. Returns `false` for any other line.
     fn read_final_item(
         &mut self,
         keyword: &str,

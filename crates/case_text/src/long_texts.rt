@@ -42,11 +42,11 @@ fn add_repository(
     parents_come_last: bool,
     text: &mut Vec<u8>,
 ) -> Result<(), Trouble> {
-    let head: &[u8] = match format {
+    let first_line: &[u8] = match format {
         Format::Sha1 => b"gitv2 1\n",
         Format::Sha256 => b"gitv2 2 sha256\n",
     };
-    text.extend_from_slice(head)?;
+    text.extend_from_slice(first_line)?;
     if parents_come_last {
         add_late_chain(alloc, count, format, text)?;
     } else {
@@ -65,8 +65,8 @@ fn add_chain(
     format: Format,
     text: &mut Vec<u8>,
 ) -> Result<(), Trouble> {
-    for place in 0..count {
-        add_commit(alloc, count.saturating_sub(place), count, format, text)?;
+    for index in 0..count {
+        add_commit(alloc, count.saturating_sub(index), count, format, text)?;
     }
     Ok(())
 }

@@ -15,7 +15,7 @@ pub struct RefusingAllocator<A: Allocator> {
 }
 
 impl<A: Allocator> RefusingAllocator<A> {
-    /// Wraps an allocator; no allocation is refused until `refuse_allocation` is called.
+    /// Wraps an allocator. No allocation is refused until `refuse_allocation` is called.
     pub fn new(inner: A) -> RefusingAllocator<A> {
         RefusingAllocator {
             inner,

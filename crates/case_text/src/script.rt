@@ -1,6 +1,7 @@
 //! The parser of test files.
 //!
-//! `crates/conformance/FORMAT.md` describes the format of rows, facts, texts and talks.
+//! `crates/conformance/FORMAT.md` describes the format of cases (there called rows), facts, texts
+//! and talks. A talk is a named list of lines that cases can use.
 
 use crate::case::{Case, Fact, TranscriptEntry};
 use crate::command::split_first_word;
@@ -13,28 +14,29 @@ use crate::trouble::Trouble;
 use gname::Format;
 use std::alloc::Global;
 
-/// The contents of the test files parsed so far, for ids of one format.
+/// The contents of the test files parsed so far. All ids in the contents have one format.
 #[derive(Drop)]
 pub struct Script<'a> {
     pub format: Format,
     pub cases: Vec<Case<'a>>,
     pub facts: Vec<Fact<'a>>,
-    /// The file and the number of the most recently parsed line.
+    /// The name of the most recently parsed file.
     pub file_name: &'a str,
+    /// The number of the most recently parsed line.
     pub line_number: usize,
     texts: Vec<NamedText<'a>>,
     talks: Vec<Talk<'a>>,
     open_block: OpenBlock,
     repetitions: usize,
-    // The name of the text block that holds the graph for the facts after this line.
+    // The name of the text block that holds the graph for the facts after the current line.
     graph_name: &'a str,
-    // Whether the cases after this line run with ids of both formats.
+    // Whether the cases after the current line run with ids of both formats.
     runs_both_formats: bool,
     // Whether the following lines are skipped because their case runs only with SHA-1 ids.
     skips_case: bool,
 }
 
-// A named list of lines that cases can refer to.
+// A named list of lines that cases can use.
 #[derive(Drop)]
 struct Talk<'a> {
     name: &'a str,
@@ -50,7 +52,7 @@ enum OpenBlock {
 }
 
 impl<'a> Script<'a> {
-    /// Returns a script for ids of this format, before any file is parsed.
+    /// Returns an empty script for ids of this format.
     pub fn new(alloc: Global, format: Format) -> Script<'a> {
         Script {
             format,
@@ -150,8 +152,8 @@ impl<'a> Script<'a> {
         Ok(())
     }
 
-    // Returns whether the rows after this line run only with SHA-1 ids, but this script has SHA-256
-    // ids.
+    // Returns whether this script has SHA-256 ids, and the cases after the current line run only
+    // with SHA-1 ids.
     fn excludes_format(&self) -> bool {
         self.format == Format::Sha256 && !self.runs_both_formats
     }
@@ -466,7 +468,7 @@ fn bytes_of_entries(alloc: Global, transcript: &[TranscriptEntry]) -> Result<Vec
     Ok(bytes)
 }
 
-// Returns the lines of the talk with this name.
+// Returns the lines of the talk with this name, or `None` if there is no such talk.
 fn talk_lines<'b, 'a>(talks: &'b [Talk<'a>], name: &str) -> Option<&'b [&'a str]> {
     for talk in talks {
         if talk.name == name {

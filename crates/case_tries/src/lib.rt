@@ -1,16 +1,16 @@
 //! Tests of one row on sources and sinks in memory, with checks of the results.
 //!
 //! A [`Row`] is a program with its input and its expected results. A [`RowTest`] tests the row with
-//! each [`Variation`].
+//! each [`Variation`]:
 //!
-//! - The input is unchanged, and is read whole or in pieces. The row also runs on std readers and
+//! - The input is unchanged, and is read at once or in pieces. The row also runs on std readers and
 //!   writers.
 //! - The calls to the indexer are checked.
 //! - The request is changed as the row's table lists.
 //! - Each call to each source and sink fails in turn.
 //! - The input is truncated after each byte, or one of its bytes is changed.
 //! - Each allocation is refused in turn.
-//! - Each call to the client's file fails in turn, or the run stops at that call.
+//! Each operation on the client's file fails in turn, or the run stops at that operation.
 //!
 //! A [`RunResults`] holds the results of a run. Most of the checks also apply to runs over sockets.
 //!
@@ -28,7 +28,7 @@
 //! `case_text` defines rows, their messages, and an allocator that refuses an allocation.
 //! `case_runs` runs programs on sources and sinks in memory, and `case_worlds` runs simulations.
 //! `gsimulate` is the program for simulations, and `gcmd` checks a repository. `glockfile` defines
-//! files that are replaced whole, and `gpkt` defines sources and sinks.
+//! files that are replaced as a whole, and `gpkt` defines sources and sinks.
 #![tactic(auto)]
 
 mod judge;

@@ -1,5 +1,5 @@
-//! Tests of a row with each `Variation`. Most functions return the number of the first run that
-//! failed.
+//! Tests of a row with each `Variation`. A function with the result `Option<usize>` returns the
+//! number of the first run that failed, or `None` if no run failed.
 
 use crate::judge::{
     ByteChanges, InputStop, Row, is_as_expected, is_as_expected_after_failed_report,
@@ -22,7 +22,7 @@ use std::alloc::Global;
 /// than this bound, and fewer allocations.
 const MAX_RUNS: usize = 1_000_000;
 
-/// The eight bits of a byte.
+/// The masks of the eight bits of a byte.
 const BITS: [u8; 8] = [1, 2, 4, 8, 16, 32, 64, 128];
 
 // The result of one run in a series of runs.
@@ -47,13 +47,14 @@ impl SeriesStep {
     }
 }
 
-// The state of a series of runs, each of which refuses the next allocation.
+// The state of a series of runs. Each run refuses the allocation after the one that the previous
+// run refused.
 #[derive(Clone, Copy)]
 struct RefusalProgress {
     // The number of faults in the row's list that the runs so far have printed.
     faults_seen: usize,
     // Whether an earlier run ran out of memory, but not while a server loaded its repository.
-    has_served: bool,
+    ran_out_after_load: bool,
 }
 
 /// A row to test, and the number of runs so far.
@@ -61,8 +62,9 @@ struct RefusalProgress {
 pub struct RowTest<'a, 'b> {
     alloc: Global,
     row: &'a Row<'b>,
-    // The parameters of the runs.
+    // Whether the runs use std readers and writers.
     uses_std: bool,
+    // The packer or indexer of the runs, or `None` for `PlainPack`.
     pack_tool: Option<PackTool>,
     pub runs: u64,
     /// The printed bytes of the run that failed.
@@ -81,8 +83,8 @@ impl<'a, 'b> RowTest<'a, 'b> {
         }
     }
 
-    /// Tests the row with this variation, and returns the number of the first run that failed.
-    /// Variations that use sockets, launches of the program or late peers are not tested here.
+    /// Tests the row with this variation, and returns the number of the first run that failed, if
+    /// any. Variations that use sockets, launches of the program or late peers are not tested here.
     pub fn test_variation(&mut self, variation: Variation) -> Result<Option<usize>, Trouble> {
         match variation {
             Variation::WholeInput => self.test_whole_input(),
@@ -136,7 +138,6 @@ impl<'a, 'b> RowTest<'a, 'b> {
         self.check_run(is_right, &results)
     }
 
-    // Tests the row with its whole input, unchanged.
     fn test_whole_input(&mut self) -> Result<Option<usize>, Trouble> {
         let is_right = self.runs_as_expected(RunParameters::UNLIMITED)?;
         Ok(failed_run_at(is_right, 0))
@@ -176,8 +177,9 @@ impl<'a, 'b> RowTest<'a, 'b> {
         )
     }
 
-    // Tests the row on std readers and writers. The input is read whole, and also in pieces if the
-    // row is not long. For thorough rows, each read and each write also fails in turn.
+    // Tests the row on std readers and writers. The input is read at once, and also in pieces if
+    // the row is not long. If `is_thorough` returns `true`, each read and each write also fails in
+    // turn.
     fn test_std_devices(&mut self) -> Result<Option<usize>, Trouble> {
         self.uses_std = true;
         let failed_run = self.test_with_std_devices()?;
@@ -197,7 +199,7 @@ impl<'a, 'b> RowTest<'a, 'b> {
         Ok(failed_run)
     }
 
-    // Tests the row with the input read whole, and also in pieces if the row is not long.
+    // Tests the row with the input read at once, and also in pieces if the row is not long.
     fn test_whole_and_in_pieces(&mut self) -> Result<Option<usize>, Trouble> {
         let failed_run = self.test_whole_input()?;
         if failed_run.is_some() || self.row.is_long {
@@ -206,16 +208,16 @@ impl<'a, 'b> RowTest<'a, 'b> {
         self.test_in_pieces()
     }
 
-    // Returns whether the row is tested completely. Some tests are skipped for long rows, and for
-    // variants with added response-end packets.
+    // Returns whether the slow tests also run. Long rows, and rows with added response-end packets,
+    // skip the slow tests.
     fn is_thorough(&self) -> bool {
         let row = self.row;
         !row.is_long && row.byte_changes != ByteChanges::OneBit
     }
 
-    // Tests a fetch with an indexer whose calls are checked, with the input whole and in pieces.
-    // Rows that name another indexer are skipped. For thorough rows, the input is also truncated
-    // and each allocation refused.
+    // Tests a fetch with an indexer whose calls are checked. The input is read at once, and also in
+    // pieces if the row is not long. Rows that name another indexer are skipped. If `is_thorough`
+    // returns `true`, the input is also truncated, and each allocation is also refused.
     fn test_checked_indexer(&mut self) -> Result<Option<usize>, Trouble> {
         let row = self.row;
         let is_fetch = row.command.program == Program::Fetch && !row.conversation.input.is_empty();
@@ -294,8 +296,9 @@ impl<'a, 'b> RowTest<'a, 'b> {
     }
 
     // Tests a fetch into a file: without a failure, while another process holds the lock, and with
-    // a failure or a stop at each call. For thorough rows, each write to standard error also fails
-    // in turn. For rows with `ByteChanges::EveryValue`, each allocation is also refused in turn.
+    // a failure or a stop at each file operation. If `is_thorough` returns `true`, each write to
+    // standard error also fails in turn. For rows with `ByteChanges::EveryValue`, each allocation
+    // is also refused in turn.
     fn test_stored_file(&mut self) -> Result<Option<usize>, Trouble> {
         if !has_stored_file(self.row) {
             return Ok(None);
@@ -322,7 +325,7 @@ impl<'a, 'b> RowTest<'a, 'b> {
         fetch_into_row_file(self.alloc, self.row, parameters)
     }
 
-    // Stores the bytes printed by a run that failed.
+    // Stores the bytes printed by a run that failed, and returns the number of the run.
     fn record_wrong_fetch(
         &mut self,
         results: &StoredFetchResults,
@@ -333,8 +336,8 @@ impl<'a, 'b> RowTest<'a, 'b> {
         Ok(Some(number))
     }
 
-    // Tests the row with a failure or a stop at each of `calls` calls, and while another process
-    // holds the lock.
+    // Tests the row while another process holds the lock, and with a failure or a stop at each of
+    // the first `calls` file operations.
     fn test_file_problems(&mut self, calls: usize) -> Result<Option<usize>, Trouble> {
         for call in 1..=calls {
             let file_problems = [
@@ -395,9 +398,9 @@ impl<'a, 'b> RowTest<'a, 'b> {
         {
             return Ok(Some(MAX_RUNS));
         }
-        let read = self.count_read_bytes()?;
+        let read_len = self.count_read_bytes()?;
         for len in 0..row.conversation.input.len() {
-            if !self.is_truncated_as_expected(len, read)? {
+            if !self.is_truncated_as_expected(len, read_len)? {
                 return Ok(Some(len));
             }
         }
@@ -416,15 +419,15 @@ impl<'a, 'b> RowTest<'a, 'b> {
         )
     }
 
-    // Returns whether a run of the first `len` input bytes has the expected results. `read` is the
-    // number of bytes that a run of the whole input reads.
-    fn is_truncated_as_expected(&mut self, len: usize, read: usize) -> Result<bool, Trouble> {
+    // Returns whether a run of the first `len` input bytes has the expected results. `read_len` is
+    // the number of bytes that a run of the whole input reads.
+    fn is_truncated_as_expected(&mut self, len: usize, read_len: usize) -> Result<bool, Trouble> {
         let row = self.row;
         let Some(part) = row.conversation.input.as_slice().get(..len) else {
             return Ok(false);
         };
         let results = self.run(part, RunParameters::UNLIMITED)?;
-        let is_right = if len < read {
+        let is_right = if len < read_len {
             is_as_expected_after_input_stop(self.alloc, row, &results, len, InputStop::End)?
         } else {
             is_as_expected(row, &results)
@@ -432,7 +435,6 @@ impl<'a, 'b> RowTest<'a, 'b> {
         self.check_run(is_right, &results)
     }
 
-    // Tests the row with each byte of the input changed.
     fn test_changed_bytes(&mut self) -> Result<Option<usize>, Trouble> {
         let row = self.row;
         let mut input = Vec::from_slice(self.alloc, row.conversation.input.as_slice())?;
@@ -445,7 +447,7 @@ impl<'a, 'b> RowTest<'a, 'b> {
         Ok(None)
     }
 
-    // Returns whether all runs with the byte at an offset changed are correct. The row's
+    // Returns whether all runs in which the byte at `offset` is changed are correct. The row's
     // `byte_changes` determines the new values.
     fn are_changes_valid(
         &mut self,
@@ -551,13 +553,13 @@ impl<'a, 'b> RowTest<'a, 'b> {
         Ok(Some(MAX_RUNS))
     }
 
-    // Tests the row with each allocation refused in turn. The row's memory faults must occur in
-    // order. Once a run has run out of memory after a server loaded its repository, no later run
-    // may run out of memory during this loading.
+    // Tests the row with each allocation refused in turn. The out-of-memory faults that the row
+    // lists must occur in the listed order. Once a run has run out of memory after a server loaded
+    // its repository, no later run may run out of memory during the loading.
     fn test_refusals_in_turn(&mut self) -> Result<Option<usize>, Trouble> {
         let mut progress = RefusalProgress {
             faults_seen: 0,
-            has_served: false,
+            ran_out_after_load: false,
         };
         for number in 1..MAX_RUNS {
             match self.test_refusal(number, &mut progress)? {
@@ -595,9 +597,9 @@ impl<'a, 'b> RowTest<'a, 'b> {
         let row = self.row;
         let ran_out_of_memory_at_load = ran_out_of_memory_at_load(row, results);
         let is_right = is_as_expected_after_refusal(row, results)
-            && !(progress.has_served && ran_out_of_memory_at_load)
+            && !(progress.ran_out_after_load && ran_out_of_memory_at_load)
             && self.is_listed_fault(results, &mut progress.faults_seen);
-        progress.has_served = progress.has_served
+        progress.ran_out_after_load = progress.ran_out_after_load
             || !(ran_out_of_memory_at_load || is_as_expected(row, results));
         is_right
     }
@@ -657,7 +659,7 @@ fn has_fault_at(listed: &[Vec<u8>], index: usize, text: &[u8]) -> bool {
     }
 }
 
-// Returns whether the tests flip the bits in `change` of the byte at `offset`.
+// Returns whether `byte_changes` includes flipping the bits of the mask `change` at `offset`.
 fn includes_change(byte_changes: ByteChanges, offset: usize, change: u8) -> bool {
     match byte_changes {
         ByteChanges::EveryValue => true,

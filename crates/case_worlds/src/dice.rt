@@ -7,7 +7,6 @@ pub(crate) struct Dice {
 }
 
 impl Dice {
-    /// Returns a generator with this seed.
     pub(crate) fn new(seed: usize) -> Dice {
         Dice { state: seed }
     }

@@ -1,4 +1,4 @@
-//! Generation of random forged replies, random requests from other clients, and random objects.
+//! Random forged replies, random requests from other clients, and random objects.
 
 use crate::dice::Dice;
 use case_text::{packet, text_packet};
@@ -20,14 +20,14 @@ pub(crate) struct Forger {
 impl Forger {
     /// Appends one of the ids at random.
     pub(crate) fn add_id(&mut self, text: &mut String) -> Result<(), AllocError> {
-        let place = self.dice.roll(self.ids.len());
-        match self.ids.get(place) {
+        let index = self.dice.roll(self.ids.len());
+        match self.ids.get(index) {
             Some(id) => text.push_str(id.as_str()),
             None => Ok(()),
         }
     }
 
-    /// Appends a random object as a line of a plain pack.
+    /// Appends a random object as a line of a pack in text form.
     pub(crate) fn add_entry(&mut self, text: &mut String) -> Result<(), AllocError> {
         let is_tag = self.dice.is_one_in(5);
         let count = if is_tag { 1 } else { self.dice.roll(3) };
@@ -155,8 +155,8 @@ impl Forger {
         self.add_packets(&[line.as_str()], bytes)
     }
 
-    // Appends a packet for each line. `0000` stands for a flush packet, and `0001` for a delimiter
-    // packet.
+    // Appends a packet for each line. The line `0000` becomes a flush packet, and the line `0001`
+    // becomes a delimiter packet.
     fn add_packets(&self, lines: &[&str], bytes: &mut Vec<u8>) -> Result<(), AllocError> {
         for line in lines {
             self.add_packet(line, bytes)?;
@@ -191,12 +191,12 @@ impl Forger {
 
     // Changes a byte of the message or truncates the message, in one of six calls on average.
     fn corrupt(&mut self, bytes: &mut Vec<u8>) {
-        let place = self.dice.roll(bytes.len());
+        let offset = self.dice.roll(bytes.len());
         match self.dice.roll(12) {
-            0 => bytes.truncate(place),
+            0 => bytes.truncate(offset),
             1 => {
                 let changed = self.random_byte();
-                if let Some(byte) = bytes.get_mut(place) {
+                if let Some(byte) = bytes.get_mut(offset) {
                     *byte = changed;
                 }
             }

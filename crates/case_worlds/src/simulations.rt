@@ -17,8 +17,8 @@ const MEMORY_FAULT_LINE: &[u8] = b"gitv2: fault 91 Memory\n";
 
 const WRITE_FAULT_LINE: &[u8] = b"gitv2: fault 27 Io\n";
 
-/// Runs a simulation like the program, but with the packer and indexer in `inputs`. Returns the
-/// exit status.
+/// Runs a simulation as `gitv2 simulate` does, but with the packer and indexer in `inputs`. Returns
+/// the exit status.
 pub fn simulate_with_tools<A: Allocator + Copy, O: Sink, E: Sink>(
     alloc: Global,
     tested_alloc: A,
@@ -37,7 +37,8 @@ pub fn simulate_with_tools<A: Allocator + Copy, O: Sink, E: Sink>(
     }
 }
 
-// A run of a scenario. The result of the run is the text to print, or `None` if memory runs out.
+// An action that runs a scenario in a world. The result is the text to print, or `None` if the
+// scenario can't be parsed or memory runs out.
 #[derive(Drop)]
 struct ScenarioAction<'b, A: Allocator + Copy> {
     alloc: Global,
@@ -70,7 +71,7 @@ fn run_and_format<A: Allocator + Copy>(
     }
 }
 
-// Writes the result of a simulation, or the memory fault, and returns the exit status.
+// Writes the result of a simulation, or the out-of-memory fault, and returns the exit status.
 fn write_result<O: Sink, E: Sink>(
     text: Result<Option<String>, Trouble>,
     output: &mut O,
@@ -117,7 +118,7 @@ pub struct SimulationResults {
 
 impl SimulationResults {
     /// Returns whether this result with a refused allocation is consistent with `other`, the result
-    /// with enough memory. The outcomes must agree up to the first memory fault.
+    /// with enough memory. The outcomes must agree up to the first out-of-memory fault.
     pub fn is_consistent_with(&self, other: &SimulationResults) -> bool {
         self.has_connected_refs
             && self.outcomes.len() == other.outcomes.len()
@@ -125,7 +126,7 @@ impl SimulationResults {
     }
 }
 
-// Returns whether both lists of outcomes agree up to the first memory fault.
+// Returns whether both lists of outcomes agree up to the first out-of-memory fault.
 fn agree_until_memory_fault(outcomes: &[Outcome], others: &[Outcome]) -> bool {
     for (outcome, other) in outcomes.iter().zip(others) {
         if outcome != other {
@@ -135,8 +136,8 @@ fn agree_until_memory_fault(outcomes: &[Outcome], others: &[Outcome]) -> bool {
     true
 }
 
-/// Runs the events in a world, and refuses the allocation with this number. If memory runs out, the
-/// remaining events run with enough memory in the same world.
+/// Runs the events in a world, and refuses the allocation with the number `refused_allocation`. If
+/// memory runs out, the remaining events run with enough memory in the same world.
 pub fn run_with_refusal(
     alloc: Global,
     inputs: WorldInputs<'_>,
@@ -195,7 +196,7 @@ enum EventMode<'m> {
     OneByOne,
 }
 
-// The events of a scenario, and the mode in which they run.
+// An action that runs the events of a scenario in the mode `mode`.
 #[derive(Drop)]
 struct ScenarioRun<'e, A: Allocator + Copy> {
     alloc: Global,

@@ -34,8 +34,7 @@ impl<'b> WorldInputs<'b> {
     }
 }
 
-/// The allocation to refuse. `number` is the number of this allocation, or 0 to refuse no
-/// allocation.
+/// The allocation to refuse. `number` is its number, counted from 1, or 0 to refuse no allocation.
 #[derive(Drop)]
 pub(crate) struct RefusedAllocation<'m> {
     pub(crate) refusing_alloc: &'m RefusingAllocator<Global>,
@@ -43,7 +42,7 @@ pub(crate) struct RefusedAllocation<'m> {
 }
 
 impl RefusedAllocation<'_> {
-    /// Starts the count of allocations.
+    /// Starts to count allocations.
     pub(crate) fn start_counting(&self) {
         self.refusing_alloc.refuse_allocation(self.number);
     }
@@ -56,10 +55,8 @@ impl RefusedAllocation<'_> {
 
 /// An action on a world.
 pub(crate) trait WorldAction<A: Allocator + Copy> {
-    /// The type of the action's result.
     type Output;
 
-    /// Runs the action on the world.
     fn run_on(&self, world: &mut World<Tools, A>) -> Result<Self::Output, Trouble>;
 }
 
@@ -88,8 +85,8 @@ pub(crate) fn run_in_world_or_fault<A: Allocator + Copy, P: WorldAction<A>>(
     }
 }
 
-// Runs the action and drops the world. Only this function drops a world, because the proof of the
-// drop is long.
+// Runs the action and drops the world. No other function drops a world, because the proof of the
+// drop takes long.
 fn run_and_drop_world<A: Allocator + Copy, P: WorldAction<A>>(
     world: World<Tools, A>,
     action: &P,
@@ -129,7 +126,6 @@ fn world_or_fault<A: Allocator + Copy>(
     }
 }
 
-/// Parses the events of a scenario.
 pub(crate) fn parse_events<A: Allocator + Copy>(
     tested_alloc: A,
     scenario: &[u8],
@@ -160,11 +156,11 @@ fn append_outcomes<A: Allocator + Copy>(
     run_result: Result<Vec<Outcome, A>, RunFault<A>>,
     outcomes: &mut Vec<Outcome>,
 ) -> Result<bool, Trouble> {
-    let (finished, ran_all) = match run_result {
-        Ok(finished) => (finished, true),
+    let (new_outcomes, ran_all) = match run_result {
+        Ok(new_outcomes) => (new_outcomes, true),
         Err(RunFault::Memory { outcomes }) => (outcomes, false),
     };
-    outcomes.extend_from_slice(finished.as_slice())?;
+    outcomes.extend_from_slice(new_outcomes.as_slice())?;
     Ok(ran_all)
 }
 
@@ -195,7 +191,7 @@ fn holds_ancestry<A: Allocator + Copy>(graph: &Graph<A>, ids: &[Oid]) -> Result<
     }
 }
 
-/// Returns whether the outcome of an event is a memory fault.
+/// Returns whether the outcome of an event is an out-of-memory fault.
 pub(crate) fn is_out_of_memory(outcome: Outcome) -> bool {
     match outcome {
         Outcome::Fault { code } => matches!(code, 18 | 28 | 53 | 64 | 65 | 66),

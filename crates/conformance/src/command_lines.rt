@@ -1,11 +1,13 @@
 //! The result of parsing a command line, as one line of text.
 //!
 //! The text of an `asked` fact holds the arguments, separated by spaces; `""` is the empty
-//! argument. The result is `none` for arguments that do not match the usage. Otherwise the result
-//! begins with the command. The place, the limit of a pack and the number of connections follow, if
-//! the command has them. The place is `stdio`, `stdio-server`, or an address and a path. The next
-//! word is `plain` or `response-end`, if the command states how replies end. The files, refspecs or
-//! prefixes are at the end, in order.
+//! argument. The result is `none` if the arguments do not match the usage. Otherwise the result is
+//! the name of the command, followed by the parameters that the command has:
+//!
+//! 1. `stdio`, `stdio-server`, or an address and a path
+//! 2. the maximum size of a pack, or the number of connections
+//! 3. `plain` or `response-end`, which is how each reply ends
+//! 4. the files, and then the refspecs or prefixes
 
 use case_launches::push_arguments;
 use case_text::Trouble;
@@ -17,7 +19,7 @@ use std::alloc::Global;
 // The notation for an empty argument in a test file.
 const EMPTY_ARGUMENT: &str = "\"\"";
 
-/// Parses the arguments, and returns the command as text.
+/// Returns the result of parsing the command line in `text`.
 pub fn parsed_command(alloc: Global, text: &[u8]) -> Result<String, Trouble> {
     let Ok(text) = std::str::from_utf8(text) else {
         return Ok(String::from_str(alloc, "no text")?);
@@ -65,7 +67,7 @@ fn format_command(alloc: Global, command: &Gitv2Command) -> Result<String, Troub
 }
 
 fn format_fetch(alloc: Global, fetch: &Fetch) -> Result<String, Trouble> {
-    let from = match &fetch.place {
+    let transport = match &fetch.place {
         Some(place) => {
             let location = format_location(alloc, place)?;
             format!(in alloc; "tcp={location}")?
@@ -74,7 +76,7 @@ fn format_fetch(alloc: Global, fetch: &Fetch) -> Result<String, Trouble> {
     };
     let limit = fetch.limit.bytes();
     let ends = format_reply_ends(fetch.ends);
-    let line = format!(in alloc; "fetch {from} limit={limit} {ends}")?;
+    let line = format!(in alloc; "fetch {transport} limit={limit} {ends}")?;
     command_text(
         alloc,
         line.as_str(),
@@ -100,10 +102,10 @@ fn format_simulate(alloc: Global, simulate: &Simulate) -> Result<String, Trouble
     command_text(alloc, "simulate", &files, &[])
 }
 
-// Returns the address and the path as text. The path must be ASCII.
-fn format_location(alloc: Global, place: &Location) -> Result<String, Trouble> {
-    let address = place.address();
-    let path = match std::str::from_utf8(place.hello().path()) {
+// Returns the address and the path as text. A path that is not UTF-8 is returned as an empty path.
+fn format_location(alloc: Global, location: &Location) -> Result<String, Trouble> {
+    let address = location.address();
+    let path = match std::str::from_utf8(location.hello().path()) {
         Ok(path) => path,
         Err(_) => "",
     };

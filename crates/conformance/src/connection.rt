@@ -1,4 +1,4 @@
-//! Calls to `gtcp` on streams of any type, with the results of the calls.
+//! Runs of the server and the clients of `gtcp` on connections of any type.
 
 use case_runs::{
     CommandRun, DeviceLimits, IndexerCheck, RunOutcome, Writer, conclude_fetch, conclude_listing,
@@ -18,7 +18,7 @@ use std::io::{Read, Write};
 use std::net::{OpenListener, OpenStream};
 use std::time::Clock;
 
-/// The result of a run on connections, with the printed lines.
+/// The result of a run on connections, and the lines that the run printed.
 #[derive(Drop)]
 pub struct ConnectionRun {
     pub run_outcome: RunOutcome,
@@ -33,8 +33,8 @@ struct PrintedLines {
     errors: Writer,
 }
 
-/// A listener, the number of connections to serve, and the clock for their deadlines. A client uses
-/// only one connection of the listener.
+/// The listener of a run, the number of connections to serve, and the clock that measures the
+/// deadlines. A client uses only the first connection.
 #[derive(Drop)]
 pub struct Endpoint<'c, C, L> {
     pub clock: &'c C,
@@ -42,8 +42,8 @@ pub struct Endpoint<'c, C, L> {
     pub connections: u32,
 }
 
-/// Runs a row on connections. Allocations are counted from the first call to `gtcp` on, and the
-/// allocation with the number `refused_allocation` fails.
+/// Runs a row on connections, and refuses the allocation with the number `refused_allocation`. The
+/// count of allocations begins at the first call to `gtcp`.
 pub fn run_row_on_connections<C, L, S>(
     alloc: Global,
     row: &Row<'_>,
@@ -70,8 +70,7 @@ where
     run_on_connections(&run, endpoint)
 }
 
-// Runs a command on connections. Allocations are counted from the first call to `gtcp` on, and the
-// allocation with the number `refused_allocation` of the run is refused.
+// Runs a command on connections, and refuses the allocation `run.refused_allocation`.
 fn run_on_connections<A, C, L, S>(
     run: &CommandRun<'_, '_, '_, A>,
     endpoint: Endpoint<'_, C, L>,

@@ -1,8 +1,9 @@
-//! Tests of deadlines: connections with a late peer and a simulated clock.
+//! Tests of deadlines, on connections with a late peer and a simulated clock.
 //!
-//! The constants of this module repeat the deadlines of `gtcp`. A server waits 10 seconds for the
-//! first line of a client, and 60 seconds for each request. A client waits 60 seconds for the next
-//! bytes of a server. A server waits 60 seconds for a client to accept bytes.
+//! The constants of this module repeat the deadlines of `gtcp`. A function with the result
+//! `Option<usize>` returns the index of the first late byte in the first failed run. The index is 0
+//! for a failed run with a faulty clock or with two silent clients. The result is `None` if no run
+//! failed.
 
 use crate::connection::{ConnectionRun, Endpoint, run_row_on_connections};
 use crate::late_peer::{ClockBehavior, LateConnection, LateListener, PeerBehavior, SimulatedClock};
@@ -15,22 +16,25 @@ use case_tries::{
 use std::alloc::Global;
 use std::time::Duration;
 
-/// The time limits in seconds for a first line, for a request, and for silence.
+/// The seconds that a server waits for the first line of a client.
 const FIRST_LINE_SECONDS: u64 = 10;
 
+/// The seconds that a server waits for each request.
 const REQUEST_SECONDS: u64 = 60;
 
+/// The seconds that a client waits for bytes, and that a server waits for a client to accept bytes.
 const SILENCE_SECONDS: u64 = 60;
 
-/// The seconds within which a server answers an honest client after two silent clients.
+/// The maximum number of seconds until a server answers a prompt client after two silent clients.
 const ANSWER_SECONDS: u64 = 25;
 
-/// The delays in milliseconds of a slow peer before each byte. With some of these delays, a first
-/// line or a request meets its deadline. With the others, it does not. The last delay equals the
-/// limit on silence, and the delay before it is just below that limit.
+/// The tested delays. With each delay, a slow peer waits this many milliseconds before every byte.
+/// With some of these delays, a first line or a request is complete before its deadline. With the
+/// other delays, the first line or the request is too late. The last delay equals
+/// `SILENCE_SECONDS`, and the previous delay is one millisecond shorter.
 const DELAYS: [u64; 8] = [100, 240, 250, 400, 900, 6_000, 59_999, 60_000];
 
-// The expected result of a connection.
+// The expected timing of a connection.
 #[derive(Clone, Copy)]
 struct ExpectedTiming {
     // The index of the first byte that arrives too late, if any.
@@ -39,10 +43,10 @@ struct ExpectedTiming {
     time: Duration,
 }
 
-/// Tests a `late` row with late peers. A peer becomes silent at some byte, or slow at some message.
-/// A client may also stop accepting bytes. After a late client, a server must serve the next
-/// client. Counts the runs in `runs`. If a run fails, returns the index of the byte that this run
-/// tested.
+/// Tests a row that has the keyword `late` with late peers. Each peer becomes silent before some
+/// byte, or slow at the beginning of some message. A client may also stop accepting bytes. After a
+/// late client, a server must serve the next client. Counts the runs in `runs`. Returns the byte
+/// index at which the first failed run had a late peer, if any.
 pub fn first_failure(
     alloc: Global,
     row: &Row<'_>,
@@ -61,15 +65,15 @@ pub fn first_failure(
     Ok(failure)
 }
 
-// Tests the row with peers that are silent before the first, second or sixth byte of each packet.
+// Tests the row with peers that become silent before the first, second or sixth byte of a packet.
 fn first_failure_when_silent(
     alloc: Global,
     row: &Row<'_>,
     runs: &mut u64,
 ) -> Result<Option<usize>, Trouble> {
     for packet_start in row.conversation.packet_starts.as_slice() {
-        for more in [0usize, 1, 5] {
-            let silent_from = packet_start.start.saturating_add(more);
+        for offset_in_packet in [0usize, 1, 5] {
+            let silent_from = packet_start.start.saturating_add(offset_in_packet);
             if silent_from < row.conversation.input.len()
                 && !is_as_expected_when_silent(alloc, row, silent_from, runs)?
             {
@@ -91,7 +95,7 @@ fn is_as_expected_when_silent(
     is_as_expected_when_late(alloc, row, behavior, runs)
 }
 
-// Tests the row with peers that are slow from the beginning of each message.
+// Tests the row with peers that become slow at the beginning of a message.
 fn first_failure_when_slow(
     alloc: Global,
     row: &Row<'_>,
@@ -132,8 +136,8 @@ fn first_failure_when_full(
     runs: &mut u64,
 ) -> Result<Option<usize>, Trouble> {
     for end in row.conversation.message_ends.as_slice() {
-        for less in [0usize, 1] {
-            let max_accepted = end.saturating_sub(less);
+        for unaccepted_len in [0usize, 1] {
+            let max_accepted = end.saturating_sub(unaccepted_len);
             *runs = runs.saturating_add(1);
             if max_accepted < row.conversation.output.len()
                 && !drops_client_that_stops_reading(alloc, row, max_accepted)?
@@ -226,8 +230,8 @@ fn expected_timing(row: &Row<'_>, behavior: PeerBehavior) -> ExpectedTiming {
     }
 }
 
-// Returns the time within which the peer must send this byte. `remaining` is the remaining time for
-// the message.
+// Returns the time within which the peer must send this byte. `remaining` is the time that is left
+// for the message.
 fn time_limit(row: &Row<'_>, index: usize, remaining: Duration) -> Duration {
     if row.command.program != Program::Serve {
         Duration::from_secs(SILENCE_SECONDS)
@@ -262,7 +266,7 @@ fn drops_client_that_stops_reading(
     )
 }
 
-// Returns whether a server reads no bytes from its client if its clock fails or goes back.
+// Returns whether a server reads no bytes from its client if the clock fails or goes back.
 fn fails_with_faulty_clock(
     alloc: Global,
     row: &Row<'_>,
@@ -272,7 +276,7 @@ fn fails_with_faulty_clock(
     is_as_expected_after_input_stop(alloc, row, &results.first, 0, InputStop::ReadFailure)
 }
 
-// Returns whether a server answers an honest client in time after two silent clients.
+// Returns whether a server answers a prompt client in time after two silent clients.
 fn answers_after_two_silent_clients(alloc: Global, row: &Row<'_>) -> Result<bool, Trouble> {
     let mut silent_peer = PeerBehavior::PROMPT;
     silent_peer.silent_from = 0;

@@ -78,8 +78,8 @@ impl Clock for SimulatedClock {
 /// The delays and limits of a peer.
 #[derive(Clone, Copy)]
 pub struct PeerBehavior {
-    /// The index of the first byte that the peer sends slowly. From this byte on, each byte is a
-    /// separate piece.
+    /// The index of the first byte that the peer sends slowly. This byte and all later bytes arrive
+    /// one at a time.
     pub slow_from: usize,
     /// The delay before each byte that the peer sends slowly.
     pub delay: Duration,
@@ -165,8 +165,8 @@ impl<'r> LateConnection<'r> {
         }
     }
 
-    // Advances the simulated clock by the delay `time`, but at most by `limit`. If `time` is
-    // `None`, the delay never ends.
+    // Advances the simulated clock by the delay `time`. If the delay is not shorter than `limit`,
+    // advances the clock by `limit` and fails. If `time` is `None`, the delay never ends.
     fn wait(
         &self,
         clock: &SimulatedClock,

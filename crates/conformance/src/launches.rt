@@ -4,9 +4,9 @@ use case_launches::{Plan, System, can_launch, launch, push_arguments};
 use case_text::{Case, Fact, Script, Trouble};
 use case_tries::{Row, RowTest};
 
-/// Launches the program with the arguments of a row and a file that holds the row's repository, if
-/// the program can run the row. If the results are unexpected, stores the printed lines and returns
-/// 0.
+/// Launches the program with the arguments of a row and a file that holds the row's repository. If
+/// the results are unexpected, stores a description of the results in `row_test` and returns 0.
+/// Otherwise returns `None`. Does nothing if the program can't run the row.
 pub fn launch_row<R: System>(
     rt: &R,
     script: &Script<'_>,
@@ -28,7 +28,7 @@ pub fn launch_row<R: System>(
     }
 }
 
-/// Launches the program with a server and a client in one process. Returns a text with the
+/// Launches the program with a server and a client in one process. Returns a description of the
 /// unexpected results, if any.
 pub fn launch_pair<R: System>(
     rt: &R,
@@ -39,7 +39,8 @@ pub fn launch_pair<R: System>(
     launch(rt, &Plan::for_pair(rt.alloc(), script, case, arguments)?)
 }
 
-/// Launches the program as a case describes. Returns a text with the unexpected results, if any.
+/// Launches the program as a case describes. Returns a description of the unexpected results, if
+/// any.
 pub fn launch_case<R: System>(
     rt: &R,
     script: &Script<'_>,
@@ -54,9 +55,9 @@ pub fn launch_case<R: System>(
     }
 }
 
-/// Launches the program with the arguments of a fact, in an empty folder. Returns a text with the
-/// unexpected results, if any. The program must report wrong usage exactly if the expected result
-/// of the fact is `none`.
+/// Launches the program with the arguments of a fact, in an empty folder. Returns a description of
+/// the unexpected results, if any. The program must report wrong usage if and only if the expected
+/// result of the fact is `none`.
 pub fn launch_arguments<R: System>(
     rt: &R,
     script: &Script<'_>,

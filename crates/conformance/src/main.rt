@@ -1,30 +1,32 @@
-//! Tests of Git's fetch protocol, described by files. The tests run the programs of `gcmd`, call
-//! the functions that those programs use, and check the parsing of command lines.
+//! Tests of Git's fetch protocol, as described by test files. The tests run the commands of `gcmd`,
+//! call the functions that these commands use, and check the parsing of command lines.
 //!
 //! The arguments of the command line name test files. `case_text` parses these files. The first
 //! argument may be an option. `--quick` omits the tests that change bytes, and `--once` runs each
-//! case only with its input unchanged. `--edge` runs each case unchanged, and the tests of
-//! launches, connections and failing files.
+//! case only with its input unchanged. With `--edge`, only the unchanged cases and the tests of
+//! launches, connections and failing files run.
 //!
 //! Each case runs with each of its programs, and with ids of both formats. Cases with replies also
-//! run with response-end packets added. A case may exclude one format or the added packets.
+//! run with response-end packets added. A case may exclude one format or the added packets. A case
+//! with one of its programs is a row. The rows are tested in these ways:
 //!
-//! - The input is unchanged, and is read whole or in pieces. The case also runs on std readers and
+//! - The input is unchanged, and is read at once or in pieces. The row also runs on std readers and
 //!   writers.
 //! - The calls to the indexer are checked.
-//! - The program `gitv2` itself runs over files, standard streams and sockets.
+//! - The program `gitv2` runs with files, standard streams and sockets.
 //! - A connection with a first line runs over a socket in this process, and both ends take turns.
 //! - A peer is late, as measured by a simulated clock.
 //! - Each call to each source and sink fails in turn.
-//! - Each call to the client's file fails in turn, or the run stops at that call.
+//! Each operation on the client's file fails in turn, or the run stops at that operation.
 //! - The input is truncated after each byte, or one of its bytes is changed.
 //! - The request is changed as the case's table lists.
 //! - Each allocation is refused in turn.
 //!
 //! Facts about texts are also checked with the text read in pieces, and with each allocation
-//! refused in turn. Simulations also run in separate worlds. Random events run in further worlds.
-//! Pairs of a server and a client, and cases that describe a launch, run only by launching the
-//! program. The tests print a line for each failure. The last lines that they print count the runs.
+//! refused in turn. A simulation also runs directly in a world, which is a server and a client in
+//! memory (`gworld`). Random events run in further worlds. Pairs of a server and a client, and
+//! cases that describe a launch, run only by launching the program. The tests print a line for each
+//! failure. The last lines state the number of runs.
 //!
 //! # Proved
 //!
@@ -87,7 +89,6 @@ where
     test_all_formats(rt, (names, files.as_slice()), &mut Tally::new(depth))
 }
 
-// Runs the tests with ids of each format.
 fn test_all_formats<R: System>(
     rt: &R,
     files: (&[String], &[String]),
@@ -153,7 +154,6 @@ fn split_depth_option(arguments: &[String]) -> (Depth, &[String]) {
     }
 }
 
-// Checks the facts and runs the cases.
 fn test_script<R: System>(rt: &R, script: &Script<'_>, tally: &mut Tally) -> io::Result<()> {
     for fact in script.facts.as_slice() {
         check_fact(rt, script, fact, tally)?;

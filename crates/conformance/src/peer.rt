@@ -31,8 +31,8 @@ impl Pace {
     }
 }
 
-// The seconds that the peer waits for bytes that should already have arrived. The peer waits only
-// if the program is faulty.
+// The seconds that the peer waits for bytes that the program has already written. The peer waits
+// only if the program is faulty.
 const READ_TIMEOUT_SECONDS: u64 = 5;
 
 // The maximum number of bytes that the peer reads in one call.
@@ -44,14 +44,17 @@ pub struct Peer<'r> {
     conversation: &'r Conversation,
     peer_stream: TcpStream,
     pace: Pace,
-    // The number of bytes that the peer has sent, and the number that the program has read.
+    // The number of bytes that the peer has sent.
     sent_len: Cell<usize>,
+    // The number of bytes that the program has read.
     program_read_len: Cell<usize>,
-    // The number of bytes that the program has written, and the bytes that the peer has read.
+    // The number of bytes that the program has written.
     program_written_len: Cell<usize>,
+    // The bytes that the peer has read.
     received: RefCell<Vec<u8>>,
-    // Whether the peer has shut down writing.
-    has_ended: Cell<bool>,
+    // Whether the peer takes no more turns, because it has shut down writing or the stream of the
+    // program is nonblocking.
+    has_no_turns: Cell<bool>,
     // Whether the program waited for a message before it had sent the whole reply to the previous
     // message.
     was_awaited_early: Cell<bool>,
@@ -80,7 +83,7 @@ impl<'r> Peer<'r> {
             program_read_len: Cell::new(0),
             program_written_len: Cell::new(0),
             received: RefCell::new(Vec::new(alloc)),
-            has_ended: Cell::new(false),
+            has_no_turns: Cell::new(false),
             was_awaited_early: Cell::new(false),
         };
         if pace == Pace::AtOnce {
@@ -109,7 +112,7 @@ impl<'r> Peer<'r> {
 
     // If the program has read all bytes sent so far, lets the peer read and then send.
     fn take_turn(&self) -> io::Result<()> {
-        if self.has_ended.get() || self.program_read_len.get() < self.sent_len.get() {
+        if self.has_no_turns.get() || self.program_read_len.get() < self.sent_len.get() {
             return Ok(());
         }
         self.receive_all()?;
@@ -165,18 +168,18 @@ impl<'r> Peer<'r> {
     }
 
     fn shut_down_writing(&self) -> io::Result<()> {
-        self.has_ended.set(true);
+        self.has_no_turns.set(true);
         self.peer_stream.shutdown(Shutdown::Write)
     }
 
     /// Reads all bytes that the program has written. Fails if the connection is reset.
     pub fn receive_all(&self) -> io::Result<()> {
         for _ in 0..u64::MAX {
-            let left = self
+            let unread_len = self
                 .program_written_len
                 .get()
                 .saturating_sub(self.received_len());
-            if left == 0 || self.receive_some(left)? == 0 {
+            if unread_len == 0 || self.receive_some(unread_len)? == 0 {
                 break;
             }
         }
@@ -241,7 +244,7 @@ impl OpenStream for TurnStream<'_, '_> {
 
     // In nonblocking mode, a read does not give the peer a turn.
     fn set_nonblocking(&self, nonblocking: bool) -> io::Result<()> {
-        self.peer.has_ended.set(nonblocking);
+        self.peer.has_no_turns.set(nonblocking);
         self.program_stream.set_nonblocking(nonblocking)
     }
 

@@ -15,8 +15,8 @@ use std::io;
 // The first word of a command line for a server and a client in one process.
 const PAIR_COMMAND: &str = "pair ";
 
-// A case with one of its command lines. `adds_response_ends` adds response-end packets to the
-// replies.
+// A case with one of its command lines. `adds_response_ends` states whether response-end packets
+// are added to the replies.
 #[derive(Clone, Copy)]
 struct CaseRun<'b> {
     script: &'b Script<'b>,
@@ -49,7 +49,6 @@ pub fn test_case<'b, R: System>(
     Ok(())
 }
 
-// Tests a case with one of its command lines.
 fn test_command_line<R: System>(
     rt: &R,
     plain_run: CaseRun<'_>,
@@ -94,8 +93,8 @@ fn test_run<R: System>(rt: &R, run: CaseRun<'_>, tally: &mut Tally) -> io::Resul
     }
 }
 
-// Returns the row of a run, or `None` if the run adds response-end packets although they may not be
-// added.
+// Returns the row of a run, or `None` if the run adds response-end packets to replies that must not
+// have them.
 fn make_row<'b>(
     alloc: Global,
     script: &'b Script<'b>,
@@ -107,8 +106,8 @@ fn make_row<'b>(
     }
 }
 
-// Returns the command of a run, or `None` if the run adds response-end packets although they may
-// not be added.
+// Returns the command of a run, or `None` if the run adds response-end packets to replies that must
+// not have them.
 fn make_command<'b>(
     script: &'b Script<'b>,
     run: CaseRun<'b>,
@@ -150,7 +149,8 @@ fn make_row_for_command<'b>(
     })
 }
 
-// Returns the expected text of the client's file after a fetch, if the file changes.
+// Returns the text that the client's file must have after a fetch, or `None` if the file does not
+// change.
 fn expected_new_file<'b>(
     script: &'b Script<'b>,
     case: &Case<'b>,
@@ -230,7 +230,7 @@ fn test_row<R: System>(
     Ok(())
 }
 
-// Tests a row with one variation, and returns the number of the first run that failed.
+// Tests a row with one variation, and returns the number of the first run that failed, if any.
 fn test_variation<R: System>(
     rt: &R,
     run: CaseRun<'_>,
@@ -256,7 +256,7 @@ fn print_failure<R: Print>(
     tally.count_failure();
     let file_name = run.case.file_name;
     let line_number = run.case.line_number;
-    let row = run.case.name;
+    let title = run.case.name;
     let command_line = run.command_line;
     let ends = if run.adds_response_ends {
         " (response-end)"
@@ -269,6 +269,6 @@ fn print_failure<R: Print>(
         Err(_) => "",
     };
     println!(rt;
-        "{file_name}:{line_number}: {row}: {command_line}{ends}: {name}, {failed_run}: {printed}"
+        "{file_name}:{line_number}: {title}: {command_line}{ends}: {name}, {failed_run}: {printed}"
     )
 }

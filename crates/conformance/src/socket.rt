@@ -13,8 +13,7 @@ use std::time::Clock;
 /// The maximum number of bytes that a test writes to a socket before the other end reads them.
 const MAX_SOCKET_BYTES: usize = 16_384;
 
-/// An upper bound on the number of runs with a refused allocation. Each run makes fewer allocations
-/// than this bound.
+/// An upper bound on the number of allocations of a run.
 const MAX_RUNS: u64 = 1_000_000;
 
 // The parameters of a run over a socket: the pace of the two ends, and the allocation to refuse.
@@ -25,8 +24,8 @@ struct SocketRunParameters {
 }
 
 /// Tests a row over a socket. The peer sends all its messages at once, in turns, or one byte at a
-/// time. A `late` row is also tested with each allocation refused. Counts the runs in `runs`, and
-/// returns the number of the first run that failed.
+/// time. A row that has the keyword `late` is also tested with each allocation refused. Counts the
+/// runs in `runs`, and returns the number of the first run that failed, if any.
 pub fn first_failure<R>(
     rt: &R,
     alloc: Global,
@@ -56,9 +55,9 @@ where
     Ok(None)
 }
 
-// Returns whether the row is tested at this pace. The row must be a short connection with a first
-// line, and may not name a packer or indexer. `AtOnce` skips clients that fail, because their
-// unread input would reset the connection.
+// Returns whether the row is tested at this pace. The row must have a first line and short
+// messages, and must not name a packer or an indexer. At the pace `AtOnce`, clients that fail are
+// skipped, because their unread input would reset the connection.
 fn applies_to_row(row: &Row<'_>, pace: Pace) -> bool {
     let command = row.command;
     let fits = row.conversation.input.len() <= MAX_SOCKET_BYTES
@@ -70,7 +69,8 @@ fn applies_to_row(row: &Row<'_>, pace: Pace) -> bool {
         && (ends_well || pace != Pace::AtOnce)
 }
 
-// Tests a row at the pace `Turns`, once for each allocation, which is refused in that run.
+// Tests a row at the pace `Turns`, with each allocation refused in one run. Returns the number of
+// the first run that failed, if any.
 fn first_failure_with_refusals<R>(
     rt: &R,
     alloc: Global,

@@ -14,6 +14,7 @@ pub enum Depth {
     Edge,
     /// All tests run, except the tests that change bytes and take most of the time.
     Quick,
+    /// All tests run.
     Full,
 }
 

@@ -50,7 +50,7 @@ FetchRefuses server fails asked (serve.Pack cause) =
 FetchRefuses server fails asked serve.Memory = CanServe server asked
 FetchRefuses server fails asked _ = ⊥
 
--- the possible faults of a request; the empty request never fails
+-- the possible faults of answering a request; the empty request never fails
 abbrev pub Refuses : {A : Type 0} → Server A → PackFails A → Asked → ServeFault → Type 0
 Refuses server fails Empty cause = ⊥
 Refuses server fails (LsAsked asked) cause = cause ≡ serve.Memory

@@ -24,8 +24,7 @@ IsNotAdded server entry (build.Graph cause) =
     HoldsParents server.graph.entries entry × IsCause server.graph.format server.graph.entries entry cause
 IsNotAdded server entry _ = ⊥
 
--- nothing but the graph changes: the object is appended, unless the graph already held its id with the same kind and
--- parents
+-- only the graph changes: the object is appended, unless the graph already held its id with the same kind and parents
 pub record AddsObject {A : Type 0} (old : Server A) (entry : Entry A) (new : Server A) : Type 0 where
   pub parents : HoldsParents old.graph.entries entry
   pub format : new.graph.format ≡ old.graph.format

@@ -38,14 +38,14 @@ abbrev pub IsSent : {A : Type 0} → Server A → FetchAsked → List (Entry A) 
 IsSent server asked list =
     IsListToSend server.graph.entries asked.wants (commons_of server asked) (tag_tips server asked) list
 
--- the packer is allowed to return this pack for the objects to send
+-- the packer may return this pack for the objects to send
 pub record SendsPack {A : Type 0} (server : Server A) (packs : Packs A) (asked : FetchAsked)
     (pack : Bytes) : Type 0 where
   pub list : List (Entry A)
   pub sent : IsSent server asked list
   pub packed : packs list pack
 
--- the packer is allowed to fail with this fault for the objects to send
+-- the packer may fail with this fault for the objects to send
 pub record FailsToPack {A : Type 0} (server : Server A) (fails : PackFails A) (asked : FetchAsked)
     (fault : PackFault) : Type 0 where
   pub list : List (Entry A)

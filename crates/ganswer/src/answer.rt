@@ -1,4 +1,4 @@
-//! The answers of a server (gitprotocol-v2(5), "Command Request").
+//! The answers of a server to requests (gitprotocol-v2(5), "Command Request").
 
 ghost use Rattle.std.specs.Prelude.{◌≡◌, IfOk, MatchResult};
 ghost use Rattle.gobject.specs.Packs.{MayPack};
@@ -16,7 +16,7 @@ use glsreply::LsReply;
 use grequest::Request;
 use std::alloc::Allocator;
 
-/// The answer of a server.
+/// The answer of a server to a request.
 #[derive(Drop)]
 pub enum Reply<A: Allocator + Copy> {
     /// The answer to the empty request, which is a lone flush packet: the server sends nothing.
@@ -68,9 +68,9 @@ impl<A: Allocator + Copy> Server<A> {
     {
         match request {
             Request::Empty => Ok(Reply::Nothing),
-            Request::Ls(asked) => Ok(Reply::Ls(self.answer_ls(asked)?)),
-            Request::Fetch(asked) => {
-                let reply = self.answer_fetch(asked, packer)?;
+            Request::Ls(ls) => Ok(Reply::Ls(self.answer_ls(ls)?)),
+            Request::Fetch(fetch) => {
+                let reply = self.answer_fetch(fetch, packer)?;
                 Ok(Reply::Fetch(reply))
             }
         }

@@ -1,4 +1,5 @@
-//! The answers to fetch requests (gitprotocol-v2(5), "fetch").
+//! The answers to fetch requests (gitprotocol-v2(5), "fetch"). The common ids of a request are the
+//! haves that the server holds.
 
 ghost use Rattle.std.specs.Prelude.{◌≡◌, ◌↔◌, IfOk, IfErr, IsTrue, MatchResult};
 ghost use Rattle.gobject.specs.Packs.{MayPack};
@@ -42,28 +43,28 @@ impl<A: Allocator + Copy> Server<A> {
     /// pack.
     pub fn answer_fetch<K: Packer<A>>(
         &self,
-        asked: &FetchRequest<A>,
+        request: &FetchRequest<A>,
         packer: &mut OnePack<'_, K>,
     ) -> Result<FetchReply<A>, ServeFault>
         requires unasked { packer.old.answered ≡ packing.Unasked }
         ensures answer { MatchResult result
-            (λ reply. FetchAnswer self.now (MayPack (K.packs packer.old.packer)) asked.now.asked
+            (λ reply. FetchAnswer self.now (MayPack (K.packs packer.old.packer)) request.now.asked
             (reply_in reply))
-            (FetchRefuses self.now (K.pack_fails packer.old.packer) asked.now.asked) }
-        ensures format { IfOk result (IsReplyOf asked.now.limits self.now.graph.format) }
+            (FetchRefuses self.now (K.pack_fails packer.old.packer) request.now.asked) }
+        ensures format { IfOk result (IsReplyOf request.now.limits self.now.graph.format) }
         ensures packing { MatchResult result
             (λ reply. packer.new.answered ≡ packing_of_fetch (reply_in reply))
             (λ fault. packer.new.answered ≡ packing_of_fault fault) }
         ensures packer { packer.new.packer ≡ packer.old.packer }
     {
-        match self.begin_fetch(asked)? {
+        match self.begin_fetch(request)? {
             BegunFetch::Acks(commons) => Ok(FetchReply::Acks(commons)),
             BegunFetch::Ready(commons, list) => {
-                let pack = self.pack(asked, list.as_slice(), packer)?;
+                let pack = self.pack(request, list.as_slice(), packer)?;
                 Ok(FetchReply::Ready(commons, pack))
             }
             BegunFetch::Pack(list) => {
-                let pack = self.pack(asked, list.as_slice(), packer)?;
+                let pack = self.pack(request, list.as_slice(), packer)?;
                 Ok(FetchReply::Pack(pack))
             }
         }
@@ -72,22 +73,22 @@ impl<A: Allocator + Copy> Server<A> {
     /// Returns the answer to a fetch request before the objects are packed, so that the caller can
     /// pack the objects itself.
     ///
-    /// Fails with `NoWants` if the request has no wants. Fails with `NotOurs` for the first want
-    /// that the server does not hold. Otherwise fails only if memory runs out.
-    pub fn begin_fetch(&self, asked: &FetchRequest<A>) -> Result<BegunFetch<A>, ServeFault>
-        ensures { MatchResult result (BeginsFetch asked.now.limits self.now asked.now.asked)
-            (FetchDeclines self.now asked.now.asked) }
+    /// Fails with `NoWants` if the request has no wants, or with `NotOurs` for the first want that
+    /// the server does not hold. Otherwise fails only if memory runs out.
+    pub fn begin_fetch(&self, request: &FetchRequest<A>) -> Result<BegunFetch<A>, ServeFault>
+        ensures { MatchResult result (BeginsFetch request.now.limits self.now request.now.asked)
+            (FetchDeclines self.now request.now.asked) }
     {
-        self.check_wants(asked.wants())?;
-        let commons = self.commons(asked)?;
-        if asked.is_direct() {
-            let list = self.objects(asked, commons.ids())?;
+        self.check_wants(request.wants())?;
+        let commons = self.commons(request)?;
+        if request.is_direct() {
+            let list = self.objects(request, commons.ids())?;
             return Ok(BegunFetch::Pack(list));
         }
-        if !self.is_ready(asked, commons.ids())? {
+        if !self.is_ready(request, commons.ids())? {
             return Ok(BegunFetch::Acks(commons));
         }
-        let list = self.objects(asked, commons.ids())?;
+        let list = self.objects(request, commons.ids())?;
         Ok(BegunFetch::Ready(commons, list))
     }
 
@@ -104,76 +105,79 @@ impl<A: Allocator + Copy> Server<A> {
         }
     }
 
-    // Returns the common ids, as the acknowledgments of a reply, with the limits of the request.
-    fn commons(&self, asked: &FetchRequest<A>) -> Result<Acks<A>, ServeFault>
+    // Returns acknowledgments of the common ids. The acknowledgments have the limits of the
+    // request.
+    fn commons(&self, request: &FetchRequest<A>) -> Result<Acks<A>, ServeFault>
         ensures commons { IfOk result (λ commons. commons ≡ record {
-          limits = asked.now.limits;
+          limits = request.now.limits;
           format = self.now.graph.format;
-          ids = commons_of self.now asked.now.asked;
+          ids = commons_of self.now request.now.asked;
         }) }
         ensures fault { IfErr result (λ fault. fault ≡ Memory) }
     {
-        // Laws.
+        // Laws that the proof uses.
         positions_are_nodes::<A>();
-        asked.laws();
-        let ids = self.common_ids(asked)?;
-        let made = Acks::from_ids_within(self.graph().format(), ids, asked.limits());
+        request.laws();
+        let ids = self.common_ids(request)?;
+        let made = Acks::from_ids_within(self.graph().format(), ids, request.limits());
         Ok(made.unwrap())
     }
 
     // Returns the common ids.
-    fn common_ids(&self, asked: &FetchRequest<A>) -> Result<Vec<Oid, A>, ServeFault>
-        ensures ids { IfOk result (λ ids. ids.items ≡ commons_of self.now asked.now.asked) }
+    fn common_ids(&self, request: &FetchRequest<A>) -> Result<Vec<Oid, A>, ServeFault>
+        ensures ids { IfOk result (λ ids. ids.items ≡ commons_of self.now request.now.asked) }
         ensures fault { IfErr result (λ fault. fault ≡ Memory) }
     {
-        common_ids(self.graph(), asked.haves()).map_err(no_memory)
+        common_ids(self.graph(), request.haves()).map_err(no_memory)
     }
 
     // Returns whether each want reaches one of the common ids.
-    fn is_ready(&self, asked: &FetchRequest<A>, commons: &[Oid]) -> Result<bool, ServeFault>
-        requires { commons.now ≡ commons_of self.now asked.now.asked }
-        ensures ready { IfOk result (λ ready. IsTrue ready ↔ IsReadyFor self.now asked.now.asked) }
+    fn is_ready(&self, request: &FetchRequest<A>, commons: &[Oid]) -> Result<bool, ServeFault>
+        requires { commons.now ≡ commons_of self.now request.now.asked }
+        ensures ready { IfOk result (λ ready. IsTrue ready
+            ↔ IsReadyFor self.now request.now.asked) }
         ensures fault { IfErr result (λ fault. fault ≡ Memory) }
     {
-        ready(self.graph(), asked.wants(), commons).map_err(no_memory)
+        ready(self.graph(), request.wants(), commons).map_err(no_memory)
     }
 
     // Returns the pack of the objects to send.
     fn pack<K: Packer<A>>(
         &self,
-        asked: &FetchRequest<A>,
+        request: &FetchRequest<A>,
         list: &[Entry<A>],
         packer: &mut OnePack<'_, K>,
     ) -> Result<PackBytes<A>, ServeFault>
-        requires sent { IsSent self.now asked.now.asked list.now }
+        requires sent { IsSent self.now request.now.asked list.now }
         requires unasked { packer.old.answered ≡ packing.Unasked }
         ensures pack { PacksFor self.now (MayPack (K.packs packer.old.packer))
-            (K.pack_fails packer.old.packer) asked.now.asked result }
+            (K.pack_fails packer.old.packer) request.now.asked result }
         ensures packing { MatchResult result
             (λ _. packer.new.answered ≡ packing.Packed)
             (λ fault. packer.new.answered ≡ packing_of_fault fault) }
         ensures packer { packer.new.packer ≡ packer.old.packer }
     {
-        let _ = asked;
+        let _ = request;
         let bytes = packer.pack(self.graph().allocator(), list)?;
         Ok(PackBytes::new(bytes).unwrap())
     }
 
-    // Returns the objects to send.
+    // Returns the objects to send: those that a want reaches and no common id reaches, and the
+    // requested tags.
     fn objects(
         &self,
-        asked: &FetchRequest<A>,
+        request: &FetchRequest<A>,
         commons: &[Oid],
     ) -> Result<Vec<Entry<A>, A>, ServeFault>
-        requires { commons.now ≡ commons_of self.now asked.now.asked }
-        ensures list { IfOk result (λ list. IsSent self.now asked.now.asked list.items) }
+        requires { commons.now ≡ commons_of self.now request.now.asked }
+        ensures list { IfOk result (λ list. IsSent self.now request.now.asked list.items) }
         ensures fault { IfErr result (λ fault. fault ≡ Memory) }
     {
         let graph = self.graph();
-        if asked.has(FetchFlag::IncludeTag) {
-            send_list_tags(graph, asked.wants(), commons, self.refs()).map_err(no_memory)
+        if request.has(FetchFlag::IncludeTag) {
+            send_list_tags(graph, request.wants(), commons, self.refs()).map_err(no_memory)
         } else {
-            send_list(graph, asked.wants(), commons).map_err(no_memory)
+            send_list(graph, request.wants(), commons).map_err(no_memory)
         }
     }
 }

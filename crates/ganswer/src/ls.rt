@@ -24,38 +24,40 @@ use std::alloc::{AllocError, Allocator};
 
 impl<A: Allocator + Copy> Server<A> {
     // Returns the reply to an ls-refs request. Fails only if memory runs out.
-    pub(crate) fn answer_ls(&self, asked: &LsRefsRequest<A>) -> Result<LsReply<A>, ServeFault>
-        ensures answer { IfOk result (LsAnswer self.now asked.now.asked) }
+    pub(crate) fn answer_ls(&self, request: &LsRefsRequest<A>) -> Result<LsReply<A>, ServeFault>
+        ensures answer { IfOk result (LsAnswer self.now request.now.asked) }
         ensures fault { IfErr result (λ fault. fault ≡ Memory) }
     {
-        let mut reply = self.begin_ls(asked)?;
-        self.add_head(asked, &mut reply)?;
-        self.add_refs(asked, self.refs().as_slice(), &mut reply)?;
+        let mut reply = self.begin_ls(request)?;
+        self.add_head(request, &mut reply)?;
+        self.add_refs(request, self.refs().as_slice(), &mut reply)?;
         Ok(reply)
     }
 
-    // Returns a reply with the name that an unborn HEAD points at, and without lines.
-    fn begin_ls(&self, asked: &LsRefsRequest<A>) -> Result<LsReply<A>, ServeFault>
+    // Returns a reply without refs. The reply contains the name that an unborn HEAD points at, if
+    // the request asks for this name.
+    fn begin_ls(&self, request: &LsRefsRequest<A>) -> Result<LsReply<A>, ServeFault>
         ensures reply { IfOk result (λ reply. reply
-            ≡ record { unborn = unborn_of self.now asked.now.asked; lines = [] }) }
+            ≡ record { unborn = unborn_of self.now request.now.asked; lines = [] }) }
         ensures fault { IfErr result (λ fault. fault ≡ Memory) }
     {
         let mut reply = LsReply::new(self.graph().allocator());
-        if let Some(target) = self.unborn(asked) {
+        if let Some(target) = self.unborn(request) {
             reply.set_unborn(target.clone()?).unwrap();
         }
         Ok(reply)
     }
 
     // Appends the line of HEAD, if HEAD has an id and the request includes HEAD.
-    fn add_head(&self, asked: &LsRefsRequest<A>, reply: &mut LsReply<A>) -> Result<(), ServeFault>
-        requires { reply.old ≡ record { unborn = unborn_of self.now asked.now.asked; lines = [] } }
-        ensures head { OnOk result (IsAnswering self.now asked.now.asked
+    fn add_head(&self, request: &LsRefsRequest<A>, reply: &mut LsReply<A>) -> Result<(), ServeFault>
+        requires { reply.old
+            ≡ record { unborn = unborn_of self.now request.now.asked; lines = [] } }
+        ensures head { OnOk result (IsAnswering self.now request.now.asked
             (head_ref (head_id self.now.head self.now.refs)) reply.new) }
         ensures fault { IfErr result (λ fault. fault ≡ Memory) }
     {
         match self.head_id() {
-            Some(id) => self.add_ref_line(asked, self.name_of_head(), id, None, reply),
+            Some(id) => self.add_ref_line(request, self.name_of_head(), id, None, reply),
             None => Ok(()),
         }
     }
@@ -63,46 +65,47 @@ impl<A: Allocator + Copy> Server<A> {
     // Appends the lines of the requested refs.
     fn add_refs(
         &self,
-        asked: &LsRefsRequest<A>,
+        request: &LsRefsRequest<A>,
         refs: &[(RefName<A>, Oid)],
         reply: &mut LsReply<A>,
     ) -> Result<(), ServeFault>
         requires refs { refs.now ≡ self.now.refs }
-        requires head { IsAnswering self.now asked.now.asked
+        requires head { IsAnswering self.now request.now.asked
             (head_ref (head_id self.now.head self.now.refs)) reply.old }
-        ensures all { OnOk result (IsAnswering self.now asked.now.asked (all_refs self.now)
+        ensures all { OnOk result (IsAnswering self.now request.now.asked (all_refs self.now)
             reply.new) }
         ensures fault { IfErr result (λ fault. fault ≡ Memory) }
     {
         for (place, reference) in refs.iter().enumerate() {
             let known = self.peeled_at(place);
-            self.add_ref_line(asked, &reference.0, reference.1, known, reply)?;
+            self.add_ref_line(request, &reference.0, reference.1, known, reply)?;
         }
         Ok(())
     }
 
-    // Appends the line of a ref, if the request includes the ref. `known` is the ref's peeled id,
-    // if the peeled id was looked up before.
+    // Appends the line of a ref, if the request includes the ref. `known` is the peeled id of the
+    // ref, `Some(None)` if the ref has no peeled id, or `None` if the peeled id was not looked up
+    // before.
     fn add_ref_line(
         &self,
-        asked: &LsRefsRequest<A>,
+        request: &LsRefsRequest<A>,
         name: &RefName<A>,
         id: Oid,
         known: Option<Option<Oid>>,
         reply: &mut LsReply<A>,
     ) -> Result<(), ServeFault>
-        requires next { IsNextRef self.now asked.now.asked (name.now, id) reply.old }
+        requires next { IsNextRef self.now request.now.asked (name.now, id) reply.old }
         requires known { IfSome known (IsPeeled self.now.graph.entries id) }
         ensures added { OnOk result ((front : RefList)
-            → IsAnswering self.now asked.now.asked front reply.old
-            → IsAnswering self.now asked.now.asked (front ++ (name.now, id) ∷ []) reply.new) }
+            → IsAnswering self.now request.now.asked front reply.old
+            → IsAnswering self.now request.now.asked (front ++ (name.now, id) ∷ []) reply.new) }
         ensures fault { IfErr result (λ fault. fault ≡ Memory) }
     {
-        // Laws.
+        // Laws that the proof uses.
         positions_are_nodes::<A>();
         ids_have_one_format();
         self.laws();
-        let Some(line) = self.line(asked, name, id, known) else {
+        let Some(line) = self.line(request, name, id, known) else {
             return Ok(());
         };
         let line = own_line(line)?;
@@ -113,25 +116,26 @@ impl<A: Allocator + Copy> Server<A> {
     }
 
     /// Returns the line of a ref with the requested attributes, or `None` if the request does not
-    /// include the ref. `known` is the ref's peeled id, if the peeled id was looked up before.
+    /// include the ref. `known` is the peeled id of the ref, `Some(None)` if the ref has no peeled
+    /// id, or `None` if the peeled id was not looked up before.
     pub fn line<'a>(
         &'a self,
-        asked: &LsRefsRequest<A>,
+        request: &LsRefsRequest<A>,
         name: &'a RefName<A>,
         id: Oid,
         known: Option<Option<Oid>>,
     ) -> Option<LentLine<'a, A>>
         requires { IfSome known (IsPeeled self.now.graph.entries id) }
-        ensures { ShowsLines self.now asked.now.asked ((name.now, id) ∷ []) (line_list result) }
+        ensures { ShowsLines self.now request.now.asked ((name.now, id) ∷ []) (line_list result) }
     {
-        if !is_asked(asked.prefixes(), name) {
+        if !is_asked(request.prefixes(), name) {
             return None;
         }
         Some(LentLine {
             id,
             name,
-            symref: self.symref(asked, name),
-            peeled: peeled_if(asked.has(LsRefsFlag::Peel), self.graph(), &id, known),
+            symref: self.symref(request, name),
+            peeled: peeled_if(request.has(LsRefsFlag::Peel), self.graph(), &id, known),
         })
     }
 
@@ -147,7 +151,7 @@ impl<A: Allocator + Copy> Server<A> {
         }
     }
 
-    // Returns the name that HEAD points at.
+    // Returns the name that HEAD points at, if any.
     fn target(&self) -> Option<&RefName<A>>
         ensures { option_copied result ≡ target_of self.now.head }
     {
@@ -158,17 +162,17 @@ impl<A: Allocator + Copy> Server<A> {
     }
 
     // Returns the name that HEAD points at, if the request has `symrefs` and `name` is HEAD.
-    fn symref(&self, asked: &LsRefsRequest<A>, name: &RefName<A>) -> Option<&RefName<A>>
-        ensures { option_copied result ≡ symref_of self.now.head asked.now.asked name.now }
+    fn symref(&self, request: &LsRefsRequest<A>, name: &RefName<A>) -> Option<&RefName<A>>
+        ensures { option_copied result ≡ symref_of self.now.head request.now.asked name.now }
     {
-        if asked.has(LsRefsFlag::Symrefs) && name.is_head() {
+        if request.has(LsRefsFlag::Symrefs) && name.is_head() {
             self.target()
         } else {
             None
         }
     }
 
-    // Returns the name that an unborn HEAD points at.
+    // Returns the name that HEAD points at, if HEAD is unborn.
     fn missing_target(&self) -> Option<&RefName<A>>
         ensures { option_copied result ≡ missing_target self.now.head self.now.refs }
     {
@@ -181,10 +185,10 @@ impl<A: Allocator + Copy> Server<A> {
 
     /// Returns the name that an unborn HEAD points at, if the request includes HEAD and has
     /// `unborn`.
-    pub fn unborn(&self, asked: &LsRefsRequest<A>) -> Option<&RefName<A>>
-        ensures { option_copied result ≡ unborn_of self.now asked.now.asked }
+    pub fn unborn(&self, request: &LsRefsRequest<A>) -> Option<&RefName<A>>
+        ensures { option_copied result ≡ unborn_of self.now request.now.asked }
     {
-        if asked.has(LsRefsFlag::Unborn) && is_asked(asked.prefixes(), self.name_of_head()) {
+        if request.has(LsRefsFlag::Unborn) && is_asked(request.prefixes(), self.name_of_head()) {
             self.missing_target()
         } else {
             None
@@ -208,7 +212,7 @@ fn own_line<A: Allocator + Copy>(line: LentLine<'_, A>) -> Result<RefLine<A>, Al
     })
 }
 
-// Returns whether the name begins with one of the prefixes, or `prefixes` is empty.
+// Returns true if the name begins with one of the prefixes, or if `prefixes` is empty.
 fn is_asked<A: Allocator + Copy>(prefixes: &[Prefix<A>], name: &RefName<A>) -> bool
     ensures { result ≡ is_asked prefixes.now name.now }
 {

@@ -10,7 +10,7 @@ use ggraph::{Entry, PackFault, Packer};
 use std::alloc::Allocator;
 use std::marker::Model;
 
-/// The result of a packer.
+/// The last result of a packer.
 #[derive(Clone, Copy, Debug, PartialEq, Eq, Drop)]
 pub enum Packing {
     /// The packer was not asked for a pack.
@@ -22,7 +22,7 @@ pub enum Packing {
 }
 
 /// A packer that is asked for at most one pack for each answer, and its last result. After a
-/// failure, the packer is not asked for another pack, so that its fault is not lost.
+/// failure, the packer is not asked for another pack, so that the fault is not lost.
 #[derive(Drop)]
 pub struct OnePack<'a, K> {
     packer: &'a K,
@@ -38,7 +38,7 @@ impl<'a, K> Model for OnePack<'a, K> {
 }
 
 impl<'a, K> OnePack<'a, K> {
-    /// Wraps a packer. Its result is `Unasked` until the first pack is requested.
+    /// Wraps a packer. The last result is `Unasked` until the packer is asked for a pack.
     pub fn new(packer: &'a K) -> OnePack<'a, K>
         ensures packer { result.packer ≡ packer.now }
         ensures unasked { result.answered ≡ packing.Unasked }

@@ -27,9 +27,9 @@ pub struct Server<A: Allocator + Copy = Global> {
     graph: Graph<A>,
     refs: Refs<A>,
     head: Head<A>,
-    // The name HEAD, which answers borrow.
+    // The ref name `HEAD`, which answers borrow.
     name_of_head: RefName<A>,
-    // The peeled ids of the refs, in the order of the refs, so that requests need not look them up.
+    // The peeled ids of the refs, in the order of the refs, so that answers need not look them up.
     // The list is empty if memory ran out, or after a ref was set.
     peels: Vec<Option<Oid>, A>,
 }
@@ -59,7 +59,7 @@ impl<A: Allocator + Copy> Server<A> {
     pub fn new(graph: Graph<A>, refs: Refs<A>, head: Head<A>) -> Result<Server<A>, BuildFault<A>>
         ensures { Makes (server_of graph refs head) result }
     {
-        // Laws.
+        // Laws that the proof uses.
         graph.laws();
         if let Some(id) = missing_parent(&graph) {
             return Err(BuildFault::NotClosed { id });
@@ -85,7 +85,7 @@ impl<A: Allocator + Copy> Server<A> {
         requires peels { KnowsPeels graph.entries refs peels.items }
         ensures { Makes (server_of graph refs head) result }
     {
-        // Laws.
+        // Laws that the proof uses.
         graph.laws();
         refs.laws();
         head.laws();
@@ -118,7 +118,8 @@ impl<A: Allocator + Copy> Server<A> {
         &self.refs
     }
 
-    /// Proves that every server satisfies its invariant.
+    /// Proves that the server is valid: its graph holds all parents, and the ids of the refs and of
+    /// a detached HEAD.
     pub fn laws(&self)
         ensures { IsServer self.now }
     {
@@ -144,7 +145,7 @@ impl<A: Allocator + Copy> Server<A> {
         ensures grows { Grows self.old.graph.entries self.new.graph.entries }
         ensures server { IsServer self.new }
     {
-        // Laws.
+        // Laws that the proof uses.
         closed_stays::<A>();
         if let Some(id) = self.graph.first_absent(entry.node.parents.as_slice()) {
             return Err(BuildFault::MissingParent { id });
@@ -186,7 +187,7 @@ impl<A: Allocator + Copy> Server<A> {
         if !holds_head(&self.graph, &head) {
             return Err(BuildFault::HeadMissing);
         }
-        // Laws.
+        // Laws that the proof uses.
         head.laws();
         self.head = head;
         Ok(())
@@ -210,12 +211,12 @@ impl<A: Allocator + Copy> Server<A> {
     }
 }
 
-// Returns the first parent that the graph does not hold.
+// Returns the first parent that the graph does not hold, if any.
 fn missing_parent<A: Allocator + Copy>(graph: &Graph<A>) -> Option<Oid>
     ensures { MatchOption result (IsClosed graph.now.entries)
         (IsFirstAbsent graph.now.entries (parents_in graph.now.entries)) }
 {
-    // Laws.
+    // Laws that the proof uses.
     ordered_is_closed::<A>();
     if graph.is_ordered() {
         return None;
@@ -223,12 +224,12 @@ fn missing_parent<A: Allocator + Copy>(graph: &Graph<A>) -> Option<Oid>
     first_missing_parent(graph)
 }
 
-// Returns the first parent that the graph does not hold, by looking up each parent.
+// Looks up each parent, and returns the first parent that the graph does not hold.
 fn first_missing_parent<A: Allocator + Copy>(graph: &Graph<A>) -> Option<Oid>
     ensures { MatchOption result (IsClosed graph.now.entries)
         (IsFirstAbsent graph.now.entries (parents_in graph.now.entries)) }
 {
-    // Laws.
+    // Laws that the proof uses.
     positions_are_nodes::<A>();
     for place in 0..graph.len() {
         if let Some(id) = graph.first_absent(graph.parents(place)) {

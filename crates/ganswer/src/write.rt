@@ -28,59 +28,59 @@ impl<A: Allocator + Copy> Server<A> {
     /// if the writer failed before the call.
     pub fn write_ls_answer<W: Sink>(
         &self,
-        asked: &LsRefsRequest<A>,
+        request: &LsRefsRequest<A>,
         ends: Ends,
         writer: &mut PacketWriter<W>,
     ) -> Result<(), WriteFault>
-        ensures { (reply : LsReply) → LsAnswer self.now asked.now.asked reply
+        ensures { (reply : LsReply) → LsAnswer self.now request.now.asked reply
             → WritesPackets W.contents W.passed_on W.is_down W.loans writer.old writer.new result
             (canonical_reply ends reply) }
     {
-        // Laws.
+        // Laws that the proof uses.
         writes_packets::<W>();
-        write_unborn(self.unborn(asked), writer)?;
-        self.write_lines(asked, ends, writer)
+        write_unborn(self.unborn(request), writer)?;
+        self.write_lines(request, ends, writer)
     }
 
     // Writes the lines of the refs, and the end of the answer.
     fn write_lines<W: Sink>(
         &self,
-        asked: &LsRefsRequest<A>,
+        request: &LsRefsRequest<A>,
         ends: Ends,
         writer: &mut PacketWriter<W>,
     ) -> Result<(), WriteFault>
         ensures { (lines : List RefLine)
-            → ShowsLines self.now asked.now.asked (all_refs self.now) lines
+            → ShowsLines self.now request.now.asked (all_refs self.now) lines
             → WritesPackets W.contents W.passed_on W.is_down W.loans writer.old writer.new result
             (map ref_packet lines ++ Flush ∷ ends_with ends) }
     {
-        // Laws.
+        // Laws that the proof uses.
         writes_packets::<W>();
         let mut text = RefText::new();
-        self.write_head(asked, &mut text, writer)?;
-        self.write_refs(asked, &mut text, writer)?;
+        self.write_head(request, &mut text, writer)?;
+        self.write_refs(request, &mut text, writer)?;
         write_end(ends, writer)
     }
 
     // Writes the line of HEAD, if HEAD has an id and the request includes HEAD.
     fn write_head<W: Sink>(
         &self,
-        asked: &LsRefsRequest<A>,
+        request: &LsRefsRequest<A>,
         text: &mut RefText,
         writer: &mut PacketWriter<W>,
     ) -> Result<(), WriteFault>
         ensures { (lines : List RefLine)
-            → ShowsLines self.now asked.now.asked
+            → ShowsLines self.now request.now.asked
             (head_ref (head_id self.now.head self.now.refs)) lines
             → WritesPart W.contents W.passed_on W.is_down W.loans writer.old writer.new result
             (map ref_packet lines) }
     {
-        // Laws.
+        // Laws that the proof uses.
         writes_packets::<W>();
         peels_to_one::<A>();
         match self.head_id() {
             Some(id) => {
-                let line = self.line(asked, self.name_of_head(), id, None);
+                let line = self.line(request, self.name_of_head(), id, None);
                 write_line(line.as_ref(), text, writer)
             }
             None => Ok(()),
@@ -90,20 +90,20 @@ impl<A: Allocator + Copy> Server<A> {
     // Writes the lines of the requested refs.
     fn write_refs<W: Sink>(
         &self,
-        asked: &LsRefsRequest<A>,
+        request: &LsRefsRequest<A>,
         text: &mut RefText,
         writer: &mut PacketWriter<W>,
     ) -> Result<(), WriteFault>
-        ensures { (lines : List RefLine) → ShowsLines self.now asked.now.asked self.now.refs lines
+        ensures { (lines : List RefLine) → ShowsLines self.now request.now.asked self.now.refs lines
             → WritesPart W.contents W.passed_on W.is_down W.loans writer.old writer.new result
             (map ref_packet lines) }
     {
-        // Laws.
+        // Laws that the proof uses.
         writes_packets::<W>();
         peels_to_one::<A>();
         for (place, reference) in self.refs().as_slice().iter().enumerate() {
             let known = self.peeled_at(place);
-            let line = self.line(asked, &reference.0, reference.1, known);
+            let line = self.line(request, &reference.0, reference.1, known);
             write_line(line.as_ref(), text, writer)?;
         }
         Ok(())
@@ -119,7 +119,7 @@ fn write_line<A: Allocator + Copy, W: Sink>(
     ensures { WritesPart W.contents W.passed_on W.is_down W.loans writer.old writer.new result
         (map ref_packet (line_list (option_copied line.entry))) }
 {
-    // Laws.
+    // Laws that the proof uses.
     writes_packets::<W>();
     match line {
         Some(line) => write_ref(line, text, writer),

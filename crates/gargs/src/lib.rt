@@ -1,16 +1,15 @@
 //! The arguments of the command line, parsed into a command.
 //!
-//! [`read_command`] takes the program's arguments, and returns a [`Gitv2Command`] with parsed
-//! parameters. [`read_command`] parses an address and a path as a `Location`, a limit as a
-//! `PackLimit`, and the flag `--response-end` as an `Ends`. The function leaves file names,
-//! refspecs and prefixes unparsed, and opens no file.
+//! The function [`read_command`] returns a [`Gitv2Command`] with parsed parameters. An address and
+//! a path are parsed as a `Location`, a limit as a `PackLimit`, and the flag `--response-end` as an
+//! `Ends`. The function leaves file names, refspecs and prefixes unparsed, and opens no file.
 //!
 //! # Proved
 //!
 //! - For any arguments, a call returns and is memory-safe.
-//! - Private functions parse a limit and a number of connections from a text of at least one
-//!   decimal digit. The functions accept exactly the limits up to 67,108,864, and the numbers of
-//!   connections from 1 to 1,000,000 (`specs/Numbers.antt`).
+//! - Private functions parse a limit and a number of connections. The text must have at least one
+//!   decimal digit, and no other characters. The functions accept exactly the limits up to
+//!   67,108,864, and the numbers of connections from 1 to 1,000,000 (`specs/Numbers.antt`).
 //!
 //! # Only tested
 //!
@@ -20,8 +19,7 @@
 //!
 //! # What the contracts do not rule out
 //!
-//! No contract rules out that [`read_command`] rejects any arguments, or returns any command for
-//! any arguments.
+//! [`read_command`] may reject any arguments, and may return any command for any arguments.
 //!
 //! # Dependencies
 //!

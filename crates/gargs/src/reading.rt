@@ -11,16 +11,16 @@ use std::alloc::{AllocError, Global};
 /// Returns the command that the arguments describe. The first argument is the program's own name.
 /// Returns `None` if the arguments do not match the usage, or if out of memory. A request for help
 /// does not match the usage.
-pub fn read_command(alloc: Global, words: &[String]) -> Option<Gitv2Command> {
-    if words.iter().any(|word| word.as_str() == "--") {
+pub fn read_command(alloc: Global, arguments: &[String]) -> Option<Gitv2Command> {
+    if arguments.iter().any(|word| word.as_str() == "--") {
         return None;
     }
-    let matches = parse(alloc, words)?;
+    let matches = parse(alloc, arguments)?;
     command_of(alloc, &matches)
 }
 
-fn parse<'a>(alloc: Global, words: &'a [String]) -> Option<ArgMatches<'a>> {
-    program(alloc).ok()?.try_get_matches_from(words).ok()
+fn parse<'a>(alloc: Global, arguments: &'a [String]) -> Option<ArgMatches<'a>> {
+    program(alloc).ok()?.try_get_matches_from(arguments).ok()
 }
 
 fn command_of(alloc: Global, matches: &ArgMatches<'_>) -> Option<Gitv2Command> {
@@ -66,10 +66,11 @@ fn fetch_command(alloc: Global, matches: &ArgMatches<'_>) -> Option<Gitv2Command
 }
 
 // Returns the location of the server to fetch from, or `Some(None)` for standard input and output.
+// Returns `None` if the arguments do not match the usage.
 fn source_in(alloc: Global, matches: &ArgMatches<'_>) -> Option<Option<Location>> {
     match transport_of(matches, "stdio")? {
         Transport::Stdio => Some(None),
-        Transport::Tcp => Some(Some(place_in(alloc, matches, "tcp")?)),
+        Transport::Tcp => Some(Some(location_in(alloc, matches, "tcp")?)),
     }
 }
 
@@ -92,8 +93,8 @@ fn transport_of(matches: &ArgMatches<'_>, flag: &str) -> Option<Transport> {
 }
 
 // Returns the location whose address is the value of this option, and whose path is the value of
-// the option `path`.
-fn place_in(alloc: Global, matches: &ArgMatches<'_>, option: &str) -> Option<Location> {
+// the option `path`. Returns `None` if the location is invalid.
+fn location_in(alloc: Global, matches: &ArgMatches<'_>, option: &str) -> Option<Location> {
     Location::new(alloc, matches.get_str(option)?, matches.get_str("path")?)
 }
 
@@ -138,7 +139,7 @@ fn ls_command(alloc: Global, matches: &ArgMatches<'_>) -> Option<Gitv2Command> {
         }
         Transport::Stdio => None,
         Transport::Tcp => {
-            let place = place_in(alloc, matches, "tcp")?;
+            let place = location_in(alloc, matches, "tcp")?;
             Some(Gitv2Command::LsTcp {
                 place,
                 prefixes: words,
@@ -161,7 +162,7 @@ fn pair_command(alloc: Global, matches: &ArgMatches<'_>) -> Option<Gitv2Command>
 fn serve_command(alloc: Global, matches: &ArgMatches<'_>) -> Option<Gitv2Command> {
     let connections = connections_of(matches.get_str("connections")?)?;
     let ends = ends_in(matches);
-    let place = place_in(alloc, matches, "listen")?;
+    let place = location_in(alloc, matches, "listen")?;
     let file = file_in(alloc, matches)?;
     Some(Gitv2Command::Serve(Serve {
         place,

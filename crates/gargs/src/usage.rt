@@ -3,48 +3,47 @@
 use clap::{Arg, ArgAction, Command};
 use std::alloc::{AllocError, Global};
 
-// A flag, an option with a value, or positional arguments of a command, with the name under which
-// `clap` looks them up.
+// A flag, an option or a positional argument of a command, with its name for `clap`.
 #[derive(Clone, Copy)]
-enum Word {
-    // `--NAME`
+enum Argument {
+    // The flag `--NAME`.
     Flag(&'static str),
-    // `--NAME VALUE`
+    // The option `--NAME VALUE`.
     Valued(&'static str),
-    // A required argument.
+    // A required positional argument.
     One(&'static str),
-    // At least one argument.
+    // A positional argument with at least one value.
     Many(&'static str),
-    // Any number of arguments.
+    // A positional argument with any number of values.
     Any(&'static str),
 }
 
-const FILE: Word = Word::One("file");
+const FILE: Argument = Argument::One("file");
 
-const PATH: Word = Word::Valued("path");
+const PATH: Argument = Argument::Valued("path");
 
-const RESPONSE_END: Word = Word::Flag("response-end");
+const RESPONSE_END: Argument = Argument::Flag("response-end");
 
-const SPECS: Word = Word::Many("spec");
+const SPECS: Argument = Argument::Many("spec");
 
-const TCP: Word = Word::Valued("tcp");
+const TCP: Argument = Argument::Valued("tcp");
 
 // The commands and the arguments of each command.
-const COMMANDS: &[(&str, &[Word])] = &[
+const COMMANDS: &[(&str, &[Argument])] = &[
     ("check", &[FILE]),
     ("lines", &[]),
     (
         "simulate",
-        &[FILE, Word::One("client"), Word::One("scenario")],
+        &[FILE, Argument::One("client"), Argument::One("scenario")],
     ),
     ("upload", &[RESPONSE_END, FILE]),
     (
         "fetch",
         &[
-            Word::Flag("stdio"),
+            Argument::Flag("stdio"),
             TCP,
             PATH,
-            Word::Valued("limit"),
+            Argument::Valued("limit"),
             RESPONSE_END,
             FILE,
             SPECS,
@@ -52,15 +51,20 @@ const COMMANDS: &[(&str, &[Word])] = &[
     ),
     (
         "ls",
-        &[Word::Flag("stdio-server"), TCP, PATH, Word::Any("word")],
+        &[
+            Argument::Flag("stdio-server"),
+            TCP,
+            PATH,
+            Argument::Any("word"),
+        ],
     ),
-    ("pair", &[FILE, Word::One("client"), SPECS]),
+    ("pair", &[FILE, Argument::One("client"), SPECS]),
     (
         "serve",
         &[
-            Word::Valued("listen"),
+            Argument::Valued("listen"),
             PATH,
-            Word::Valued("connections"),
+            Argument::Valued("connections"),
             RESPONSE_END,
             FILE,
         ],
@@ -70,8 +74,8 @@ const COMMANDS: &[(&str, &[Word])] = &[
 /// Returns the declaration of the program with all of its commands.
 pub(crate) fn program<'a>(alloc: Global) -> Result<Command<'a>, AllocError> {
     let mut program = Command::new(alloc, "gitv2");
-    for &(name, words) in COMMANDS {
-        program = program.subcommand(command(alloc, name, words)?)?;
+    for &(name, arguments) in COMMANDS {
+        program = program.subcommand(command(alloc, name, arguments)?)?;
     }
     Ok(program)
 }
@@ -79,21 +83,21 @@ pub(crate) fn program<'a>(alloc: Global) -> Result<Command<'a>, AllocError> {
 fn command<'a>(
     alloc: Global,
     name: &'static str,
-    words: &[Word],
+    arguments: &[Argument],
 ) -> Result<Command<'a>, AllocError> {
     let mut command = Command::new(alloc, name);
-    for &word in words {
-        command = command.arg(arg(alloc, word))?;
+    for &argument in arguments {
+        command = command.arg(arg(alloc, argument))?;
     }
     Ok(command)
 }
 
-fn arg<'a>(alloc: Global, word: Word) -> Arg<'a> {
-    match word {
-        Word::Flag(name) => Arg::new(alloc, name).long(name).action(ArgAction::SetTrue),
-        Word::Valued(name) => Arg::new(alloc, name).long(name),
-        Word::One(name) => Arg::new(alloc, name).required(true),
-        Word::Many(name) => Arg::new(alloc, name).required(true).num_args(1..),
-        Word::Any(name) => Arg::new(alloc, name).num_args(0..),
+fn arg<'a>(alloc: Global, argument: Argument) -> Arg<'a> {
+    match argument {
+        Argument::Flag(name) => Arg::new(alloc, name).long(name).action(ArgAction::SetTrue),
+        Argument::Valued(name) => Arg::new(alloc, name).long(name),
+        Argument::One(name) => Arg::new(alloc, name).required(true),
+        Argument::Many(name) => Arg::new(alloc, name).required(true).num_args(1..),
+        Argument::Any(name) => Arg::new(alloc, name).num_args(0..),
     }
 }

@@ -48,7 +48,7 @@ pub record Start (A : Type 0) : Type 0 where
 abbrev pub request_bytes : Format → Asked → Bytes
 request_bytes format asked = canonical_all (canonical_request format asked)
 
--- the bytes of the requests of the turns, in order
+-- the bytes of the requests of the turns, in order; a turn is a request and its reply
 abbrev pub requests_bytes : Format → List Turn → Bytes
 requests_bytes format turns = flat_map (λ turn. request_bytes format turn.asked) turns
 
@@ -74,7 +74,7 @@ pub record Advertises (format : Format) (packets : List Packet) (capabilities : 
   pub says : advert.Says packets capabilities
   pub fits : check_fault format capabilities ≡ None
 
--- the client reads an advertisement, and does not support the server
+-- the client reads the advertisement of a server that it does not support
 pub record Mismatches (format : Format) (input : Input) (cause : MessageFault) : Type 0 where
   pub packets : List Packet
   pub capabilities : List Capability

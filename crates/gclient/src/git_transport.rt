@@ -29,8 +29,8 @@ use std::alloc::Allocator;
 pub struct GitFetch<'a, A: Allocator + Copy> {
     /// The first line, which names the requested path.
     pub hello: &'a Hello<A>,
-    /// The refspecs, at most 16. If several refspecs map to the same local ref, the first one
-    /// counts.
+    /// The refspecs, at most 16. If several refspecs map to the same local ref, only the first of
+    /// them applies.
     pub specs: &'a [Spec<A>],
     /// The maximum size of a pack in bytes.
     pub limit: StreamLimit,
@@ -70,7 +70,7 @@ pub fn fetch_git<S: Source, W: Sink, A: Allocator + Copy, K: Indexer<A>>(
     ensures source_loans { S.loans source.new ≡ S.loans source.old }
     ensures sink_loans { W.loans sink.new ≡ W.loans sink.old }
 {
-    // Laws.
+    // Laws that the proof uses.
     repo.laws();
     let plan = FetchPlan {
         specs: fetch.specs,

@@ -14,8 +14,8 @@ pub fn rounds_are_asked<A: Allocator + Copy, K: Indexer<A>>()
 {}
 
 /// Proves that a conversation has at most N + 1 requests for objects, if the local refs reached N
-/// ids when it began. The bound holds for any bytes from the server, and also for a failed
-/// conversation.
+/// ids when the conversation began. The bound holds for any bytes from the server, and also for a
+/// failed conversation.
 pub fn requests_are_few<A: Allocator + Copy, K: Indexer<A>>()
     ensures talks { (k : K) → TalksAreFew (K.indexes k) (K.index_fails k) }
     ensures next { (k : K) → NextIsFew (K.indexes k) (K.index_fails k) }

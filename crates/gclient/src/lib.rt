@@ -10,8 +10,8 @@
 //!   `fetch_over` reads nothing after the last reply. The client writes each request of the session
 //!   in its canonical encoding, and a lone flush packet after the last reply. The client flushes
 //!   each request before it reads the reply. At the end `fetch_over` updates the local refs.
-//!   [`fetch_over_with`] does the same with options for packs. They contain the limits on wants,
-//!   haves and acknowledged ids, and the maximum number of new haves in a request.
+//!   [`fetch_over_with`] does the same with options for packs. These options contain the limits on
+//!   wants, haves and acknowledged ids, and the maximum number of new haves in a request.
 //! - [`Fetched`] contains the updates of the local refs, the number of requests for objects, and
 //!   the target of the server's unborn `HEAD`.
 //! - The first fault ends a conversation. With too many refspecs, or out of memory at the start,
@@ -24,8 +24,8 @@
 //!   ref stays connected.
 //! - A conversation has at most N + 1 requests for objects, if the local refs reached N ids at the
 //!   start ([`laws`]). The bound also holds for a failed conversation. The session counts each
-//!   request for objects as a round. Therefore a conversation ends, whatever bytes the server
-//!   sends, if each call of the source and the sink returns.
+//!   request for objects as a round. Therefore a conversation ends for any bytes from the server,
+//!   if each call of the source and the sink returns.
 //! - [`fetch_git`] flushes the first line before it reads anything (`specs/GitFetches.antt`). The
 //!   rest of the conversation has every guarantee of [`fetch_over_with`]. If the sink fails at the
 //!   first line, `fetch_git` reads nothing, and the repository is unchanged.
@@ -33,7 +33,7 @@
 //!   (`specs/Listings.antt`). Only `list_git` sends a first line. Both functions read the reply in
 //!   the object format that the advertisement names. The request has `unborn` exactly when the
 //!   server offers to report an unborn `HEAD`. The client flushes the request before it reads the
-//!   reply, and reads nothing after the final lone flush packet.
+//!   reply, and reads nothing after the reply.
 //! - The first fault ends a listing. The faults are out of memory, a malformed advertisement, an
 //!   unsupported server, a malformed reply, and a failed sink. The contract states which bytes were
 //!   read and written. The client reports a failed source exactly when the source failed.
@@ -52,12 +52,11 @@
 //!
 //! If a source or a sink does not record its bytes, the contracts say nothing about the bytes read
 //! or written. The contracts still state the outcome of the conversation, and whether the source or
-//! the sink failed. If the sink fails, no contract says how long the written prefix is. No contract
-//! rules out that a call reports out of memory at the start, when it stores data, or when it
-//! updates refs. If memory runs out at the start, no contract says whether the fault is `NoBuffer`
-//! or a fault of the session. No contract bounds the time of a call. No contract rules out that a
-//! call flushes more often than necessary, or that formatting a fault returns `fmt::Error` even if
-//! every write succeeds.
+//! the sink failed. If the sink fails, no contract states how long the written prefix is. A call
+//! may report out of memory at the start, when it stores data, or when it updates refs, although
+//! memory is available. If memory runs out at the start, the fault may be `NoBuffer` or a fault of
+//! the session. A call may take any time, and may flush more often than necessary. Formatting a
+//! fault may return `fmt::Error` even if every write succeeds.
 //!
 //! # Dependencies
 //!

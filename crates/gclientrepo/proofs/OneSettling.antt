@@ -9,7 +9,7 @@ use Rattle.gobject.specs.declared.node.Entry.{Entry}
 use Rattle.gdag.specs.Reach.{here}
 use Rattle.grefs.specs.Laws.{RefsAreTheirLookUps}
 use Rattle.grefs.specs.RefLists.{RefList, ref_at}
-use Rattle.gclientrepo.specs.Laws.{OneSettling}
+use Rattle.gclientrepo.specs.Laws.{SettlingIsDecided}
 use Rattle.gclientrepo.specs.Settling.{IsUpdate, MayMove, Settles}
 use Rattle.gclientrepo.specs.declared.ask.Ask.{Ask}
 use Rattle.gclientrepo.specs.declared.ask.RefUpdate.{RefUpdate}
@@ -80,8 +80,8 @@ module _ {A : Type 0} where
       let Asked : Ask A → Type 0 = λ ask. MayMove g old ask → ref_at new ask.name ≡ Some ask.id in
       subst (λ (n : List ℕ). ref_at new n ≡ Some (mover.0).id) mover.2 (All-contains Asked asks mover.0 settles.asked mover.1 mover.3)
 
-  pub one_settling : RefsAreTheirLookUps → OneSettling A
-  one_settling law g old asks us vs new other here_refs there_refs a b =
+  pub settling_is_decided : RefsAreTheirLookUps → SettlingIsDecided A
+  settling_is_decided law g old asks us vs new other here_refs there_refs a b =
       let alike : (name : List ℕ) → ref_at new name ≡ ref_at other name = λ name.
       elim (some_mover g old asks us name a.each) [
         | inl mover ↦ stands g old asks us new name a mover ∙ sym (stands g old asks vs other name b mover)

@@ -29,7 +29,7 @@ abbrev pub IsAskAt : {A : Type 0} → List (Ask A) → ℕ → (name : Name) (id
 IsAskAt {A} asks place name id =
     (ask : Ask A) × (slice_get asks place ≡ Some ask) × (ask.name ≡ name) × (ask.id ≡ id)
 
--- whether the requested update at a position is forced
+-- the requested update at a position has this force flag
 abbrev pub IsForcedAt : {A : Type 0} → List (Ask A) → ℕ → Bool → Type 0
 IsForcedAt {A} asks place forced = (ask : Ask A) × (slice_get asks place ≡ Some ask) × (ask.forced ≡ forced)
 

@@ -48,9 +48,9 @@ HeldIsNotMissing A =
     (g : List (Entry A)) (ids : List Id) (missing : Id)
     → All (IsConnected g) ids → ¬ (Misses g ids (Some missing))
 
--- the requested updates determine the outcomes of settling, and the refs after settling
-abbrev pub OneSettling : Type 0 → Type 0
-OneSettling A =
+-- the graph, the old refs and the requested updates determine the outcomes of settling, and the refs after settling
+abbrev pub SettlingIsDecided : Type 0 → Type 0
+SettlingIsDecided A =
     (g : List (Entry A)) (old : RefList) (asks : List (Ask A)) (updates others : List RefUpdate) (new other : RefList)
     → IsRefs new → IsRefs other → Settles g old asks updates new → Settles g old asks others other
     → (updates ≡ others) × (new ≡ other)

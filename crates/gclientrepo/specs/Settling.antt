@@ -25,8 +25,8 @@ IsUpdate g refs ask Same = ref_at refs ask.name ≡ Some ask.id
 IsUpdate g refs ask Moved = (ref_at refs ask.name ≢ Some ask.id) × MayMove g refs ask
 IsUpdate g refs ask NotForward = (ref_at refs ask.name ≢ Some ask.id) × ¬ (MayMove g refs ask)
 
--- the requested updates are settled: each allowed update was made, every other ref is unchanged, and each outcome
--- depends only on the old refs
+-- the requested updates are settled: each allowed update was made, every other ref is unchanged, and no outcome depends
+-- on the new refs
 pub record Settles {A : Type 0} (g : List (Entry A)) (old : RefList) (asks : List (Ask A)) (updates : List RefUpdate)
     (new : RefList) : Type 0 where
   pub each : AllZip (IsUpdate g old) asks updates

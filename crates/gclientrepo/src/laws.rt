@@ -1,6 +1,6 @@
 //! Laws of repositories. Each function does nothing, and its contract states a proved property.
 
-ghost use Rattle.gclientrepo.specs.Laws.{HeldIsNotMissing, OneSettling, RefusalsChangeNothing, SettingStaysConnected, SettlingStaysConnected, ConnectedRepoStays};
+ghost use Rattle.gclientrepo.specs.Laws.{HeldIsNotMissing, RefusalsChangeNothing, SettingStaysConnected, SettlingIsDecided, SettlingStaysConnected, ConnectedRepoStays};
 
 use ggraph::graph_laws::{growing_keeps, reaching_goes_on};
 use ggraph::laws::connected_refs_stay;
@@ -49,11 +49,11 @@ pub fn held_is_not_missing<A: Allocator + Copy>()
     ensures { HeldIsNotMissing A }
 {}
 
-/// Proves that a list of requested updates determines the outcome of each update, and the id of
-/// each ref after settling.
-#[tactic(auto, using(crate::proofs::OneSettling::one_settling))]
-pub fn one_settling<A: Allocator + Copy>()
-    ensures { OneSettling A }
+/// Proves that the graph, the old refs and a list of requested updates determine the outcome of
+/// each update, and the refs after settling.
+#[tactic(auto, using(crate::proofs::OneSettling::settling_is_decided))]
+pub fn settling_is_decided<A: Allocator + Copy>()
+    ensures { SettlingIsDecided A }
 {
     refs_are_their_look_ups();
 }

@@ -30,10 +30,10 @@
 //! - Each fault has the number, the name and the text of its row in `specs/Faults.antt`.
 //! - No call panics, overflows or reads out of bounds, and each call returns.
 //!
-//! [`laws`] state that a repository stays connected if its graph gains objects, if a ref is set or
-//! if requested ref updates are settled. A failed call leaves the repository unchanged. No id is
-//! missing in the ancestries of connected ids. A list of requested updates determines the outcome
-//! of each update, and the refs after settling.
+//! The [`laws`] state that a repository stays connected if its graph gains objects, if a ref is set
+//! or if requested ref updates are settled. A failed call leaves the repository unchanged. No id is
+//! missing in the ancestries of connected ids. The graph, the refs and the requested updates
+//! determine the outcome of each update, and the refs after settling.
 //!
 //! # Only tested
 //!
@@ -60,8 +60,8 @@
 //! # Dependencies
 //!
 //! The crate uses `ggraph` for graphs, refs and walks, and the crates `gobject`, `gdag`, `grefs`
-//! and `gwalk` below `ggraph`. The crate uses `gname` for ids and names, and `indexmap` to look up
-//! updates by name.
+//! and `gwalk`, on which `ggraph` depends. The crate uses `gname` for ids and names, and `indexmap`
+//! to look up updates by name.
 #![tactic(auto)]
 
 mod ask;

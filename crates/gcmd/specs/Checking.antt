@@ -1,4 +1,4 @@
--- `check`: the report on the repository of a file.
+-- `check`: the report on the repository that a file describes.
 use Rattle.std.specs.Prelude.{◌≡◌, ◌↔◌, ◌++◌, Bool, IsTrue, if◌then◌else◌, length, codes, Ok, Err}
 use Rattle.std.specs.Fmt.{decimal}
 use Rattle.gpkt.specs.Packets.{Bytes}

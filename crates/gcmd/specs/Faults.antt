@@ -137,7 +137,7 @@ abbrev pub frame_in_client : {A : Type 0} → ClientFault A → Option ℕ
 frame_in_client (client.Message fault) = Some fault.frame
 frame_in_client _ = None
 
--- the number of the bad line of a plain pack
+-- the number of the malformed line of a plain pack
 abbrev pub line_in_client : {A : Type 0} → ClientFault A → Option ℕ
 line_in_client (client.Index (index.Bad line)) = Some line
 line_in_client _ = None
@@ -150,7 +150,7 @@ id_in_repo (repo.NotConnected missing) = Some missing
 id_in_repo (repo.Graph cause) = id_in_graph cause
 id_in_repo _ = None
 
--- the id of the repository's fault, or the acknowledged id that is not a have of the request
+-- the id in the repository's fault, or the acknowledged id that is not a have of the request
 abbrev pub id_in_client : {A : Type 0} → ClientFault A → Option Id
 id_in_client (client.StrangeAck id) = Some id
 id_in_client (client.Repo cause) = id_in_repo cause

@@ -1,4 +1,4 @@
--- `fetch`: the program that fetches into the repository of a file (as git-fetch(1)).
+-- `fetch`: the program that fetches into the repository that a file describes (as git-fetch(1)).
 use Rattle.std.specs.Prelude.{◌≡◌, ◌≢◌, ◌⊎◌, ℕ, ◌+◌, List, ◌∷◌, ◌++◌, length, All, Option, None, Some, Result, Ok, Err}
 use Rattle.std.specs.List.{AllZip}
 use Rattle.gpkt.specs.Packets.{Bytes}
@@ -55,7 +55,7 @@ ReadsSpecs words (Err _) = ⊥
 
 -- ---- files
 
--- the value of HEAD in a client's repository, which has no HEAD
+-- the value that represents the absence of a HEAD; a client's repository has no HEAD
 abbrev pub no_head : {A : Type 0} → Head A
 no_head = head.None
 
@@ -155,7 +155,7 @@ module _ {A : Type 0} (old : Bytes) (specs : List Refspec) (limit : ℕ) (ends :
       pub unreported : IsUnwritten report
       pub none : file ≡ None
 
-    -- a fetch with the refspecs into the repository of the client's file
+    -- a fetch with the refspecs into the repository that the client's file describes
     pub record IsFetched (outcome : ProgramOutcome A) : Type 0 where
       pub repo : RepoState A
       pub names : NamesClient old repo

@@ -1,4 +1,5 @@
--- `ls --stdio-server` and `upload`: the programs that serve the repository of a file (as git-upload-pack(1)).
+-- `ls --stdio-server` and `upload`: the programs that serve the repository that a file describes (as
+-- git-upload-pack(1)).
 use Rattle.std.specs.Prelude.{◌≡◌, ℕ, ◌⊎◌, Result, Ok, Err}
 use Rattle.gpkt.specs.Packets.{Bytes}
 use Rattle.ggraph.specs.Loading.{StopsAt}
@@ -34,8 +35,8 @@ pub record NamesServer {A : Type 0} (file : Bytes) (server : Server A) : Type 0 
   pub names : NamesParts file server
   pub whole : IsServer server
 
--- the reasons why a graph, refs and a HEAD do not form a server, except a missing parent: the object of a ref or of
--- HEAD is missing, or memory runs out
+-- the reasons, other than a missing parent, why a graph, refs and a HEAD do not form a server: the object of a ref or
+-- of HEAD is missing, or memory runs out
 abbrev pub MissesPart : {A : Type 0} → Server A → BuildFault A → Type 0
 MissesPart parts (build.NotClosed id) = ⊥
 MissesPart parts cause = IsUnserved parts cause

@@ -16,14 +16,14 @@ use ggraph::{GraphFault, Order, Repository, has_connected_refs, load};
 use gpkt::{Down, Sink};
 use std::alloc::Allocator;
 
-/// A bound in bytes on the length of a report, which has fixed words and two numbers of at most 20
-/// digits.
+/// An upper bound in bytes on the length of a report, which consists of fixed words and two numbers
+/// of at most 20 digits.
 const MAX_REPORT: usize = 76;
 
 /// `gitv2 check FILE`: reports on the repository whose text is `file`. The text may list the nodes
-/// in any order. The report states the numbers of nodes and refs, whether the graph is closed
-/// (`closed`), and whether the repository is connected (`safe`). A fault is printed as one line on
-/// `errors`.
+/// in any order. The report states the numbers of nodes (commits and tags) and refs, whether the
+/// graph is closed (`closed`), and whether the repository is connected (`safe`). A fault is printed
+/// as one line on `errors`.
 ///
 /// Returns exit status 0 if the report is written and flushed, and 1 after a fault. After a fault
 /// nothing is written to `output`, except a prefix of the report if the output failed.
@@ -42,7 +42,7 @@ pub fn cmd_check<A: Allocator + Copy, W: Sink, E: Sink>(
     finish(check(alloc, file, output), errors)
 }
 
-// Writes the report of a file.
+// Checks the repository that a file describes, and writes the report.
 fn check<A: Allocator + Copy, W: Sink>(
     alloc: A,
     file: &[u8],
@@ -63,7 +63,8 @@ fn check<A: Allocator + Copy, W: Sink>(
     }
 }
 
-// The values of a report: the numbers of nodes and refs, and the results of both checks.
+// The values of a report: the numbers of nodes and refs, whether the graph is closed, and whether
+// each ref is connected.
 #[derive(Clone, Copy)]
 struct Report {
     nodes: usize,

@@ -30,13 +30,13 @@ pub struct FetchRun<A: Allocator + Copy = Global> {
     pub file: Option<Vec<u8, A>>,
 }
 
-/// `gitv2 fetch --stdio [--limit N] [--response-end] FILE SPEC...`: fetches with the refspecs from
-/// the server at `input` and `output` into the client's repository whose text is `file`
-/// (gitprotocol-v2(5)). `limit` is the maximum size of a pack, and `ends` states how each reply
-/// ends. The report has a line for each requested ref update: `moved NAME ID`, `same NAME`, or
-/// `notforward NAME` if the move is not a fast-forward. The last line is `unborn NAME` if HEAD was
-/// fetched and the server's HEAD is unborn and points at NAME. A fault is printed as one line on
-/// `errors`.
+/// `gitv2 fetch --stdio [--limit N] [--response-end] FILE SPEC...`: fetches from a server into the
+/// client's repository whose text is `file` (gitprotocol-v2(5)). `input` and `output` are the
+/// connection to the server. `limit` is the maximum size of a pack, and `ends` states how each
+/// reply ends. The report has a line for each requested ref update: `moved NAME ID`, `same NAME`,
+/// or `notforward NAME` if the update is not a fast-forward. The last line is `unborn NAME` if HEAD
+/// was fetched and the server's HEAD is unborn and points at NAME. A fault is printed as one line
+/// on `errors`.
 ///
 /// Returns the exit status. Also returns the new text of the file, unless the file was rejected,
 /// the conversation failed, or memory for the text ran out. The caller must write this text to the
@@ -173,7 +173,7 @@ pub(crate) fn text_of<A: Allocator + Copy>(
     ensures { MatchResult result (λ text. NamesClient text.items repo.now)
         (λ fault. fault ≡ Memory) }
 {
-    // Laws.
+    // Laws that the proof uses.
     positions_are_nodes::<A>();
     repo.laws();
     match save(alloc, repo.graph(), repo.refs(), &Head::None) {
@@ -182,7 +182,7 @@ pub(crate) fn text_of<A: Allocator + Copy>(
     }
 }
 
-/// Writes the report of a fetch, and flushes it.
+/// Writes and flushes the report of a fetch.
 ///
 /// Fails with `Memory` before anything is written, or with `WriteFailed` if the sink fails.
 pub fn send_report<A: Allocator + Copy, R: Sink>(
@@ -201,7 +201,7 @@ pub fn send_report<A: Allocator + Copy, R: Sink>(
     }
 }
 
-/// Writes a text to the sink of the report, and flushes it.
+/// Writes a text to the sink of the report, and flushes the sink.
 ///
 /// Fails only with `WriteFailed`, after a prefix of the text was written.
 pub fn send_text<A: Allocator + Copy, R: Sink>(

@@ -1,5 +1,5 @@
-//! The programs of gitv2 as functions over bytes, sources and sinks. The programs serve the
-//! repository of a file, fetch into the repository, check the repository, or show packets.
+//! The programs of gitv2 as functions over bytes, sources and sinks. The programs serve, update or
+//! check the repository that a file describes, or show packets.
 //!
 //! A promise about the bytes of a source or a sink holds only if the source or sink records its
 //! bytes, as sources and sinks in memory do.
@@ -13,31 +13,32 @@
 //! - [`cmd_failed`] prints the line that reports a given fault.
 //! - If a write to a sink fails, nothing more is flushed. If a flush fails, the bytes of earlier
 //!   flushes remain flushed (`specs/Outputs.antt`).
-//! - From the repository of a file, [`cmd_upload`] serves one connection, and [`cmd_ls`] replies to
-//!   one request. Both use plain packs (`specs/Serving.antt`). `gserve` describes both exchanges.
-//!   [`cmd_upload`] succeeds if the client ends the connection, the input ends before a request, or
-//!   the limit of requests is reached. [`cmd_ls`] succeeds if the request gets a reply or is a lone
-//!   flush packet, or if the input is empty. In every other case the fault is the refusal of a
-//!   request or a failure of the output. The served file must be the text of a repository. Each
-//!   parent must precede its children, and the objects of all refs and of a detached HEAD must be
-//!   present. With any other file nothing is read or written, and the fault names the line, the ref
-//!   or HEAD.
-//! - [`cmd_fetch`] opens the repository of a client's file, and fetches into it with plain packs
-//!   (`specs/Fetching.antt`). `gclient` describes the conversation. The file must be the text of a
-//!   repository without HEAD whose refs are all connected. With any other file nothing is read or
-//!   written. If the conversation succeeds, the new file is the text of the repository after the
-//!   fetch. The fetch only adds objects, every ref is connected, and each allowed update of a ref
-//!   was made. The report (`specs/Reporting.antt`) is written and flushed. If the sink for the
-//!   report fails, a prefix of the report is written. If memory for the report runs out, there is a
-//!   new file without a report. After any other fault there is no new file and no report.
+//! - [`cmd_upload`] serves one connection, and [`cmd_ls`] replies to one request. Both read the
+//!   served repository from a file, and send plain packs (`specs/Serving.antt`). `gserve` specifies
+//!   what both programs read and write. [`cmd_upload`] succeeds if the client ends the connection,
+//!   the input ends before a request, or the limit of requests is reached. [`cmd_ls`] succeeds if
+//!   the request gets a reply or is a lone flush packet, or if the input is empty. In every other
+//!   case the fault is the refusal of a request or a failure of the output. The served file must be
+//!   the text of a repository. Each parent must precede its children, and the objects of all refs
+//!   and of a detached HEAD must be present. With any other file nothing is read or written. The
+//!   fault then gives the number of the malformed line, or names the ref or HEAD.
+//! - [`cmd_fetch`] opens the repository that a client's file describes, and fetches into the
+//!   repository with plain packs (`specs/Fetching.antt`). `gclient` specifies the conversation. The
+//!   file must be the text of a repository without HEAD whose refs are all connected. With any
+//!   other file nothing is read or written. If the conversation succeeds, the new file is the text
+//!   of the repository after the fetch. The fetch only adds objects, every ref is connected, and
+//!   each allowed update of a ref was made. The report (`specs/Reporting.antt`) is written and
+//!   flushed. If the sink for the report fails, a prefix of the report is written. If memory for
+//!   the report runs out, there is a new file without a report. After any other fault there is no
+//!   new file and no report.
 //! - [`read_specs`] reads arguments as refspecs, and fails at the first argument that is not a
 //!   refspec.
 //! - [`read_prefixes`] reads arguments as prefixes of ref names, unchanged, and fails at the first
 //!   argument that is not a prefix (`specs/Prefixes.antt`).
-//! - [`cmd_fetch_stored`] fetches like [`cmd_fetch`], but into a stored file, which it first locks
-//!   and reads (`specs/Stored.antt`). At any time the file has the old text or the whole new text.
-//!   The new text is written only after the conversation succeeds, and the report only after the
-//!   new text. At the end the program holds no lockfile.
+//! - [`cmd_fetch_stored`] fetches like [`cmd_fetch`], but into a stored file, which the program
+//!   first locks and reads (`specs/Stored.antt`). At any time the file has the old text or the
+//!   whole new text. The new text is written only after the conversation succeeds, and the report
+//!   only after the new text. At the end the program holds no lockfile.
 //! - [`open_stored`] and [`conclude_stored`] are the first and the last step of
 //!   [`cmd_fetch_stored`]. Callers can use them with a different conversation in between.
 //! - [`cmd_check`] writes and flushes one line, or writes a prefix of the line if the sink fails.
@@ -51,19 +52,18 @@
 //!
 //! # Only tested
 //!
-//! The cases of `conformance` test the exact bytes of whole runs. The cases also test that no call
-//! reports out of memory while enough memory is available, and that a source or a sink is not
-//! called again after a failure. The cases let each call read or write only one byte, and make each
-//! call fail in turn.
+//! The cases of `conformance` test the exact bytes of whole runs. The cases also test that no
+//! function reports out of memory while enough memory is available. In these cases each source and
+//! sink transfers one byte per call, or fails at each of its calls in turn. The cases also test
+//! that no program uses a source or a sink again after that source or sink has failed.
 //!
 //! # What the contracts do not rule out
 //!
-//! No contract rules out that a call that allocates reports out of memory whenever a crate that it
-//! uses can do so. If a sink does not record its bytes, the contracts do not state which bytes the
-//! sink receives. The contracts do not limit how often a source or a sink is called, or how long a
-//! call takes. No contract rules out that formatting a fault returns `fmt::Error` for no reason. No
-//! contract rules out that [`cmd_fetch_stored`] reports that a file can't be locked, read or
-//! replaced, even if each of these steps would succeed.
+//! A call that allocates may report out of memory although memory is available. If a sink does not
+//! record its bytes, the contracts do not state which bytes the sink receives. The contracts do not
+//! limit how often a source or a sink is called, or how long a call takes. Formatting a fault may
+//! return `fmt::Error` even if every write succeeds. [`cmd_fetch_stored`] may report that a file
+//! can't be locked, read or replaced, even if each of these steps would succeed.
 //!
 //! # Dependencies
 //!

@@ -14,8 +14,8 @@ use gpkt::{Sink, Source};
 use gserve::{ExchangeEnd, OnePack, serve_one};
 use std::alloc::Allocator;
 
-/// `gitv2 ls --stdio-server FILE`: reads one request from `input` and writes its reply to `output`,
-/// from the repository whose text is `file` (gitprotocol-v2(5), "Command Request"). No
+/// `gitv2 ls --stdio-server FILE`: reads one request from `input`, and writes the reply to `output`
+/// (gitprotocol-v2(5), "Command Request"). `file` is the text of the served repository. No
 /// advertisement precedes the reply. The request may be `ls-refs` or `fetch`. A fault is printed as
 /// one line on `errors`.
 ///
@@ -56,7 +56,7 @@ fn answer_one<A: Allocator + Copy, S: Source, W: Sink>(
     outcome_of(serve_one(&server, &mut packer, Ends::Plain, input, output))
 }
 
-// Returns the outcome of the program for the end of an exchange.
+// Returns the outcome of the program, given how the exchange with the client ended.
 fn outcome_of<A: Allocator + Copy>(ended: ExchangeEnd) -> Result<(), ProgramFault<A>>
     ensures { result ≡ outcome_of_exchange ended }
 {

@@ -11,8 +11,8 @@ use crate::print::FaultLine;
 use gpkt::{Down, Sink};
 use std::alloc::Allocator;
 
-/// Prints the fault as one line on `errors`, flushes it, and returns the exit status 1. A failure
-/// of `errors` itself is not reported.
+/// Prints the fault as one line on `errors`, flushes the line, and returns the exit status 1. A
+/// failure of `errors` itself is not reported.
 pub fn cmd_failed<A: Allocator + Copy, E: Sink>(fault: ProgramFault<A>, errors: &mut E) -> u8
     ensures exits { ExitsWith (Err fault)
         (output_of E.contents E.passed_on E.is_down errors.old errors.new) result }
@@ -22,7 +22,7 @@ pub fn cmd_failed<A: Allocator + Copy, E: Sink>(fault: ProgramFault<A>, errors: 
     1
 }
 
-/// Prints the fault as one line on `errors`, and flushes it. Fails if the sink fails, after a
+/// Prints the fault as one line on `errors`, and flushes the line. Fails if the sink fails, after a
 /// prefix of the line was printed.
 pub fn print_fault<A: Allocator + Copy, E: Sink>(
     fault: &ProgramFault<A>,

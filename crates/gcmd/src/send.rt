@@ -7,8 +7,8 @@ ghost use Rattle.gcmd.specs.Outputs.{IsSent};
 
 use gpkt::{Down, Sink, write_all};
 
-/// Writes the bytes and flushes them. Fails if the sink fails, after a prefix of the bytes was
-/// written. A failed write leaves the flushed bytes unchanged.
+/// Writes and flushes the bytes. Fails if the sink fails, after a prefix of the bytes was written.
+/// A failed write leaves the flushed bytes unchanged.
 pub(crate) fn send<W: Sink>(bytes: &[u8], sink: &mut W) -> Result<(), Down>
     ensures sent { IsSent (output_of W.contents W.passed_on W.is_down sink.old sink.new) result
         bytes.now }

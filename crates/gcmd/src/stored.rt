@@ -42,9 +42,10 @@ pub struct OpenedFile<A: Allocator + Copy = Global> {
 }
 
 /// `gitv2 fetch --stdio [--limit N] [--response-end] FILE SPEC...`: locks and reads the file, and
-/// fetches into its repository from the server at `input` and `output`. If the conversation
-/// succeeded, replaces the whole file, and then writes the report to `errors`, since `output` leads
-/// to the server. A fault is also printed as one line on `errors`. Returns the exit status.
+/// fetches from a server into the repository that the file describes. `input` and `output` are the
+/// connection to the server. If the conversation succeeds, the program replaces the whole file, and
+/// then writes the report to `errors`. A fault is also printed as one line on `errors`. Returns the
+/// exit status.
 ///
 /// The fault is `File` or `Memory` if the file can't be locked, read or replaced. Nothing is read
 /// from the input or written to the output before the file is locked and read. After every fault
@@ -71,7 +72,8 @@ pub fn cmd_fetch_stored<A: Allocator + Copy, T: Storage, S: Source, W: Sink, E: 
     exit_after(outcome, errors)
 }
 
-// Ends a program that writes its report to the error sink. Returns the exit status.
+// Prints the fault in `outcome`, if any, and returns the exit status. Prints nothing if `errors`
+// failed while the report was written to it.
 fn exit_after<A: Allocator + Copy, E: Sink>(
     outcome: Result<(), ProgramFault<A>>,
     errors: &mut E,
@@ -153,7 +155,7 @@ fn fetch_opened<A: Allocator + Copy, T: Storage, S: Source, W: Sink, R: Sink>(
 
 /// Locks a client's file, reads it, and opens its repository.
 ///
-/// Fails with `File` if the file can't be locked or read, with `Memory` if out of memory, and with
+/// Fails with `File` if the file can't be locked or read, with `Memory` if out of memory, or with
 /// the faults of `open_client`. After a fault the program holds no lockfile.
 pub fn open_stored<A: Allocator + Copy, T: Storage>(
     alloc: A,

@@ -14,8 +14,8 @@ use gpkt::{Sink, Source};
 use gserve::{End, OnePack, serve};
 use std::alloc::Allocator;
 
-/// `gitv2 upload [--response-end] FILE`: serves one connection from `input` to `output`, from the
-/// repository whose text is `file`. Writes the advertisement, and then the reply to each request
+/// `gitv2 upload [--response-end] FILE`: serves one connection over `input` and `output`. `file` is
+/// the text of the served repository. Writes the advertisement, and then the reply to each request
 /// (gitprotocol-v2(5), "Capability Advertisement", "Command Request"). With `Ends::Response` each
 /// reply ends with a response-end packet. A fault is printed as one line on `errors`.
 ///
@@ -60,7 +60,7 @@ fn answer_all<A: Allocator + Copy, S: Source, W: Sink>(
     outcome_of(serve(&server, &mut packer, ends, input, output).end)
 }
 
-// Returns the outcome of a connection.
+// Returns the outcome of the program, given how the connection ended.
 fn outcome_of<A: Allocator + Copy>(ended: End) -> Result<(), ProgramFault<A>>
     ensures { result ≡ outcome_of_connection ended }
 {

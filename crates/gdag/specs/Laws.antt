@@ -55,7 +55,7 @@ WholeListsComeIn A =
     → ((fault : GraphFault) → IsRefused format old entries fault → fault ≡ Memory)
     × ((other : List (Entry A)) → Inserts format old entries other → new ≡ other)
 
--- a graph is closed exactly if each id that it contains is connected
+-- a graph is closed exactly when each id that it contains is connected
 abbrev pub ClosedIsConnected : Type 0 → Type 0
 ClosedIsConnected A = (g : List (Entry A)) → IsClosed g ↔ ((a : Id) → Holds g a → IsConnected g a)
 
@@ -132,8 +132,8 @@ PeelsAlongTags A =
 abbrev pub OrderedIsClosed : Type 0 → Type 0
 OrderedIsClosed A = (g : List (Entry A)) → IdsDiffer g → IsOrdered g → IsClosed g
 
--- if each entry of a graph comes after its parents, each id that an id of the graph reaches is in the graph, at the
--- same or a lower position
+-- if each entry of a graph comes after its parents, an id of the graph reaches only ids of the graph, at the same or a
+-- lower position
 abbrev pub ReachingGoesDown : Type 0 → Type 0
 ReachingGoesDown A =
     (g : List (Entry A)) (a b : Id) (p : ℕ)
@@ -149,7 +149,7 @@ ClosedStays A =
 abbrev pub IsAt : {A : Type 0} → List (Entry A) → ℕ → Id → Node A → Type 0
 IsAt g position a node = slice_get g position ≡ Some (entry_of a node)
 
--- the graph maps an id to a node exactly if some entry has that id and that node, and each id has only one position
+-- the graph maps an id to a node exactly when some entry has that id and that node, and each id has only one position
 abbrev pub PositionsAreNodes : Type 0 → Type 0
 PositionsAreNodes A =
     (g : List (Entry A)) → IdsDiffer g
@@ -162,8 +162,8 @@ OneListToSend A =
     (g list other : List (Entry A)) (wants commons tips : List Id)
     → IsListToSend g wants commons tips list → IsListToSend g wants commons tips other → list ≡ other
 
--- the entries of a list to send form a valid graph of the sender's format and a valid pack, and each of them is an
--- entry of the sender's graph
+-- the entries of a list to send form a valid graph of the sender's format and a valid pack; each is an entry of the
+-- sender's graph
 abbrev pub SentAreEntries : Type 0 → Type 0
 SentAreEntries A =
     (g : History A) (list : List (Entry A)) (wants commons tips : List Id)
@@ -214,7 +214,7 @@ CountsStay A =
 abbrev pub LevelsAreDistances : Type 0 → Type 0
 LevelsAreDistances A = (g : List (Entry A)) (tips : List Id) → AreDistances g tips
 
--- an id is in some level exactly if a tip reaches that id
+-- an id is in some level exactly when a tip reaches that id
 abbrev pub LevelsAreReached : Type 0 → Type 0
 LevelsAreReached A =
     (g : List (Entry A)) (tips : List Id) (a : Id)

@@ -30,7 +30,7 @@ parents_of g a = unwrap_or (option_map (λ node. node.parents) (node_at g a)) []
 abbrev pub parents_of_each : {A : Type 0} → List (Entry A) → List Id → List Id
 parents_of_each g ids = flat_map (parents_of g) ids
 
--- a level: the ids of all earlier levels, and the ids of this level
+-- one level of the search: the ids of all earlier levels, and the ids of this level
 pub record Depth : Type 0 where
   pub before : List Id
   pub ids : List Id

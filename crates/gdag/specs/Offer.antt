@@ -15,7 +15,7 @@ pub record MayBeOffered {A : Type 0} (g : List (Entry A)) (commons sent : List I
   pub unknown : ¬ (SomeReaches g commons a)
   pub unsent : ¬ (Contains sent a)
 
--- the offer: the first n ids that may be offered, searched level by level from the tips
+-- the offer: the first n ids that may be offered, in a search from the tips level by level
 pub record IsOffer {A : Type 0} (g : List (Entry A)) (tips commons sent : List Id) (n : ℕ)
     (list : List Id) : Type 0 where
   pub ids : List Id

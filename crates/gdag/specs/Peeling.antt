@@ -6,7 +6,7 @@ use Rattle.gobject.specs.declared.node.Node.{Node}
 use Rattle.gobject.specs.declared.node.Entry.{Entry}
 use Rattle.gdag.specs.Graphs.{IsNode}
 
--- `a` is a tag in the graph, and its object is `b`
+-- `a` is a tag in the graph, and refers to `b`
 pub record IsTagOf {A : Type 0} (g : List (Entry A)) (a b : Id) : Type 0 where
   pub node : Node A
   pub held : IsNode g a node

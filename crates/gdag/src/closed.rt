@@ -8,8 +8,8 @@ use crate::graph::Graph;
 use std::alloc::Allocator;
 
 impl<A: Allocator + Copy> Graph<A> {
-    /// Returns whether the graph is closed: it contains each parent of each of its objects. The
-    /// call does not allocate.
+    /// Returns whether the graph is closed, which means that it contains the parents of all its
+    /// objects. The call does not allocate.
     pub fn is_closed(&self) -> bool
         ensures { IsTrue result ↔ IsClosed self.now.entries }
     {
@@ -19,7 +19,7 @@ impl<A: Allocator + Copy> Graph<A> {
         self.holds_parents()
     }
 
-    // Returns whether the graph contains the parents of each of its nodes.
+    // Returns whether the graph contains the parents of all its nodes.
     #[tactic(auto, using(crate::proofs::ClosedLemmas::holds_at, crate::proofs::ClosedLemmas::holds_more))]
     fn holds_parents(&self) -> bool
         ensures graph { IsGraph self.now }

@@ -8,7 +8,8 @@ use gname::Oid;
 use std::alloc::Allocator;
 
 impl<A: Allocator + Copy> Graph<A> {
-    /// An alias of [`Graph::position`].
+    /// Returns the position of the id in insertion order, or `None` if the graph does not contain
+    /// the id. An alias of [`Graph::position`].
     pub fn number(&self, id: &Oid) -> Option<usize>
         ensures { result ≡ position_of self.now.entries id.now }
     {

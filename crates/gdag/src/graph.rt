@@ -18,13 +18,13 @@ use std::marker::Model;
 /// The maximum number of nodes of a graph.
 pub const MAX_NODES: usize = 1_048_576;
 
-/// The hasher for the ids of a graph. An attacker who chooses ids can easily construct ids that
-/// collide under std's fast hasher. Under `DefaultHasher` the attacker must search for each
+/// The hasher for the ids of a graph. Under std's faster hasher, an attacker who chooses ids could
+/// easily construct ids that collide. Under `DefaultHasher` the attacker must search for each
 /// collision.
 pub type IdHasher = BuildHasherDefault<DefaultHasher>;
 
-/// The commits and tags of a repository in the order of their insertion. The ids are distinct and
-/// have one format.
+/// The commits and tags of a repository, in the order of their insertion. The ids are distinct and
+/// have the same object format.
 #[derive(Debug, Drop)]
 pub struct Graph<A: Allocator + Copy = Global> {
     format: Format,
@@ -64,8 +64,8 @@ impl<A: Allocator + Copy> Graph<A> {
     }
 
     /// Reserves room for `more` nodes, so that adding these nodes does not move the existing nodes.
-    /// If memory runs out, the call frees what it has allocated. The contents of the graph are
-    /// unchanged.
+    /// If memory runs out, the call frees the memory that it allocated. The contents of the graph
+    /// are unchanged.
     pub fn make_room(&mut self, more: usize)
         ensures { self.new ≡ self.old }
     {
@@ -90,8 +90,9 @@ impl<A: Allocator + Copy> Graph<A> {
         self.nodes.len()
     }
 
-    /// Proves that a graph has distinct ids of its format and at most [`MAX_NODES`] nodes, which
-    /// are well-shaped.
+    /// Proves that the ids of a graph are distinct and have its format, and that the graph has at
+    /// most [`MAX_NODES`] nodes. Each node has at most `MAX_PARENTS` parents, and a tag has exactly
+    /// one.
     pub fn laws(&self)
         ensures { IsGraph self.now }
     {
@@ -129,8 +130,8 @@ impl<A: Allocator + Copy> Graph<A> {
         ids.iter().all(|id| self.contains(id))
     }
 
-    /// Returns the first of the ids that the graph does not contain, or `None` if it contains all
-    /// of them. The call does not allocate.
+    /// Returns the first of the ids that the graph does not contain, or `None` if the graph
+    /// contains all ids. The call does not allocate.
     pub fn first_absent(&self, ids: &[Oid]) -> Option<Oid>
         ensures { MatchOption result (All (Holds self.now.entries) ids.now)
             (IsFirstAbsent self.now.entries ids.now) }
@@ -214,17 +215,16 @@ impl<A: Allocator + Copy> Graph<A> {
         Ok(Entry { id: *id, node })
     }
 
-    // Returns whether each node will come after all its parents once one more node is appended.
-    // `parents_held` states whether the graph contains the parents of that node.
+    // Returns whether each node would come after all its parents if one more node were appended.
+    // The argument `parents_held` states whether the graph contains the parents of the new node.
     fn stays_ordered(&self, parents_held: bool) -> bool
         ensures { IsTrue result ↔ (IsOrdered self.now.entries × IsTrue parents_held) }
     {
         self.is_ordered() && parents_held
     }
 
-    /// Appends an entry. A failed call leaves the graph unchanged.
-    ///
-    /// Fails only with `Memory`.
+    /// Appends an entry whose id the graph does not contain. Fails only with `Memory`, and then
+    /// leaves the graph unchanged.
     pub(crate) fn push(&mut self, entry: Entry<A>) -> Result<(), GraphFault>
         requires new { node_at self.old.entries entry.id ≡ None }
         requires ids { HasIdsOf self.old.format entry }
@@ -240,10 +240,10 @@ impl<A: Allocator + Copy> Graph<A> {
         self.push_after(entry, parents_held)
     }
 
-    /// Appends an entry. `parents_held` states whether the graph contains all parents of the entry.
-    /// A failed call leaves the graph unchanged.
+    /// Appends an entry whose id the graph does not contain. The argument `parents_held` states
+    /// whether the graph contains all parents of the entry.
     ///
-    /// Fails only with `Memory`.
+    /// Fails only with `Memory`, and then leaves the graph unchanged.
     #[tactic(auto, using(crate::proofs::Pairs::pushed_pairs))]
     pub fn push_after(&mut self, entry: Entry<A>, parents_held: bool) -> Result<(), GraphFault>
         requires new { node_at self.old.entries entry.id ≡ None }
@@ -263,8 +263,8 @@ impl<A: Allocator + Copy> Graph<A> {
         Ok(())
     }
 
-    /// Keeps only the first `count` entries. `ordered` states whether each of these entries comes
-    /// after all its parents.
+    /// Keeps only the first `count` entries. The argument `ordered` states whether each of these
+    /// entries comes after all its parents.
     #[tactic(auto, using(crate::proofs::Pairs::taken_pairs))]
     pub(crate) fn cut_back(&mut self, count: usize, ordered: bool)
         requires { IsTrue ordered ↔ IsOrdered (take count self.old.entries) }

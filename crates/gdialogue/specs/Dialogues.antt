@@ -51,15 +51,15 @@ left_of calls messages stage.Over = record { turns = 0; steps = 0 }
 module _ {S : Type 0} (judge : S → Judge) (brings : S → List Packet → Packet → Bool)
     (opens : S → List Packet → Bool → Type 0) (answers : S → List Packet → List Packet → Bool → S → Type 0)
     (refuses : S → MessageFault → List Packet → S → Type 0) where
-  -- The dialogue from the first state of this end until now. This end first sent its opening. It then answered each
-  -- received message in the state reached before that message.
+  -- The dialogue from the first state of this end until now. This end first sent its packets before the first message.
+  -- This end then answered each received message in the state before that message.
   pub data Answered (first : S) : List Packet → List Packet → S → Type 0 where
     opened : (said : List Packet) → opens first said true → Answered first [] said first
     more : (heard said lines reply : List Packet) (mid last : S) → Answered first heard said mid
         → IsWhole (judge mid) lines → answers mid lines reply true last
         → Answered first (heard ++ lines) (said ++ reply) last
 
-  -- how a dialogue ends: after its opening, after a last answer, or after a refused message
+  -- how a dialogue ends: after the packets before the first message, after a last answer, or after a refused message
   pub data HasEnded (first : S) : List Packet → Option Stop → List Packet → S → Type 0 where
     opened : (said : List Packet) → opens first said false → HasEnded first [] None said first
     last : (heard said lines reply : List Packet) (mid last : S) → Answered first heard said mid

@@ -1,4 +1,4 @@
-//! One end of a dialogue as a conversation of packets.
+//! One end of a dialogue, as a conversation of packets.
 
 ghost use Rattle.std.specs.Prelude.{◌≡◌, [], Bool, List, true};
 ghost use Rattle.gpkt.specs.Packets.{Packet, packet_of};
@@ -18,21 +18,22 @@ use std::mem;
 // The current stage of a dialogue.
 #[derive(Drop)]
 enum DialogueStage<M, R> {
-    // The dialogue is receiving a message. The number counts the packets received so far.
+    // The dialogue is receiving this message, and has received this number of its packets.
     Hears(M, u64),
     // The dialogue is sending this reply, and may continue after it.
     Says(R),
     // The dialogue is sending its last reply.
     Ends(R),
+    // The dialogue has ended.
     Over,
 }
 
 /// One end of a dialogue: a conversation of packets ([`Conversation`]).
 ///
 /// A dialogue receives one message after another, and sends the answer of its [`Side`] to each
-/// message, until a last answer. A message is refused at the first packet that its grammar rejects,
-/// if memory runs out for a packet, or if no more packets arrive. The answer to a refused message
-/// is the last answer.
+/// message. The dialogue ends after the last answer. A message is refused if its grammar rejects a
+/// packet, if memory runs out for a packet, or if no more packets arrive and the message is
+/// incomplete. The answer to a refused message is the last answer.
 #[derive(Drop)]
 pub struct Dialogue<S, M, R> {
     side: S,
@@ -40,14 +41,14 @@ pub struct Dialogue<S, M, R> {
 }
 
 impl<S, M, R> Dialogue<S, M, R> {
-    /// Returns the side that conducts the dialogue.
+    /// Returns the side of the dialogue.
     pub fn side(&self) -> &S
         ensures { result.now ≡ self.now.side }
     {
         &self.side
     }
 
-    /// Returns the side in its current state.
+    /// Consumes the dialogue, and returns its side.
     pub fn into_side(self) -> S
     where
         S: Drop,
@@ -67,7 +68,7 @@ impl<S: Side<M, R>, M: Message + Drop, R: Reply + Drop> Dialogue<S, M, R> {
             → Holds S.judge S.brings S.opens S.answers S.refuses M.judge M.brings M.holds R.may result no_talk }
         ensures side { result.side ≡ side }
     {
-        // Laws.
+        // Laws that the proof uses.
         grammars_are_exact();
         let message = side.message();
         Dialogue {
@@ -106,7 +107,7 @@ impl<S: Side<M, R>, M: Message + Drop, R: Reply + Drop> Dialogue<S, M, R> {
             → IsNearerStage R.calls (S.messages self.old.side) (stage.Hears message frame)
             (S.messages self.new.side) result }
     {
-        // Laws.
+        // Laws that the proof uses.
         M::laws();
         grammars_are_exact();
         match message.accept_packet(line) {
@@ -149,7 +150,7 @@ impl<S: Side<M, R>, M: Message + Drop, R: Reply + Drop> Dialogue<S, M, R> {
         ensures nearer { IsNearerStage R.calls (S.messages self.now.side) (stage.Says reply)
             (S.messages self.now.side) result }
     {
-        // Laws.
+        // Laws that the proof uses.
         grammars_are_exact();
         match reply.say(out) {
             Said::More => DialogueStage::Says(reply),

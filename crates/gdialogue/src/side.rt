@@ -22,9 +22,9 @@ pub enum Said {
 
 /// A reply: a sequence of packets to send.
 ///
-/// The reply can determine the packets while it is sent. For example, reading a pack may fail after
-/// some of it was sent. The last packet of the reply then reports the failure, and the dialogue
-/// ends. A reply whose packets are known in advance can define `may` as `SaysExactly`.
+/// The reply can choose its packets while it is being sent. For example, reading a pack may fail
+/// after some of it was sent. The last packet of the reply then reports the failure, and the
+/// dialogue ends. A reply whose packets are known in advance can define `may` as `SaysExactly`.
 pub trait Reply {
     // Whether these packets may complete the reply from this state. The boolean states whether the
     // dialogue then continues.
@@ -34,7 +34,8 @@ pub trait Reply {
     ghost calls: { Self → ℕ };
 
     /// Adds the next packets of the reply to an empty send queue. One call may add any number of
-    /// packets that fit, even zero.
+    /// packets that fit, even zero. Returns whether the reply is then complete, and whether the
+    /// dialogue ends.
     fn say<A: Allocator + Copy>(&mut self, out: &mut Outgoing<A>) -> Said
         requires empty { out.old ≡ [] }
         ensures says { SaysSome may self.old self.new out.new result }
@@ -62,7 +63,8 @@ pub trait Side<M: Message, R: Reply> {
     ghost brings: { Self → List Packet → Packet → Bool };
 
     // Whether the end may send these packets before the first message. The boolean states whether
-    // the dialogue then continues. An end that only answers uses `SaysNothing`.
+    // the dialogue then continues. An end that sends nothing before the first message uses
+    // `SaysNothing`.
     ghost opens: { Self → List Packet → Bool → Type 0 };
 
     // Whether the second list of packets may answer the message in the first list. The boolean
@@ -76,13 +78,13 @@ pub trait Side<M: Message, R: Reply> {
     // The maximum number of further messages that the side answers without ending the dialogue.
     ghost messages: { Self → ℕ };
 
-    /// Returns the next message, before its first packet.
+    /// Returns the message to receive next, before its first packet.
     fn message(&self) -> M
         ensures holds { M.holds result [] }
         ensures judge { M.judge result ≡ judge self.now }
         ensures brings { M.brings result ≡ brings self.now };
 
-    /// Answers a complete message. If the dialogue continues, `messages` decreases.
+    /// Returns the answer to a complete message. If the dialogue continues, `messages` decreases.
     fn answer(&mut self, message: M) -> Answer<R>
         ensures answers { (lines said : List Packet) (goes : Bool) → M.judge message ≡ judge self.old
             → IsWhole (judge self.old) lines → M.holds message lines → MayAnswer R.may result said goes

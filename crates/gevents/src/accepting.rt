@@ -5,7 +5,7 @@ ghost use Rattle.gtalk.specs.Connections.{pending_of};
 ghost use Rattle.gtalk.specs.Talks.{no_talk};
 
 use crate::event::{End, Event, Refusal};
-use crate::event_loop::{EventLoop, NewPeer, PendingCalls};
+use crate::event_loop::{EventLoop, NewPeer, Pending};
 use crate::patience::Patience;
 use crate::peer::Peer;
 use crate::slot::Slot;
@@ -17,11 +17,11 @@ use std::net::{IpAddr, SocketAddr};
 
 // The error numbers that report a lack of resources: too many open files in the process or in the
 // system, or a lack of memory, buffers or streams (errno(3)).
-const STARVED: [i32; 5] = [24, 23, 12, 105, 63];
+const OUT_OF_RESOURCES: [i32; 5] = [24, 23, 12, 105, 63];
 
 // The error numbers that report a fault of the network and not of the listener (accept(2), "Error
 // handling"): EPROTO, ENOPROTOOPT, EHOSTDOWN, ENONET, EOPNOTSUPP and ETIMEDOUT.
-const NETWORK: [i32; 6] = [71, 92, 112, 64, 95, 110];
+const NETWORK_FAULTS: [i32; 6] = [71, 92, 112, 64, 95, 110];
 
 impl<C: Conversation + Drop, A: Allocator + Copy> EventLoop<'_, C, A> {
     /// Starts a conversation with the peer of the last event, if the event was
@@ -29,7 +29,7 @@ impl<C: Conversation + Drop, A: Allocator + Copy> EventLoop<'_, C, A> {
     pub fn begin(&mut self, conversation: C)
         requires { C.holds conversation no_talk }
     {
-        if let Some(NewPeer::Welcome(stream, address)) = self.caller.take() {
+        if let Some(NewPeer::Welcome(stream, address)) = self.new_peer.take() {
             let peer = Peer {
                 stream,
                 address,
@@ -43,21 +43,22 @@ impl<C: Conversation + Drop, A: Allocator + Copy> EventLoop<'_, C, A> {
     }
 
     /// Sends bytes to the peer of the last event, if the event was [`Event::Refused`], and closes
-    /// the connection. Writes only once, so only the bytes that the socket accepts immediately are
-    /// sent.
+    /// the connection. The call writes once, so it sends only the bytes that the socket accepts
+    /// immediately.
     pub fn refuse(&mut self, bytes: &[u8]) {
-        if let Some(NewPeer::Refused(mut stream)) = self.caller.take() {
+        if let Some(NewPeer::Refused(mut stream)) = self.new_peer.take() {
             let _ = stream.write(bytes);
-            self.let_leave(stream, true);
+            self.close_gracefully(stream, true);
         }
     }
 
-    /// Accepts a connection, if one is pending.
+    /// Accepts a connection if one is pending, and returns the event that reports it. Returns
+    /// `None` if no connection was accepted.
     pub(crate) fn accept(&mut self) -> io::Result<Option<Event<C, A>>> {
         match self.listener.accept() {
             Ok((stream, address)) => Ok(Some(self.receive(stream, address))),
             Err(error) => {
-                self.calls = calls_after(error)?;
+                self.pending = pending_after(error)?;
                 Ok(None)
             }
         }
@@ -65,16 +66,16 @@ impl<C: Conversation + Drop, A: Allocator + Copy> EventLoop<'_, C, A> {
 
     // Accepts or refuses a new peer, and returns the event that reports it.
     fn receive(&mut self, stream: TcpStream, address: SocketAddr) -> Event<C, A> {
-        self.calls = PendingCalls::Some;
+        self.pending = Pending::Some;
         match self.refusal(address.ip()) {
             None => {
                 self.accepted = self.accepted.saturating_add(1);
                 let _ = stream.set_nodelay(true);
-                self.caller = Some(NewPeer::Welcome(stream, address));
+                self.new_peer = Some(NewPeer::Welcome(stream, address));
                 Event::Connected(address)
             }
             Some(why) => {
-                self.caller = Some(NewPeer::Refused(stream));
+                self.new_peer = Some(NewPeer::Refused(stream));
                 Event::Refused(address, why)
             }
         }
@@ -91,49 +92,50 @@ impl<C: Conversation + Drop, A: Allocator + Copy> EventLoop<'_, C, A> {
         }
     }
 
-    // Adds a peer to the served peers. The peer has its first turn when its socket is ready.
+    // Adds a peer to the served peers. The peer has its first turn when its socket is ready. If the
+    // peer can't be added, the next call of `EventLoop::next` reports the end of its connection.
     fn admit(&mut self, peer: Peer<C, A>)
         requires { pending_of peer.connection ≡ [] }
     {
         let ip = peer.address.ip();
         if self.addresses.add(ip).is_err() {
-            self.failed = Some(peer.end(End::Memory, self.now).0);
+            self.ended_at_start = Some(peer.end(End::Memory, self.now).0);
             return;
         }
-        self.failed = match self.slots.insert(Slot::Talks(peer)) {
+        self.ended_at_start = match self.slots.insert(Slot::Talks(peer)) {
             Ok(key) if self.watch(key, true) => None,
             Ok(key) => self.part_with(key, End::Lost),
             Err(refused) => {
                 self.addresses.remove(ip);
                 match refused.value {
                     Slot::Talks(peer) => Some(peer.end(End::Memory, self.now).0),
-                    Slot::Leaves(_leaver) => None,
+                    Slot::Leaves(_closing) => None,
                 }
             }
         };
     }
 }
 
-// Returns whether more connections may be pending after an accept failed (accept(2)). Fails if no
-// further connection can be accepted.
-fn calls_after(error: io::Error) -> io::Result<PendingCalls> {
+// Returns whether connections may still be pending after this error of an accept (accept(2)). Fails
+// if no further connection can be accepted.
+fn pending_after(error: io::Error) -> io::Result<Pending> {
     match error.kind() {
-        ErrorKind::WouldBlock => Ok(PendingCalls::None),
+        ErrorKind::WouldBlock => Ok(Pending::None),
         ErrorKind::ConnectionAborted
         | ErrorKind::Interrupted
         | ErrorKind::NetworkDown
         | ErrorKind::NetworkUnreachable
-        | ErrorKind::HostUnreachable => Ok(PendingCalls::Some),
-        ErrorKind::PermissionDenied => Ok(PendingCalls::Later),
-        _ if is_passing(&error) => Ok(PendingCalls::Later),
+        | ErrorKind::HostUnreachable => Ok(Pending::Some),
+        ErrorKind::PermissionDenied => Ok(Pending::Later),
+        _ if is_temporary(&error) => Ok(Pending::Later),
         _ => Err(error),
     }
 }
 
-// Returns whether connections can be accepted again after a pause, despite this error.
-fn is_passing(error: &io::Error) -> bool {
+// Returns whether accepting connections may succeed again some time after this error.
+fn is_temporary(error: &io::Error) -> bool {
     match error.raw_os_error() {
-        Some(number) => STARVED.contains(&number) || NETWORK.contains(&number),
+        Some(number) => OUT_OF_RESOURCES.contains(&number) || NETWORK_FAULTS.contains(&number),
         None => false,
     }
 }

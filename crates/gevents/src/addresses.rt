@@ -1,14 +1,14 @@
-//! The number of peers of each IP address.
+//! The number of peers at each IP address.
 
 ghost use Rattle.std.specs.Prelude.{◌<◌, IfSome, vec_len};
 
 use std::alloc::{AllocError, Allocator};
 use std::net::IpAddr;
 
-/// The number of peers of each IP address. A look-up scans the addresses, not the peers.
+/// The number of peers at each IP address. A look-up is a linear search in the addresses.
 #[derive(Drop)]
 pub(crate) struct Addresses<A: Allocator + Copy> {
-    // Each address with its number of peers. No address occurs twice.
+    // Each IP address that has a peer, with the number of its peers. No address occurs twice.
     counts: Vec<(IpAddr, usize), A>,
 }
 
@@ -57,7 +57,7 @@ impl<A: Allocator + Copy> Addresses<A> {
         }
     }
 
-    // Returns the position of this IP address in the table, if a peer has the address.
+    // Returns the position of this IP address in the table, or `None` if no peer has the address.
     fn position(&self, ip: IpAddr) -> Option<usize>
         ensures { IfSome result (λ at. at < vec_len self.now.counts) }
     {

@@ -21,12 +21,12 @@ pub enum Refusal {
 pub enum End {
     /// The conversation is done, and all its packets were sent.
     Over,
-    /// The conversation is done, because the peer did not send its bytes in time. All packets of
-    /// the conversation were sent.
+    /// The conversation is done, because the peer did not send in time. All packets of the
+    /// conversation were sent.
     Silent,
-    /// The peer accepted no byte for too long.
+    /// The peer accepted no byte for longer than its time limit.
     Stalled,
-    /// The connection lasted too long.
+    /// The connection lasted longer than its time limit.
     Overdue,
     /// The socket failed while bytes were pending, or the system could not watch the socket.
     Lost,
@@ -44,7 +44,7 @@ pub struct Ended<C: Conversation, A: Allocator + Copy> {
     pub address: SocketAddr,
     /// The reason why the connection ended.
     pub end: End,
-    /// The number of sent bytes, saturated at the maximum.
+    /// The number of sent bytes, saturated at `u64::MAX`.
     pub sent: u64,
     /// The time from accepting the connection to its end.
     pub took: Duration,
@@ -53,8 +53,8 @@ pub struct Ended<C: Conversation, A: Allocator + Copy> {
 }
 
 impl<C: Conversation, A: Allocator + Copy> Ended<C, A> {
-    /// Proves that the state of the ended connection matches its received and sent bytes, and that
-    /// the count of sent bytes is right.
+    /// Proves that the state of the ended connection matches its received and sent bytes, the count
+    /// of sent bytes, and the reason for the end.
     pub fn laws(&self)
         ensures held { ∥ IsCounted C.holds self.now.connection self.now.sent ∥₁ }
         ensures ended { ∥ HasEnded C.turn self.now.connection self.now.end ∥₁ }
@@ -66,13 +66,13 @@ impl<C: Conversation, A: Allocator + Copy> Ended<C, A> {
 /// An event that the loop reports.
 #[derive(Drop)]
 pub enum Event<C: Conversation, A: Allocator + Copy> {
-    /// A peer has connected. The caller starts the conversation with
-    /// [`EventLoop::begin`](crate::EventLoop). Otherwise the next call of `EventLoop::next` closes
-    /// the connection.
+    /// A peer has connected. The caller can start a conversation with
+    /// [`EventLoop::begin`](crate::EventLoop). If the caller does not, the next call of
+    /// `EventLoop::next` closes the connection.
     Connected(SocketAddr),
-    /// A peer has connected and exceeds a limit. The caller can send the peer an error with
-    /// [`EventLoop::refuse`](crate::EventLoop). The next call of `EventLoop::next` closes the
-    /// connection.
+    /// A peer has connected, but a limit on the number of connections is reached. The caller can
+    /// send the peer an error with [`EventLoop::refuse`](crate::EventLoop). The next call of
+    /// `EventLoop::next` closes the connection.
     Refused(SocketAddr, Refusal),
     /// A connection has ended.
     Ended(Ended<C, A>),

@@ -15,7 +15,7 @@ use std::io::{self, ErrorKind};
 use std::net::{Net, SocketAddr};
 use std::time::{Clock, Duration, Instant};
 
-// The token that identifies the listener among the sockets.
+// The token that identifies the listener in the reports of ready sockets.
 const LISTENER: Token = Token(usize::MAX);
 
 // The interval at which deadlines are checked while there are peers, in milliseconds.
@@ -24,12 +24,12 @@ const TICK: u64 = 100;
 // The maximum number of sockets that one poll reports.
 const EVENTS: usize = 256;
 
-// The maximum number of connections to accept before each round of turns.
+// The maximum number of connections to accept in each round of the loop.
 const ACCEPTS: u32 = 64;
 
 /// Whether connections are pending at the listener.
 #[derive(Clone, Copy, PartialEq, Eq)]
-pub(crate) enum PendingCalls {
+pub(crate) enum Pending {
     /// No connection is pending.
     None,
     /// Connections may be pending.
@@ -50,17 +50,17 @@ pub(crate) enum NewPeer {
 // The next step of a round of the loop.
 #[derive(Clone, Copy)]
 enum LoopStep {
-    // Wait until sockets are ready.
+    // The loop waits until sockets are ready.
     Polls,
-    // Give each reported socket its turn.
+    // The loop gives the peer of each reported socket its turn.
     Moves,
-    // Accept at most this number of further connections.
+    // The loop accepts at most this number of further connections.
     Accepts(u32),
-    // Check for late peers, starting at this key.
-    GivesUp(usize),
+    // The loop times out late peers, starting at this key.
+    TimesOut(usize),
 }
 
-/// An event loop that holds conversations with many peers of a listener at once.
+/// An event loop that has conversations with many peers of a listener at once.
 ///
 /// Call [`next`](EventLoop::next) for each event.
 #[derive(Drop)]
@@ -70,24 +70,24 @@ pub struct EventLoop<'l, C: Conversation, A: Allocator + Copy> {
     pub(crate) poll: Poll,
     pub(crate) listener: TcpListener,
     events: Events<A>,
-    // The keys of the reported sockets that still wait for their turn. There is room for all
+    // The keys of the reported sockets whose peers still wait for their turn. There is room for all
     // sockets that one poll reports.
     ready: Vec<usize, A>,
-    part: LoopStep,
-    pub(crate) calls: PendingCalls,
-    pub(crate) caller: Option<NewPeer>,
-    // A connection that ended as soon as it started. The loop has not reported this end yet.
-    pub(crate) failed: Option<Ended<C, A>>,
+    next_step: LoopStep,
+    pub(crate) pending: Pending,
+    pub(crate) new_peer: Option<NewPeer>,
+    // A connection that ended as soon as it started, if this end is not reported yet.
+    pub(crate) ended_at_start: Option<Ended<C, A>>,
     pub(crate) slots: Slab<Slot<C, A>, A>,
     /// The number of served peers from each IP address.
     pub(crate) addresses: Addresses<A>,
-    /// The number of slots of peers whose connection has ended.
-    pub(crate) leavers: u32,
-    /// The number of accepted connections, saturated at the maximum.
+    /// The number of slots of peers whose connections have ended, and whose sockets are still open.
+    pub(crate) closing_count: u32,
+    /// The number of accepted connections, saturated at `u32::MAX`.
     pub(crate) accepted: u32,
     pub(crate) now: Instant,
     // The time of the next check of the deadlines.
-    next: Instant,
+    next_check: Instant,
 }
 
 impl<'l, C: Conversation + Drop, A: Allocator + Copy> EventLoop<'l, C, A> {
@@ -111,27 +111,27 @@ impl<'l, C: Conversation + Drop, A: Allocator + Copy> EventLoop<'l, C, A> {
             listener,
             events,
             ready: Vec::with_capacity(alloc, EVENTS)?,
-            part: LoopStep::Accepts(ACCEPTS),
-            calls: PendingCalls::Some,
-            caller: None,
-            failed: None,
+            next_step: LoopStep::Accepts(ACCEPTS),
+            pending: Pending::Some,
+            new_peer: None,
+            ended_at_start: None,
             slots: Slab::new(alloc),
             addresses: Addresses::new(alloc),
-            leavers: 0,
+            closing_count: 0,
             accepted: 0,
             now,
-            next: now,
+            next_check: now,
         })
     }
 
-    /// Waits for the next event. Returns `None` after [`Limits::accepted`] connections were
-    /// accepted and all of them have ended. Every later call then also returns `None`.
+    /// Waits for the next event. Returns `None` once [`Limits::accepted`] connections were accepted
+    /// and all of them have ended. Every later call also returns `None`.
     ///
     /// Fails if the system can't report ready sockets, or if no further connection can be accepted.
     /// The caller may call `next` again after a failure.
     pub fn next<R: Clock>(&mut self, rt: &R) -> io::Result<Option<Event<C, A>>> {
-        self.caller = None;
-        if let Some(ended) = self.failed.take() {
+        self.new_peer = None;
+        if let Some(ended) = self.ended_at_start.take() {
             return Ok(Some(Event::Ended(ended)));
         }
         for _ in 0..u64::MAX {
@@ -148,7 +148,7 @@ impl<'l, C: Conversation + Drop, A: Allocator + Copy> EventLoop<'l, C, A> {
     /// Returns the number of peers whose connection has not ended. A new peer counts once
     /// [`begin`](EventLoop::begin) is called.
     pub fn peer_count(&self) -> usize {
-        self.slots.len().saturating_sub(self.leavers as usize)
+        self.slots.len().saturating_sub(self.closing_count as usize)
     }
 
     /// Closes the listener, and all connections that have not ended.
@@ -169,27 +169,28 @@ impl<'l, C: Conversation + Drop, A: Allocator + Copy> EventLoop<'l, C, A> {
         }
     }
 
-    // Does one step of a round, and returns the event that it causes, if any.
+    // Takes one step of a round, and returns the event that the step causes, if any.
     fn step<R: Clock>(&mut self, rt: &R) -> io::Result<Option<Event<C, A>>> {
-        match self.part {
+        match self.next_step {
             LoopStep::Polls => {
                 self.wait(rt)?;
-                self.part = LoopStep::Moves;
+                self.next_step = LoopStep::Moves;
                 Ok(None)
             }
             LoopStep::Moves => {
-                self.look(rt);
+                self.read_clock(rt);
                 Ok(self.move_one())
             }
             LoopStep::Accepts(left) => {
-                self.look(rt);
+                self.read_clock(rt);
                 self.accept_one(left)
             }
-            LoopStep::GivesUp(key) => Ok(self.give_up_next(key)),
+            LoopStep::TimesOut(key) => Ok(self.time_out_next(key)),
         }
     }
 
-    // Waits until sockets are ready, and stores their keys.
+    // Waits until sockets are ready or the time to wait is over, and stores the keys of the ready
+    // sockets.
     fn wait<R: Clock>(&mut self, rt: &R) -> io::Result<()> {
         let timeout = self.timeout();
         match self.poll.poll(&mut self.events, timeout) {
@@ -198,76 +199,80 @@ impl<'l, C: Conversation + Drop, A: Allocator + Copy> EventLoop<'l, C, A> {
         }
         for event in self.events.iter() {
             match event.token() {
-                LISTENER => self.calls = PendingCalls::Some,
+                LISTENER => self.pending = Pending::Some,
                 Token(key) => self.ready.push(key)?,
             }
         }
         Ok(())
     }
 
-    // Returns the maximum time to wait for a ready socket. Returns `None` if there is no peer and
-    // no pending connection.
+    // Returns the maximum time to wait for a ready socket. Returns `None`, which means no maximum,
+    // if there is no peer and no pending connection.
     fn timeout(&self) -> Option<Duration> {
-        match self.calls {
-            PendingCalls::Some => Some(Duration::ZERO),
-            PendingCalls::None if self.slots.is_empty() => None,
-            PendingCalls::None | PendingCalls::Later => Some(Duration::from_millis(TICK)),
+        match self.pending {
+            Pending::Some => Some(Duration::ZERO),
+            Pending::None if self.slots.is_empty() => None,
+            Pending::None | Pending::Later => Some(Duration::from_millis(TICK)),
         }
     }
 
-    // Reads the clock. If the clock fails, the stored time is unchanged.
-    fn look<R: Clock>(&mut self, rt: &R) {
+    // Stores the current time. If the clock fails, the stored time is unchanged.
+    fn read_clock<R: Clock>(&mut self, rt: &R) {
         if let Ok(now) = Instant::now(rt) {
             self.now = now;
         }
     }
 
-    // Gives one reported socket its turn.
+    // Gives the peer of one reported socket its turn. Returns an event if the turn ended the
+    // connection.
     fn move_one(&mut self) -> Option<Event<C, A>> {
         match self.ready.pop() {
             Some(key) => self.advance(key),
             None => {
-                self.part = LoopStep::Accepts(ACCEPTS);
+                self.next_step = LoopStep::Accepts(ACCEPTS);
                 None
             }
         }
     }
 
-    // Accepts a connection, if one is pending and the limits allow it.
+    // Accepts a connection, if one is pending and the limits allow it. In this round, at most
+    // `left` further connections may be accepted. Returns the event that reports the connection, if
+    // any.
     fn accept_one(&mut self, left: u32) -> io::Result<Option<Event<C, A>>> {
-        if left == 0 || self.is_full() || self.calls == PendingCalls::None {
+        if left == 0 || self.is_full() || self.pending == Pending::None {
             if self.is_full() {
-                self.calls = PendingCalls::None;
+                self.pending = Pending::None;
             }
-            self.part = self.after_accepts();
+            self.next_step = self.after_accepts();
             return Ok(None);
         }
-        self.part = LoopStep::Accepts(left - 1);
+        self.next_step = LoopStep::Accepts(left - 1);
         let accepted = self.accept()?;
-        if self.calls == PendingCalls::Later {
-            self.part = self.after_accepts();
+        if self.pending == Pending::Later {
+            self.next_step = self.after_accepts();
         }
         Ok(accepted)
     }
 
-    // Returns the step of the loop after it accepted connections. The loop checks deadlines only at
-    // intervals.
+    // Returns the step that follows accepting connections: a check for late peers if the time of
+    // the next check has come, and otherwise a poll.
     fn after_accepts(&mut self) -> LoopStep {
-        if self.now < self.next {
+        if self.now < self.next_check {
             return LoopStep::Polls;
         }
         let tick = Duration::from_millis(TICK);
-        self.next = self.now.checked_add(tick).unwrap_or(self.now);
-        LoopStep::GivesUp(0)
+        self.next_check = self.now.checked_add(tick).unwrap_or(self.now);
+        LoopStep::TimesOut(0)
     }
 
-    // Times out the peer at this key, if it is late.
-    fn give_up_next(&mut self, key: usize) -> Option<Event<C, A>> {
+    // Times out the peer at this key, if the peer is late. Returns an event if this ended the
+    // connection.
+    fn time_out_next(&mut self, key: usize) -> Option<Event<C, A>> {
         if key >= self.slots.capacity() {
-            self.part = LoopStep::Polls;
+            self.next_step = LoopStep::Polls;
             return None;
         }
-        self.part = LoopStep::GivesUp(key + 1);
-        self.give_up_one(key)
+        self.next_step = LoopStep::TimesOut(key + 1);
+        self.time_out_one(key)
     }
 }

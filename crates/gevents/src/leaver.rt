@@ -6,8 +6,8 @@ use mio::net::TcpStream;
 use std::io::{ErrorKind, Read};
 use std::time::{Duration, Instant};
 
-// The number of seconds after which the loop closes the socket, even if the peer has not closed its
-// side.
+// The number of seconds after which the loop closes the socket, even if the peer has not closed the
+// connection.
 const SECONDS: u64 = 2;
 
 // The maximum number of bytes of one read.
@@ -22,28 +22,28 @@ const READS: u32 = 64;
 #[derive(Drop)]
 pub(crate) struct ClosingPeer {
     pub(crate) stream: TcpStream,
-    until: Instant,
+    deadline: Instant,
 }
 
 impl ClosingPeer {
-    /// Returns the state of a peer whose connection ends now.
+    /// Returns a peer whose connection ends now.
     pub(crate) fn new(stream: TcpStream, now: Instant) -> ClosingPeer {
         ClosingPeer {
             stream,
-            until: now.checked_add(Duration::from_secs(SECONDS)).unwrap_or(now),
+            deadline: now.checked_add(Duration::from_secs(SECONDS)).unwrap_or(now),
         }
     }
 
-    /// Stops waiting for the peer to close its socket, if the deadline has passed.
-    pub(crate) fn give_up(&self, now: Instant) -> After {
-        if self.until <= now {
+    /// Ends the wait for the peer to close its socket, if the deadline has passed.
+    pub(crate) fn time_out(&self, now: Instant) -> After {
+        if self.deadline <= now {
             After::Ends(End::Over)
         } else {
             After::Waits
         }
     }
 
-    /// Reads and drops the bytes that have arrived.
+    /// Reads and drops bytes that have arrived, with a limited number of reads.
     pub(crate) fn advance(&mut self) -> After {
         let mut piece = [0; PIECE];
         for _ in 0..READS {

@@ -2,18 +2,19 @@
 //!
 //! An [`EventLoop`] accepts peers at a listener and reports each [`Event`]: a peer has connected,
 //! or a connection has ended. The caller starts a conversation with each peer that has connected.
-//! The loop moves bytes between each socket and its conversation when the socket is ready (`mio`).
-//! No peer has to wait until another peer sends or receives.
+//! The loop moves bytes between a socket and its conversation when `mio` reports that the socket is
+//! ready. No peer has to wait until another peer sends or receives.
 //!
-//! - The loop moves bytes of one peer at most 256 times before another peer has its turn.
+//! - A turn of a peer consists of at most 256 steps. In each step the loop sends or receives bytes
+//!   once, or the conversation queues packets. Then another peer has its turn.
 //! - [`Limits`] sets the maximum number of connections, in total and for each IP address. The loop
 //!   reports any further peer as refused.
-//! - Each peer has time limits for its first message, the first byte of a request, the rest of a
-//!   request, receiving bytes, and the whole connection. If a peer sends too late, the loop
-//!   notifies the conversation that the source failed, and the conversation may send its last
-//!   packets. Any other late peer is disconnected. A late peer first has one more turn, because its
-//!   socket may be ready without having been reported yet. A peer whose whole connection lasted too
-//!   long has no further turn.
+//! - Each peer has separate time limits for its first message, for the first byte of each request,
+//!   and for the rest of each request. Further time limits apply to accepting sent bytes, and to
+//!   the whole connection. If a peer sends too late, the loop notifies the conversation that the
+//!   source failed, and the conversation may send its last packets. Any other late peer is
+//!   disconnected. A late peer first has one more turn, because its socket may be ready but not
+//!   reported yet. A peer whose whole connection lasted too long has no further turn.
 //! - A connection allocates memory for received bytes only when the first byte arrives. Before the
 //!   first byte, a connection needs a few hundred bytes and the memory of its conversation. The
 //!   send queue of a connection has room for two packets of the maximum size. The loop frees the
@@ -38,15 +39,15 @@
 //!   (`HearsOnce`). After a successful read the conversation is not notified of a failed source.
 //! - For any writer, exactly the accepted bytes are counted as sent, and removed from the queue of
 //!   pending bytes.
-//! - Only one function notifies a conversation of a failed source. The contract of this function
-//!   states that it does so, but no contract states when it is called.
+//! - Only one private function notifies a conversation of a failed source, as its contract states.
+//!   No contract states when this function is called.
 //! - No call panics, overflows or reads out of bounds, and each call returns.
 //!
 //! # Only tested
 //!
-//! Only tests check how the loop uses sockets and the clock: that it accepts, refuses and times out
-//! peers, and gives each ready peer its turn. The tests run the loop of `gitrepo serve`
-//! (`examples/many-clients.py`, `examples/trouble.py`).
+//! Only tests check how the loop uses sockets and the clock. The tests check that the loop accepts,
+//! refuses and times out peers, and gives each ready peer its turn. The tests run the loop of
+//! `gitrepo serve` (`examples/many-clients.py`, `examples/trouble.py`).
 //!
 //! # What the contracts do not rule out
 //!
@@ -55,13 +56,13 @@
 //! - No contract rules out that a peer never has its turn, or is disconnected at once. No contract
 //!   rules out that a connection is never returned.
 //! - No contract rules out that the loop refuses every peer, fails, or ends at once. No contract
-//!   rules out that it sends nothing to a refused peer.
+//!   rules out that the loop sends nothing to a refused peer.
 //! - No contract rules out that the loop spins, or sleeps while bytes are pending for a peer. No
-//!   contract rules out that it writes an empty slice to a socket, and treats the result 0 as the
-//!   end of the connection.
+//!   contract rules out that the loop writes an empty slice to a socket, and treats the result 0 as
+//!   the end of the connection.
 //! - No contract rules out that the loop times out a peer at any moment, or never. No contract
-//!   rules out that it reports any ended connection as `Lost` or `Overdue`, or reports `Silent`
-//!   instead of `Over`.
+//!   rules out that the loop reports any ended connection as `Lost` or `Overdue`, or reports
+//!   `Silent` instead of `Over`.
 //! - No contract rules out that the loop drops a conversation that was started, or a connection
 //!   between two turns.
 //! - No contract covers the duration of a connection. No contract says that the address of a peer

@@ -6,7 +6,7 @@ use std::time::Duration;
 /// `Duration::MAX` means no limit.
 #[derive(Clone, Copy, Debug, Drop)]
 pub struct Limits {
-    /// The number of connections to accept before the loop ends, or `None` for a loop without end.
+    /// The number of connections to accept before the loop ends, or `None` for no limit.
     pub accepted: Option<u32>,
     /// The maximum number of connections at once.
     pub at_once: usize,
@@ -19,11 +19,11 @@ pub struct Limits {
     pub silence: Duration,
     /// The time limit for the rest of a request, counted from the first byte of the request.
     pub request: Duration,
-    /// The maximum time without progress while bytes are pending for the peer.
+    /// The maximum time during which the peer accepts no byte while bytes are pending for it.
     pub taking: Duration,
     /// The time limit of the whole connection. The field `pace` extends this limit.
     pub whole: Duration,
-    /// The number of sent bytes that extends the time limit `whole` by one second, or 0 for no
+    /// The number of sent bytes that extend the time limit `whole` by one second, or 0 for no
     /// extension.
     pub pace: u64,
 }

@@ -1,4 +1,4 @@
-//! Moving the bytes of one peer, on a nonblocking socket.
+//! Moving bytes between the conversation with a peer and the peer's nonblocking socket.
 
 ghost use Rattle.std.specs.Prelude.{◌≡◌, ◌<◌, ◌≤◌, [], Ok, IfOk, OnErr, Some, drop, length, take};
 ghost use Rattle.std.specs.Io.KnownBytes.{Consumes, IsAtEnd, Keeps};
@@ -21,17 +21,18 @@ use std::time::Instant;
 // The maximum number of bytes of one read.
 const PIECE: usize = 4_096;
 
-// The maximum number of moves of one peer before another peer has its turn.
+// The maximum number of steps in one turn of a peer. A step sends or receives bytes once, or makes
+// the conversation queue packets.
 const MOVES: u32 = 256;
 
-// The maximum number of calls that queue packets in a turn, not counting the call that ends the
-// turn.
-const SAYINGS: u32 = 16;
+// The number of steps of a turn that may queue packets without ending the turn. The next such step
+// ends the turn.
+const SPEAK_CALLS: u32 = 16;
 
 /// The state of a peer after its turn.
 #[derive(Clone, Copy)]
 pub(crate) enum After {
-    /// The peer waits until its socket is ready.
+    /// No bytes can be moved until the socket of the peer is ready.
     Waits,
     /// More bytes can be moved immediately.
     GoesOn,
@@ -39,13 +40,13 @@ pub(crate) enum After {
     Ends(End),
 }
 
-// One move of bytes.
+// The outcome of one step of a turn.
 enum Move {
     // Bytes were sent, or the conversation was notified of a failed source.
     Moved,
     // Bytes or the end of the input were received.
     Heard,
-    // The conversation was asked to queue packets.
+    // The conversation queued packets, perhaps none.
     Spoke,
     // The socket would block.
     Blocked,
@@ -60,12 +61,12 @@ impl<C: Conversation, A: Allocator + Copy> Peer<C, A> {
     pub(crate) fn advance(&mut self, now: Instant, limits: &Limits) -> After
         ensures { EndsBy C.turn self.new.connection result }
     {
-        let mut said = 0;
+        let mut speak_calls = 0;
         for _ in 0..MOVES {
             match self.step(now, limits) {
-                Move::Heard if said > 0 => return After::GoesOn,
-                Move::Spoke if said >= SAYINGS => return After::GoesOn,
-                Move::Spoke => said += 1,
+                Move::Heard if speak_calls > 0 => return After::GoesOn,
+                Move::Spoke if speak_calls >= SPEAK_CALLS => return After::GoesOn,
+                Move::Spoke => speak_calls += 1,
                 Move::Moved | Move::Heard => {}
                 Move::Blocked => return After::Waits,
                 Move::Ended(end) => return After::Ends(end),
@@ -75,9 +76,9 @@ impl<C: Conversation, A: Allocator + Copy> Peer<C, A> {
     }
 
     /// Times out the peer, if it is late. First gives the peer one more turn, because its socket
-    /// may be ready without having been reported yet. Gives no further turn if the whole connection
-    /// lasted too long.
-    pub(crate) fn give_up(&mut self, now: Instant, limits: &Limits) -> After
+    /// may be ready but not reported yet. Gives no further turn if the whole connection lasted too
+    /// long.
+    pub(crate) fn time_out(&mut self, now: Instant, limits: &Limits) -> After
         ensures { EndsBy C.turn self.new.connection result }
     {
         if self.patience.is_overdue(now, limits, self.sent) {
@@ -88,14 +89,14 @@ impl<C: Conversation, A: Allocator + Copy> Peer<C, A> {
         }
         match self.advance(now, limits) {
             After::Ends(end) => After::Ends(end),
-            _ if self.patience.is_late(now) => self.give_up_late(now, limits),
+            _ if self.patience.is_late(now) => self.time_out_late(now, limits),
             after => after,
         }
     }
 
     // Times out a late peer. If the peer was expected to send, the conversation is notified and may
     // queue its last packets.
-    fn give_up_late(&mut self, now: Instant, limits: &Limits) -> After
+    fn time_out_late(&mut self, now: Instant, limits: &Limits) -> After
         ensures { EndsBy C.turn self.new.connection result }
     {
         if !self.connection.output().is_empty() {
@@ -134,7 +135,7 @@ impl<C: Conversation, A: Allocator + Copy> Peer<C, A> {
         (ended, stream)
     }
 
-    // Sends or receives bytes once, or asks the conversation to queue packets.
+    // Sends or receives bytes once, or makes the conversation queue packets.
     fn step(&mut self, now: Instant, limits: &Limits) -> Move
         ensures { EndsByMove C.turn self.new.connection result }
     {
@@ -191,7 +192,7 @@ impl<C: Conversation, A: Allocator + Copy> Peer<C, A> {
                 self.patience.note_received(now, limits);
                 Move::Heard
             }
-            Err(error) if is_passing(error.kind()) => {
+            Err(error) if is_temporary(error.kind()) => {
                 self.rest();
                 failed_move(error.kind())
             }
@@ -224,11 +225,11 @@ impl<C: Conversation, A: Allocator + Copy> Peer<C, A> {
 }
 
 // Returns whether a call that failed with this error may be repeated later.
-fn is_passing(kind: ErrorKind) -> bool {
+fn is_temporary(kind: ErrorKind) -> bool {
     matches!(kind, ErrorKind::WouldBlock | ErrorKind::Interrupted)
 }
 
-// Returns the move for a call that failed with this error.
+// Returns the outcome of a step in which reading or writing the socket failed with this error.
 fn failed_move(kind: ErrorKind) -> Move
     ensures { LosesAtMost result }
 {
@@ -239,7 +240,7 @@ fn failed_move(kind: ErrorKind) -> Move
     }
 }
 
-// Returns the number of bytes that a write accepted.
+// Returns the number of bytes that a write accepted, or 0 if the write failed.
 fn written_count(written: &io::Result<usize>) -> usize
     ensures { result ≡ written_count written.now }
 {
@@ -249,8 +250,8 @@ fn written_count(written: &io::Result<usize>) -> usize
     }
 }
 
-// Writes the pending bytes once, and removes those that the writer accepted. After a failed write,
-// all pending bytes remain.
+// Writes the pending bytes with one call, and removes the bytes that the writer accepted. After a
+// failed write, all pending bytes remain.
 fn write_some<C: Conversation, A: Allocator + Copy, W: Write>(
     connection: &mut Connection<C, A>,
     writer: &mut W,
@@ -271,8 +272,8 @@ fn write_some<C: Conversation, A: Allocator + Copy, W: Write>(
     }
 }
 
-// Reads once, at most up to the end of the current packet. The connection receives the bytes, or
-// the end of the input.
+// Reads once, at most up to the end of the current packet. The connection receives the bytes that
+// were read, or the end of the input.
 fn read_some<C: Conversation, A: Allocator + Copy, R: Read>(
     connection: &mut Connection<C, A>,
     reader: &mut R,

@@ -3,36 +3,35 @@
 use crate::limits::Limits;
 use std::time::{Duration, Instant};
 
-// The action that the loop expects next from a peer.
+// The action that is expected next from a peer.
 #[derive(Clone, Copy, PartialEq, Eq)]
-enum Due {
-    // Send all packets that precede the first answer.
-    FirstLine,
-    // Send the first byte of a request.
+enum Expected {
+    // The peer sends all packets that precede the first answer.
+    FirstMessage,
+    // The peer sends the first byte of a request.
     Request,
-    // Send the rest of a request.
-    Rest,
-    // Accept bytes.
-    Take,
+    // The peer sends the rest of a request.
+    RestOfRequest,
+    // The peer accepts bytes.
+    AcceptBytes,
 }
 
-/// The action expected next from a peer, and its deadline.
+/// The action that is expected next from a peer, and the deadline of the action.
 #[derive(Clone, Copy)]
 pub(crate) struct Patience {
     began: Instant,
-    due: Due,
+    expected: Expected,
     // The deadline, or `None` if it is outside the range of the clock.
-    until: Option<Instant>,
+    deadline: Option<Instant>,
 }
 
 impl Patience {
-    /// Returns the state of a peer that connects now. The first message of the peer is expected
-    /// next.
+    /// Returns the state of a peer that connects now: its first message is expected.
     pub(crate) fn new(now: Instant, limits: &Limits) -> Patience {
         Patience {
             began: now,
-            due: Due::FirstLine,
-            until: after(now, limits.first_line),
+            expected: Expected::FirstMessage,
+            deadline: after(now, limits.first_line),
         }
     }
 
@@ -43,37 +42,37 @@ impl Patience {
 
     /// Records that bytes are expected from the peer from now on.
     pub(crate) fn listens(&mut self, now: Instant, limits: &Limits) {
-        if self.due == Due::Take {
-            self.due = Due::Request;
-            self.until = after(now, limits.silence);
+        if self.expected == Expected::AcceptBytes {
+            self.expected = Expected::Request;
+            self.deadline = after(now, limits.silence);
         }
     }
 
     /// Records that bytes arrived from the peer.
     pub(crate) fn note_received(&mut self, now: Instant, limits: &Limits) {
-        if self.due == Due::Request {
-            self.due = Due::Rest;
-            self.until = after(now, limits.request);
+        if self.expected == Expected::Request {
+            self.expected = Expected::RestOfRequest;
+            self.deadline = after(now, limits.request);
         }
     }
 
     /// Records that bytes are to be sent to the peer.
     pub(crate) fn speaks(&mut self, now: Instant, limits: &Limits) {
-        if self.due != Due::Take {
+        if self.expected != Expected::AcceptBytes {
             self.note_sent(now, limits);
         }
     }
 
     /// Records that bytes were sent to the peer.
     pub(crate) fn note_sent(&mut self, now: Instant, limits: &Limits) {
-        self.due = Due::Take;
-        self.until = after(now, limits.taking);
+        self.expected = Expected::AcceptBytes;
+        self.deadline = after(now, limits.taking);
     }
 
     /// Returns whether the deadline of the expected action has passed.
     pub(crate) fn is_late(&self, now: Instant) -> bool {
-        match self.until {
-            Some(until) => until <= now,
+        match self.deadline {
+            Some(deadline) => deadline <= now,
             None => false,
         }
     }
@@ -86,7 +85,7 @@ impl Patience {
     }
 }
 
-// Returns the moment after this duration, if the clock can represent it.
+// Returns the time at the end of this duration, or `None` if the clock can't represent that time.
 fn after(now: Instant, time: Duration) -> Option<Instant> {
     now.checked_add(time)
 }

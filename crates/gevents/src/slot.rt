@@ -17,13 +17,13 @@ use std::alloc::Allocator;
 use std::net::Shutdown;
 use std::time::Instant;
 
-// The maximum number of ended connections whose sockets the loop keeps open.
-const LEAVERS: u32 = 256;
+// The maximum number of sockets that the loop keeps open after their connections have ended.
+const MAX_CLOSING: u32 = 256;
 
-/// A slot: a peer with a socket.
+/// A slot of the loop: a peer with an open socket.
 #[derive(Drop)]
 pub(crate) enum Slot<C: Conversation, A: Allocator + Copy> {
-    /// A peer with a conversation.
+    /// A peer whose connection has not ended.
     Talks(Peer<C, A>),
     /// A peer whose connection has ended.
     Leaves(ClosingPeer),
@@ -33,7 +33,7 @@ impl<C: Conversation, A: Allocator + Copy> Slot<C, A> {
     fn stream(&mut self) -> &mut TcpStream {
         match self {
             Slot::Talks(peer) => &mut peer.stream,
-            Slot::Leaves(leaver) => &mut leaver.stream,
+            Slot::Leaves(closing) => &mut closing.stream,
         }
     }
 
@@ -43,31 +43,32 @@ impl<C: Conversation, A: Allocator + Copy> Slot<C, A> {
     {
         match self {
             Slot::Talks(peer) => peer.advance(now, limits),
-            Slot::Leaves(leaver) => leaver.advance(),
+            Slot::Leaves(closing) => closing.advance(),
         }
     }
 
     // Times out the peer, if it is late.
-    fn give_up(&mut self, now: Instant, limits: &Limits) -> After
+    fn time_out(&mut self, now: Instant, limits: &Limits) -> After
         ensures { EndsSlot C.turn self.new result }
     {
         match self {
-            Slot::Talks(peer) => peer.give_up(now, limits),
-            Slot::Leaves(leaver) => leaver.give_up(now),
+            Slot::Talks(peer) => peer.time_out(now, limits),
+            Slot::Leaves(closing) => closing.time_out(now),
         }
     }
 }
 
 impl<C: Conversation + Drop, A: Allocator + Copy> EventLoop<'_, C, A> {
-    /// Gives the peer at this key its turn.
+    /// Gives the peer at this key its turn. Returns an event if the turn ended the connection.
     pub(crate) fn advance(&mut self, key: usize) -> Option<Event<C, A>> {
         let after = advance_at(&mut self.slots, key, self.now, self.limits);
         self.settle(key, after)
     }
 
-    /// Times out the peer at this key, if it is late.
-    pub(crate) fn give_up_one(&mut self, key: usize) -> Option<Event<C, A>> {
-        let after = give_up_at(&mut self.slots, key, self.now, self.limits);
+    /// Times out the peer at this key, if it is late. Returns an event if this ended the
+    /// connection.
+    pub(crate) fn time_out_one(&mut self, key: usize) -> Option<Event<C, A>> {
+        let after = time_out_at(&mut self.slots, key, self.now, self.limits);
         self.settle(key, after)
     }
 
@@ -84,7 +85,8 @@ impl<C: Conversation + Drop, A: Allocator + Copy> EventLoop<'_, C, A> {
         }
     }
 
-    // Returns the connection of the peer at this key, if this turn ended the connection.
+    // Returns the connection of the peer at this key if this turn ended the connection, and
+    // otherwise `None`.
     fn end_of_turn(&mut self, key: usize, after: After) -> Option<Ended<C, A>>
         requires { EndsAt C.turn (get self.old.slots key) after }
         ensures { HandsOutAfter (get self.old.slots key) after result }
@@ -97,7 +99,8 @@ impl<C: Conversation + Drop, A: Allocator + Copy> EventLoop<'_, C, A> {
         }
     }
 
-    /// Asks the system to report the socket when it is ready, even if it is ready now.
+    /// Asks the system to report the socket at this key when the socket is ready, even if it is
+    /// ready now. Returns whether the system accepted the request.
     pub(crate) fn watch(&mut self, key: usize, is_new: bool) -> bool {
         let Some(slot) = self.slots.get_mut(key) else {
             return false;
@@ -112,8 +115,9 @@ impl<C: Conversation + Drop, A: Allocator + Copy> EventLoop<'_, C, A> {
         watched.is_ok()
     }
 
-    /// Removes a peer, and returns its connection. If the conversation is done, the loop then waits
-    /// for the peer to close its socket.
+    /// Removes the peer at this key. Returns its connection, or `None` if that connection had ended
+    /// earlier. If the connection ends because the conversation is done, the loop then waits for
+    /// the peer to close its socket.
     pub(crate) fn part_with(&mut self, key: usize, end: End) -> Option<Ended<C, A>>
         requires { EndsAt C.turn (get self.old.slots key) (After.Ends end) }
         ensures { HandsOut (get self.old.slots key) end result }
@@ -123,12 +127,12 @@ impl<C: Conversation + Drop, A: Allocator + Copy> EventLoop<'_, C, A> {
                 self.addresses.remove(peer.address.ip());
                 let (ended, stream) = peer.end(end, self.now);
                 if matches!(end, End::Over | End::Silent) {
-                    self.let_leave(stream, false);
+                    self.close_gracefully(stream, false);
                 }
                 Some(ended)
             }
             Some(Slot::Leaves(_)) => {
-                self.leavers = self.leavers.saturating_sub(1);
+                self.closing_count = self.closing_count.saturating_sub(1);
                 None
             }
             None => None,
@@ -136,17 +140,17 @@ impl<C: Conversation + Drop, A: Allocator + Copy> EventLoop<'_, C, A> {
     }
 
     /// Shuts down the sending side of a socket, and keeps the socket until the peer closes its
-    /// side. If the loop already waits for too many peers to close their sockets, it closes this
-    /// socket immediately.
-    pub(crate) fn let_leave(&mut self, stream: TcpStream, is_new: bool) {
+    /// side. If the loop already waits for too many peers to close their sockets, the loop closes
+    /// this socket immediately.
+    pub(crate) fn close_gracefully(&mut self, stream: TcpStream, is_new: bool) {
         let _ = stream.shutdown(Shutdown::Write);
-        let mut leaver = ClosingPeer::new(stream, self.now);
-        if self.leavers >= LEAVERS || matches!(leaver.advance(), After::Ends(_)) {
+        let mut closing = ClosingPeer::new(stream, self.now);
+        if self.closing_count >= MAX_CLOSING || matches!(closing.advance(), After::Ends(_)) {
             return;
         }
-        if let Ok(key) = self.slots.insert(Slot::Leaves(leaver)) {
+        if let Ok(key) = self.slots.insert(Slot::Leaves(closing)) {
             if self.watch(key, is_new) {
-                self.leavers = self.leavers.saturating_add(1);
+                self.closing_count = self.closing_count.saturating_add(1);
             } else {
                 let _ = self.slots.try_remove(key);
             }
@@ -170,7 +174,7 @@ fn advance_at<C: Conversation, A: Allocator + Copy>(
 }
 
 // Times out the peer at this key, if it is late.
-fn give_up_at<C: Conversation, A: Allocator + Copy>(
+fn time_out_at<C: Conversation, A: Allocator + Copy>(
     slots: &mut Slab<Slot<C, A>, A>,
     key: usize,
     now: Instant,
@@ -179,7 +183,7 @@ fn give_up_at<C: Conversation, A: Allocator + Copy>(
     ensures { EndsAt C.turn (get slots.new key) result }
 {
     match slots.get_mut(key) {
-        Some(slot) => slot.give_up(now, limits),
+        Some(slot) => slot.time_out(now, limits),
         None => After::Waits,
     }
 }

@@ -34,7 +34,7 @@ pub data FetchReply : Type 0 where
   Pack : (pack : Bytes) → FetchReply
 
 -- the parameters of reading a reply: the limits on acknowledged ids, the id format, whether the reply starts with the
--- pack, the pack's size limit, and the last packet
+-- pack, the pack's size limit, and the packets that end the reply
 pub record Reading : Type 0 where
   pub limits : Limits
   pub format : Format
@@ -42,7 +42,7 @@ pub record Reading : Type 0 where
   pub limit : ℕ
   pub ends : Ends
 
--- the maximum number of packets in the section of a pack; also the maximum number of acknowledged ids, whatever the
+-- the maximum number of packets in the section of a pack; also the maximum number of acknowledged ids, even with higher
 -- limits
 abbrev pub max_packets : ℕ
 max_packets = 4294967295
@@ -76,17 +76,17 @@ reply_form line =
 pub data Point : Type 0 where
   -- the heading of the acknowledgments is expected
   Start : Point
-  -- after the heading of the acknowledgments, and after acknowledged ids
+  -- the heading of the acknowledgments was read, and possibly acknowledged ids
   Acking : Point
-  -- after NAK, which means that no id is common
+  -- NAK was read, which means that no have is common; a flush is expected
   AfterNak : Point
-  -- after `ready`, where the delimiter is expected
+  -- `ready` was read; the delimiter is expected
   AfterReady : Point
   -- the heading of the pack is expected
   BeforePack : Point
-  -- within the section of the pack, after its heading
+  -- the heading of the pack was read, and possibly some of the pack
   InPack : Point
-  -- a response-end is expected
+  -- the flush was read; only a response-end may follow
   Over : Point
 
 abbrev pub first_place : Bool → Point

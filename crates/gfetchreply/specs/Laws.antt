@@ -24,27 +24,28 @@ HasShortEndings reading = (front : List Packet) → IsOpen (judge reading) front
 
 -- ---- reading the same packets with different parameters
 
--- Consider two readings with the same id format and the same `ends`. If a list of packets is a reply in one reading and
--- a prefix of it is a reply in the other, both lists and both replies are equal.
+-- Consider two sets of parameters, `reading` and `other`, with the same id format and the same `ends`. Suppose that a
+-- list of packets is read as a reply with the parameters `other`, and a prefix of this list is read as a reply with
+-- `reading`. Then both lists and both replies are equal.
 abbrev pub OneInWhateverReading : Type 0
 OneInWhateverReading =
     (reading other : Reading) (packets back : List Packet) (one also : FetchReply) → other.format ≡ reading.format
     → other.ends ≡ reading.ends → Says reading packets one → Says other (packets ++ back) also
     → (back ≡ []) × (also ≡ one)
 
--- a reply is accepted under any size limit that is at least the length of its pack
+-- an accepted reply is also accepted under any other size limit that is at least the length of its pack
 abbrev pub IsInAnyLimit : Type 0
 IsInAnyLimit =
     (reading : Reading) (limit : ℕ) (packets : List Packet) (reply : FetchReply) → Says reading packets reply
     → length (pack_of reply) ≤ limit → Says (record reading { limit = limit }) packets reply
 
--- a reply is accepted under any limit that is at least the number of its acknowledged ids
+-- an accepted reply is also accepted under any other limits that allow the number of its acknowledged ids
 abbrev pub IsInAnyLimits : Type 0
 IsInAnyLimits =
     (reading : Reading) (limits : Limits) (packets : List Packet) (reply : FetchReply) → Says reading packets reply
     → length (acknowledged_by reply) ≤ max_acks limits → Says (record reading { limits = limits }) packets reply
 
--- if another size limit or other limits cause a reply to be refused because of its content, the fault is `Limit`
+-- if a reply is accepted under some limits and refused under others because of its content, the fault is `Limit`
 abbrev pub IsRefusedOverLimit : Type 0
 IsRefusedOverLimit =
     (reading : Reading) (limit : ℕ) (limits : Limits) (packets front : List Packet) (reply : FetchReply)
@@ -63,8 +64,8 @@ module _ {S : Type 0} (taken : S → Bytes → Type 0) where
     pub left : new ≡ rest
     pub pack : (before : Bytes) → taken old before → taken sink (before ++ pack_of reply)
 
-  -- A reply is read if the bytes begin with packets that encode it. The law does not apply if memory runs out, the
-  -- source fails, or the reader had failed before.
+  -- A reply is read if the input begins with packets that encode the reply. The law does not apply if memory runs out,
+  -- the source fails, or the reader had failed before.
   abbrev pub ReadsIntoWhereSaid : Bool → Reading → Type 0
   ReadsIntoWhereSaid refuses reading =
       (bytes new rest : Bytes) (old sink : S) (result : Result FetchHead MessageFault) (reply : FetchReply)
@@ -72,7 +73,7 @@ module _ {S : Type 0} (taken : S → Bytes → Type 0) where
       → IfErr result (λ fault. IsOfBytes fault.why) → SaysAtFront (Says reading) bytes rest reply
       → HasReadInto rest new old sink result reply
 
-  -- a reply is read only if the bytes begin with packets that encode it
+  -- a reply is read only if the input begins with packets that encode the reply
   abbrev pub ReadsIntoOnlySaid : Reading → Type 0
   ReadsIntoOnlySaid reading =
       (bytes new : Bytes) (old sink : S) (head : FetchHead)
@@ -80,8 +81,8 @@ module _ {S : Type 0} (taken : S → Bytes → Type 0) where
       → (reply : FetchReply) × SaysAtFront (Says reading) bytes new reply
       × HasReadInto new new old sink (Ok head) reply
 
-  -- A well-formed reply that was written reads back, whatever bytes follow. The law does not apply if memory runs out,
-  -- the source fails, or the reader had failed before.
+  -- A well-formed reply that was written reads back, even if other bytes follow. The law does not apply if memory runs
+  -- out, the source fails, or the reader had failed before.
   abbrev pub ReadsBackInto : Bool → Reading → Type 0
   ReadsBackInto refuses reading =
       (rest new : Bytes) (old sink : S) (result : Result FetchHead MessageFault) (reply : FetchReply)

@@ -9,8 +9,8 @@ use Rattle.gfetchreply.specs.FetchReplies.{Reading, FetchReply, Says, band_paylo
 use Rattle.gfetchreply.specs.FetchHeads.{FetchHead, head_of, pack_of}
 
 module _ {S : Type 0} (taken : S → Bytes → Type 0) where
-  -- a complete reply is read; the result is the head of the reply, and the sink accepted the pack after its previous
-  -- bytes
+  -- a complete reply is read; the result is the head of the reply, and the sink accepted the pack after any bytes that
+  -- it had accepted before
   pub record TakesReply (reading : Reading) (bytes : Change) (had : Bytes → Type 0) (sink : S) (head : FetchHead)
       : Type 0 where
     pub reply : FetchReply

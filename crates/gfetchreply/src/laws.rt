@@ -1,5 +1,5 @@
-//! Laws about fetch replies: each function does nothing, and its contract proves a law. A caller
-//! may rely on a law after calling its function.
+//! Laws about fetch replies. Each function does nothing at run time, and its contract states the
+//! law. The proof of a function that calls a law can use this law.
 
 ghost use Rattle.std.specs.Prelude.{◌≡◌, ◌≤◌};
 ghost use Rattle.ggrammar.specs.Grammar.{HasEndings, IsPrefixFree, RefusesFirstMisfits};
@@ -20,8 +20,8 @@ use ggrammar::laws::{grammars_are_exact, kinds_are_read, messages_are_read};
 use gname::laws::{ids_have_one_format, ids_have_texts};
 use gpkt::laws::text_reads_back;
 
-// The kind of message "fetch reply", with the parameters of reading and whether the sink may refuse
-// a piece.
+// The kind of message "fetch reply", with two parameters: whether the sink may refuse a piece, and
+// the parameters of reading.
 struct Replies;
 
 impl MessageKind for Replies {
@@ -51,7 +51,7 @@ pub fn limits_are_the_constants()
 {}
 
 /// Proves that a list of packets is read as a reply exactly if Git's manual and the limits allow
-/// the list. The list has the meaning that the manual states (gitprotocol-v2(5), "fetch").
+/// the list. The reply has the contents that the manual states (gitprotocol-v2(5), "fetch").
 pub fn manual()
     ensures { (reading : Reading) → AsInManual (Says reading) (IsFetchReply reading) }
 {}
@@ -74,7 +74,7 @@ pub fn prefix_free()
 }
 
 /// Proves that each unfinished reply can be completed with at most four packets, and that a
-/// rejected packet is the first that does not fit.
+/// rejected packet is the first that fits no reply.
 pub fn endings()
     ensures endings { (reading : Reading) → HasEndings (judge reading) }
     ensures short { (reading : Reading) → HasShortEndings reading }
@@ -83,7 +83,7 @@ pub fn endings()
     grammars_are_exact();
 }
 
-/// Proves that a packet is rejected only because of its content. Every byte sequence begins with a
+/// Proves that the grammar rejects a packet only because of its content. Every input begins with a
 /// reply, or is rejected because of its content.
 pub fn every_input()
     ensures packets { (reading : Reading) → RefusesPackets (judge reading) }
@@ -93,9 +93,9 @@ pub fn every_input()
     messages_are_read();
 }
 
-/// Proves that the packets written for a reply encode it, and that each payload fits a packet. The
-/// reply must be well-formed and within the reader's limits (`IsReplyIn`). The reader's size limit
-/// must be the value of some [`StreamLimit`](crate::StreamLimit).
+/// Proves that the packets written for a reply encode this reply, and that each payload fits a
+/// packet. The reply must be well-formed and within the reader's limits (`IsReplyIn`). The reader's
+/// size limit must be the value of some [`StreamLimit`](crate::StreamLimit).
 pub fn canonical_says()
     ensures { (reading : Reading) → reading.limit ≤ max_stream
         → CanonicalSays (Says reading) (IsReplyIn reading) (IsCanonical reading.ends) }
@@ -105,8 +105,8 @@ pub fn canonical_says()
     text_reads_back();
 }
 
-/// Proves that [`crate::read_fetch_reply_in`] reads a reply exactly if the bytes begin with packets
-/// that encode it.
+/// Proves that [`crate::read_fetch_reply_in`] reads a reply exactly if the input begins with
+/// packets that encode this reply.
 pub fn reads_exactly()
     ensures { (reading : Reading) → ReadsExactly (judge reading) (brings reading) (Says reading) }
 {
@@ -114,10 +114,10 @@ pub fn reads_exactly()
     kinds_are_read::<Replies>();
 }
 
-/// Proves that a written reply reads back, whatever bytes follow. The reply must be well-formed for
-/// the reader (`IsReplyIn`). In particular, the pack must be within the reader's size limit, and
-/// the number of acknowledged ids within the reader's limits. The reader's size limit must be the
-/// value of some [`StreamLimit`](crate::StreamLimit).
+/// Proves that a written reply reads back unchanged, even if other bytes follow. The reply must be
+/// well-formed for the reader (`IsReplyIn`). In particular, the pack must be within the reader's
+/// size limit, and the number of acknowledged ids within the reader's limits. The reader's size
+/// limit must be the value of some [`StreamLimit`](crate::StreamLimit).
 pub fn reads_back()
     ensures { (reading : Reading) → reading.limit ≤ max_stream
         → ReadsBack (judge reading) (brings reading) (Says reading) (IsReplyIn reading)
@@ -129,7 +129,7 @@ pub fn reads_back()
 }
 
 /// Proves that [`crate::read_fetch_reply_into_in`] reads a reply and passes its pack to a sink
-/// exactly if the bytes begin with packets that encode it.
+/// exactly if the input begins with packets that encode this reply.
 pub fn reads_into_exactly<T: PackSink>()
     ensures said { (reading : Reading) → ReadsIntoWhereSaid T.taken T.refuses reading }
     ensures only { (reading : Reading) → ReadsIntoOnlySaid T.taken reading }
@@ -138,8 +138,8 @@ pub fn reads_into_exactly<T: PackSink>()
     kinds_are_read::<Replies>();
 }
 
-/// Proves that a written reply reads back with its pack passed to a sink, whatever bytes follow.
-/// The conditions are those of [`reads_back`].
+/// Proves that a written reply reads back unchanged with its pack passed to a sink, even if other
+/// bytes follow. The conditions are those of [`reads_back`].
 pub fn reads_back_into<T: PackSink>()
     ensures { (reading : Reading) → reading.limit ≤ max_stream
         → ReadsBackInto T.taken T.refuses reading }
@@ -150,10 +150,11 @@ pub fn reads_back_into<T: PackSink>()
 }
 
 /// Proves that reading the same packets for another request or with other limits never returns a
-/// different reply. The format of the ids and the end of the reply must be the same. A reply is
-/// accepted under any size limit that is at least the length of its pack. A reply is accepted under
-/// any limit that is at least the number of its acknowledged ids. If other limits cause a reply to
-/// be refused because of its content, the fault is `Limit`.
+/// different reply. The format of the ids and the packets that end the reply must be the same. An
+/// accepted reply is also accepted under any other size limit that is at least the length of its
+/// pack. The same is true for any other limit on haves that is at least the number of the
+/// acknowledged ids. If a reply is accepted under some limits and refused under others because of
+/// its content, the fault is `Limit`.
 pub fn other_readings()
     ensures whatever_reading { OneInWhateverReading }
     ensures any_limit { IsInAnyLimit }

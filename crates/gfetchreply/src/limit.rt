@@ -10,7 +10,7 @@ use std::marker::Model;
 /// The maximum of a [`StreamLimit`] in bytes.
 pub const MAX_STREAM: usize = 4_294_967_295;
 
-// The default limit in bytes.
+// The default of a [`PackLimit`] and of a [`StreamLimit`], in bytes.
 const DEFAULT_LIMIT: usize = 16_777_216;
 
 /// The maximum length of a pack to read, in bytes, at most [`MAX_PACK`].
@@ -135,7 +135,7 @@ impl Default for StreamLimit {
     }
 }
 
-/// The limit has the same number of bytes.
+/// Converts the limit, and keeps its number of bytes.
 impl From<PackLimit> for StreamLimit {
     ghost from_gives = { λ limit stream. stream ≡ limit };
 

@@ -33,7 +33,7 @@ use std::marker::{Brand, PhantomData};
 /// and [`PackLimit`] if the pack is stored in memory.
 #[derive(Clone, Copy, Debug, PartialEq, Eq)]
 pub struct FetchReading<K> {
-    /// The limits on the reply. Only `haves` matters: it limits the number of acknowledged ids. A
+    /// The limits on the reply. Only `haves` matters, as the maximum number of acknowledged ids. A
     /// limit above 4,294,967,295 counts as 4,294,967,295.
     pub limits: Limits,
     /// The format of the ids.
@@ -42,37 +42,40 @@ pub struct FetchReading<K> {
     pub direct: bool,
     /// The maximum length of the pack in bytes.
     pub limit: K,
-    /// The packet that ends the reply.
+    /// The packets that end the reply.
     pub ends: Ends,
 }
 
-// Ghost members that describe one call that reads a reply: the parameters, the address of the
-// borrowed sink, and the sink's bytes and state before the call. The proof of a call that uses the
-// type `Brand` chooses these members in `Invariants.antt`. The members belong to a type because the
-// trait `Message` describes only a reader and its packets.
+// Ghost values that describe one call that reads a reply. The values are members of a type, since
+// the contract of the trait `Message` mentions only a reader and its packets. The proof of each
+// call chooses the values for the type `Brand`, in `Invariants.antt`.
 trait Lent<T> {
     ghost use Rattle.gfetchreply.specs.FetchReplies.{Reading};
 
-    ghost asked: { Reading };
+    // The parameters of reading.
+    ghost reading: { Reading };
 
-    ghost seat: { ℕ };
+    // The address of the borrowed sink.
+    ghost address: { ℕ };
 
-    ghost had: { List ℕ → Type 0 };
+    // Whether the sink had accepted exactly these bytes before the call.
+    ghost accepted_before: { List ℕ → Type 0 };
 
-    ghost starts: { T → Type 0 };
+    // Whether the sink was in this state before the call.
+    ghost state_before: { T → Type 0 };
 }
 
-// Placeholder values that no call uses.
+// Placeholders. The proof of each call chooses other values.
 impl<T> Lent<T> for Brand {
     ghost use Rattle.gfetchreply.specs.steps.Views.{no_reading};
 
-    ghost asked = { no_reading };
+    ghost reading = { no_reading };
 
-    ghost seat = { 0 };
+    ghost address = { 0 };
 
-    ghost had = { λ _. ⊥ };
+    ghost accepted_before = { λ _. ⊥ };
 
-    ghost starts = { λ _. ⊥ };
+    ghost state_before = { λ _. ⊥ };
 }
 
 // A reply that is being read: the contents of its packets, and the sink that accepts the pack's
@@ -86,7 +89,7 @@ struct ReplyReader<'s, T, A: Allocator + Copy, L> {
 }
 
 impl<'s, T: PackSink, A: Allocator + Copy, L: Lent<T>> ReplyReader<'s, T, A, L> {
-    // Returns the state before the first packet of a reply.
+    // Returns a reader that has not read any packet yet.
     fn new(
         alloc: A,
         reading: FetchReading<StreamLimit>,
@@ -119,7 +122,7 @@ impl<'s, T: PackSink, A: Allocator + Copy, L: Lent<T>> ReplyReader<'s, T, A, L> 
             (data_there (place_in self.old.sections.place) (packet_of line.entry))
             self.old.sink.now self.new.sink.now result }
     {
-        // Laws.
+        // Laws that the proof uses.
         T::laws();
         match line {
             Packet::Data(payload) => self.take_payload(payload),
@@ -143,10 +146,10 @@ impl<'s, T: PackSink, A: Allocator + Copy, L: Lent<T>> ReplyReader<'s, T, A, L> 
             (data_there (place_in self.old.sections.place) (Data payload.now)) self.old.sink.now
             self.new.sink.now result }
     {
-        // Laws.
+        // Laws that the proof uses.
         T::laws();
-        if let Some(said) = peer_error(payload) {
-            return Err(Why::RemoteErr(PeerText::new(said)));
+        if let Some(error) = peer_error(payload) {
+            return Err(Why::RemoteErr(PeerText::new(error)));
         }
         let form = reply_form(text_of(payload));
         match self.sections.place {
@@ -170,12 +173,12 @@ impl<'s, T: PackSink, A: Allocator + Copy, L: Lent<T>> ReplyReader<'s, T, A, L> 
             (kept_in self.new.sections)
             (data_in (band_form payload.now)) self.old.sink.now self.new.sink.now result }
     {
-        // Laws.
+        // Laws that the proof uses.
         T::laws();
         match band_of(payload) {
             Ok(Band::Data(bytes)) => self.take_data(bytes),
             Ok(Band::Progress(_)) => self.sections.take_progress(),
-            Ok(Band::Fatal(said)) => Err(Why::RemoteFatal(PeerText::new(said))),
+            Ok(Band::Fatal(error)) => Err(Why::RemoteFatal(PeerText::new(error))),
             Err(fault) => Err(Why::Band(fault)),
         }
     }
@@ -190,7 +193,7 @@ impl<'s, T: PackSink, A: Allocator + Copy, L: Lent<T>> ReplyReader<'s, T, A, L> 
             (with_band (kept_in self.old.sections) (length bytes.now)) (kept_in self.new.sections)
             bytes.now self.old.sink.now self.new.sink.now result }
     {
-        // Laws.
+        // Laws that the proof uses.
         T::laws();
         let total = match self.sections.with_room(self.reading.limit, bytes.len()) {
             Some(total) => total,
@@ -213,16 +216,16 @@ impl<T: PackSink, A: Allocator + Copy, L: Lent<T>> Message for ReplyReader<'_, T
 
     ghost brings = { λ reader. brings_into T.refuses (reading_in reader.reading) };
 
-    ghost holds = { λ reader packets. Holds T.taken T.same L.had L.starts L.seat L.asked (reading_in reader.reading)
+    ghost holds = { λ reader packets. Holds T.taken T.same L.accepted_before L.state_before L.address L.reading (reading_in reader.reading)
         (kept_in reader.sections) reader.sink.now reader.sink.ghost_name packets };
 
-    ghost left = { λ reader packets. Leaves T.taken T.same L.had L.starts L.seat L.asked (reading_in reader.reading)
+    ghost left = { λ reader packets. Leaves T.taken T.same L.accepted_before L.state_before L.address L.reading (reading_in reader.reading)
         reader.sink.now reader.sink.ghost_name packets };
 
     fn laws() {}
 
     fn accept_packet(&mut self, line: Packet<'_>) -> Result<Step, Why> {
-        // Laws.
+        // Laws that the proof uses.
         T::laws();
         self.take_packet(line)
     }
@@ -257,21 +260,21 @@ pub fn read_fetch_reply_into<S: Source, T: PackSink, A: Allocator + Copy, B: All
 }
 
 /// Reads one fetch reply to its end, and nothing after it (gitprotocol-v2(5), "fetch"). The pack is
-/// passed to the sink in pieces, straight from the reader's buffer. No piece is empty. The ids are
+/// passed to the sink in pieces, directly from the reader's buffer. No piece is empty. The ids are
 /// allocated with `alloc`.
 ///
 /// A fault contains the reason, and the position of the first packet that does not fit. A fault of
 /// the packet reader ([`Why::Line`]) takes precedence over the end of the input ([`Why::Ended`]).
-/// An error that the peer reports ([`Why::RemoteErr`]) comes third, and a fault of the grammar
-/// last. A well-formed id is rejected with [`Why::Limit`] if there are already as many ids as the
-/// limits allow (see [`Acks`](crate::Acks)). A packet with which the pack would exceed its limit is
-/// also rejected with [`Why::Limit`]. The fault [`Why::Memory`] is reported only at an acknowledged
-/// id or, if the sink may refuse a piece, at data of the pack.
+/// Next in precedence is an error that the peer reports ([`Why::RemoteErr`]), and last a fault of
+/// the grammar. A well-formed id is rejected with [`Why::Limit`] if there are already as many ids
+/// as the limits allow (see [`Acks`](crate::Acks)). A packet with which the pack would exceed its
+/// limit is also rejected with [`Why::Limit`]. The fault [`Why::Memory`] is reported only at an
+/// acknowledged id or, if the sink may refuse a piece, at data of the pack.
 ///
 /// If the reply is rejected, the sink has accepted the data of the packets before the rejected
 /// packet. The length of this data is within the limit. After a rejection, the packet reader has
-/// failed exactly if the fault is [`Why::Line`]. Whatever the result, `PackSink::same` relates the
-/// sink before the call to the sink after the call.
+/// failed exactly if the fault is [`Why::Line`]. The call changes only those parts of the sink that
+/// accepting a piece can change (`PackSink::same`).
 pub fn read_fetch_reply_into_in<S: Source, T: PackSink, A: Allocator + Copy, B: Allocator + Copy>(
     reader: &mut PacketReader<S, A>,
     reading: FetchReading<StreamLimit>,
@@ -286,7 +289,7 @@ pub fn read_fetch_reply_into_in<S: Source, T: PackSink, A: Allocator + Copy, B: 
     ensures loans { S.loans reader.new.source ≡ S.loans reader.old.source }
     ensures reader { LeavesReader S.is_down reader.old reader.new result }
 {
-    // Laws.
+    // Laws that the proof uses.
     T::laws();
     let direct = reading.direct;
     let mut reply = ReplyReader::<T, B, Brand>::new(alloc, reading, sink);
@@ -346,17 +349,17 @@ pub fn read_fetch_reply_in<S: Source, A: Allocator + Copy, B: Allocator + Copy>(
     ensures loans { S.loans reader.new.source ≡ S.loans reader.old.source }
     ensures reader { LeavesReader S.is_down reader.old reader.new result }
 {
-    // Laws.
+    // Laws that the proof uses.
     reading.limit.laws();
     let mut pack = Vec::new(alloc);
-    match read_fetch_reply_into_in(reader, streamed(reading), &mut pack, alloc) {
+    match read_fetch_reply_into_in(reader, with_stream_limit(reading), &mut pack, alloc) {
         Ok(head) => Ok(FetchReply::with_pack(head, pack)),
         Err(fault) => Err(fault),
     }
 }
 
-// Returns the same parameters for a pack that is passed to a sink.
-fn streamed(reading: FetchReading<PackLimit>) -> FetchReading<StreamLimit>
+// Returns these parameters, with the limit converted to a [`StreamLimit`].
+fn with_stream_limit(reading: FetchReading<PackLimit>) -> FetchReading<StreamLimit>
     ensures { result ≡ reading }
 {
     FetchReading {
@@ -375,17 +378,19 @@ fn read_to_end<S: Source, T: PackSink, A: Allocator + Copy, B: Allocator + Copy,
 ) -> Result<(), MessageFault>
     requires kept { kept_in reply.old.sections
         ≡ first_kept reply.old.reading.limits reply.old.reading.format reply.old.reading.direct }
-    requires asked { reading_in reply.old.reading ≡ L.asked }
-    requires seat { reply.old.sink.ghost_name ≡ L.seat }
-    requires had { (before : Bytes) → L.had before → T.taken reply.old.sink.now before }
-    requires starts { (start : T) → L.starts start → T.same start reply.old.sink.now }
+    requires reading { reading_in reply.old.reading ≡ L.reading }
+    requires address { reply.old.sink.ghost_name ≡ L.address }
+    requires accepted_before { (before : Bytes) → L.accepted_before before
+        → T.taken reply.old.sink.now before }
+    requires state_before { (start : T) → L.state_before start → T.same start reply.old.sink.now }
     ensures in_place { reply.new.sink.ghost_name ≡ reply.old.sink.ghost_name }
     ensures read { ReadsReply T.taken T.refuses (reading_in reply.old.reading)
         (change_of S.remaining reader.old.source reader.new.source)
-        L.had reply.new.sink.now (head_after reply.old.reading.direct reply.new.sections result) }
+        L.accepted_before reply.new.sink.now
+        (head_after reply.old.reading.direct reply.new.sections result) }
     ensures format { OnOk result (AreAcksOf reply.old.reading.limits reply.old.reading.format
         reply.new.sections.acks) }
-    ensures same { (start : T) → L.starts start → T.same start reply.new.sink.now }
+    ensures same { (start : T) → L.state_before start → T.same start reply.new.sink.now }
     ensures loans { S.loans reader.new.source ≡ S.loans reader.old.source }
     ensures reader { LeavesReader S.is_down reader.old reader.new result }
 {

@@ -19,36 +19,38 @@ use gname::Format;
 use gname::laws::texts_have_one_reading;
 use std::alloc::Allocator;
 
-/// The maximum number of packets in a pack's section.
+/// The maximum number of packets in the section of the pack.
 const MAX_PACKETS: u32 = 4_294_967_295;
 
-/// The place of the next packet in the grammar of a reply.
+/// The state of reading a reply, which determines the packets that may come next.
 #[derive(Clone, Copy, Debug, PartialEq, Eq)]
 pub(crate) enum Point {
     /// The heading of the acknowledgments is expected.
     Start,
-    /// After the heading of the acknowledgments, and after acknowledged ids.
+    /// The heading of the acknowledgments was read, and possibly acknowledged ids.
     Acking,
-    /// After `NAK`.
+    /// `NAK` was read. A flush is expected.
     AfterNak,
-    /// After `ready`, where the delimiter is expected.
+    /// `ready` was read. The delimiter is expected.
     AfterReady,
     /// The heading of the pack is expected.
     BeforePack,
-    /// Within the section of the pack, after its heading.
+    /// The heading of the pack was read, and possibly some of the pack.
     InPack,
-    /// A response-end is expected.
+    /// The flush was read. Only a response-end may follow.
     Over,
 }
 
 /// The contents of a reply so far, without the pack's bytes.
 #[derive(Drop)]
 pub(crate) struct Sections<A: Allocator + Copy> {
+    // The state of reading.
     pub(crate) place: Point,
     acks: Acks<A>,
     ready: bool,
-    // The number of packets of the pack's section so far, including progress packets.
+    // The number of packets in the section of the pack so far, including progress packets.
     band_count: u32,
+    // The number of bytes of the pack so far.
     byte_count: usize,
 }
 
@@ -109,7 +111,7 @@ impl<A: Allocator + Copy> Sections<A> {
             (state_in self.old) id.now) true
             (kept_in self.new ≡ with_text Acking (kept_in self.old) (Ack id.now)) result }
     {
-        // Laws.
+        // Laws that the proof uses.
         texts_have_one_reading();
         let id = match id_of_text(self.acks.format(), id) {
             Some(id) => id,

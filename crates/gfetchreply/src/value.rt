@@ -22,7 +22,7 @@ use std::marker::Model;
 /// The maximum number of ids that a reply acknowledges with the default limits.
 pub const MAX_ACKS: usize = 4_096;
 
-// The maximum number of ids that a reply acknowledges with any limits.
+// The maximum number of ids that a reply acknowledges, even with higher limits.
 const MAX_COUNT: usize = 4_294_967_295;
 
 /// The ids that a server acknowledges: the haves of a request that the server holds. All ids have
@@ -100,7 +100,7 @@ impl<A: Allocator + Copy> Acks<A> {
         }
     }
 
-    /// Returns the limits on the number of ids.
+    /// Returns the limits, of which `haves` is the maximum number of ids.
     pub fn limits(&self) -> Limits
         ensures { result ≡ self.now.limits }
     {
@@ -185,7 +185,7 @@ fn are_of(format: Format, ids: &[Oid]) -> bool
     true
 }
 
-/// The bytes of a pack, at most [`MAX_PACK`].
+/// A pack of at most [`MAX_PACK`] bytes.
 #[derive(Debug, Drop)]
 pub struct PackBytes<A: Allocator + Copy> {
     bytes: Vec<u8, A>,
@@ -238,9 +238,9 @@ impl<A: Allocator + Copy> PackBytes<A> {
 /// A fetch reply (gitprotocol-v2(5), "fetch").
 #[derive(Debug, Drop)]
 pub enum FetchReply<A: Allocator + Copy> {
-    /// The common ids without a pack, since at least one want reaches no common id.
+    /// The acknowledged ids without a pack, since some want reaches no acknowledged id.
     Acks(Acks<A>),
-    /// The common ids and the pack, since each want reaches a common id.
+    /// The acknowledged ids and the pack, since each want reaches an acknowledged id.
     Ready(Acks<A>, PackBytes<A>),
     /// Only the pack, for a request with `done` or without haves.
     Pack(PackBytes<A>),
@@ -264,10 +264,10 @@ impl<A: Allocator + Copy> FetchReply<A> {
 /// A fetch reply without its pack.
 #[derive(Debug, Drop)]
 pub enum FetchHead<A: Allocator + Copy> {
-    /// The common ids without a pack, since at least one want reaches no common id.
+    /// The acknowledged ids without a pack, since some want reaches no acknowledged id.
     Acks(Acks<A>),
-    /// The common ids of a reply with a pack, since each want reaches a common id.
+    /// The acknowledged ids of a reply with a pack, since each want reaches an acknowledged id.
     Ready(Acks<A>),
-    /// No ids. The reply has no acknowledgments, only a pack.
+    /// The reply has only a pack, without acknowledgments.
     Pack,
 }

@@ -24,10 +24,11 @@ use std::slice::Chunks;
 /// copies the ids or the pack.
 ///
 /// Fails with `Io` if the sink fails, after writing a prefix of the reply. Fails with `Failed` if
-/// the writer failed before the call. A written reply reads back
+/// the writer failed before the call. Reading the written bytes returns the same reply
 /// ([`reads_back`](crate::laws::reads_back)) under three conditions. The reader has the id format
 /// and the limits of the acknowledgments. The pack is within the reader's size limit. The field
-/// `direct` of [`FetchReading`](crate::FetchReading) is true exactly for a direct reply.
+/// `direct` of [`FetchReading`](crate::FetchReading) is true exactly if the reply has no
+/// acknowledgments.
 #[tactic(auto, unfolding(crate::specs::FetchReplies::canonical_reply))]
 pub fn write_fetch_reply<A: Allocator + Copy, W: Sink>(
     reply: &FetchReply<A>,
@@ -58,7 +59,7 @@ fn write_acks<W: Sink>(
         ((heading_packet ∷ (nak_if_none (map ack_packet ids.now) ++ Flush ∷ []))
         ++ ends_with ends) }
 {
-    // Laws.
+    // Laws that the proof uses.
     writes_packets::<W>();
     writer.text(b"acknowledgments")?;
     write_ids_or_nak(ids, writer)?;
@@ -76,7 +77,7 @@ fn write_ready<W: Sink>(
         ((heading_packet ∷ (map ack_packet ids.now
         ++ ready_packet ∷ Delim ∷ pack_section pack.now)) ++ ends_with ends) }
 {
-    // Laws.
+    // Laws that the proof uses.
     writes_packets::<W>();
     writer.text(b"acknowledgments")?;
     write_ids(ids, writer)?;
@@ -94,19 +95,19 @@ fn write_pack<W: Sink>(
     ensures { WritesPackets W.contents W.passed_on W.is_down W.loans writer.old writer.new result
         (pack_section pack.now ++ ends_with ends) }
 {
-    // Laws.
+    // Laws that the proof uses.
     writes_packets::<W>();
     writer.text(b"packfile")?;
     write_pieces(pack, writer)?;
     write_end(ends, writer)
 }
 
-// Writes the bytes of the pack on band 1, in pieces of the maximum size.
+// Writes the bytes of the pack on side band 1, in pieces of the maximum size.
 fn write_pieces<W: Sink>(pack: &[u8], writer: &mut PacketWriter<W>) -> Result<(), WriteFault>
     ensures { WritesPart W.contents W.passed_on W.is_down W.loans writer.old writer.new result
         (map data_packet (pieces pack.now)) }
 {
-    // Laws.
+    // Laws that the proof uses.
     writes_packets::<W>();
     for piece in in_pieces(pack) {
         writer.put_band(&Band::Data(piece))?;
@@ -127,7 +128,7 @@ fn write_ids_or_nak<W: Sink>(ids: &[Oid], writer: &mut PacketWriter<W>) -> Resul
     ensures { WritesPart W.contents W.passed_on W.is_down W.loans writer.old writer.new result
         (nak_if_none (map ack_packet ids.now)) }
 {
-    // Laws.
+    // Laws that the proof uses.
     writes_packets::<W>();
     if ids.is_empty() {
         writer.text(b"NAK")
@@ -141,7 +142,7 @@ fn write_ids<W: Sink>(ids: &[Oid], writer: &mut PacketWriter<W>) -> Result<(), W
     ensures { WritesPart W.contents W.passed_on W.is_down W.loans writer.old writer.new result
         (map ack_packet ids.now) }
 {
-    // Laws.
+    // Laws that the proof uses.
     writes_packets::<W>();
     for id in ids {
         write_id(id, writer)?;
@@ -154,7 +155,7 @@ fn write_id<W: Sink>(id: &Oid, writer: &mut PacketWriter<W>) -> Result<(), Write
     ensures { WritesPackets W.contents W.passed_on W.is_down W.loans writer.old writer.new result
         (ack_packet id.now ∷ []) }
 {
-    // Laws.
+    // Laws that the proof uses.
     writes_packets::<W>();
     let mut digits = [0; MAX_ID_TEXT];
     let count = id.to_hex(&mut digits);
@@ -166,7 +167,7 @@ fn write_end<W: Sink>(ends: Ends, writer: &mut PacketWriter<W>) -> Result<(), Wr
     ensures { WritesPackets W.contents W.passed_on W.is_down W.loans writer.old writer.new result
         (Flush ∷ ends_with ends) }
 {
-    // Laws.
+    // Laws that the proof uses.
     writes_packets::<W>();
     match ends {
         Ends::Plain => writer.flush_pkt(),

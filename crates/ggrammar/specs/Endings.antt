@@ -1,4 +1,4 @@
--- The end of a reply (gitprotocol-v2(5), "Packet-Line Framing"): its flush, or a response-end after the flush.
+-- The packets that end a reply (gitprotocol-v2(5), "Packet-Line Framing"): a flush, or a flush and a response-end.
 use Rattle.std.specs.Prelude.{List, [], ◌∷◌}
 use Rattle.gpkt.specs.Packets.{Packet, Data, Flush, Delim, ResponseEnd}
 use Rattle.ggrammar.specs.Grammar.{Verdict, Open, Whole, Refused}

@@ -1,5 +1,5 @@
--- The table of faults of messages: the number, the name and the text for the peer of each fault. Also the part of a
--- peer's error text that is stored.
+-- The table of faults of messages: the number, the name and the text for the peer of each fault. The stored part of a
+-- peer's error text is also defined here.
 use Rattle.std.specs.Prelude.{ℕ, ◌++◌, codes, take}
 use Rattle.std.specs.Fmt.{decimal}
 use Rattle.gname.specs.Faults.{out_of_memory_text}

@@ -54,7 +54,7 @@ HasEndings judge = (front : List Packet) → IsOpen judge front → Begins judge
 abbrev pub OpenIsUnfinished : Judge → Type 0
 OpenIsUnfinished judge = (front : List Packet) → IsOpen judge front → IsUnfinished judge front
 
--- a rejected packet is the first packet that does not fit
+-- a rejected packet is the first packet that fits no message
 abbrev pub RefusesFirstMisfits : Judge → Type 0
 RefusesFirstMisfits judge = (front : List Packet) (packet : Packet) (why : Why) → IsOpen judge front
     → judge front packet ≡ Refused why → IsFirstMisfit judge front packet

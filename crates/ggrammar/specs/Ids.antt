@@ -11,7 +11,7 @@ abbrev pub ok_of : Result Id FromHexError → Option Id
 ok_of (Ok id) = Some id
 ok_of (Err fault) = None
 
--- the id of the given format that a text encodes, with hex digits in either case
+-- the id of the given format that a text encodes, with hex digits in upper or lower case
 unfoldable pub id_of_text : Format → Bytes → Option Id
 id_of_text format text = if length text == id_text_length format then ok_of (decode_of text) else None
 

@@ -46,11 +46,11 @@ module _ {M : Type 0} where
   ReadsOrRefuses judge brings Says change (Err fault) =
       (front : List Packet) × ReadsRefused judge brings front change fault
 
-  -- the first bytes, up to the rest, consist of packets that encode the message
+  -- the part of the bytes before the rest consists of packets that encode the message
   abbrev pub SaysAtFront : Meaning M → Bytes → Bytes → M → Type 0
   SaysAtFront Says bytes rest message = (lines : List Packet) × IsFront lines bytes rest × Says lines message
 
-  -- A message is read exactly if the bytes begin with packets that encode it. Nothing after these packets is read. The
+  -- A message is read exactly if the input begins with packets that encode it. Nothing after these packets is read. The
   -- law does not apply if memory runs out, the source fails, or the reader had failed before.
   abbrev pub ReadsExactly : Judge → (List Packet → Packet → Bool) → Meaning M → Type 0
   ReadsExactly judge brings Says =
@@ -58,8 +58,8 @@ module _ {M : Type 0} where
       → ReadsOrRefuses judge brings Says (known_bytes bytes new) result → IfErr result (λ fault. IsOfBytes fault.why)
       → ((result ≡ Ok message) × (new ≡ rest)) ↔ SaysAtFront Says bytes rest message
 
-  -- A well-formed message that was written reads back, whatever bytes follow. The law does not apply if memory runs
-  -- out, the source fails, or the reader had failed before.
+  -- A well-formed message that was written reads back, even if other bytes follow. The law does not apply if memory
+  -- runs out, the source fails, or the reader had failed before.
   abbrev pub ReadsBack : Judge → (List Packet → Packet → Bool) → Meaning M → (M → Type 0) → Meaning M → Type 0
   ReadsBack judge brings Says IsValue IsCanonical =
       (lines : List Packet) (rest new : Bytes) (result : Result M MessageFault) (message : M) → IsValue message
@@ -77,7 +77,7 @@ module _ {M : Type 0} where
   ReadsIfAny judge brings Says change (Err fault) =
       (front : List Packet) × ReadsRefused judge brings front change fault
 
-  -- A message is read exactly if the bytes begin with packets that encode it. Nothing after these packets is read. The
+  -- A message is read exactly if the input begins with packets that encode it. Nothing after these packets is read. The
   -- law does not apply if memory runs out, the source fails, or the reader had failed before.
   abbrev pub ReadsExactlyIfAny : Judge → (List Packet → Packet → Bool) → Meaning M → Type 0
   ReadsExactlyIfAny judge brings Says =
@@ -85,8 +85,8 @@ module _ {M : Type 0} where
       → ReadsIfAny judge brings Says (known_bytes bytes new) result → IfErr result (λ fault. IsOfBytes fault.why)
       → ((result ≡ Ok (Some message)) × (new ≡ rest)) ↔ SaysAtFront Says bytes rest message
 
-  -- A well-formed message that was written reads back, whatever bytes follow. The law does not apply if memory runs
-  -- out, the source fails, or the reader had failed before.
+  -- A well-formed message that was written reads back, even if other bytes follow. The law does not apply if memory
+  -- runs out, the source fails, or the reader had failed before.
   abbrev pub ReadsBackIfAny : Judge → (List Packet → Packet → Bool) → Meaning M → (M → Type 0) → Meaning M → Type 0
   ReadsBackIfAny judge brings Says IsValue IsCanonical =
       (lines : List Packet) (rest new : Bytes) (result : Result (Option M) MessageFault) (message : M)

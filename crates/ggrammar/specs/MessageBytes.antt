@@ -1,4 +1,4 @@
--- The result of reading a message at the front of some bytes, for every kind of message.
+-- The result of reading a message at the start of the input, for every kind of message.
 use Rattle.std.specs.Prelude.{◌≡◌, ◌⊎◌, Bool, List, [], ◌++◌, Some, None, Ok}
 use Rattle.gpkt.specs.Packets.{Bytes, Packet, SpellsAll}
 use Rattle.gpkt.specs.Change.{Change}
@@ -27,17 +27,17 @@ IsOfBytes (Line Failed) = ⊥
 IsOfBytes Memory = ⊥
 IsOfBytes why = Unit {0}
 
--- a complete message at the front of the bytes is read
+-- a complete message at the start of the bytes is read
 abbrev pub ReadsFront : Judge → Type 0
 ReadsFront judge = (lines : List Packet) (bytes rest : Bytes) → IsWhole judge lines → IsFront lines bytes rest
     → ReadsWhole judge (known_bytes bytes rest) lines
 
--- only the message at the front of the bytes is read, and the bytes after it remain
+-- only the message at the start of the bytes is read, and the bytes after it remain
 abbrev pub ReadsNoOther : Judge → Type 0
 ReadsNoOther judge = (lines others : List Packet) (bytes rest new : Bytes) → IsWhole judge lines
     → IsFront lines bytes rest → ReadsWhole judge (known_bytes bytes new) others → (others ≡ lines) × (new ≡ rest)
 
--- if reading is refused because of the content of the bytes, they begin with no complete message
+-- if the bytes are refused because of their content, the bytes begin with no complete message
 abbrev pub RefusedIsNoMessage : Judge → Type 0
 RefusedIsNoMessage judge =
     (brings : List Packet → Packet → Bool) (front lines : List Packet) (bytes new rest : Bytes) (fault : MessageFault)
@@ -49,7 +49,7 @@ abbrev pub EndedIsNoMessage : Judge → Type 0
 EndedIsNoMessage judge = (lines : List Packet) (bytes new rest : Bytes) → Reads (known_bytes bytes new) (Ok None)
     → IsFront lines bytes rest → ¬ IsWhole judge lines
 
--- if bytes are refused because of their content, they determine the fault and the remaining bytes
+-- if bytes are refused because of their content, the bytes determine the fault and the remaining bytes
 abbrev pub OneRefusal : Judge → Type 0
 OneRefusal judge =
     (brings : List Packet → Packet → Bool) (front others : List Packet) (bytes new after : Bytes)
@@ -91,8 +91,8 @@ pub record IsRefused (judge : Judge) (brings : List Packet → Packet → Bool) 
 abbrev pub BeginsOrIsRefused : Judge → (List Packet → Packet → Bool) → Type 0
 BeginsOrIsRefused judge brings = (bytes : Bytes) → BeginsWithMessage judge bytes ⊎ IsRefused judge brings bytes
 
--- if open lists can be completed and packets are rejected only for their content, every byte sequence begins with a
--- message or is refused
+-- if open lists can be completed and packets are rejected only because of their content, every byte sequence begins
+-- with a message or is refused
 abbrev pub EveryInput : Judge → Type 0
 EveryInput judge = HasEndings judge → RefusesPackets judge → (brings : List Packet → Packet → Bool)
     → BeginsOrIsRefused judge brings

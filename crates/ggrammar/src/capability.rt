@@ -9,7 +9,7 @@ ghost use Rattle.ggrammar.specs.CapabilityView.{capability_view};
 /// The maximum length of a capability's key, and of its value, in bytes.
 pub const MAX_CAPABILITY: usize = 1_000;
 
-/// A capability that borrows the bytes of its text.
+/// A capability whose key and value are borrowed from a text.
 #[derive(Clone, Copy, Debug, PartialEq, Eq)]
 pub struct Capability<'a> {
     /// The text before the first `=`, or all of the text.
@@ -56,7 +56,7 @@ fn key_and_value<'a>(key: &'a [u8], value: &'a [u8]) -> Option<Capability<'a>>
     }
 }
 
-// Returns the position of the first `=`.
+// Returns the position of the first `=`, if any.
 fn first_equals_sign(text: &[u8]) -> Option<usize>
     ensures place { result ≡ position is_equals_sign text.now }
     ensures within { IfSome result (λ at. at < length text.now) }
@@ -80,7 +80,7 @@ pub fn is_value(value: &[u8]) -> bool
     has_length(value) && are_printable(value)
 }
 
-/// Returns whether the bytes are a value without a space.
+/// Returns whether the bytes are a value without spaces: 1 to 1,000 bytes from `!` to `~`.
 #[tactic(auto, unfolding(crate::specs::Capabilities::is_word_value))]
 pub fn is_word_value(value: &[u8]) -> bool
     ensures { result ≡ is_word_value value.now }

@@ -7,7 +7,7 @@ ghost use Rattle.gname.specs.Ids.{id_text};
 use arrayvec::ArrayVec;
 use gname::{MAX_ID_TEXT, Oid};
 
-/// Appends a piece to a text that has room for it.
+/// Appends `piece` to a text that has room for it.
 pub fn add<const N: usize>(piece: &[u8], text: &mut ArrayVec<u8, N>)
     requires { length text.old.items + length piece.now ≤ N }
     ensures text { text.new.items ≡ text.old.items ++ piece.now }

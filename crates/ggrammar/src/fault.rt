@@ -15,7 +15,7 @@ use std::marker::Model;
 /// The maximum length of the stored part of a peer's error text, in bytes.
 pub const MAX_PEER_TEXT: usize = 256;
 
-/// At most the first 256 bytes of the text of an error that a peer reports.
+/// The text of an error that a peer reports, truncated to 256 bytes.
 #[derive(Drop)]
 pub struct PeerText {
     text: ArrayVec<u8, MAX_PEER_TEXT>,
@@ -30,13 +30,12 @@ impl Model for PeerText {
 }
 
 impl PeerText {
-    /// Stores the error text of a peer, from an `ERR` packet or from the side band for fatal
-    /// errors. Removes one line feed at the end, and stores at most the first 256 bytes. Allocates
-    /// nothing.
-    pub fn new(said: &[u8]) -> PeerText
-        ensures { result ≡ kept_text said.now }
+    /// Copies the text of an error from an `ERR` packet, or from the side band for fatal errors.
+    /// Removes one trailing line feed, and keeps at most the first 256 bytes. Allocates nothing.
+    pub fn new(error: &[u8]) -> PeerText
+        ensures { result ≡ kept_text error.now }
     {
-        let text = text_of(said);
+        let text = text_of(error);
         let mut kept = ArrayVec::new();
         add(&text[..text.len().min(MAX_PEER_TEXT)], &mut kept);
         PeerText { text: kept }
@@ -64,8 +63,8 @@ pub enum Why {
     Line(PacketFault),
     /// The payload does not begin with a valid side band (faults 29 and 30).
     Band(BandFault),
-    /// The grammar does not allow this flush, delimiter or response-end, or requires a response-end
-    /// (fault 41).
+    /// The grammar does not allow this flush, delimiter or response-end here, or the packet is not
+    /// the response-end that the grammar requires (fault 41).
     UnexpectedFrame,
     /// The text matches no rule of the grammar (fault 42).
     BadText,
@@ -75,19 +74,20 @@ pub enum Why {
     UnknownCapability,
     /// The command does not accept the argument (fault 45).
     UnknownArgument,
-    /// The grammar requires an object id (fault 46).
+    /// The packet has no valid object id where the grammar requires one (fault 46).
     BadId,
-    /// The grammar requires a ref name, or a prefix of ref names (fault 47).
+    /// The packet has no valid ref name, or prefix of ref names, where the grammar requires one
+    /// (fault 47).
     BadName,
-    /// The packet would exceed a limit (fault 48).
+    /// Accepting the packet would exceed a limit (fault 48).
     Limit,
     /// The peer reported an error (fault 49).
     RemoteErr(PeerText),
-    /// The peer reported a fatal error on its side band (fault 50).
+    /// The peer reported an error on the side band for fatal errors (fault 50).
     RemoteFatal(PeerText),
     /// The parts of a fetch reply are in the wrong order (fault 51).
     WrongSection,
-    /// The object format is not the expected format (fault 52).
+    /// The peer's object format is not the expected format (fault 52).
     Format,
     /// There is not enough memory for the contents of the packet (fault 53).
     Memory,
@@ -137,7 +137,7 @@ impl Why {
     }
 
     /// Returns the text for the peer, such as `bad line` in `ERR upload-pack: bad line`. The
-    /// `Display` output of a fault contains this text.
+    /// `Display` implementation writes this text.
     pub fn phrase(&self) -> &'static str
         ensures { result.now ≡ (why_row self.now).phrase }
     {
@@ -182,15 +182,15 @@ impl Error for Why {}
 /// The fault of a rejected message: the position of the rejected packet, and the reason.
 #[derive(Debug, Drop)]
 pub struct MessageFault {
-    /// The position of the packet in the message, counted from 0.
+    /// The position of the rejected packet in the message, counted from 0.
     pub frame: u64,
-    /// The reason to reject the packet.
+    /// The reason for the rejection.
     pub why: Why,
 }
 
 impl MessageFault {
-    /// Returns the fault of a call that builds a value. No packet caused the fault, so the position
-    /// is 0.
+    /// Returns the fault of a call that builds a message value. No packet caused the fault, so the
+    /// position is 0.
     pub fn of_value(why: Why) -> MessageFault
         ensures { result ≡ record { frame = 0; why = why } }
     {

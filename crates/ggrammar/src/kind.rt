@@ -5,10 +5,9 @@ ghost use Rattle.gpkt.specs.Packets.{Packet};
 ghost use Rattle.ggrammar.specs.Grammar.{Judge};
 ghost use Rattle.ggrammar.specs.Kinds.{Meaning};
 
-/// A kind of message, as a type without values. The caller of a law passes this type to choose the
-/// kind.
+/// A kind of message. The caller of a law chooses the kind by a type that implements this trait.
 pub trait MessageKind {
-    // The parameters of the grammar, such as the format of ids and the end of a reply.
+    // The parameters of the grammar, such as the format of ids.
     ghost Given: { Type 0 };
 
     // The contents of a message.
@@ -18,10 +17,11 @@ pub trait MessageKind {
 
     ghost brings: { Given → List Packet → Packet → Bool };
 
-    // The meaning of complete lists of packets.
+    // The contents that a complete list of packets encodes.
     ghost says: { Given → Meaning Said };
 
-    // The values that can be written, and the packets that are written for them.
+    // The messages that can be written (`is_value`), and the packets that are written for each of
+    // them (`is_canonical`).
     ghost is_value: { Given → Said → Type 0 };
 
     ghost is_canonical: { Given → Meaning Said };

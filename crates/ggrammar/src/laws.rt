@@ -1,4 +1,4 @@
-//! Laws of every grammar: each function does nothing, and its contract proves a law.
+//! Laws of every grammar. Each function does nothing at run time, and its contract states the law.
 
 ghost use Rattle.std.specs.Prelude.{◌≡◌};
 ghost use Rattle.ggrammar.specs.Capabilities.{CapabilityIsItsText, max_capability};
@@ -26,18 +26,19 @@ pub fn limits_are_the_constants()
 {}
 
 /// Proves that no message is a prefix of another. A list of packets is open if the message
-/// continues after each packet of the list. If each open list can be completed, no prefix of an
-/// open list is a complete message. If each open list can be completed, a rejected packet is the
-/// first that does not fit.
+/// continues after each packet of the list. Suppose that each open list can be completed to a
+/// message. Then no prefix of an open list is a complete message, and a rejected packet is the
+/// first that fits no message.
 pub fn grammars_are_exact()
     ensures { (judge : Judge) → LawsOf judge }
 {}
 
-/// Proves that a complete message at the front of some bytes is read, and that the bytes after it
-/// remain. Bytes that are refused because of their content do not begin with a message, and the
-/// fault and the remaining bytes are unique. If the packet reader reports the end of the input, the
-/// bytes begin with no message. If each open list of packets can be completed, every byte sequence
-/// begins with a message or is refused. No encoding of a message is a prefix of another.
+/// Proves that a complete message at the start of the input is read, and that the bytes after it
+/// remain. An input that is refused because of its content does not begin with a message. The input
+/// then determines the fault and the remaining bytes. If the packet reader reports the end of the
+/// input, the input does not begin with a message. Suppose that accepted packets can always be
+/// completed to a message, and that packets are rejected only because of their content. Then every
+/// input begins with a message or is refused. No encoding of a message is a prefix of another.
 pub fn messages_are_read()
     ensures { (judge : Judge) → LawsOfBytes judge }
 {
@@ -50,8 +51,8 @@ pub fn messages_are_read()
 }
 
 /// Proves that a text is read as an id of a format exactly if it consists of the hex digits of the
-/// id, in either case. A text is read as a capability exactly if it is the text of a well-formed
-/// capability.
+/// id, in upper or lower case. A text is read as a capability exactly if it is the text of a
+/// well-formed capability.
 pub fn texts_are_classified()
     ensures ids { IdIsSpelt }
     ensures capabilities { CapabilityIsItsText }
@@ -85,9 +86,9 @@ pub fn writes_packets<W: Sink>()
 }
 
 /// Proves two laws for each kind of message in which each complete list of packets encodes exactly
-/// one message. A message is read exactly if the bytes begin with it, and a written message reads
-/// back, whatever bytes follow. Both laws also apply to a reader that accepts the end of the input
-/// in place of a message.
+/// one message. A message is read exactly if the input begins with it. A written message reads back
+/// as the same message, even if other bytes follow. Both laws also apply to a reader that accepts
+/// the end of the input in place of a message.
 pub fn kinds_are_read<K: MessageKind>()
     ensures exactly { (given : K.Given) → SaysWhole (K.judge given) (K.says given)
         → OneMeaning (K.says given)

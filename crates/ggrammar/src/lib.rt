@@ -1,26 +1,26 @@
-//! The common parts of all messages of the protocol: grammars over packets, a reader that follows a
-//! grammar, the faults of messages, and capabilities.
+//! The parts that all messages of the protocol share: grammars over packets, a reader that follows
+//! a grammar, the faults of messages, and capabilities.
 //!
 //! # Proved
 //!
 //! - [`read_message`] reads a message exactly to its end, however its bytes are split into pieces.
-//!   Any other input is rejected at the first packet that does not fit, for the reason that the
-//!   grammar states. A fault of the packet reader takes precedence over the end of the input, which
+//!   Any other input is rejected at the first packet that does not fit, with the fault that the
+//!   grammar gives. A fault of the packet reader takes precedence over the end of the input, which
 //!   takes precedence over a fault of the grammar. The packets before the rejected packet begin a
 //!   message and contain no complete message. Out of memory is reported only at a packet with
 //!   contents to store.
-//! - In every grammar, no message is a prefix of another ([`laws`]). If the packets accepted so far
-//!   can always be completed to a message, a rejected packet is the first that does not fit. A
-//!   complete message at the front of some bytes is read, and nothing after it. Bytes that are
-//!   refused because of their content do not begin with a message, and the fault and the remaining
-//!   bytes are unique. Suppose that accepted packets can always be completed, and that packets are
-//!   rejected only because of their content. Then every byte sequence begins with a message or is
+//! - In every grammar, no message is a prefix of another ([`laws`]). If accepted packets can always
+//!   be completed to a message, a rejected packet is the first that fits no message. A complete
+//!   message at the start of the input is read, and nothing after it. An input that is refused
+//!   because of its content does not begin with a message. The input then determines the fault and
+//!   the remaining bytes. Suppose that accepted packets can always be completed, and that packets
+//!   are rejected only because of their content. Then every input begins with a message or is
 //!   refused. If each complete list of packets encodes exactly one message, a message is read
-//!   exactly if the bytes begin with it, and a written message reads back. Consecutive writes of
-//!   packets have the effect of one write of all the packets, even if one of the writes fails.
-//! - [`capability_of`] splits a text into a key and a value exactly if the text is a capability.
-//!   The function [`id_of_text`] reads an id exactly if the text consists of the hex digits of the
-//!   id.
+//!   exactly if the input begins with it, and a written message reads back unchanged. Consecutive
+//!   writes of packets have the effect of one write of all the packets, even if one of the writes
+//!   fails.
+//! - [`capability_of`] parses a text exactly if the text is a capability. [`id_of_text`] parses a
+//!   text exactly if the text consists of the hex digits of an id of the given format.
 //! - For each fault, the table `why_row` has the number, the name and the text for the peer. At
 //!   most the first 256 bytes of a peer's error text are stored. The public constants equal the
 //!   limits in the specifications.
@@ -37,8 +37,8 @@
 //!   even if there is enough memory.
 //! - If the bytes of a source are unknown, the contracts do not state which packets are read. The
 //!   contracts still state whether the source has failed.
-//! - The contracts of this crate do not state what a reader of messages holds after it rejects a
-//!   packet. The contracts of each kind of message state this.
+//! - The contracts of this crate do not state which contents an implementation of [`Message`] has
+//!   after it rejects a packet. The contracts of each kind of message state this.
 //!
 //! # Dependencies
 //!

@@ -21,10 +21,10 @@ pub enum Step {
 
 /// A message that is being read: the contents of its packets so far.
 pub trait Message {
-    // The grammar's verdict on a packet after the packets before it.
+    // The grammar's verdict on a packet, given the packets before it.
     ghost judge: { Self → Judge };
 
-    // Whether the packet has contents to store, which needs memory.
+    // Whether a packet has contents to store, given the packets before it.
     ghost brings: { Self → List Packet → Packet → Bool };
 
     // Whether the message consists of exactly these packets so far.
@@ -45,8 +45,9 @@ pub trait Message {
             (packet_of line.entry) self.new result };
 
     /// Proves laws of the message for generic callers, and does nothing. If `holds` is true for
-    /// some packets, `left` is true for these packets. Each open list of packets can be completed
-    /// to a message. An open list has fewer than 2^60 packets.
+    /// some packets, `left` is true for these packets. A list of packets is open if the message
+    /// continues after each packet of the list. Each open list can be completed to a message, and
+    /// has fewer than 2^60 packets.
     fn laws()
         ensures left { (message : Self) (front : List Packet) → holds message front
             → left message front }
@@ -77,7 +78,7 @@ pub fn read_message<S: Source, A: Allocator + Copy, M: Message>(
     ensures loans { S.loans reader.new.source ≡ S.loans reader.old.source }
     ensures reader { LeavesReader S.is_down reader.old reader.new result }
 {
-    // Laws.
+    // Laws that the proof uses.
     M::laws();
     for frame in 0..u64::MAX {
         let line = match reader.next() {

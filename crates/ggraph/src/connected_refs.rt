@@ -9,7 +9,8 @@ use grefs::Refs;
 use gwalk::missing;
 use std::alloc::Allocator;
 
-/// Returns whether each ref is connected: the graph contains its id and all ancestors of that id.
+/// Returns whether each ref is connected: the graph contains the id of the ref and all ancestors of
+/// that id.
 ///
 /// Fails only with `Memory`.
 pub fn has_connected_refs<A: Allocator + Copy>(

@@ -14,11 +14,11 @@ use std::fmt;
 /// The reason why a repository text was not loaded.
 #[derive(Clone, Copy, Debug, PartialEq, Eq, Drop)]
 pub enum LoadFault {
-    /// `line` is the number of the first line that is malformed, exceeds a limit or is missing.
-    /// Lines are counted from 1.
+    /// A line is malformed, exceeds a limit or is missing. `line` is the number of the first wrong
+    /// line, counted from 1.
     Text { line: usize },
-    /// `line` is the number of the first line with a parent that is not on an earlier line. Lines
-    /// are counted from 1.
+    /// A parent of a node is not on an earlier line. `line` is the number, counted from 1, of the
+    /// first line that names a parent that is on a later line or on no line.
     ParentLater { line: usize },
     /// Out of memory.
     Memory,
@@ -39,7 +39,7 @@ impl LoadFault {
         self.fault_row().1
     }
 
-    // Returns the fault's row in the table of faults: the number and the name of the fault.
+    // Returns the number and the name of the fault.
     fn fault_row(&self) -> (u32, &'static str)
         ensures { (result.0, result.1.now) ≡ load_fault_row self.now }
     {
@@ -87,7 +87,8 @@ impl<T: Drop> From<AllocFailed<T>> for LoadFault {
 /// The reason why a repository was not saved.
 #[derive(Clone, Copy, Debug, PartialEq, Eq, Drop)]
 pub enum SaveFault {
-    /// The `id` is the first id of a ref or of `HEAD` that does not have the graph's object format.
+    /// A ref or `HEAD` has an id that does not have the graph's object format. `id` is the first
+    /// wrong id.
     OtherFormat { id: Oid },
     /// Out of memory.
     Memory,
@@ -108,7 +109,7 @@ impl SaveFault {
         self.fault_row().1
     }
 
-    // Returns the fault's row in the table of faults: the number and the name of the fault.
+    // Returns the number and the name of the fault.
     fn fault_row(&self) -> (u32, &'static str)
         ensures { (result.0, result.1.now) ≡ save_fault_row self.now }
     {

@@ -8,7 +8,7 @@ use crate::text::text_laws;
 use gdag::laws::connected_stays_connected;
 use std::alloc::Allocator;
 
-/// Proves that connected refs stay connected when the graph keeps all its nodes.
+/// Proves that connected refs stay connected when the graph changes but keeps all its nodes.
 pub fn connected_refs_stay<A: Allocator + Copy>()
     ensures { ConnectedRefsStay A }
 {
@@ -26,8 +26,8 @@ pub fn parents_first_is_ordered<A: Allocator + Copy>()
     ensures { ParentsFirstIsOrdered A }
 {}
 
-/// Proves that [`load`](crate::load) has only one possible fault for a text, apart from out of
-/// memory. The fault reports the first wrong line.
+/// Proves that [`load`](crate::load) has only one possible fault for a text, apart from `Memory`.
+/// The fault reports the first wrong line.
 #[tactic(auto, using(crate::proofs::StoppingOnce::stop_once))]
 pub fn texts_stop_once<A: Allocator + Copy>()
     ensures { TextsStopOnce A }

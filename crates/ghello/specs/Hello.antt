@@ -1,4 +1,4 @@
--- The first line of a `git://` connection (gitprotocol-pack(5), "Git Transport"):
+-- The hello, which is the first line of a `git://` connection (gitprotocol-pack(5), "Git Transport"):
 --
 --   git-proto-request = request-command SP pathname NUL [host-parameter NUL] [NUL extra-parameters]
 --   request-command = "git-upload-pack"
@@ -101,7 +101,8 @@ abbrev pub judge_payload : Option Hello → Verdict
 judge_payload (Some hello) = Whole
 judge_payload None = Refused BadText
 
--- a hello is exactly one packet; an `ERR` packet is refused like any other malformed payload
+-- the verdict on a packet: a hello is exactly one packet, and an `ERR` packet is refused like any other malformed
+-- payload
 abbrev pub judge : List Packet → Packet → Verdict
 judge packets (Data payload) = judge_payload (hello_of payload)
 judge packets _ = Refused UnexpectedFrame

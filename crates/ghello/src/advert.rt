@@ -92,7 +92,7 @@ impl<A: Allocator + Copy> OwnedCapability<A> {
         ensures { WritesPackets W.contents W.passed_on W.is_down W.loans writer.old writer.new result
             (capability_packet self.now ∷ []) }
     {
-        // Laws.
+        // Laws that the proof uses.
         writes_packets::<W>();
         let mut text = ArrayVec::new();
         compose(self.as_capability(), &mut text);
@@ -186,25 +186,26 @@ impl<A: Allocator + Copy> Advert<A> {
         self.capabilities.is_empty()
     }
 
-    /// Returns the capability at a position, counted from 0, or `None` after the last capability.
+    /// Returns the capability at index `place`, or `None` after the last capability.
     pub fn at(&self, place: usize) -> Option<Capability<'_>>
         ensures capability { option_map capability_view result ≡ slice_get self.now place }
         ensures form { AreCapabilities self.now }
     {
-        let kept = self.capabilities.get(place)?;
-        Some(kept.as_capability())
+        let capability = self.capabilities.get(place)?;
+        Some(capability.as_capability())
     }
 
-    /// Returns the first capability with this key, or `None` if no capability has the key.
+    /// Returns the first capability with this key and its value, or `None` if no capability has the
+    /// key.
     pub fn value_of(&self, key: &[u8]) -> Option<Capability<'_>>
         ensures { option_map capability_view result ≡ first_with key.now self.now }
     {
-        first_with(key, self.capabilities.as_slice()).map(|kept| kept.as_capability())
+        first_with(key, self.capabilities.as_slice()).map(|capability| capability.as_capability())
     }
 
     /// Returns whether the value of the first capability with this key contains `word` as one of
     /// its space-separated words. For example, a server can report an unborn `HEAD` if the value of
-    /// its `ls-refs` contains `unborn` (gitprotocol-v2(5), "ls-refs").
+    /// its `ls-refs` capability contains `unborn` (gitprotocol-v2(5), "ls-refs").
     pub fn has_feature(&self, key: &[u8], word: &[u8]) -> bool
         ensures { result ≡ has_feature key.now word.now self.now }
     {
@@ -214,9 +215,10 @@ impl<A: Allocator + Copy> Advert<A> {
         }
     }
 
-    /// Returns the format of the server's ids. The first `object-format` names the format. Without
-    /// `object-format`, the format is SHA-1 (gitprotocol-v2(5), "object-format"). Returns `None` if
-    /// the first `object-format` names neither SHA-1 nor SHA-256.
+    /// Returns the format of the server's ids. The value of the first `object-format` capability
+    /// names the format. Without this capability, the format is SHA-1 (gitprotocol-v2(5),
+    /// "object-format"). Returns `None` if the first `object-format` names neither SHA-1 nor
+    /// SHA-256.
     pub fn format(&self) -> Option<Format>
         ensures { IsFormatOf self.now result }
     {
@@ -265,7 +267,9 @@ impl<A: Allocator + Copy> Advert<A> {
     fn has_key(&self, key: &[u8]) -> bool
         ensures { result ≡ list_any (has_key key.now) self.now }
     {
-        self.capabilities.iter().any(|kept| kept.has_key(key))
+        self.capabilities
+            .iter()
+            .any(|capability| capability.has_key(key))
     }
 
     // Returns whether the server's ids have the given format. A server without `object-format` has
@@ -306,9 +310,9 @@ fn first_with<'a, A: Allocator + Copy>(
 ) -> Option<&'a OwnedCapability<A>>
     ensures { option_copied result ≡ first_with key.now capabilities.now }
 {
-    for kept in capabilities {
-        if kept.has_key(key) {
-            return Some(kept);
+    for capability in capabilities {
+        if capability.has_key(key) {
+            return Some(capability);
         }
     }
     None
@@ -341,7 +345,7 @@ fn is_value_or_none(value: Option<&[u8]>) -> bool
     }
 }
 
-/// Reads an advertisement exactly to the end of its flush.
+/// Reads an advertisement up to and including its flush, and nothing after it.
 ///
 /// The fault states the position of the refused packet, counted from 0. A fault of the packet
 /// reader takes precedence over the end of the input, which takes precedence over an error that the
@@ -366,8 +370,8 @@ pub fn read_advert<S: Source, A: Allocator + Copy, B: Allocator + Copy>(
 }
 
 /// Writes an advertisement: the version, the capabilities in order, and a flush. A reader of the
-/// bytes returns the same advertisement ([`reads_back`](crate::laws::reads_back)). Allocates
-/// nothing.
+/// written bytes returns the same advertisement ([`reads_back`](crate::laws::reads_back)).
+/// Allocates nothing.
 ///
 /// Fails with `Io` if the sink fails; a prefix of the advertisement may then have been written.
 /// Fails with `Failed` if the writer had failed before.
@@ -379,7 +383,7 @@ pub fn write_advert<A: Allocator + Copy, W: Sink>(
         result (canonical_advert advert.now) }
     ensures form { AreCapabilities advert.now }
 {
-    // Laws.
+    // Laws that the proof uses.
     writes_packets::<W>();
     let capabilities = advert.capabilities.as_slice();
     write_version(writer)?;
@@ -391,7 +395,7 @@ fn write_version<W: Sink>(writer: &mut PacketWriter<W>) -> Result<(), WriteFault
     ensures { WritesPackets W.contents W.passed_on W.is_down W.loans writer.old writer.new result
         (text_packet version ∷ []) }
 {
-    // Laws.
+    // Laws that the proof uses.
     writes_packets::<W>();
     writer.text(VERSION)
 }
@@ -400,7 +404,7 @@ fn write_flush<W: Sink>(writer: &mut PacketWriter<W>) -> Result<(), WriteFault>
     ensures { WritesPackets W.contents W.passed_on W.is_down W.loans writer.old writer.new result
         (Flush ∷ []) }
 {
-    // Laws.
+    // Laws that the proof uses.
     writes_packets::<W>();
     writer.flush_pkt()
 }
@@ -413,15 +417,15 @@ fn write_capabilities<A: Allocator + Copy, W: Sink>(
     ensures { WritesPart W.contents W.passed_on W.is_down W.loans writer.old writer.new result
         (map capability_packet capabilities.now) }
 {
-    // Laws.
+    // Laws that the proof uses.
     writes_packets::<W>();
-    for kept in capabilities {
-        kept.write(writer)?;
+    for capability in capabilities {
+        capability.write(writer)?;
     }
     Ok(())
 }
 
-// The state of reading an advertisement.
+// An advertisement that is being read.
 #[derive(Drop)]
 struct AdvertReader<A: Allocator + Copy> {
     has_version: bool,
@@ -474,8 +478,8 @@ impl<A: Allocator + Copy> AdvertReader<A> {
             ++ added_by self.old.has_version (Data payload.now)))
             result }
     {
-        if let Some(said) = peer_error(payload) {
-            return Err(Why::RemoteErr(PeerText::new(said)));
+        if let Some(error) = peer_error(payload) {
+            return Err(Why::RemoteErr(PeerText::new(error)));
         }
         let text = text_of(payload);
         if self.has_version {
@@ -502,7 +506,7 @@ impl<A: Allocator + Copy> AdvertReader<A> {
             × (self.new.advert ≡ self.old.advert ++ option_to_list (capability_of text.now)))
             result }
     {
-        // Laws.
+        // Laws that the proof uses.
         texts_are_classified();
         let Some(capability) = capability_of(text) else {
             return Err(Why::BadText);
@@ -524,7 +528,7 @@ impl<A: Allocator + Copy> Message for AdvertReader<A> {
     ghost left = { λ reader packets. ⊤ };
 
     fn accept_packet(&mut self, line: Packet<'_>) -> Result<Step, Why> {
-        // Laws.
+        // Laws that the proof uses.
         texts_are_read();
         self.take_packet(line)
     }

@@ -1,4 +1,5 @@
-//! The first line of a `git://` connection (gitprotocol-pack(5), "Git Transport").
+//! The hello: the first line that a client sends on a `git://` connection (gitprotocol-pack(5),
+//! "Git Transport").
 
 ghost use Rattle.std.specs.Prelude.{◌≡◌, ◌<◌, ◌≤◌, ◌∷◌, [], IfOk, IfErr, IfSome, length, position, is_some, ⊤};
 ghost use Rattle.std.specs.List.{slice_split};
@@ -124,7 +125,7 @@ pub fn is_host(host: &[u8]) -> bool
     1 <= host.len() && host.len() <= MAX_HOST && are_graphic(host)
 }
 
-/// Reads the first line of a connection exactly to its end.
+/// Reads a hello, and nothing after it.
 ///
 /// A fault reports packet position 0. A fault of the packet reader takes precedence over the end of
 /// the input. The fault is `UnexpectedFrame` for a flush, a delimiter or a response-end. The fault
@@ -164,7 +165,7 @@ pub fn write_hello<A: Allocator + Copy, W: Sink>(
         result (canonical_hello hello.now) }
     ensures form { IsHello hello.now }
 {
-    // Laws.
+    // Laws that the proof uses.
     writes_packets::<W>();
     let mut line = ArrayVec::new();
     compose(hello, &mut line);
@@ -207,7 +208,7 @@ fn cut(text: &[u8]) -> (&[u8], Option<&[u8]>)
     }
 }
 
-// Returns the position of the first NUL, or `None`.
+// Returns the position of the first NUL, if any.
 fn first_nul(text: &[u8]) -> Option<usize>
     ensures place { result ≡ position is_nul text.now }
     ensures within { IfSome result (λ at. at < length text.now) }
@@ -258,7 +259,7 @@ fn hello_with<'a>(path: Option<&'a [u8]>, host: Option<&'a [u8]>) -> Option<Hell
     }
 }
 
-/// The state of reading a hello.
+/// A hello that is being read.
 #[derive(Drop)]
 pub struct HelloReader<A: Allocator + Copy> {
     alloc: A,

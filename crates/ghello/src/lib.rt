@@ -1,6 +1,7 @@
-//! The first messages of a connection. A client sends the first line of a `git://` connection
-//! (gitprotocol-pack(5), "Git Transport"), and a server sends an advertisement (gitprotocol-v2(5),
-//! "Capability Advertisement"). Each of the two messages has a value type, a reader and a writer.
+//! The first messages of a connection. A client sends a hello, the first line of a `git://`
+//! connection (gitprotocol-pack(5), "Git Transport"), and a server sends an advertisement
+//! (gitprotocol-v2(5), "Capability Advertisement"). Each of the two messages has a value type, a
+//! reader and a writer.
 //!
 //! # Proved
 //!
@@ -9,27 +10,27 @@
 //!   `Limit`, and a call that runs out of memory fails with `Memory`. A failed call changes
 //!   nothing.
 //! - [`read_hello`] and [`read_advert`] read exactly one message, however its bytes are split into
-//!   pieces. Both functions refuse any other input at the first packet that does not fit, for the
-//!   reason that the grammar states (`specs/Hello.antt`, `specs/Adverts.antt`). Both functions
-//!   report out of memory only at a packet with contents to store. After a message was read, the
-//!   packet reader is ready for the next message. After a refusal, the packet reader is unusable
-//!   exactly if the fault is a fault of the packet reader.
+//!   pieces. Both functions refuse any other input at the first packet that does not fit, with the
+//!   fault that the grammar gives (`specs/Hello.antt`, `specs/Adverts.antt`). Both functions fail
+//!   with `Memory` only at a packet whose text they store. After a message was read, the packet
+//!   reader is ready for the next message. After a refusal, the packet reader is unusable exactly
+//!   if the fault is a fault of the packet reader.
 //! - [`write_hello`] and [`write_advert`] write the canonical packets of the value, or a prefix of
 //!   them if the sink fails. A reader of the written packets returns the same value.
 //! - `specs/Offers.antt` specifies how a client checks a server's capabilities.
-//!   [`Advert::value_of`] returns the first capability with a key, and [`Advert::has_feature`]
-//!   looks for a word in the value of that capability. [`Advert::format`] returns the format of the
+//!   [`Advert::value_of`] returns the first capability with a key. [`Advert::has_feature`] looks
+//!   for a word in the value of that capability. [`Advert::format`] returns the format of the
 //!   server's ids. [`Advert::check_in`] checks that a client whose ids have a given format can use
 //!   the server.
 //! - [`laws`] proves laws about both kinds of messages. The grammar of advertisements accepts
-//!   exactly those that the manual and the limits allow, with the same values
-//!   (`specs/Adverts.antt`). The grammar of hellos is narrower than the manual's
+//!   exactly the advertisements that the manual and the limits allow, with the values that the
+//!   manual states (`specs/Adverts.antt`). The grammar of hellos is narrower than the manual's
 //!   (`specs/Hello.antt`). A list of packets encodes at most one value. No message is a prefix of
 //!   another, as packets or as bytes. Every accepted prefix can be completed, and a refused packet
 //!   is the first that fits no message. Any input begins with a message or is refused because of
 //!   its bytes. The packets that are written for a value encode that value, and each payload fits
 //!   in a packet. A reader returns a message exactly when the input begins with it, and a written
-//!   message reads back. The public constants equal the limits in the specs.
+//!   message reads back unchanged. The public constants equal the limits in the specs.
 //!
 //! # What the contracts do not rule out
 //!

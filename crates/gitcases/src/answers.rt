@@ -17,11 +17,11 @@ use std::rt::Files;
 /// The text for a success.
 pub(crate) const SUCCESS: &str = "ok";
 
-/// The text for a memory fault.
+/// The text for an out-of-memory fault.
 pub(crate) const OUT_OF_MEMORY: &str = "out of memory";
 
-/// The inputs of one test run: the check, the pack and the files of the store. After
-/// `calls_before_replacement` calls, `replacement_files` replace the files of the store.
+/// The inputs of one test run: the call to test, the pack and the files of the store. After
+/// `calls_before_replacement` calls to the file system, `replacement_files` replace `files`.
 #[derive(Clone, Copy)]
 pub(crate) struct RunInputs<'t, 'a> {
     pub(crate) row: &'t Row<'a>,
@@ -42,7 +42,7 @@ impl ObjectVisitor for AnyObject {
     }
 }
 
-/// Returns the result of a test run whose calls use the allocator `tested_alloc`.
+/// Returns the result of a test run, in which the tested crates allocate with `tested_alloc`.
 pub(crate) fn actual_result<R: Files + AllocGlobal, A: Allocator + Copy>(
     rt: &R,
     tested_alloc: A,
@@ -79,8 +79,8 @@ fn index_result<A: Allocator + Copy>(
     }
 }
 
-// Returns `ok` and the number of objects in the index if the index holds all the ids, otherwise an
-// error text.
+// Returns `ok` and the number of objects in the index. Returns an error text if an id is not in the
+// index.
 fn format_index<A: Allocator + Copy>(
     alloc: Global,
     index: &IndexedPack<A>,

@@ -1,4 +1,4 @@
-//! Tests of a Git directory that receives a pack.
+//! Tests of the indexing of a pack that a Git directory receives.
 
 use crate::answers::{OUT_OF_MEMORY, RunInputs, SUCCESS};
 use crate::stores::{GIT_DIR, to_memory_files};

@@ -3,7 +3,7 @@
 //! `\n` is a line feed, `\r` is a carriage return, `\0` is the byte 0, and `\x1f` is the byte 31. A
 //! backslash before any other character yields that character. `{NAME}` is the text with this name,
 //! or the forty digits of the id of the object with this name. `{@NAME}` is the twenty bytes of the
-//! object's id. `{BYTES*3}` is `BYTES` three times.
+//! id of the object with this name. `{BYTES*3}` is `BYTES` three times.
 
 use crate::names::Names;
 use crate::trouble::Trouble;
@@ -50,14 +50,14 @@ fn add_next<'a>(
     Ok(rest.get(length..).unwrap_or(""))
 }
 
-// Returns the bytes before the first unescaped brace, and the bytes after it. The latter are `None`
-// if the text has no unescaped brace.
+// Returns the bytes before the first unescaped brace, and the bytes after that brace. The second
+// result is `None` if the text has no unescaped brace.
 fn before_brace(text: &[u8]) -> (&[u8], Option<&[u8]>) {
     let mut is_escaped = false;
-    for place in 0..text.len() {
-        let byte = text[place];
+    for index in 0..text.len() {
+        let byte = text[index];
         if byte == b'{' && !is_escaped {
-            return (&text[..place], text.get(place.saturating_add(1)..));
+            return (&text[..index], text.get(index.saturating_add(1)..));
         }
         is_escaped = byte == b'\\' && !is_escaped;
     }
@@ -68,14 +68,14 @@ fn before_brace(text: &[u8]) -> (&[u8], Option<&[u8]>) {
 pub(crate) fn add_escaped(text: &[u8], bytes: &mut Vec<u8>) -> Result<(), Trouble> {
     let mut rest = text;
     for _ in 0..text.len() {
-        let (byte, others) = match rest {
-            [b'\\', b'x', high, low, others @ ..] => (hex_byte(*high, *low), others),
-            [b'\\', letter, others @ ..] => (escaped_byte(*letter), others),
-            [plain, others @ ..] => (*plain, others),
+        let (byte, remaining) = match rest {
+            [b'\\', b'x', high, low, remaining @ ..] => (hex_byte(*high, *low), remaining),
+            [b'\\', letter, remaining @ ..] => (escaped_byte(*letter), remaining),
+            [plain, remaining @ ..] => (*plain, remaining),
             [] => break,
         };
         bytes.push(byte)?;
-        rest = others;
+        rest = remaining;
     }
     Ok(())
 }

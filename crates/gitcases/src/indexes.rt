@@ -1,4 +1,4 @@
-//! Pack indexes, valid or not (gitformat-pack(5), "Version 2 pack-*.idx files").
+//! Valid and invalid pack indexes (gitformat-pack(5), "Version 2 pack-*.idx files").
 
 use crate::packs::{Pack, TRAILER};
 use crate::trouble::Trouble;
@@ -25,7 +25,6 @@ pub(crate) struct PackIndex<'a> {
 }
 
 impl<'a> PackIndex<'a> {
-    /// Returns an index without entries.
     pub(crate) fn new(alloc: Global, name: &'a str, pack: &'a str) -> PackIndex<'a> {
         PackIndex {
             name,
@@ -35,18 +34,16 @@ impl<'a> PackIndex<'a> {
         }
     }
 
-    /// Adds an entry to the index.
     pub(crate) fn push(&mut self, id: Oid, crc: u32, offset: u64) -> Result<(), Trouble> {
         self.entries.push(IndexEntry { id, crc, offset })?;
         Ok(())
     }
 
-    /// Makes the index keep its entries in the order of addition, instead of sorting them by id.
+    /// Makes `bytes` write the entries in the order of addition, instead of sorting them by id.
     pub(crate) fn set_unsorted(&mut self) {
         self.is_unsorted = true;
     }
 
-    /// Returns the bytes of the index.
     pub(crate) fn bytes(&self, alloc: Global, pack: &Pack<'_>) -> Result<Vec<u8>, Trouble> {
         let mut entries = self.entries.as_slice().to_vec(alloc)?;
         if !self.is_unsorted {
@@ -64,8 +61,8 @@ impl<'a> PackIndex<'a> {
         let pack = pack.bytes(alloc)?;
         let end = pack.len().saturating_sub(TRAILER);
         text.extend_from_slice(pack.as_slice().get(end..).unwrap_or(b""))?;
-        let sum = Sha1::digest(text.as_slice());
-        text.extend_from_slice(&sum)?;
+        let checksum = Sha1::digest(text.as_slice());
+        text.extend_from_slice(&checksum)?;
         Ok(text)
     }
 }
@@ -73,17 +70,17 @@ impl<'a> PackIndex<'a> {
 // Appends the fan-out table: for each byte value, the number of ids whose first byte is at most
 // that value.
 fn put_fan_out(text: &mut Vec<u8>, entries: &[IndexEntry]) -> Result<(), Trouble> {
-    for first in 0..=u8::MAX {
-        let count = count_ids_up_to(entries, first);
+    for first_byte in 0..=u8::MAX {
+        let count = count_ids_up_to(entries, first_byte);
         text.extend_from_slice(&count.to_be_bytes())?;
     }
     Ok(())
 }
 
-fn count_ids_up_to(entries: &[IndexEntry], first: u8) -> u32 {
+fn count_ids_up_to(entries: &[IndexEntry], max_first_byte: u8) -> u32 {
     let mut count = 0u32;
     for entry in entries {
-        if entry.id.as_bytes().first().copied().unwrap_or(0) <= first {
+        if entry.id.as_bytes().first().copied().unwrap_or(0) <= max_first_byte {
             count = count.saturating_add(1);
         }
     }
@@ -108,13 +105,13 @@ fn put_crcs(text: &mut Vec<u8>, entries: &[IndexEntry]) -> Result<(), Trouble> {
 const LONG_OFFSET_BIT: u32 = 0x8000_0000;
 
 fn put_offsets(text: &mut Vec<u8>, entries: &[IndexEntry]) -> Result<(), Trouble> {
-    let mut longs = 0u32;
+    let mut long_count = 0u32;
     for entry in entries {
         let offset = match u32::try_from(entry.offset) {
             Ok(offset) if offset < LONG_OFFSET_BIT => offset,
             _ => {
-                longs = longs.saturating_add(1);
-                longs.saturating_sub(1) | LONG_OFFSET_BIT
+                long_count = long_count.saturating_add(1);
+                long_count.saturating_sub(1) | LONG_OFFSET_BIT
             }
         };
         text.extend_from_slice(&offset.to_be_bytes())?;

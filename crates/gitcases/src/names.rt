@@ -21,7 +21,8 @@ pub(crate) struct NamedObject<'a> {
     pub(crate) id: Oid,
 }
 
-/// All texts and objects. If several entries have the same name, only the first entry is used.
+/// The named texts and objects. If several texts or several objects have the same name, only the
+/// first is used.
 #[derive(Drop)]
 pub(crate) struct Names<'a> {
     texts: Vec<NamedText<'a>>,
@@ -29,7 +30,6 @@ pub(crate) struct Names<'a> {
 }
 
 impl<'a> Names<'a> {
-    /// Returns an empty collection of names.
     pub(crate) fn new(alloc: Global) -> Names<'a> {
         Names {
             texts: Vec::new(alloc),
@@ -37,7 +37,6 @@ impl<'a> Names<'a> {
         }
     }
 
-    /// Adds a text to the collection.
     pub(crate) fn add_text(&mut self, name: &'a str, bytes: Vec<u8>) -> Result<(), Trouble> {
         self.texts.push(NamedText { name, bytes })?;
         Ok(())
@@ -51,7 +50,6 @@ impl<'a> Names<'a> {
         }
     }
 
-    /// Adds an object to the collection.
     pub(crate) fn add_object(
         &mut self,
         name: &'a str,

@@ -1,4 +1,4 @@
-//! Tests of reading and updating refs, in a folder that each run creates anew.
+//! Tests that read, update and clone refs, in a folder that each run creates anew.
 
 use crate::answers::{OUT_OF_MEMORY, RunInputs, SUCCESS};
 use crate::row::{Row, Update};
@@ -13,14 +13,16 @@ use std::fs;
 use std::path::Path;
 use std::rt::Files;
 
-// The folder of a test run. `GIT_DIR` is the Git directory in the folder.
+// The folder of a test run.
 const FOLDER: &str = "tried";
 
+// The Git directory in the folder.
 const GIT_DIR: &str = "tried/r";
 
-// The branch of a clone's `HEAD`. `URL` is the URL in the clone's configuration.
+// The branch to which the `HEAD` of a clone points.
 const BRANCH: &[u8] = b"refs/heads/main";
 
+// The URL in the configuration of a clone.
 const URL: &str = "git://h/r";
 
 // The reason why refs are rejected.
@@ -77,15 +79,15 @@ fn format_ref_names<R: AllocGlobal, A: Allocator + Copy>(
     refs: &Refs<A>,
 ) -> Result<String, Trouble> {
     let mut text = String::from_str(rt.alloc(), SUCCESS)?;
-    for pair in refs.as_slice() {
+    for reference in refs.as_slice() {
         text.push_str(" ")?;
-        text.push_str(str::from_utf8(pair.0.as_bytes()).unwrap_or("?"))?;
+        text.push_str(str::from_utf8(reference.0.as_bytes()).unwrap_or("?"))?;
     }
     Ok(text)
 }
 
 /// Returns the result of updating refs: `ok` or the fault. After a fault, every ref must have its
-/// old id, and no lockfile may remain.
+/// old id. No lockfile may remain in any case.
 pub(crate) fn ref_update_result<R: Files + AllocGlobal, A: Allocator + Copy>(
     rt: &R,
     tested_alloc: A,

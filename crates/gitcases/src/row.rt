@@ -8,25 +8,25 @@ use std::alloc::Global;
 /// The call that a row tests.
 #[derive(Clone, Copy, PartialEq, Eq, Drop)]
 pub(crate) enum TestedCall {
-    /// Index a pack.
+    /// Indexes a pack.
     IndexPack,
-    /// Receive a pack in the store.
+    /// Receives a pack in the store.
     ReceivePack,
-    /// Open the store.
+    /// Opens the store.
     OpenStore,
-    /// Read an object, and compute its id.
+    /// Reads an object, and checks its id.
     ReadObject,
-    /// Read the raw entry of an object from a pack.
+    /// Reads the raw entry of an object from a pack.
     ReadRawEntry,
-    /// Read the refs of the store.
+    /// Reads the refs of the store.
     ReadRefs,
-    /// Update refs of the store.
+    /// Updates refs of the store.
     UpdateRefs,
-    /// Write the received refs to a new clone.
+    /// Writes received refs to a new clone.
     CloneRefs,
-    /// Parse a text as a URL.
+    /// Parses a text as a URL.
     ParseUrl,
-    /// Parse a text as a path that a client requests.
+    /// Parses a text as a path that a client requests.
     ParseServedPath,
 }
 
@@ -53,23 +53,23 @@ pub(crate) struct Row<'a> {
     pub(crate) file_name: &'a str,
     pub(crate) line_number: usize,
     pub(crate) title: &'a str,
-    /// The names of the pack and of the store.
+    /// The name of the pack.
     pub(crate) pack: &'a str,
+    /// The name of the store, which is a Git directory.
     pub(crate) store: &'a str,
     /// The name of the store whose files replace those of `store` during a run.
     pub(crate) replacement_store: &'a str,
     pub(crate) limits: IndexLimits,
-    /// The objects that the index must hold.
+    /// The ids of the objects that the index must hold.
     pub(crate) indexed_ids: Vec<Oid>,
     /// The ids of the peer's refs.
     pub(crate) tips: Vec<Oid>,
-    /// The refs to update.
     pub(crate) updates: Vec<Update>,
     /// The text for the next tested call of the row.
     pub(crate) call_text: Vec<u8>,
     pub(crate) checks: Vec<RowCheck>,
-    /// Further results that are allowed if an allocation is refused, a bit is flipped, or the store
-    /// is replaced.
+    /// Further results that are allowed if an allocation is refused, a bit is flipped, or the files
+    /// are replaced.
     pub(crate) other_results: Vec<Vec<u8>>,
     /// Whether the row is tested only with its input unchanged.
     pub(crate) is_large: bool,
@@ -88,7 +88,6 @@ const LIMITS: IndexLimits = IndexLimits {
 };
 
 impl<'a> Row<'a> {
-    /// Returns a row without checks.
     pub(crate) fn new(
         alloc: Global,
         file_name: &'a str,
@@ -114,7 +113,6 @@ impl<'a> Row<'a> {
         }
     }
 
-    /// Adds a tested call with its expected result.
     pub(crate) fn add_check(
         &mut self,
         tested_call: TestedCall,

@@ -25,8 +25,9 @@ pub(crate) struct Script<'a> {
     pub(crate) rows: Vec<Row<'a>>,
     // The number of times that the next line is repeated.
     repetitions: usize,
-    /// The file and the number of the current line.
+    /// The name of the current file.
     pub(crate) file_name: &'a str,
+    /// The number of the current line.
     pub(crate) line_number: usize,
 }
 
@@ -145,10 +146,10 @@ impl<'a> Script<'a> {
     // Begins a delta with its name, the size of the base, and the size of the result.
     fn begin_delta(&mut self, value: &'a str) -> Result<(), Trouble> {
         let (name, sizes) = split_first_word(value);
-        let (base, made) = split_first_word(sizes);
+        let (base_size, result_size) = split_first_word(sizes);
         let mut bytes = Vec::new(self.alloc);
-        put_size(&mut bytes, parse_number(base)?)?;
-        put_size(&mut bytes, parse_number(made)?)?;
+        put_size(&mut bytes, parse_number(base_size)?)?;
+        put_size(&mut bytes, parse_number(result_size)?)?;
         self.names.add_text(name, bytes)
     }
 
@@ -215,8 +216,8 @@ impl<'a> Script<'a> {
         Ok(())
     }
 
-    // Adds an entry to an index. The line names an object, the number of an entry in the pack, and
-    // optionally a different offset.
+    // Adds an entry to an index. The line states the name of an object, the number of an entry in
+    // the pack, and optionally a different offset.
     fn add_to_index(&mut self, keyword: &str, value: &str) -> Result<(), Trouble> {
         let Some(last) = self.indexes.last() else {
             return Err(Trouble::NoCurrentItem);
@@ -225,8 +226,8 @@ impl<'a> Script<'a> {
         if keyword == "unsorted" {
             return self.set_unsorted();
         }
-        let (name, place) = split_first_word(value);
-        let (number, offset) = split_first_word(place);
+        let (name, rest) = split_first_word(value);
+        let (number, offset) = split_first_word(rest);
         let (start, crc) = self.pack(pack)?.offset_and_crc(parse_number(number)?)?;
         let offset = entry_offset(start, offset)?;
         let crc = if keyword == "line" { crc } else { !crc };
@@ -293,7 +294,7 @@ impl<'a> Script<'a> {
         }
     }
 
-    // Adds a pack, and the index with the given entries.
+    // Adds a pack and its index, whose names the line states.
     fn add_packed(&mut self, value: &str) -> Result<(), Trouble> {
         let (name, index_name) = split_first_word(value);
         let pack = self.pack_bytes(name)?;
@@ -367,7 +368,8 @@ impl<'a> Script<'a> {
         }
     }
 
-    // Adds an update of a ref: the old id or `-`, the new id, and the name.
+    // Adds an update of a ref. The line states the old object or `-`, the new object, and the name
+    // of the ref.
     fn add_update(&mut self, value: &str) -> Result<(), Trouble> {
         let (old, other_values) = split_first_word(value);
         let (new, line) = split_first_word(other_values);
@@ -419,14 +421,14 @@ impl<'a> Script<'a> {
     }
 }
 
-// Returns the offset that `offset` states: the entry's own offset, a fixed offset, or an offset
-// relative to the entry.
+// Parses the offset of an entry. An empty text means `start`, and a leading `+` marks a distance
+// from `start`.
 fn entry_offset(start: usize, offset: &str) -> Result<u64, Trouble> {
     if offset.is_empty() {
         return Ok(start as u64);
     }
     match offset.strip_prefix('+') {
-        Some(other_values) => Ok(start.saturating_add(parse_number(other_values)?) as u64),
+        Some(distance) => Ok(start.saturating_add(parse_number(distance)?) as u64),
         None => Ok(parse_number(offset)? as u64),
     }
 }

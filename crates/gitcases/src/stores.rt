@@ -7,9 +7,10 @@ use gname::Oid;
 use gzlib::Deflater;
 use std::alloc::{AllocError, Allocator, Global};
 
-/// The path of every Git directory in memory. `OBJECTS` is the path of its directory `objects`.
+/// The path of every Git directory in memory.
 pub(crate) const GIT_DIR: &str = "/r";
 
+// The path of the directory `objects` in the Git directory.
 const OBJECTS: &str = "/r/objects";
 
 /// A file of a Git directory.
@@ -29,7 +30,6 @@ pub(crate) struct Store<'a> {
 }
 
 impl<'a> Store<'a> {
-    /// Returns a Git directory without objects.
     pub(crate) fn new(alloc: Global, name: &'a str) -> Result<Store<'a>, Trouble> {
         let mut store = Store {
             name,
@@ -41,7 +41,6 @@ impl<'a> Store<'a> {
         Ok(store)
     }
 
-    /// Adds a file to the Git directory.
     pub(crate) fn add_file(&mut self, path: String, bytes: Vec<u8>) -> Result<(), Trouble> {
         self.files.push(File { path, bytes })?;
         Ok(())
@@ -67,7 +66,7 @@ impl<'a> Store<'a> {
         self.add_file(path, index)
     }
 
-    /// Adds a loose object file that inflates to the text.
+    /// Adds the file of a loose object. The file inflates to `text`.
     pub(crate) fn add_loose(
         &mut self,
         alloc: Global,
@@ -115,7 +114,6 @@ pub(crate) fn to_memory_files<A: Allocator + Copy>(
     Ok(memory_files)
 }
 
-/// Returns copies of the files.
 pub(crate) fn copy_files(alloc: Global, files: &[File]) -> Result<Vec<File>, Trouble> {
     let mut copies = Vec::new(alloc);
     for file in files {

@@ -2,18 +2,18 @@
 
 use std::io;
 
-/// The variations with which a row is tested.
+/// A way in which a row is tested.
 #[derive(Clone, Copy, PartialEq, Eq)]
 pub(crate) enum Variation {
     /// The input is unchanged.
     Unchanged,
-    /// A pack is truncated after each byte, or has each bit flipped but keeps its old trailer.
+    /// The pack is truncated, or one of its bits is flipped and its old trailer is kept.
     BrokenPack,
-    /// Each bit is flipped, and a pack then gets a correct trailer.
+    /// One bit is flipped. A pack then gets a correct trailer.
     ChangedBits,
-    /// The files change during the run.
+    /// The files are replaced during the run.
     ReplacedFiles,
-    /// Each allocation is refused in turn.
+    /// One allocation is refused.
     RefusedAllocations,
 }
 
@@ -39,7 +39,6 @@ pub(crate) struct Tally {
 }
 
 impl Tally {
-    /// Returns a tally without runs.
     pub(crate) fn new() -> Tally {
         Tally {
             rows: 0,
@@ -48,7 +47,6 @@ impl Tally {
         }
     }
 
-    /// Counts a row.
     pub(crate) fn count_row(&mut self) {
         self.rows = self.rows.saturating_add(1);
     }
@@ -63,7 +61,6 @@ impl Tally {
         }
     }
 
-    /// Prints all counts.
     pub(crate) fn print<R: Print>(&self, rt: &R) -> io::Result<()> {
         let rows = self.rows;
         println!(rt; "{rows} rows")?;

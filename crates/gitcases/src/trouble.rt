@@ -16,7 +16,7 @@ pub(crate) enum Trouble {
     InvalidNumber,
     /// A line belongs to an item that has not begun.
     NoCurrentItem,
-    /// A line has no known form.
+    /// The form of a line is unknown.
     UnknownLine,
     /// A text is not UTF-8.
     NotUtf8,
@@ -27,7 +27,6 @@ pub(crate) enum Trouble {
 }
 
 impl Trouble {
-    /// Returns the printed text of the reason.
     pub(crate) fn text(self) -> &'static str {
         match self {
             Trouble::Memory => "out of memory",

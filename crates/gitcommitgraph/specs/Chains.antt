@@ -21,7 +21,7 @@ FindsCommit commits id result =
     MatchOption result (All (λ c. c.id ≢ id) commits)
     (λ position. (position < length commits) × HoldsAt (λ c. c.id ≡ id) commits position)
 
--- the list of these parents, or `None` if there are more than `most` parents
+-- the result is the list of these parents, or `None` if there are more than `most` parents
 abbrev pub ListsParents : {A : Type 0} → ℕ → List ℕ → Option (Vec ℕ A) → Type 0
 ListsParents most parents found =
     MatchOption found (most < length parents) (λ list. (list.items ≡ parents) × (length parents ≤ most))
@@ -30,12 +30,12 @@ ListsParents most parents found =
 abbrev pub HasParentsBelow : ℕ → Commit → Type 0
 HasParentsBelow end commit = All (λ position. position < end) commit.parents
 
--- each parent of each commit is a commit of the list
+-- each parent of each commit has the position of a commit in the list
 abbrev pub AreClosed : List Commit → Type 0
 AreClosed commits = All (HasParentsBelow (length commits)) commits
 
--- The chain with one more file on top. The base graphs of the new file are the earlier files. Each parent position in
--- the file is the position of a commit, and there are at most 0x7000_0000 commits.
+-- The chain `new` is the chain `old` with one more file. The base graphs of the new file are the earlier files. Each
+-- parent position in the new file is the position of a commit, and there are at most 0x7000_0000 commits.
 pub record AddsFile (old : List GraphFile) (text : List ℕ) (new : List GraphFile) : Type 0 where
   pub file : GraphFile
   pub is : IsGraphText file text
@@ -44,7 +44,7 @@ pub record AddsFile (old : List GraphFile) (text : List ℕ) (new : List GraphFi
   pub few : length (graph_commits new) ≤ no_parent
   pub within : HasPositionsBefore (length (graph_commits new)) file
 
--- ---- chain file
+-- ---- the file `commit-graph-chain`
 
 -- a line: the hexadecimal digits of an id, and a line feed
 pub record IsLine (id : Id) (line : List ℕ) : Type 0 where

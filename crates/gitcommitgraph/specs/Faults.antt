@@ -1,4 +1,4 @@
--- The reasons to refuse a file for a commit-graph, and the printed texts of the faults.
+-- The faults of adding a file to a commit-graph, and their displayed texts.
 use Rattle.std.specs.Prelude.{◌≢◌, ⊤, ℕ, ◌<◌, List, [], ◌∷◌, ◌++◌, codes, length, map}
 use Rattle.gname.specs.Faults.{out_of_memory_text}
 use Rattle.gitcommitgraph.specs.Chains.{checksum_of, graph_commits}
@@ -15,8 +15,8 @@ IsNoFile text = (file : GraphFile) → ¬ IsGraphText file text
 abbrev pub IsOfFile : List ℕ → (GraphFile → Type 0) → Type 0
 IsOfFile text P = (file : GraphFile) × IsGraphText file text × P file
 
--- The reasons to refuse a text as the next file of a chain: out of memory, wrong base graphs, too many commits, a
--- position without a commit, or a text that is not a commit-graph file.
+-- The condition under which this fault may be returned for the next file of a chain. `Memory` may always be returned.
+-- Any other fault is returned only if the text is not a commit-graph file, or if the file has the fault.
 abbrev pub IsRefused : List GraphFile → List ℕ → CommitGraphFault → Type 0
 IsRefused old text Memory = ⊤
 IsRefused old text Bases = IsOfFile text (λ file. file.bases ≢ map checksum_of old)
@@ -32,12 +32,12 @@ IsRefused old text Edges = IsNoFile text
 
 abbrev pub commit_graph_fault_text : CommitGraphFault → List ℕ
 commit_graph_fault_text Memory = out_of_memory_text
-commit_graph_fault_text Header = codes "the file is no commit-graph of version 1 with SHA-1 ids"
+commit_graph_fault_text Header = codes "the file is not a version 1 commit-graph with SHA-1 ids"
 commit_graph_fault_text Contents = codes "the table of contents of the commit-graph is wrong"
 commit_graph_fault_text Chunk = codes "a chunk of the commit-graph is missing or has a wrong length"
-commit_graph_fault_text Order = codes "the ids of the commit-graph do not ascend"
+commit_graph_fault_text Order = codes "the ids of the commit-graph are not in ascending order"
 commit_graph_fault_text FanOut = codes "the fan-out table of the commit-graph is wrong"
-commit_graph_fault_text Edges = codes "a list of edges of the commit-graph has no end"
-commit_graph_fault_text Bases = codes "the base graphs of the commit-graph are not the files before"
+commit_graph_fault_text Edges = codes "an edge list of the commit-graph has no end"
+commit_graph_fault_text Bases = codes "the base graphs of the commit-graph are not the earlier files"
 commit_graph_fault_text TooMany = codes "the commit-graph has too many commits"
 commit_graph_fault_text Parents = codes "a parent is not in the commit-graph"

@@ -7,8 +7,8 @@ use Rattle.std.specs.declared.cmp.Ordering.TheVariants.{Less}
 use Rattle.std.specs.Cmp.Lexicographic.{slice_cmp}
 use Rattle.gname.specs.Ids.{Id}
 
--- The contents of a file: the checksums of its base graphs, the ids of its commits with their rows of commit data, the
--- edges of octopus merges, and the file's own checksum.
+-- The contents of a file: the checksums of its base graphs, the ids of its commits, a row of commit data for each id,
+-- the edges of octopus merges, and the file's own checksum.
 pub record GraphFile : Type 0 where
   pub bases : List Id
   pub ids : List Id
@@ -76,7 +76,7 @@ file_commits file = commits_of file.edges file.ids file.rows
 
 -- ---- form
 
--- each row has this number of bytes
+-- each row has `n` bytes
 abbrev pub AreLong : ℕ → List (List ℕ) → Type 0
 AreLong n rows = All (λ row. length row ≡ n) rows
 
@@ -95,8 +95,7 @@ pub record HaveEnds (edges rows : List (List ℕ)) : Type 0 where
   pub begins : All (NamesEdge (length edges)) rows
 
 -- The form of a file: ascending ids of 20 bytes, a row of 36 bytes for each id, edges of 4 bytes, and checksums of 20
--- bytes. Each edge list has an end. There are at most 0x7000_0000 ids, so no index of an id equals the number for a
--- missing parent.
+-- bytes. Each edge list has an end. There are at most 0x7000_0000 ids, so no index of an id equals `no_parent`.
 pub record IsGraphFile (file : GraphFile) : Type 0 where
   pub bases : AreLong 20 file.bases
   pub ids : AreLong 20 file.ids

@@ -24,7 +24,7 @@ chunk_bytes c = c.bytes
 abbrev pub no_name : List ℕ
 no_name = 0 ∷ 0 ∷ 0 ∷ 0 ∷ []
 
--- The table of contents of chunks, the first of which begins at this offset. The table has a row for each chunk, with
+-- The table of contents of chunks, of which the first begins at this offset. The table has a row for each chunk, with
 -- the chunk's name and offset, and a last row with the offset of the end.
 abbrev pub contents : ℕ → List Chunk → List ℕ
 contents offset [] = no_name ++ to_be_bytes w64 offset
@@ -51,15 +51,15 @@ MayHaveChunk chunks name bytes =
 abbrev pub begins_within : ℕ → Id → Bool
 begins_within byte id = nat_le (slice_index id 0) byte
 
--- the first rows of the fan-out table: for each byte below this limit, the number of ids that begin with the byte or a
--- lower byte
+-- the first n rows of the fan-out table: for each byte below n, the number of ids that begin with the byte or a lower
+-- byte
 unfoldable pub fan_out : ℕ → List Id → List ℕ
 fan_out zero ids = []
 fan_out (suc byte) ids = fan_out byte ids ++ to_be_bytes w32 (count_by (begins_within byte) ids)
 
 -- ---- files
 
--- The frame of a file: the header, the table of contents, the chunks one after the other, and a checksum.
+-- The text of a file with these chunks: the header, the table of contents, the contiguous chunks, and a checksum.
 pub record IsFramed (bases : ℕ) (chunks : List Chunk) (checksum : Id) (text : List ℕ) : Type 0 where
   pub parts : text ≡ header (length chunks) bases
       ++ (contents (8 + 12 * (length chunks + 1)) chunks ++ (flat_map chunk_bytes chunks ++ checksum))

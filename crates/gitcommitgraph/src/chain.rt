@@ -8,7 +8,7 @@ use gname::Oid;
 use gname::laws::texts_have_one_reading;
 use std::alloc::{AllocError, Allocator};
 
-// The number of hexadecimal digits of an id.
+// The number of hexadecimal digits of a SHA-1 id.
 const DIGITS: usize = 40;
 
 // The length in bytes of a line: an id and a line feed.
@@ -42,7 +42,7 @@ pub fn parse_chain<A: Allocator + Copy>(
 fn read_line(line: &[u8; LINE]) -> Option<Oid>
     ensures { MatchOption result ((id : Id) → ¬ IsLine id line.now) (λ id. IsLine id line.now) }
 {
-    // Law.
+    // The proof uses this law.
     texts_have_one_reading();
     if line[DIGITS] != b'\n' {
         return None;

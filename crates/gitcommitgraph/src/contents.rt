@@ -1,5 +1,5 @@
-//! The header and the table of contents of a file (gitformat-commit-graph(5), "HEADER" and "CHUNK
-//! LOOKUP"; gitformat-chunk(5)).
+//! The header and the table of contents of a commit-graph file (gitformat-commit-graph(5), "HEADER"
+//! and "CHUNK LOOKUP"; gitformat-chunk(5)).
 
 ghost use Rattle.std.specs.Prelude.{◌≡◌, ◌<◌, ◌++◌, ◌↔◌, List, ℕ, IsTrue, MatchOption, length, slice_index_or};
 ghost use Rattle.gitcommitgraph.specs.Texts.{header};
@@ -17,17 +17,21 @@ pub(crate) const ENTRY_BYTES: usize = 12;
 // The name in the last row of the table of contents.
 const NO_NAME: &[u8; 4] = b"\0\0\0\0";
 
-/// The counts in a header: the number of chunks and the number of base graphs.
+/// The counts in a header.
 #[derive(Clone, Copy, Drop)]
 pub(crate) struct Header {
+    /// The number of chunks.
     pub(crate) chunks: u8,
+    /// The number of base graphs.
     pub(crate) bases: u8,
 }
 
-/// The location of a chunk: its bytes have the offsets from `start` up to but excluding `end`.
+/// The location of a chunk in a file.
 #[derive(Clone, Copy, Drop)]
 pub(crate) struct Span {
+    /// The offset of the first byte.
     pub(crate) start: usize,
+    /// The offset after the last byte.
     pub(crate) end: usize,
 }
 

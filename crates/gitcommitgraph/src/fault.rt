@@ -1,4 +1,4 @@
-//! Faults of commit-graph files.
+//! The faults of adding a file to a commit-graph.
 
 ghost use Rattle.std.specs.Prelude.{◌≡◌, Some};
 ghost use Rattle.gitcommitgraph.specs.Faults.{commit_graph_fault_text};
@@ -14,8 +14,8 @@ use std::fmt;
 pub enum CommitGraphFault {
     /// Out of memory.
     Memory,
-    /// The file does not start with the header of a commit-graph of version 1 with SHA-1 ids, or
-    /// the file is truncated.
+    /// The file is too short, or does not begin with the header of a commit-graph of version 1 with
+    /// SHA-1 ids.
     Header,
     /// The table of contents is wrong: the chunks do not fill the file up to the trailer, or two
     /// chunks have the same name.
@@ -30,29 +30,29 @@ pub enum CommitGraphFault {
     Edges,
     /// The base graphs of the file are not the files that were added earlier.
     Bases,
-    /// The commit-graph would have more commits than there are positions.
+    /// The commit-graph would have more than 0x7000_0000 commits.
     TooMany,
     /// The file lists a parent position at which there is no commit.
     Parents,
 }
 
 impl CommitGraphFault {
-    // Returns the text of the fault.
+    // Returns the displayed text of the fault.
     fn text(&self) -> &'static str
         ensures { result.now ≡ commit_graph_fault_text self.now }
     {
         match self {
             CommitGraphFault::Memory => OUT_OF_MEMORY_TEXT,
-            CommitGraphFault::Header => "the file is no commit-graph of version 1 with SHA-1 ids",
+            CommitGraphFault::Header => "the file is not a version 1 commit-graph with SHA-1 ids",
             CommitGraphFault::Contents => "the table of contents of the commit-graph is wrong",
             CommitGraphFault::Chunk => {
                 "a chunk of the commit-graph is missing or has a wrong length"
             }
-            CommitGraphFault::Order => "the ids of the commit-graph do not ascend",
+            CommitGraphFault::Order => "the ids of the commit-graph are not in ascending order",
             CommitGraphFault::FanOut => "the fan-out table of the commit-graph is wrong",
-            CommitGraphFault::Edges => "a list of edges of the commit-graph has no end",
+            CommitGraphFault::Edges => "an edge list of the commit-graph has no end",
             CommitGraphFault::Bases => {
-                "the base graphs of the commit-graph are not the files before"
+                "the base graphs of the commit-graph are not the earlier files"
             }
             CommitGraphFault::TooMany => "the commit-graph has too many commits",
             CommitGraphFault::Parents => "a parent is not in the commit-graph",

@@ -1,4 +1,4 @@
-//! Commit-graphs of one or more files.
+//! A commit-graph of one or more files.
 
 ghost use Rattle.std.specs.Prelude.{◌≡◌, ◌==◌, ◌<◌, ◌≤◌, [], All, IfErr, IfOk, IfSome, MatchOption, OnErr, OnOk, length};
 ghost use Rattle.std.specs.List.{HoldsAt};
@@ -53,7 +53,7 @@ impl<A: Allocator + Copy> CommitGraph<A> {
     /// lowest to the highest. The bytes are kept unchanged, and the file's checksum is not checked.
     ///
     /// Fails with `Bases` if the base graphs of the file are not the files added earlier, and with
-    /// `TooMany` if there would be more commits than positions. Fails with `Parents` if the file
+    /// `TooMany` if there would be more than 0x7000_0000 commits. Fails with `Parents` if the file
     /// lists a parent position without a commit, or with `Memory` if out of memory. Fails with any
     /// other fault if the bytes are not a commit-graph file. After a failure the commit-graph is
     /// unchanged.
@@ -143,7 +143,7 @@ impl<A: Allocator + Copy> CommitGraph<A> {
     }
 }
 
-// Returns the position of the first commit with this id.
+// Returns the position of the first commit with this id, or `None` if no commit has the id.
 fn find_commit<A: Allocator + Copy>(layers: &[Layer<A>], id: &[u8; ID_BYTES]) -> Option<usize>
     requires { length (graph_commits layers.now) ≤ no_parent }
     ensures { FindsCommit (graph_commits layers.now) id.now result }
@@ -167,7 +167,7 @@ fn layer_at<A: Allocator + Copy>(layers: &[Layer<A>], position: usize) -> (&Laye
 }
 
 // Returns the file that has the commit at this position, and the index of the commit in the file.
-// Returns `None` for a position past the last commit.
+// Returns `None` if there is no commit at the position.
 fn find_layer<A: Allocator + Copy>(
     layers: &[Layer<A>],
     position: usize,

@@ -1,4 +1,4 @@
-//! A single file of a commit-graph.
+//! A single commit-graph file.
 
 ghost use Rattle.std.specs.Prelude.{◌≡◌, ◌↔◌, ◌*◌, ◌<◌, List, IfOk, IsTrue, MatchOption, MatchResult, length, map};
 ghost use Rattle.std.specs.List.{HoldsAt};
@@ -26,7 +26,7 @@ const FAN_OUT_BYTES: usize = 1_024;
 // The length of an edge in bytes.
 const EDGE_BYTES: usize = 4;
 
-// The location of a chunk that is absent: an empty span.
+// The location of a missing optional chunk: an empty span.
 const NOWHERE: Span = Span { start: 0, end: 0 };
 
 // The locations of the chunks of a file.
@@ -39,7 +39,7 @@ struct Places {
     bases: Span,
 }
 
-/// A file of a commit-graph. The form of the file has been checked.
+/// A commit-graph file whose form has been checked.
 #[derive(Drop)]
 pub(crate) struct Layer<A: Allocator + Copy> {
     bytes: Vec<u8, A>,
@@ -120,7 +120,7 @@ impl<A: Allocator + Copy> Layer<A> {
         self.tables().are_before(end)
     }
 
-    /// Returns whether the base graphs of the file are exactly these files.
+    /// Returns whether the base graphs of the file are exactly these files, in this order.
     pub(crate) fn is_above(&self, layers: &[Layer<A>]) -> bool
         ensures { IsTrue result ↔ (self.now.bases ≡ map checksum_of layers.now) }
     {
@@ -274,7 +274,7 @@ fn id_of_bytes(bytes: &[u8; ID_BYTES]) -> Oid
     ensures bytes { result ≡ bytes.now }
     ensures format { IsIdOf Sha1 result }
 {
-    // Law.
+    // The proof uses this law.
     ids_have_one_format();
     Oid::from_bytes(bytes).unwrap()
 }

@@ -7,9 +7,10 @@
 //! - [`CommitGraph::add`] adds a file if and only if the text of the file has the form of `specs/`:
 //!   header, table of contents, chunks and trailer. The ids ascend, the fan-out table matches the
 //!   ids, and each edge list has an end. The base graphs are the files added earlier, and each
-//!   position in the file is the position of a commit. `Bases`, `TooMany` and `Parents` are
-//!   returned only if the file has the returned fault. Any other fault except `Memory` is returned
-//!   only if the text is not a commit-graph file. After a failure the commit-graph is unchanged.
+//!   position in the file is the position of a commit. Each of the faults `Bases`, `TooMany` and
+//!   `Parents` is returned only if the file has that fault. Any other fault except `Memory` is
+//!   returned only if the text is not a commit-graph file. After a failure the commit-graph is
+//!   unchanged.
 //! - [`CommitGraph::find`] returns a position if and only if some file has a commit with the given
 //!   id.
 //! - [`CommitGraph::parents_of`] lists the parents of a commit, from its commit data and its edge
@@ -26,21 +27,21 @@
 //!
 //! # Differences from Git
 //!
-//! - Git checks little when it opens a file, and exits with an error when it encounters a wrong
-//!   position. This crate checks each file completely, in time linear in its size.
+//! - Git checks only a part of a file on opening, and exits with an error if it later encounters a
+//!   wrong position. This crate checks each file completely, in time linear in its size.
 //! - The chunks must fill the file between the table of contents and the trailer. Git accepts gaps
 //!   between chunks. Git also accepts a last edge that does not end its list, but never writes such
 //!   an edge.
 //! - The crate does not check the trailer. Git does not check the trailer either when it opens a
-//!   file, but `git commit-graph verify` does. A chain must list the trailers of its files. Git
-//!   also compares these trailers with the names of the files.
+//!   file, but `git commit-graph verify` does. Each file of a chain must list the trailers of the
+//!   files below it, as in Git. Git also compares the trailers with the names of the files.
 //! - All ids are SHA-1. The crate does not read generation numbers, dates, changed paths or the ids
 //!   of trees.
 //!
 //! # What the contracts do not rule out
 //!
-//! - No contract rules out that a commit-graph is wrong: this crate does not compare it with the
-//!   commits. A caller should rely on the commit-graph only for commits in the repository.
+//! - No contract rules out that a commit-graph is wrong: this crate does not compare a commit-graph
+//!   with the commits. A caller should use a commit-graph only for commits in the repository.
 //! - If a text is not a commit-graph file, the contracts do not state which of the faults `Header`,
 //!   `Contents`, `Chunk`, `Order`, `FanOut` and `Edges` is returned.
 //! - If two files of a chain have the same commit, no contract says which of the two positions

@@ -4,12 +4,12 @@ ghost use Rattle.std.specs.Prelude.{◌≡◌};
 
 use std::marker::Model;
 
-/// The maximum number of commits. In a commit-graph file, a parent position of this value means
-/// that there is no parent.
+/// The maximum number of commits. If a commit has no first or second parent, a commit-graph file
+/// stores this number instead of the parent's position.
 pub(crate) const MAX_COMMITS: usize = 0x7000_0000;
 
-/// The position of a commit in a commit-graph: the number of commits before the position. The
-/// positions of a chain continue from one file to the next.
+/// The position of a commit in a commit-graph: its index among the commits of all files. The
+/// positions in a chain continue from one file to the next.
 #[derive(Clone, Copy, Debug, PartialEq, Eq, Drop)]
 pub struct Position {
     number: u32,

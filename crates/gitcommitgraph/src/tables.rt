@@ -1,4 +1,4 @@
-//! The tables of a file (gitformat-commit-graph(5), "CHUNK DATA").
+//! The tables of a commit-graph file (gitformat-commit-graph(5), "CHUNK DATA").
 
 ghost use Rattle.std.specs.Prelude.{◌≡◌, ◌-◌, ◌<◌, ◌≤◌, ◌++◌, ◌↔◌, [], List, ℕ, All, IfOk, IsTrue, count_by, length, slice_index_or};
 ghost use Rattle.gitcommitgraph.specs.Chains.{ListsParents};
@@ -15,25 +15,29 @@ pub(crate) const ID_BYTES: usize = 20;
 /// The length in bytes of a row of the commit data.
 pub(crate) const ROW_BYTES: usize = 36;
 
-// The offsets of the two parent numbers in a row of the commit data.
+// The offset of the first parent number in a row of the commit data.
 const FIRST_PARENT: usize = 20;
 
+// The offset of the second parent number in a row of the commit data.
 const SECOND_PARENT: usize = 24;
 
 // The parent number that is stored if there is no parent.
 const NO_PARENT: u32 = 0x7000_0000;
 
-// The highest bit, which marks the last edge of a list. The same bit marks a second parent number
-// that refers to an edge list.
+// The highest bit of an edge or a second parent number. The bit marks the last edge of a list, and
+// a second parent number that refers to an edge list.
 const MARK: u32 = 0x8000_0000;
 
-/// The tables of a file: the fan-out table, the ids, a row of commit data for each id, and the
-/// edges.
+/// The tables of a file.
 #[derive(Clone, Copy)]
 pub(crate) struct Tables<'a> {
+    /// The fan-out table.
     pub(crate) fan_out: &'a [[u8; 4]],
+    /// The ids of the commits.
     pub(crate) ids: &'a [[u8; ID_BYTES]],
+    /// A row of commit data for each id.
     pub(crate) rows: &'a [[u8; ROW_BYTES]],
+    /// The edges of all edge lists.
     pub(crate) edges: &'a [[u8; 4]],
 }
 
@@ -122,7 +126,7 @@ impl Tables<'_> {
         true
     }
 
-    /// Returns whether each edge list that a row refers to begins at a valid index and has an end.
+    /// Returns whether each edge list to which a row refers begins at a valid index and has an end.
     pub(crate) fn lists_end(&self) -> bool
         ensures { IsTrue result ↔ HaveEnds self.now.edges.now self.now.rows.now }
     {
@@ -157,8 +161,8 @@ fn ids_within(ids: &[[u8; ID_BYTES]], byte: usize) -> usize
     ids.partition_point(|id| usize::from(id[0]) <= byte)
 }
 
-// Appends the parents from an edge list to `list`. Returns `None` if `list` would have more than
-// `most` parents.
+// Appends the parents from the edge list at the start of `edges` to `list`, and returns `list`.
+// Returns `None` if there would be more than `most` parents.
 fn follow<A: Allocator + Copy>(
     edges: &[[u8; 4]],
     mut list: Vec<Position, A>,
@@ -187,7 +191,7 @@ fn within<A: Allocator + Copy>(list: Vec<Position, A>, most: usize) -> Option<Ve
     if list.len() <= most { Some(list) } else { None }
 }
 
-// Returns whether the last edge has the mark that ends a list. Returns true if there are no edges.
+// Returns whether the last edge is marked as the end of a list. Returns true if there are no edges.
 fn last_is_marked(edges: &[[u8; 4]]) -> bool
     ensures { IsTrue result ↔
         ((d : List ℕ) → 0 < length edges.now → mark ≤ number (slice_index_or edges.now (length edges.now - 1) d)) }

@@ -27,10 +27,10 @@ abbrev pub IsEndOr : (ℕ → Bool) → List ℕ → Type 0
 IsEndOr p [] = ⊤
 IsEndOr p (b ∷ rest) = p b ≡ true
 
--- a line can end before this text: the text is empty or begins with an LF
+-- the line before this text is complete: the text is empty or begins with an LF
 abbrev pub EndsLine : List ℕ → Type 0
 EndsLine rest = IsEndOr (λ b. b == 10) rest
 
--- a value can end before this text: the text is empty or begins with an LF or a comment
+-- the value before this text is complete: the text is empty, or begins with an LF or a comment
 abbrev pub EndsValue : List ℕ → Type 0
 EndsValue rest = IsEndOr (λ b. b == 10 || is_mark b) rest

@@ -7,7 +7,7 @@ use Rattle.gitconfig.specs.Bytes.{EndsLine, is_blank, is_mark, is_name_byte, is_
 use Rattle.gitconfig.specs.Values.{BeginsWithValue}
 use Rattle.gitconfig.specs.declared.setting.Setting as settings
 
--- a variable that a configuration sets
+-- a variable that a configuration sets: its full section name, its name and its value
 pub record Setting : Type 0 where
   pub section : List ℕ
   pub name : List ℕ
@@ -115,7 +115,7 @@ pub record IsConfig (text : List ℕ) (sets : List Setting) : Type 0 where
   pub has : HasItems text items
   pub is : sets ≡ settings_of [] items
 
--- the variable that a Rust value describes
+-- the variable that the Rust value contains
 abbrev pub setting_of : {A : Type 0} → settings.Setting A → Setting
 setting_of s = record {
   section = s.section.items;

@@ -5,7 +5,7 @@ use Rattle.gitconfig.specs.Bytes.{EndsValue, is_blank, is_mark}
 use Rattle.gitconfig.specs.declared.pieces.Piece.{Piece}
 use Rattle.gitconfig.specs.declared.pieces.Piece.TheVariants.{Byte, Blank, Quote, Continuation}
 
--- the byte that a backslash and this byte encode: `\n`, `\t`, `\b`, `\"` and `\\`
+-- the byte that a backslash and this byte encode; the escapes are `\n`, `\t`, `\b`, `\"` and `\\`
 abbrev pub escape : ℕ → Option ℕ
 escape c = if c == 110 then Some 10 else (if c == 116 then Some 9 else (if c == 98 then Some 8 else
     (if c == 34 || c == 92 then Some c else None)))

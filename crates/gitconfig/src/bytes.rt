@@ -1,4 +1,4 @@
-//! The kinds of bytes in a configuration.
+//! Classifying the bytes of a configuration, and splitting its text.
 
 ghost use Rattle.std.specs.Prelude.{◌≡◌, ◌≢◌, ◌++◌, ◌∷◌, ◌↔◌, [], All, IfSome, IsTrue, true};
 ghost use Rattle.gitconfig.specs.Bytes.{EndsLine, EndsValue, is_blank, is_name_byte, is_section_byte, is_space};
@@ -61,7 +61,7 @@ pub(crate) fn split_blanks(text: &[u8]) -> (&[u8], &[u8])
     }
 }
 
-/// Returns the variable-name bytes at the front of a text, and the rest of the text.
+/// Returns the bytes at the front of a text that variable names can contain, and the rest.
 pub(crate) fn split_name(text: &[u8]) -> (&[u8], &[u8])
     ensures parts { text.now ≡ result.0.now ++ result.1.now }
     ensures each { All (λ b. is_name_byte b ≡ true) result.0.now }
@@ -72,7 +72,7 @@ pub(crate) fn split_name(text: &[u8]) -> (&[u8], &[u8])
     }
 }
 
-/// Returns the section-name bytes at the front of a text, and the rest of the text.
+/// Returns the bytes at the front of a text that section names can contain, and the rest.
 pub(crate) fn split_section(text: &[u8]) -> (&[u8], &[u8])
     ensures parts { text.now ≡ result.0.now ++ result.1.now }
     ensures each { All (λ b. is_section_byte b ≡ true) result.0.now }
@@ -96,7 +96,7 @@ pub(crate) fn split_line(text: &[u8]) -> (&[u8], &[u8])
     }
 }
 
-/// Returns whether the text is empty or begins with an LF, so that a line can end before the text.
+/// Returns whether the line before this text is complete: the text is empty or begins with an LF.
 pub(crate) fn ends_line(text: &[u8]) -> bool
     ensures { IsTrue result ↔ EndsLine text.now }
 {
@@ -106,8 +106,8 @@ pub(crate) fn ends_line(text: &[u8]) -> bool
     }
 }
 
-/// Returns whether the text is empty or begins with an LF or a comment, so that a value can end
-/// before the text.
+/// Returns whether the value before this text is complete: the text is empty, or begins with an LF
+/// or a comment.
 pub(crate) fn ends_value(text: &[u8]) -> bool
     ensures { IsTrue result ↔ EndsValue text.now }
 {

@@ -1,11 +1,11 @@
-//! The reasons why a configuration cannot be read.
+//! The faults of reading a configuration.
 
 ghost use Rattle.std.specs.Prelude.{◌≡◌};
 ghost use Rattle.gitconfig.specs.declared.fault.ConfigFault.TheVariants.{Memory};
 
 use std::alloc::{AllocError, AllocFailed};
 
-/// The reasons why a configuration cannot be read.
+/// The reason why a configuration cannot be read.
 #[derive(Clone, Copy, Debug, PartialEq, Eq)]
 pub enum ConfigFault {
     /// The text is not a configuration.

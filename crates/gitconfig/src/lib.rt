@@ -12,7 +12,7 @@
 //! # Differences from Git
 //!
 //! - A variable before the first header belongs to a section with an empty name.
-//! - A CR always counts as a blank. In Git a CR is a blank only before LF and in values.
+//! - A CR is always a blank. In Git, a CR is a blank only before an LF and in values.
 //! - A byte order mark at the start of the text is refused. Git skips a byte order mark.
 //! - A blank before a section name is refused, and so is a `\` before CR LF or at the end of the
 //!   text. Git accepts all three.

@@ -1,16 +1,17 @@
-//! The pieces of the text of a value.
+//! The pieces of an encoded value: bytes, blanks, quotes and line continuations.
 
 ghost use Rattle.std.specs.Prelude.{◌≡◌, ◌∷◌, ◌<◌, Bool, IfSome, length};
 ghost use Rattle.gitconfig.specs.Values.{BeginsWithPiece};
 
 use crate::bytes::is_blank;
 
-/// A piece of the text of a value.
+/// A piece of an encoded value.
 #[derive(Clone, Copy, Debug)]
 pub(crate) enum Piece {
     /// A byte of the value.
     Byte(u8),
-    /// A blank outside quotes: a byte of the value, unless the blank is at either end of the value.
+    /// A blank outside quotes, which is a byte of the value unless it is at either end of the
+    /// value.
     Blank(u8),
     /// A quote.
     Quote,
@@ -38,6 +39,7 @@ pub(crate) fn split_piece(text: &[u8], is_quoted: bool) -> Option<(Piece, &[u8])
 }
 
 // Returns the piece that a backslash followed by this text encodes, and the text after the piece.
+// Returns `None` if a backslash followed by this text encodes nothing.
 fn split_escape(text: &[u8]) -> Option<(Piece, &[u8])>
     ensures piece { IfSome result (λ parts. (is_quoted : Bool)
         → BeginsWithPiece is_quoted (92 ∷ text.now) parts.0 parts.1.now) }

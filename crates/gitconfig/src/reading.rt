@@ -206,8 +206,8 @@ fn split_quoted(text: &[u8]) -> Option<(u8, &[u8])>
     }
 }
 
-// Reads the value of a variable, if any, from the text after the variable's name and blanks.
-// Returns the value and the rest of the text.
+// Reads `=` and a value. Returns the value, or `None` if the line ends instead, and the rest of the
+// text.
 fn read_assigned<A: Allocator + Copy>(
     alloc: A,
     text: &[u8],
@@ -233,6 +233,7 @@ struct ValueText<A: Allocator + Copy> {
     bytes: Vec<u8, A>,
     // The number of bytes before the trailing blanks.
     kept: usize,
+    // Whether the next byte is inside quotes.
     is_quoted: bool,
 }
 

@@ -1,4 +1,4 @@
--- The tree entry that a Rust value describes.
+-- The tree entry that a Rust value contains, and its link.
 use Rattle.std.specs.Prelude.{Option}
 use Rattle.gitobject.specs.Trees.{Entry, link_to}
 use Rattle.gitobject.specs.declared.links.Link.{Link}

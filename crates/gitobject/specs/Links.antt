@@ -49,7 +49,7 @@ LinksOf Blob body links = links ≡ []
 LinksOf Tag body links =
     (target : Id) × (kind : ObjectType) × IsTag body target kind × (links ≡ link_of kind target ∷ [])
 
--- a fault that reading may return: `Malformed` only if the object is malformed, and `Memory` for any object
+-- a fault that a reading function may return: `Malformed` only if the object is malformed, or `Memory` for any object
 abbrev pub IsObjectFault : Type 0 → ObjectFault → Type 0
 IsObjectFault Reading faults.Malformed = ¬ Reading
 IsObjectFault Reading faults.Memory = ⊤

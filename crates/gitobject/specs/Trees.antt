@@ -46,15 +46,15 @@ abbrev pub file_type : List ℕ → ℕ
 file_type mode = digits_value 8 mode / 4096 % 16
 
 -- The type of the object that an entry with this file type links to. A directory links to a tree. A regular file or a
--- symbolic link links to a blob. Git treats any other file type as a gitlink: a commit of another repository, which is
--- not a link (gitsubmodules(7)).
+-- symbolic link links to a blob. Git treats any other file type as a gitlink: a commit of another repository, which has
+-- no link (gitsubmodules(7)).
 abbrev pub linked_type : ℕ → Option ObjectType
 linked_type n = if n == 4 then Some Tree else (if n == 8 then Some Blob else (if n == 10 then Some Blob else None))
 
 abbrev pub link_of : ObjectType → Id → Link
 link_of kind id = record { id = id; kind = kind }
 
--- the link to the object with this id and type, or `None` if there is no type
+-- the link to the object with this id and type, or `None` if the type is `None`
 abbrev pub link_to : Option ObjectType → Id → Option Link
 link_to None id = None
 link_to (Some kind) id = Some (link_of kind id)

@@ -38,7 +38,7 @@ pub fn id_of_bytes(bytes: &[u8; ID_BYTES]) -> Oid
     ensures bytes { result ≡ bytes.now }
     ensures format { IsIdOf formats.Sha1 result }
 {
-    // Law.
+    // The proof uses this law.
     ids_have_one_format();
     Oid::from_bytes(bytes).unwrap()
 }

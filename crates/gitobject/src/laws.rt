@@ -1,5 +1,5 @@
-//! Laws of objects. Each function does nothing at run time. The contract of each function states a
-//! law, which the proof of a caller can use.
+//! Proved laws of objects. Each function does nothing at run time. The contract of each function
+//! states a law, which the proof of a caller can use.
 
 ghost use Rattle.gitobject.specs.Laws.{LinksAreOne, TextsAreOne};
 

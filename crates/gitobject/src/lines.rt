@@ -1,4 +1,4 @@
-//! Splitting the text of an object into words and lines, and at the first byte of a given value.
+//! Splitting the text of an object into words and lines.
 
 ghost use Rattle.std.specs.Prelude.{◌≡◌, ◌≢◌, ◌++◌, ◌∷◌, ◌<◌, List, ℕ, All, IfSome, MatchOption, length};
 ghost use Rattle.gname.specs.Ids.{Id};
@@ -19,8 +19,8 @@ pub(crate) fn strip<'a>(word: &[u8], text: &'a [u8]) -> Option<&'a [u8]>
     text.strip_prefix(word)
 }
 
-/// Returns the two parts of a text, before and after the first byte of this value, or `None` if
-/// there is no such byte.
+/// Returns the parts of a text before and after the first occurrence of this byte, or `None` if the
+/// text does not contain the byte.
 pub(crate) fn cut(byte: u8, text: &[u8]) -> Option<(&[u8], &[u8])>
     ensures { MatchOption result
         ((front rest : List ℕ) → ¬ (text.now ≡ front ++ byte ∷ rest))
@@ -40,7 +40,7 @@ pub(crate) fn id_line<'a>(word: &[u8], text: &'a [u8]) -> Option<(Oid, &'a [u8])
         (λ parts. BeginsWithId word.now text.now parts.0 parts.1.now) }
     ensures shorter { IfSome result (λ parts. length parts.1.now < length text.now) }
 {
-    // Laws.
+    // The proof uses this law.
     texts_have_one_reading();
     let Some(after) = strip(word, text) else {
         return None;

@@ -16,7 +16,7 @@ use crate::types::ObjectType;
 use gname::Oid;
 use std::alloc::{AllocError, Allocator};
 
-// The minimum length of a tag.
+// The minimum length of a tag in bytes.
 const MIN_TAG: usize = 64;
 
 /// A link of an object: the id and the required type of another object.
@@ -105,7 +105,8 @@ fn push_parents<A: Allocator + Copy>(
     }
 }
 
-// Returns whether the text is not empty and does not begin with `parent` and a space.
+// Returns whether a commit may continue with this text after its parent lines: the text is not
+// empty and does not begin with `parent` and a space.
 fn goes_on(text: &[u8]) -> bool
     ensures { IsTrue result ↔ GoesOn text.now }
 {
@@ -118,8 +119,8 @@ fn goes_on(text: &[u8]) -> bool
     }
 }
 
-/// Returns the link of a tag to the object that it names. Returns `None` if the bytes do not begin
-/// with an object line, a type line and a tag line, or if there are fewer than 64 bytes.
+/// Returns the link from a tag to the tagged object. Returns `None` if the bytes do not begin with
+/// an object line, a type line and a tag line, or if there are fewer than 64 bytes.
 pub fn tag_link(body: &[u8]) -> Option<Link>
     ensures { MatchOption result
         ((target : Id) (kind : ObjectType) → ¬ (IsTag body.now target kind))
@@ -157,7 +158,7 @@ fn has_name(text: &[u8]) -> bool
     }
 }
 
-// Returns the links of a commit, as one list.
+// Returns the links to the tree and the parents of a commit, in one list.
 fn list_commit<A: Allocator + Copy>(alloc: A, body: &[u8]) -> Result<Vec<Link, A>, ObjectFault>
     ensures { MatchResult result (λ links. LinksOf types.Commit body.now links.items)
         (IsObjectFault ((links : List Link) × LinksOf types.Commit body.now links)) }
@@ -193,7 +194,7 @@ fn push_commits<A: Allocator + Copy>(
     Ok(())
 }
 
-// Returns the link of a tag, as a list.
+// Returns a list of the single link of a tag.
 fn list_tag<A: Allocator + Copy>(alloc: A, body: &[u8]) -> Result<Vec<Link, A>, ObjectFault>
     ensures { MatchResult result (λ links. LinksOf types.Tag body.now links.items)
         (IsObjectFault ((links : List Link) × LinksOf types.Tag body.now links)) }

@@ -1,4 +1,4 @@
-//! The inflated text of loose objects.
+//! The inflated contents of loose object files.
 
 ghost use Rattle.std.specs.Prelude.{◌≡◌, ◌↔◌, List, ℕ, IsTrue, MatchOption, decimal};
 ghost use Rattle.gitobject.specs.Naming.{object_text};

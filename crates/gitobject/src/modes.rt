@@ -7,18 +7,20 @@ ghost use Rattle.gitobject.specs.Trees.{file_type, linked_type};
 
 use crate::types::ObjectType;
 
-// The number of values of the lowest sixteen bits of a mode, which are the file type and the
+// The number of values of the lowest sixteen bits of a mode. These bits are the file type and the
 // permissions.
 const MODE_VALUES: u32 = 0o200000;
 
-// The number of values of the lowest twelve bits of a mode, which are the permissions.
+// The number of values of the lowest twelve bits of a mode. These bits are the permissions.
 const PERMISSIONS: u32 = 0o10000;
 
-// The file types that link to an object (inode(7)).
+// The file type of a directory (inode(7)).
 const DIRECTORY: u32 = 0o4;
 
+// The file type of a regular file.
 const REGULAR_FILE: u32 = 0o10;
 
+// The file type of a symbolic link.
 const SYMBOLIC_LINK: u32 = 0o12;
 
 /// Returns the file type of a mode in octal digits, or `None` if the text is not octal digits.

@@ -13,25 +13,27 @@ use crate::paths::join;
 use std::alloc::{AllocError, Allocator};
 use std::io::ErrorKind;
 
-/// An object folder, and the pack folder in it.
+/// An object folder, and its pack folder.
 #[derive(Drop)]
 pub(crate) struct Folder<A: Allocator + Copy> {
     pub(crate) path: String<A>,
-    pub(crate) packs: String<A>,
+    // The path of the pack folder.
+    pub(crate) pack_folder: String<A>,
     pub(crate) listed: Listed,
-    // The faults of the packs that were left out.
+    // The faults of the packs that were left out, or the fault of a pack folder that could not be
+    // listed.
     pub(crate) left_out: Vec<FileFault<A>, A>,
-    // The depth of this folder in the alternates: 0 for the repository's own folder.
+    // The number of alternates files that lead to this folder: 0 for the repository's own folder.
     depth: usize,
 }
 
 impl<A: Allocator + Copy> Folder<A> {
     // Returns an object folder whose pack folder was never listed.
     fn new(alloc: A, path: String<A>, depth: usize) -> Result<Folder<A>, AllocError> {
-        let packs = join(alloc, path.as_str(), "pack")?;
+        let pack_folder = join(alloc, path.as_str(), "pack")?;
         Ok(Folder {
             path,
-            packs,
+            pack_folder,
             listed: Listed::Never,
             left_out: Vec::new(alloc),
             depth,
@@ -39,9 +41,9 @@ impl<A: Allocator + Copy> Folder<A> {
     }
 }
 
-/// Returns the object folder of a repository, and its alternates recursively, at most six levels
-/// deep, as in Git. A folder that was already added is skipped, so the recursion ends even if
-/// alternates are cyclic. A missing folder is also skipped.
+/// Returns the object folder of a repository, its alternates, and their alternates recursively. As
+/// in Git, alternates are at most six levels deep. Missing folders and repeated folders are
+/// skipped, so the search ends even if alternates are cyclic.
 pub(crate) fn object_folders<F: ObjectFiles, A: Allocator + Copy>(
     files: &F,
     alloc: A,
@@ -75,7 +77,7 @@ fn own_folder<F: ObjectFiles, A: Allocator + Copy>(
     }
 }
 
-// Adds the alternates of a folder, at this depth.
+// Adds the alternates of a folder. `depth` is the depth of these alternates.
 fn add_alternates<F: ObjectFiles, A: Allocator + Copy>(
     files: &F,
     alloc: A,

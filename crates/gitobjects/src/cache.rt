@@ -14,14 +14,13 @@ pub(crate) struct Spot {
     pub(crate) start: usize,
 }
 
-// A cached object and its location.
 #[derive(Drop)]
 struct Kept<A: Allocator + Copy> {
     spot: Spot,
     object: Object<A>,
 }
 
-/// The cached objects. Each location has one slot, which it can share with other locations. A new
+/// The cached objects. Each location has one slot, but several locations can share a slot. A new
 /// object replaces the previous object in its slot.
 #[derive(Drop)]
 pub(crate) struct BaseCache<A: Allocator + Copy> {
@@ -58,25 +57,25 @@ impl<A: Allocator + Copy> BaseCache<A> {
     /// Caches an object, unless it is too large. If the cache would exceed its size limit, all
     /// other objects are removed first.
     pub(crate) fn put(&mut self, spot: Spot, object: Object<A>) -> Result<(), AllocError> {
-        let more = object.body.len();
-        if more > MAX_BASE {
+        let size = object.body.len();
+        if size > MAX_BASE {
             return Ok(());
         }
-        if self.bytes.saturating_add(more) > MAX_KEPT {
+        if self.bytes.saturating_add(size) > MAX_KEPT {
             self.slots = empty_slots(self.alloc)?;
             self.bytes = 0;
         }
         let slot = slot_of(spot);
         if slot < self.slots.len() {
-            let less = length_in(&self.slots[slot]);
+            let old_size = size_in(&self.slots[slot]);
             self.slots[slot] = Some(Kept { spot, object });
-            self.bytes = self.bytes.saturating_add(more).saturating_sub(less);
+            self.bytes = self.bytes.saturating_add(size).saturating_sub(old_size);
         }
         Ok(())
     }
 }
 
-fn length_in<A: Allocator + Copy>(slot: &Option<Kept<A>>) -> usize {
+fn size_in<A: Allocator + Copy>(slot: &Option<Kept<A>>) -> usize {
     match slot {
         Some(kept) => kept.object.body.len(),
         None => 0,
@@ -91,8 +90,7 @@ fn empty_slots<A: Allocator + Copy>(alloc: A) -> Result<Vec<Option<Kept<A>>, A>,
     Ok(slots)
 }
 
-// Returns the slot of a location. The slot number is a multiplicative hash, based on the golden
-// ratio.
+// Returns the slot number of a location: a multiplicative hash, based on the golden ratio.
 fn slot_of(spot: Spot) -> usize {
     let mixed = spot
         .start

@@ -12,11 +12,12 @@ use gitpack::{EntryForm, apply_delta, made_size};
 use gname::Oid;
 use std::alloc::Allocator;
 
-// The offsets of the deltas in a chain, from the requested object to its base, and the offset of
-// the whole object that ends the chain.
 #[derive(Drop)]
 struct Chain<A: Allocator + Copy> {
+    // The offsets of the deltas, with the requested object first.
     deltas: Vec<usize, A>,
+    // The offset of the entry that ends the chain: a whole object, a cached object or a broken
+    // entry.
     end: usize,
 }
 
@@ -27,7 +28,8 @@ struct Broken {
     cause: Cause,
 }
 
-// Adds the offset of an entry to the fault of a failed call.
+// Returns `outcome`. If `outcome` is a failure, the offset `start` of the broken entry is added to
+// the cause.
 fn at<T: Drop>(start: usize, outcome: Result<T, Cause>) -> Result<T, Broken> {
     match outcome {
         Ok(value) => Ok(value),
@@ -85,11 +87,11 @@ impl<F: ObjectFiles, A: Allocator + Copy> ObjectReader<'_, F, A> {
         }
     }
 
-    // Returns an intact copy of the object with this id that is outside the pack `but`. Returns
+    // Returns an intact copy of the object with this id from outside the pack `excluded`. Returns
     // `None` if there is no such copy. Fails only with `Memory`.
-    fn read_elsewhere(&mut self, id: &Oid, but: usize) -> Result<Option<Object<A>>, Cause> {
+    fn read_elsewhere(&mut self, id: &Oid, excluded: usize) -> Result<Option<Object<A>>, Cause> {
         for pack in 0..self.store.pack_count() {
-            if pack == but {
+            if pack == excluded {
                 continue;
             }
             if let Some(object) = self.read_whole(pack, id)? {
@@ -128,7 +130,7 @@ impl<F: ObjectFiles, A: Allocator + Copy> ObjectReader<'_, F, A> {
         Ok(object)
     }
 
-    // Caches a returned object, unless it is too large.
+    // Caches a copy of the requested object, unless the object is too large.
     fn keep(&mut self, spot: Spot, object: &Object<A>) -> Result<(), Cause> {
         if object.body.len() <= MAX_ANSWER {
             let copy = object.copy_in(self.store.allocator())?;
@@ -137,9 +139,9 @@ impl<F: ObjectFiles, A: Allocator + Copy> ObjectReader<'_, F, A> {
         Ok(())
     }
 
-    // Returns the delta chain of the entry at this offset. The chain ends in a whole object, a
-    // cached object or a broken entry. The cause of a broken entry is found when the entry is read
-    // later.
+    // Returns the delta chain of the entry at this offset. A broken entry ends the chain, and its
+    // fault is reported when the entry is read. Fails with `Circle` if the chain is cyclic, or with
+    // `Memory` if out of memory.
     fn trace(&mut self, pack: usize, start: usize) -> Result<Chain<A>, Cause> {
         let mut deltas = Vec::new(self.store.allocator());
         let mut end = start;
@@ -161,7 +163,8 @@ impl<F: ObjectFiles, A: Allocator + Copy> ObjectReader<'_, F, A> {
         Err(Cause::Circle)
     }
 
-    // Returns the object at this location, which is stored whole or is cached.
+    // Returns the cached object or the whole object at this location. Fails with `Base` if the
+    // entry is a delta that is not cached.
     fn read_base(&mut self, spot: Spot) -> Result<Object<A>, Cause> {
         if let Some(object) = self.cache.get(spot) {
             return Ok(object.copy_in(self.store.allocator())?);
@@ -176,8 +179,8 @@ impl<F: ObjectFiles, A: Allocator + Copy> ObjectReader<'_, F, A> {
         }
     }
 
-    // Applies deltas to their base, beginning with the last delta of the list. Each object that is
-    // a base is cached.
+    // Applies deltas to a base, beginning with the last delta of the list, and returns the
+    // resulting object. Each base of a delta is cached.
     fn apply_all(
         &mut self,
         pack: usize,
@@ -187,18 +190,21 @@ impl<F: ObjectFiles, A: Allocator + Copy> ObjectReader<'_, F, A> {
     ) -> Result<Object<A>, Broken> {
         let mut deltas = deltas;
         let mut object = base;
-        let mut place = end;
+        let mut base_start = end;
         while let Some(start) = deltas.pop() {
-            let made = at(start, self.apply(&object, Spot { pack, start }))?;
-            let before = Spot { pack, start: place };
-            if let Err(_) = self.cache.put(before, object) {
+            let result = at(start, self.apply(&object, Spot { pack, start }))?;
+            let base_spot = Spot {
+                pack,
+                start: base_start,
+            };
+            if let Err(_) = self.cache.put(base_spot, object) {
                 return Err(Broken {
                     start,
                     cause: Cause::Memory,
                 });
             }
-            object = made;
-            place = start;
+            object = result;
+            base_start = start;
         }
         Ok(object)
     }

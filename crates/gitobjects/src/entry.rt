@@ -1,4 +1,4 @@
-//! Parsing the bytes of pack entries (gitformat-pack(5)).
+//! Parsing and inflating pack entries (gitformat-pack(5)).
 
 ghost use Rattle.std.specs.Prelude.{IfOk};
 ghost use Rattle.gitobjects.specs.Inflated.{IsInflatedFrom};
@@ -32,11 +32,11 @@ pub struct RawEntry<A: Allocator + Copy> {
 // The maximum ratio of the inflated size of a zlib stream to the length of the stream.
 const MAX_RATIO: usize = 1_032;
 
-// The number of extra bytes that an inflater reserves: the length of the longest match (RFC 1951,
-// section 3.2.5).
-const MATCH: usize = 258;
+// The maximum length of a match in a zlib stream (RFC 1951, section 3.2.5), and the number of extra
+// bytes that an inflater reserves.
+const MAX_MATCH: usize = 258;
 
-/// Inflates the pack entry that has exactly these bytes.
+/// Inflates the pack entry that consists of exactly these bytes.
 ///
 /// Fails with `Head` or `Stream` if the header or the stream is malformed, with `ObjectSize` if the
 /// contents are too large, or with `Memory` if out of memory.
@@ -59,7 +59,7 @@ pub(crate) fn inflate_entry<A: Allocator + Copy>(
         return Err(Cause::ObjectSize);
     }
     let room = size.min(stream.len().saturating_mul(MAX_RATIO));
-    let mut text = Vec::with_capacity(alloc, room.saturating_add(MATCH))?;
+    let mut text = Vec::with_capacity(alloc, room.saturating_add(MAX_MATCH))?;
     match inflater.inflate(stream, &mut text, size) {
         Ok(length) if length == stream.len() && text.len() == size => {
             let form = head.form;

@@ -10,25 +10,27 @@ use std::cmp::Ordering;
 // The signature and the version of an index.
 const SIGNATURE: &[u8] = b"\xfftOc\0\0\0\x02";
 
-// The number of counts in the fan-out table, one for each first byte of an id, and the offset at
-// which the table ends.
+// The number of counts in the fan-out table: one for each first byte of an id.
 const COUNTS: usize = 256;
 
+// The offset at which the fan-out table ends.
 const TABLE_END: usize = 1_032;
 
-// The length of a CRC-32 and of a short offset.
+// The length in bytes of a count, of a CRC-32 and of a short offset.
 const WORD: usize = 4;
 
-// The length of the checksums of the pack and of the index, which follow the tables.
+// The total length of the two checksums at the end of an index.
 const CHECKSUMS: usize = 40;
 
-// The number of ids read on either side of the likely position of an id: `NEAR` for at most `FEW`
-// candidates, and `FAR` otherwise. Ids are random, so most ids are within this distance of their
-// likely position.
+// The maximum number of candidate ids for which a look-up reads `NEAR` ids on either side of the
+// likely position of an id. For more candidates, a look-up reads `FAR` ids on either side.
 const FEW: usize = 1_024;
 
+// The number of ids read on either side of a likely position among at most `FEW` candidates. Most
+// ids are within this distance of their likely position, because ids are random.
 const NEAR: usize = 48;
 
+// The number of ids read on either side of a likely position among more than `FEW` candidates.
 const FAR: usize = 128;
 
 // The maximum number of ids read at once. If ids are looked up in ascending order, consecutive
@@ -39,8 +41,8 @@ const MAX_IDS_READ: usize = 4_096;
 // remaining ids, which is at most 2^32.
 const MAX_READS: usize = 34;
 
-// The bit of a short offset that is set if the other bits are the number of an entry in the table
-// of long offsets.
+// The bit of a short offset that is set if the other 31 bits are an index into the table of long
+// offsets.
 const LONG: u32 = 0x8000_0000;
 
 /// An open pack index. The fan-out table is in memory, and other parts are read as needed. The
@@ -53,13 +55,12 @@ pub(crate) struct IndexFile<P: OpenPack + Drop, A: Allocator + Copy> {
     counts: Vec<usize, A>,
     // The number of ids.
     len: usize,
-    // The positions of the most recently read ids. The bytes of these ids are at the front of
-    // `buffer`.
+    // The positions of the ids that were read most recently. `buffer` begins with these ids.
     held: Places,
     buffer: Vec<u8, A>,
 }
 
-// The possible positions of an id, from `low` up to but excluding `high`.
+// A range of positions in the index: from `low` up to but excluding `high`.
 #[derive(Clone, Copy, Debug, PartialEq, Eq)]
 struct Places {
     low: usize,
@@ -69,13 +70,13 @@ struct Places {
 // The result of a look-up in a part of the sorted ids.
 #[derive(Clone, Copy, Debug)]
 enum SearchResult {
-    // The id has this position in the part.
+    // The id is at this position of the part.
     At(usize),
     // The id precedes the part.
     Before,
     // The id follows the part.
     After,
-    // The index lacks the id, which would be between two ids of the part.
+    // The index does not contain the id, which would be between two ids of the part.
     Absent,
 }
 
@@ -88,10 +89,10 @@ pub(crate) fn open_index<F: ObjectFiles, A: Allocator + Copy>(
     alloc: A,
     path: &str,
 ) -> Result<Option<IndexFile<F::Pack, A>>, Cause> {
-    let Some((mut file, length)) = files.open_pack(path)? else {
+    let Some((mut file, file_size)) = files.open_pack(path)? else {
         return Ok(None);
     };
-    if length < TABLE_END + CHECKSUMS {
+    if file_size < TABLE_END + CHECKSUMS {
         return Ok(None);
     }
     let front = file.read_at(alloc, 0, TABLE_END)?;
@@ -102,7 +103,7 @@ pub(crate) fn open_index<F: ObjectFiles, A: Allocator + Copy>(
         return Ok(None);
     };
     let len = counts.last().copied().unwrap_or(0);
-    if !is_long_enough(length, len) {
+    if !is_large_enough(file_size, len) {
         return Ok(None);
     }
     Ok(Some(IndexFile {
@@ -130,10 +131,10 @@ fn counts_of<A: Allocator + Copy>(alloc: A, table: &[u8]) -> Result<Option<Vec<u
     Ok(Some(counts))
 }
 
-// Returns whether a file of this length can hold the tables of `objects` objects.
-fn is_long_enough(length: usize, objects: usize) -> bool {
+// Returns whether a file of this size can hold the tables of `objects` objects.
+fn is_large_enough(file_size: usize, objects: usize) -> bool {
     let table_bytes = objects.saturating_mul(ID_BYTES + WORD + WORD);
-    table_bytes <= length.saturating_sub(TABLE_END + CHECKSUMS)
+    table_bytes <= file_size.saturating_sub(TABLE_END + CHECKSUMS)
 }
 
 // Returns the big-endian number in the first four bytes, or 0 if there are fewer bytes.
@@ -186,8 +187,8 @@ impl<P: OpenPack + Drop, A: Allocator + Copy> IndexFile<P, A> {
         Places { low, high }
     }
 
-    // Returns the positions to search for an id whose likely position is `middle`. If the id at
-    // `middle` is already in memory, no other ids are read.
+    // Returns the positions of the ids to search next, around `middle`. If the id at `middle` is in
+    // memory, returns the positions of the ids in memory.
     fn part_for(&self, places: Places, middle: usize) -> Places {
         let held = self.held;
         if held.low <= middle && middle < held.high {
@@ -211,7 +212,7 @@ impl<P: OpenPack + Drop, A: Allocator + Copy> IndexFile<P, A> {
         }
     }
 
-    // Looks up an id among the ids at these positions.
+    // Looks up an id among the ids at these positions. Reads these ids if they are not in memory.
     fn look(&mut self, part: Places, wanted: &[u8]) -> Result<SearchResult, Cause> {
         let count = part
             .high
@@ -250,7 +251,8 @@ impl<P: OpenPack + Drop, A: Allocator + Copy> IndexFile<P, A> {
         self.long_offset(table, short - LONG)
     }
 
-    // Returns the long offset with this number. The table of long offsets begins at `table`.
+    // Returns entry `number` of the table of long offsets, which begins at offset `table`. Returns
+    // `None` if the entry does not fit in a `usize`.
     fn long_offset(&mut self, table: usize, number: u32) -> Result<Option<usize>, Cause> {
         let start = (number as usize)
             .saturating_mul(2 * WORD)
@@ -263,24 +265,23 @@ impl<P: OpenPack + Drop, A: Allocator + Copy> IndexFile<P, A> {
     }
 }
 
-// Returns the likely position of an id between `low` and `high`, assuming that ids are evenly
-// distributed.
+// Returns the likely position of an id among these positions, assuming that ids are evenly
+// distributed. The ids at these positions begin with the same byte.
 fn likely_place(places: Places, wanted: &[u8]) -> usize {
-    let next = number_of(wanted.get(1..).unwrap_or(b""));
+    let after_first_byte = number_of(wanted.get(1..).unwrap_or(b""));
     let width = places.high.saturating_sub(places.low) as u64;
-    let before = width.saturating_mul(u64::from(next)) >> 32;
+    let ids_before = width.saturating_mul(u64::from(after_first_byte)) >> 32;
     places
         .low
-        .saturating_add(usize::try_from(before).unwrap_or(0))
+        .saturating_add(usize::try_from(ids_before).unwrap_or(0))
 }
 
-// Returns the position in the middle of the range.
 fn halfway(places: Places) -> usize {
     let width = places.high.saturating_sub(places.low);
     places.low.saturating_add(width / 2)
 }
 
-// Returns the positions around `middle` that are inside the range.
+// Returns the positions in `places` that are at most `NEAR` or `FAR` from `middle`.
 fn part_around(places: Places, middle: usize) -> Places {
     let around = if places.high.saturating_sub(places.low) <= FEW {
         NEAR

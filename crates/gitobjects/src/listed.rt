@@ -1,5 +1,5 @@
-//! How often a pack folder was listed since its last change. This number decides whether the folder
-//! must be listed again.
+//! The number of listings of a pack folder since its last change. This number determines whether
+//! the folder must be listed again.
 
 ghost use Rattle.std.specs.Prelude.{◌≡◌, ◌≢◌, ◌↔◌, IsTrue, Option};
 ghost use Rattle.gitobjects.specs.Listed.{ListsAgain, Twice};
@@ -7,8 +7,8 @@ ghost use Rattle.gitobjects.specs.declared.files.FolderTime.{FolderTime};
 
 use crate::files::FolderTime;
 
-/// The number of times that a folder was listed since its names changed, with the time of the
-/// change. The time is `None` if there is no such folder.
+/// The number of times that a pack folder was listed since the names in it last changed, and the
+/// time of this change. The time is `None` if the folder is missing or its time is unknown.
 #[derive(Clone, Copy, Debug)]
 pub(crate) enum Listed {
     /// The folder was never listed.
@@ -20,25 +20,28 @@ pub(crate) enum Listed {
 }
 
 impl Listed {
-    /// Returns whether the folder must be listed again, if its names last changed at this time.
-    /// Returns false if the folder was listed at least twice since this change.
-    pub(crate) fn is_stale(&self, now: Option<FolderTime>) -> bool
-        ensures { IsTrue result ↔ (self.now ≢ Twice now) }
+    /// Returns whether the folder must be listed again. `change_time` is the time at which the
+    /// names in the folder last changed. Returns `false` if the folder was listed at least twice
+    /// since then.
+    pub(crate) fn is_stale(&self, change_time: Option<FolderTime>) -> bool
+        ensures { IsTrue result ↔ (self.now ≢ Twice change_time) }
     {
         match self {
-            Listed::Twice(time) => *time != now,
+            Listed::Twice(time) => *time != change_time,
             _ => true,
         }
     }
 
-    /// Returns the state of the folder after another listing, if its names last changed at this
-    /// time.
-    pub(crate) fn again(&self, now: Option<FolderTime>) -> Listed
-        ensures { ListsAgain now self.now result }
+    /// Returns the state after another listing of the folder. `change_time` is the time at which
+    /// the names in the folder last changed.
+    pub(crate) fn again(&self, change_time: Option<FolderTime>) -> Listed
+        ensures { ListsAgain change_time self.now result }
     {
         match self {
-            Listed::Once(time) | Listed::Twice(time) if *time == now => Listed::Twice(now),
-            _ => Listed::Once(now),
+            Listed::Once(time) | Listed::Twice(time) if *time == change_time => {
+                Listed::Twice(change_time)
+            }
+            _ => Listed::Once(change_time),
         }
     }
 }

@@ -21,19 +21,18 @@ impl LooseFolders {
         }
     }
 
-    /// Returns whether the folder of an object with this id exists, or `None` if the folder was not
-    /// looked up.
+    /// Returns whether the folder of a loose object with this id exists, or `None` if the folder
+    /// was not looked up.
     pub(crate) fn get(&self, id: &Oid) -> Option<bool> {
         self.exists_by_first_byte[first_byte(id)]
     }
 
-    /// Records whether the folder of an object with this id exists.
+    /// Records whether the folder of a loose object with this id exists.
     pub(crate) fn note(&mut self, id: &Oid, is_there: bool) {
         self.exists_by_first_byte[first_byte(id)] = Some(is_there);
     }
 }
 
-// Returns the first byte of an id.
 fn first_byte(id: &Oid) -> usize
     ensures { result < 256 }
 {

@@ -7,21 +7,21 @@ use crate::files::{FolderTime, ObjectFiles, OpenPack};
 use std::alloc::{AllocError, Allocator};
 use std::io::ErrorKind;
 
-// A file: its path and its bytes.
 #[derive(Drop)]
 struct MemoryFile<A: Allocator + Copy> {
     path: String<A>,
     bytes: Vec<u8, A>,
 }
 
-/// Files in memory, by path. A folder exists if a file is below it.
+/// Files in memory, by path. A folder exists if the path of a file begins with the path of the
+/// folder and a slash.
 #[derive(Drop)]
 pub struct MemoryFiles<A: Allocator + Copy> {
     alloc: A,
     files: Vec<MemoryFile<A>, A>,
 }
 
-/// A pack in memory.
+/// An open pack or index in memory.
 #[derive(Drop)]
 pub struct MemoryPack<A: Allocator + Copy> {
     bytes: Vec<u8, A>,
@@ -154,8 +154,7 @@ impl<A: Allocator + Copy> ObjectFiles for MemoryFiles<A> {
         }
     }
 
-    // In place of a time, the field `seconds` holds the number of all files, which changes when a
-    // file is added.
+    // Returns the number of all files instead of a time. The number changes when a file is added.
     fn change_time(&self, path: &str) -> Result<Option<FolderTime>, Cause> {
         if self.exists(path)? {
             Ok(Some(FolderTime {

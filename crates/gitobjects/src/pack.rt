@@ -1,4 +1,4 @@
-//! A pack and its index. The whole index is in memory, but only blocks of the pack are.
+//! A pack and its index. The whole index is in memory, but only some blocks of the pack.
 
 use crate::entry::RawEntry;
 use crate::fault::{Cause, StoreFault, fault_at};
@@ -22,11 +22,11 @@ pub(crate) struct PackFile<A: Allocator + Copy> {
     path: String<A>,
     index: PackIndex<A>,
     order: EntryOrder<A>,
-    // The number of the pack in the window.
+    // The number of the pack in the `Window`.
     number: usize,
 }
 
-/// The form of a pack entry, with the offset of the base of a delta.
+/// The form of a pack entry: a whole object, or a delta with the offset of its base.
 #[derive(Clone, Copy, Debug, PartialEq, Eq)]
 pub(crate) enum LocalForm {
     /// A whole object of this type.
@@ -78,7 +78,7 @@ fn read_index<F: ObjectFiles, A: Allocator + Copy>(
 }
 
 // Opens the pack of an index. Returns the number of the pack in the window, and its entries in pack
-// order.
+// order. Returns `None` if the pack is missing.
 fn open_entries<F: ObjectFiles, A: Allocator + Copy>(
     files: &F,
     alloc: A,
@@ -99,7 +99,8 @@ fn open_entries<F: ObjectFiles, A: Allocator + Copy>(
     Ok(Some((number, order)))
 }
 
-// Checks that the header of the pack has version 2 and the object count of the index.
+// Checks that the header of the pack has version 2 and the object count of the index. Fails with
+// `Pack` if not.
 fn check_header<P: OpenPack, A: Allocator + Copy>(
     file: &mut P,
     alloc: A,
@@ -115,7 +116,7 @@ fn check_header<P: OpenPack, A: Allocator + Copy>(
     }
 }
 
-// Checks that the pack ends with the checksum in the index.
+// Checks that the pack ends with the checksum in the index. Fails with `Pack` if not.
 fn check_trailer<P: OpenPack, A: Allocator + Copy>(
     file: &mut P,
     alloc: A,
@@ -137,7 +138,7 @@ impl<A: Allocator + Copy> PackFile<A> {
         self.path.as_str()
     }
 
-    /// Returns the index.
+    /// Returns the index of the pack.
     pub(crate) fn index(&self) -> &PackIndex<A> {
         &self.index
     }
@@ -184,7 +185,7 @@ impl<A: Allocator + Copy> PackFile<A> {
 
     /// Returns the unchanged entry at this index position, or `None` past the end of the index.
     /// Fails with `Crc` if the CRC-32 of the entry does not match the index, and with `Head` if the
-    /// entry header is malformed. Other faults are those of `bytes_at`.
+    /// entry header is malformed. Also fails for the same reasons as `bytes_at`.
     pub(crate) fn raw_entry<P: OpenPack + Drop>(
         &self,
         window: &mut Window<P, A>,
@@ -222,8 +223,8 @@ impl<A: Allocator + Copy> PackFile<A> {
         }
     }
 
-    // Converts the form of the entry at this offset to a `LocalForm`, which names the base of a
-    // delta by offset.
+    // Converts the form of the entry at offset `start` to a `LocalForm`, which identifies the base
+    // of a delta by its offset.
     fn local_form(&self, start: usize, form: EntryForm) -> Result<LocalForm, Cause> {
         let base = match form {
             EntryForm::Whole(kind) => return Ok(LocalForm::Whole(kind)),

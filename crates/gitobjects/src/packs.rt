@@ -11,7 +11,7 @@ use crate::paths::pack_path;
 use crate::window::Window;
 use std::alloc::Allocator;
 
-/// The open packs, by number.
+/// The open packs, indexed by number.
 #[derive(Drop)]
 pub(crate) struct Packs<P: OpenPack + Drop, A: Allocator + Copy> {
     alloc: A,
@@ -29,9 +29,9 @@ impl<P: OpenPack + Drop, A: Allocator + Copy> Packs<P, A> {
         }
     }
 
-    /// Lists a pack folder and opens its new packs, unless the folder was listed twice since its
-    /// names changed. Returns whether the folder was listed. A pack that cannot be opened is left
-    /// out, and its fault is recorded.
+    /// Lists a pack folder and opens its new packs, unless the folder was listed twice since the
+    /// names in it last changed. Returns whether the folder was listed. A pack that cannot be
+    /// opened is left out, and its fault is recorded in `folder.left_out`.
     ///
     /// Fails only if out of memory.
     pub(crate) fn list<F: ObjectFiles<Pack = P>>(
@@ -39,12 +39,12 @@ impl<P: OpenPack + Drop, A: Allocator + Copy> Packs<P, A> {
         files: &F,
         folder: &mut Folder<A>,
     ) -> Result<bool, StoreFault<A>> {
-        let now = time_of(files, folder.packs.as_str())?;
-        if !folder.listed.is_stale(now) {
+        let change_time = time_of(files, folder.pack_folder.as_str())?;
+        if !folder.listed.is_stale(change_time) {
             return Ok(false);
         }
-        folder.left_out = self.add_packs(files, folder.packs.as_str())?;
-        folder.listed = folder.listed.again(now);
+        folder.left_out = self.add_packs(files, folder.pack_folder.as_str())?;
+        folder.listed = folder.listed.again(change_time);
         Ok(true)
     }
 
@@ -131,7 +131,7 @@ impl<P: OpenPack + Drop, A: Allocator + Copy> Packs<P, A> {
 }
 
 // Returns the time of the last change of the names in a pack folder, or `None` if the folder is
-// missing or cannot be listed.
+// missing or the system does not return the time.
 fn time_of<F: ObjectFiles, A: Allocator + Copy>(
     files: &F,
     folder: &str,
@@ -153,7 +153,8 @@ fn stems_in<F: ObjectFiles, A: Allocator + Copy>(
     index_stems(alloc, names.as_slice())
 }
 
-// Records the fault of a file in `faults`. Fails if the fault is `Memory`.
+// If `outcome` is the fault of a file, adds the fault to `faults` and returns `Ok`. Returns any
+// other outcome unchanged.
 fn keep_fault<A: Allocator + Copy>(
     faults: &mut Vec<FileFault<A>, A>,
     outcome: Result<(), StoreFault<A>>,

@@ -45,7 +45,12 @@ impl<'f, F: ObjectFiles, A: Allocator + Copy> QuickReader<'f, F, A> {
         let folders = object_folders(files, alloc, own.as_str())?;
         let mut packs = Vec::new(alloc);
         for folder in &folders {
-            let _listed = or_unknown(add_packs(files, alloc, folder.packs.as_str(), &mut packs))?;
+            let _listed = or_unknown(add_packs(
+                files,
+                alloc,
+                folder.pack_folder.as_str(),
+                &mut packs,
+            ))?;
         }
         let inflater = Box::new(alloc, Inflater::new())?;
         Ok(QuickReader {
@@ -151,7 +156,6 @@ impl<'f, F: ObjectFiles, A: Allocator + Copy> QuickReader<'f, F, A> {
     }
 }
 
-// Opens the packs of a folder.
 fn add_packs<F: ObjectFiles, A: Allocator + Copy>(
     files: &F,
     alloc: A,
@@ -168,8 +172,8 @@ fn add_packs<F: ObjectFiles, A: Allocator + Copy>(
     Ok(())
 }
 
-// Returns the value of a successful call, or `None` if the call failed with a cause other than
-// `Memory`. Fails if the call failed with `Memory`.
+// Returns the value of `outcome`, or `None` if `outcome` is a failure with a cause other than
+// `Memory`. Fails if the cause is `Memory`.
 fn or_unknown<T: Drop>(outcome: Result<T, Cause>) -> Result<Option<T>, AllocError> {
     match outcome {
         Ok(value) => Ok(Some(value)),

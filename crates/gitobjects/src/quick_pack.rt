@@ -14,15 +14,15 @@ use std::alloc::Allocator;
 // The length of the checksum at the end of a pack.
 const TRAILER: usize = 20;
 
-// The maximum size of an object that a quick reader reads.
+// The maximum size of an object or delta that a quick reader reads.
 const MAX_TEXT: usize = 131_072;
 
 // The maximum number of entries in a delta chain: one whole object, and as many deltas as
 // git-fast-import(1) may put into a chain.
 const MAX_CHAIN: usize = 8_192;
 
-// The number of bytes read first for an entry, and the number of bytes read if the first bytes do
-// not contain the whole stream.
+// The number of bytes to read in the first attempt to read an entry, and in the second attempt. The
+// second attempt is made if the bytes from the first attempt do not contain the whole entry.
 const FRONTS: [usize; 2] = [4_096, MAX_TEXT];
 
 /// An open pack and its index. Only the needed parts of both are read.
@@ -35,20 +35,20 @@ pub(crate) struct QuickPack<P: OpenPack + Drop, A: Allocator + Copy> {
     end: usize,
 }
 
-// An entry: its form, and its inflated stream.
+// An inflated pack entry: an object, or a delta.
 #[derive(Drop)]
 struct QuickEntry<A: Allocator + Copy> {
     form: EntryForm,
     text: Vec<u8, A>,
 }
 
-// A whole object, or the base of a delta.
+// The form of a pack entry: a whole object, or a delta with the offset of its base.
 #[derive(Clone, Copy, Debug)]
-enum Below {
+enum LocalForm {
     // A whole object of this type.
     Whole(ObjectType),
-    // A delta against the entry at this offset.
-    Base(usize),
+    // A delta against the entry at this offset of the same pack.
+    Delta(usize),
 }
 
 /// Opens the pack with this name (without extension) in a folder. Returns `None` if the pack is
@@ -61,14 +61,14 @@ pub(crate) fn open_quick<F: ObjectFiles, A: Allocator + Copy>(
     folder: &str,
     stem: &str,
 ) -> Result<Option<QuickPack<F::Pack, A>>, Cause> {
-    match open_both(files, alloc, folder, stem) {
+    match open_index_and_pack(files, alloc, folder, stem) {
         Err(Cause::Memory) => Err(Cause::Memory),
         Err(_) => Ok(None),
         Ok(pack) => Ok(pack),
     }
 }
 
-fn open_both<F: ObjectFiles, A: Allocator + Copy>(
+fn open_index_and_pack<F: ObjectFiles, A: Allocator + Copy>(
     files: &F,
     alloc: A,
     folder: &str,
@@ -119,9 +119,9 @@ impl<P: OpenPack + Drop, A: Allocator + Copy> QuickPack<P, A> {
             let Some(head) = read_head(front.as_slice()) else {
                 return Ok(None);
             };
-            match self.below(start, head.form)? {
-                Some(Below::Whole(kind)) => return Ok(Some(kind)),
-                Some(Below::Base(base)) => next = Some(base),
+            match self.local_form(start, head.form)? {
+                Some(LocalForm::Whole(kind)) => return Ok(Some(kind)),
+                Some(LocalForm::Delta(base)) => next = Some(base),
                 None => return Ok(None),
             }
         }
@@ -144,9 +144,11 @@ impl<P: OpenPack + Drop, A: Allocator + Copy> QuickPack<P, A> {
             let Some(entry) = self.entry_at(start, inflater)? else {
                 return Ok(None);
             };
-            match self.below(start, entry.form)? {
-                Some(Below::Whole(kind)) => return apply_all(self.alloc, kind, entry.text, deltas),
-                Some(Below::Base(base)) => {
+            match self.local_form(start, entry.form)? {
+                Some(LocalForm::Whole(kind)) => {
+                    return apply_all(self.alloc, kind, entry.text, deltas);
+                }
+                Some(LocalForm::Delta(base)) => {
                     deltas.push(entry.text)?;
                     next = Some(base);
                 }
@@ -156,22 +158,23 @@ impl<P: OpenPack + Drop, A: Allocator + Copy> QuickPack<P, A> {
         Ok(None)
     }
 
-    // Returns at most `most` bytes starting at `start`.
+    // Returns at most `most` bytes of the pack starting at `start`, without any bytes after the
+    // last entry.
     fn front(&mut self, start: usize, most: usize) -> Result<Vec<u8, A>, Cause> {
         let count = self.end.saturating_sub(start).min(most);
         self.file.read_at(self.alloc, start, count)
     }
 
-    // Returns the type of a whole object, or the offset of the base of a delta, from the form of
-    // the entry at `start`. Returns `None` if the base is not in the pack.
-    fn below(&mut self, start: usize, form: EntryForm) -> Result<Option<Below>, Cause> {
+    // Converts the form of the entry at offset `start` to a `LocalForm`, which identifies the base
+    // of a delta by its offset. Returns `None` if the base is not in the pack.
+    fn local_form(&mut self, start: usize, form: EntryForm) -> Result<Option<LocalForm>, Cause> {
         let base = match form {
-            EntryForm::Whole(kind) => return Ok(Some(Below::Whole(kind))),
+            EntryForm::Whole(kind) => return Ok(Some(LocalForm::Whole(kind))),
             EntryForm::OffsetDelta(back) => start.checked_sub(back),
             EntryForm::RefDelta(id) => self.start_of(&id)?,
         };
         match base {
-            Some(base) => Ok(Some(Below::Base(base))),
+            Some(base) => Ok(Some(LocalForm::Delta(base))),
             None => Ok(None),
         }
     }
@@ -195,7 +198,7 @@ impl<P: OpenPack + Drop, A: Allocator + Copy> QuickPack<P, A> {
     }
 }
 
-// Inflates the entry at the start of the bytes.
+// Inflates the entry that begins at the start of `front`.
 fn inflate_front<A: Allocator + Copy>(
     alloc: A,
     inflater: &mut Inflater,

@@ -17,8 +17,8 @@ use std::alloc::{AllocError, Allocator};
 /// A reader of the objects of a store. The reader caches some delta bases.
 ///
 /// A call that does not find an object lists the packs again, because Git may have packed the
-/// object meanwhile. A pack folder is listed at most twice after each change of its names, even if
-/// many objects are not found. [`ObjectReader::refresh`] lists all folders.
+/// object meanwhile. A pack folder is listed at most twice after each change of the names in it,
+/// even if many objects are not found. [`ObjectReader::refresh`] lists all folders.
 #[derive(Drop)]
 pub struct ObjectReader<'f, F: ObjectFiles, A: Allocator + Copy> {
     pub(crate) store: ObjectStore<'f, F, A>,

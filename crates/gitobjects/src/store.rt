@@ -21,9 +21,9 @@ use std::alloc::Allocator;
 /// The location of an object.
 #[derive(Clone, Copy, Debug, PartialEq, Eq)]
 pub enum Found {
-    /// The object is in the pack with this number, at this position of the pack index.
+    /// The object is in the pack with number `pack`, at position `place` of the pack index.
     Packed { pack: usize, place: usize },
-    /// The object is loose in one of the folders.
+    /// The object is loose in one of the object folders.
     Loose,
 }
 
@@ -33,15 +33,16 @@ pub enum Found {
 pub struct ObjectStore<'f, F: ObjectFiles, A: Allocator + Copy> {
     files: &'f F,
     alloc: A,
+    // The path of the repository's own object folder.
     own: String<A>,
+    // The repository's own object folder, and its alternates.
     folders: Vec<Folder<A>, A>,
     packs: Packs<F::Pack, A>,
 }
 
 impl<'f, F: ObjectFiles, A: Allocator + Copy> ObjectStore<'f, F, A> {
-    /// Opens the objects of the Git directory with this path. All packs are opened, and no object
-    /// is read. A pack that cannot be opened or used is left out, as in Git: see
-    /// [`ObjectStore::left_out`].
+    /// Opens all packs of the Git directory with this path, without reading objects. As in Git, a
+    /// pack that cannot be opened or used is left out: see [`ObjectStore::left_out`].
     ///
     /// Fails with `Memory`, or with a fault that names the missing object folder or the unusable
     /// alternates file.
@@ -72,8 +73,8 @@ impl<'f, F: ObjectFiles, A: Allocator + Copy> ObjectStore<'f, F, A> {
         Ok(())
     }
 
-    /// Lists the pack folders that may have changed since they were listed, and returns whether a
-    /// folder was listed. A folder is listed at most twice while its names are unchanged.
+    /// Lists each pack folder that was listed fewer than twice since the names in it last changed.
+    /// Returns whether a folder was listed.
     ///
     /// Fails only if out of memory.
     pub(crate) fn list_stale(&mut self) -> Result<bool, StoreFault<A>> {
@@ -161,7 +162,7 @@ impl<'f, F: ObjectFiles, A: Allocator + Copy> ObjectStore<'f, F, A> {
 
     /// Returns the location of the object with this id, as [`ObjectStore::find`] does. `folders`
     /// records whether each folder of loose objects existed at its first look-up. No loose object
-    /// is looked up in a folder that did not exist at its first look-up.
+    /// is looked up in a folder that is recorded as missing.
     pub fn find_in(
         &self,
         id: &Oid,
@@ -177,8 +178,8 @@ impl<'f, F: ObjectFiles, A: Allocator + Copy> ObjectStore<'f, F, A> {
         }
     }
 
-    // Returns whether the folder of a loose object with this id existed at its first look-up. A
-    // folder that cannot be looked up counts as existing.
+    // Returns whether any object folder had a two-digit folder for this id when that two-digit
+    // folder was first looked up. A folder that cannot be looked up counts as existing.
     fn has_folder(&self, id: &Oid, folders: &mut LooseFolders) -> Result<bool, StoreFault<A>> {
         if let Some(is_there) = folders.get(id) {
             return Ok(is_there);
@@ -202,7 +203,8 @@ impl<'f, F: ObjectFiles, A: Allocator + Copy> ObjectStore<'f, F, A> {
         Ok(false)
     }
 
-    // Returns the location of the object in the first pack that contains it.
+    // Returns the location of the object in the first pack that contains the object, or `None` if
+    // no pack contains the object.
     fn find_packed(&self, id: &Oid) -> Option<Found> {
         for pack in 0..self.packs.len() {
             if let Some(place) = self.place_in(pack, id) {
@@ -212,7 +214,8 @@ impl<'f, F: ObjectFiles, A: Allocator + Copy> ObjectStore<'f, F, A> {
         None
     }
 
-    // Returns the position of the object in the index of a pack.
+    // Returns the position of the object in the index of a pack, or `None` if there is no such pack
+    // or the pack has no such object.
     fn place_in(&self, pack: usize, id: &Oid) -> Option<usize> {
         self.packs.get(pack)?.index().find(id)
     }
@@ -293,7 +296,8 @@ impl<'f, F: ObjectFiles, A: Allocator + Copy> ObjectStore<'f, F, A> {
         }
     }
 
-    /// Returns a fault that names the file of the object with this id.
+    /// Returns a fault that names the pack of the object with this id, or the file of the loose
+    /// object if no pack contains the object.
     pub(crate) fn fault_of(&self, id: &Oid, cause: Cause) -> StoreFault<A> {
         if let Some(Found::Packed { pack, .. }) = self.find_packed(id) {
             return self.fault_in(pack, cause);
@@ -306,8 +310,8 @@ impl<'f, F: ObjectFiles, A: Allocator + Copy> ObjectStore<'f, F, A> {
 
     /// Returns the loose object with this id, or `None` if no folder has the object.
     ///
-    /// Fails with `Memory` if out of memory. If there are copies but none is intact, the fault
-    /// names the first broken file.
+    /// Fails with `Memory` if out of memory. If there are copies but no intact copy, the fault
+    /// names the file of the first copy.
     pub(crate) fn read_loose(
         &self,
         id: &Oid,

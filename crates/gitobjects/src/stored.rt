@@ -23,7 +23,7 @@ impl<'r, R: Files> StoredFiles<'r, R> {
     }
 }
 
-/// An open pack.
+/// An open pack or index file.
 #[derive(Drop)]
 pub struct StoredPack<H: Read + Seek + Drop> {
     file: H,
@@ -71,7 +71,7 @@ fn read_bytes<H: Read, A: Allocator + Copy>(
     }
 }
 
-// Returns whether the error means that there is no such file.
+// Returns whether an error of this kind means that there is no such file.
 fn is_missing(kind: ErrorKind) -> bool {
     kind == ErrorKind::NotFound || kind == ErrorKind::NotADirectory
 }
@@ -104,13 +104,14 @@ fn open_file<R: Files>(files: &R, path: &str) -> Result<Option<(R::File, usize)>
     }
 }
 
-// The maximum number of bytes that one read of a folder's names returns, and the maximum number of
-// such reads.
+// The maximum number of bytes that one read call on an open folder returns.
 const PART: usize = 16_384;
 
+// The maximum number of read calls for one listing of a folder. With 256 bytes per call, this
+// number of calls reads `MAX_NAMES` bytes.
 const MAX_PARTS: usize = MAX_NAMES / 256;
 
-// Returns the names of all files in an open folder.
+// Returns the NUL-terminated names in an open folder.
 fn read_names<D: Read, A: Allocator + Copy>(alloc: A, folder: &mut D) -> Result<Vec<u8, A>, Cause> {
     let mut names = Vec::new(alloc);
     let mut part = [0; PART];

@@ -1,5 +1,5 @@
-//! A window on the open packs, which keeps the most recently read blocks in memory. So a pack need
-//! not be in memory as a whole.
+//! Access to the open packs, with a cache of the most recently loaded blocks. A pack thus need not
+//! be in memory as a whole.
 
 ghost use Rattle.std.specs.Prelude.{◌≡◌, ◌+◌, ◌≤◌, ◌<◌, ◌++◌, ◌∷◌, [], ℕ, List, Option, IfOk, IfSome, OnErr, OnOk, OnSome, take, drop, length, map, vec_len};
 ghost use Rattle.gitobjects.specs.Windows.{AreBlocks, IsBlock, IsPartOf};
@@ -17,7 +17,7 @@ pub(crate) struct Opened<P: OpenPack + Drop> {
     end: usize,
 }
 
-/// A block of a pack: the number of the pack, the offset of the block, and its bytes.
+/// A block of a pack: the number of the pack, the offset of the block in the pack, and its bytes.
 #[derive(Drop)]
 pub(crate) struct Block<A: Allocator + Copy> {
     pub(crate) pack: usize,
@@ -25,13 +25,13 @@ pub(crate) struct Block<A: Allocator + Copy> {
     pub(crate) bytes: Vec<u8, A>,
 }
 
-/// The open packs, by number, and their most recently read blocks. The total size of the blocks is
-/// at most 64 MiB.
+/// The open packs, indexed by number, and their most recently loaded blocks. The total size of the
+/// blocks is at most 64 MiB.
 #[derive(Drop)]
 pub(crate) struct Window<P: OpenPack + Drop, A: Allocator + Copy> {
     alloc: A,
     packs: Vec<Opened<P>, A>,
-    // The blocks, with the oldest block first.
+    // The blocks in memory, in the order in which they were loaded.
     blocks: Vec<Block<A>, A>,
 }
 
@@ -39,7 +39,7 @@ impl<P: OpenPack + Drop, A: Allocator + Copy> Model for Window<P, A> {
     ghost use Rattle.std.specs.Prelude.{ℕ, List, Option, map};
     ghost use Rattle.gitobjects.specs.Windows.{AreBlocks};
 
-    // The bytes of each pack, or `None` if the bytes are unknown.
+    // The bytes of each pack, or `None` if the contracts do not describe them.
     ghost Value = { List (Option (List ℕ)) };
 
     ghost view = { λ w. map (λ opened. P.bytes opened.file) w.packs.items };
@@ -60,8 +60,8 @@ impl<P: OpenPack + Drop, A: Allocator + Copy> Window<P, A> {
         }
     }
 
-    /// Adds an open pack with this length, and returns the number of the pack. Fails only if out of
-    /// memory.
+    /// Adds an open pack whose length is `end`, and returns the number of the pack. Fails only if
+    /// out of memory.
     pub(crate) fn add(&mut self, file: P, end: usize) -> Result<usize, AllocError>
         ensures number { IfOk result (λ number. number ≡ length self.old) }
         ensures ok { OnOk result (self.new ≡ self.old ++ P.bytes file ∷ []) }
@@ -105,7 +105,7 @@ impl<P: OpenPack + Drop, A: Allocator + Copy> Window<P, A> {
         self.block_at(pack, first).is_some()
     }
 
-    // Returns the block at this offset of a pack, or `None` if memory does not hold the block.
+    // Returns the block at this offset of a pack, or `None` if the block is not in memory.
     fn block_at(&self, pack: usize, first: usize) -> Option<&[u8]>
         ensures { IfSome result (λ bytes. IsPartOf self.now pack first bytes.now) }
     {
@@ -172,7 +172,7 @@ fn read_part<P: OpenPack + Drop, A: Allocator + Copy>(
     packs[pack].file.read_at(alloc, start, count)
 }
 
-// Adds a block, and drops the oldest block if there are too many blocks.
+// Adds a block, after dropping the oldest block if the maximum number of blocks is in memory.
 fn push_block<A: Allocator + Copy>(
     blocks: &mut Vec<Block<A>, A>,
     block: Block<A>,
@@ -185,7 +185,7 @@ fn push_block<A: Allocator + Copy>(
     Ok(())
 }
 
-// Drops the oldest block if there are too many blocks.
+// Drops the oldest block if the maximum number of blocks is in memory.
 fn make_room<A: Allocator + Copy>(blocks: &mut Vec<Block<A>, A>)
     ensures blocks { (packs : List (Option (List ℕ)))
         → AreBlocks packs blocks.old.items → AreBlocks packs blocks.new.items }

@@ -93,9 +93,9 @@ part_of_window given window body first head hasher was is =
     is ∙ ap (λ n. take n window) (sym size) ∙ ap (take (length body)) (sym rest)
 
 -- a pack whose last twenty bytes are the hash of the bytes before them
-pub arrived : (given window : List ℕ) (first count : ℕ) (hasher : Sha1) (sum id : List ℕ) → IsArriving given first window (Count count) hasher → ((m : List ℕ) → Holds hasher m → sum ≡ sha1 m) → id ≡ sum
+pub complete_pack_is_framed : (given window : List ℕ) (first count : ℕ) (hasher : Sha1) (sum id : List ℕ) → IsArriving given first window (Count count) hasher → ((m : List ℕ) → Holds hasher m → sum ≡ sha1 m) → id ≡ sum
     → window ≡ take (length window - 20) window ++ sum → IsFramed count id given
-arrived given window first count hasher sum id was digest same ends =
+complete_pack_is_framed given window first count hasher sum id was digest same ends =
     let body = was.released ++ take (length window - 20) window in
     let hash : sum ≡ sha1 body = digest body was.hashed in
     record {

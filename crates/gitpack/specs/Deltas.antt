@@ -7,7 +7,7 @@ pub data Instruction : Type 0 where
   Copy : (offset size : ℕ) → Instruction
   Insert : (bytes : List ℕ) → Instruction
 
--- `kept` contains the bytes whose bit is set in `bits`; all other bytes are 0
+-- `kept` lists the bytes whose bit is set in `bits`, and all other bytes are 0
 abbrev pub Keeps : ℕ → List ℕ → List ℕ → Type 0
 Keeps bits [] kept = kept ≡ []
 Keeps bits (b ∷ bytes) kept =
@@ -54,7 +54,7 @@ abbrev pub add_instruction : List ℕ → Instruction → List ℕ
 add_instruction base (Copy offset size) = take size (drop offset base)
 add_instruction base (Insert bytes) = bytes
 
--- an instruction copies only bytes within the base
+-- the instruction copies no bytes beyond the end of the base
 abbrev pub Fits : List ℕ → Instruction → Type 0
 Fits base (Copy offset size) = offset + size ≤ length base
 Fits base (Insert bytes) = ⊤

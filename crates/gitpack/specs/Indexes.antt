@@ -40,15 +40,15 @@ pub record HasText (index : Index) : Type 0 where
 abbrev pub index_header : List ℕ
 index_header = 255 ∷ (codes "tOc" ++ to_be_bytes w32 2)
 
--- whether the first byte of an entry's id is at most this byte
+-- whether the first byte of an entry's id is at most `byte`
 abbrev pub begins_within : ℕ → IndexEntry → Bool
 begins_within byte e = nat_le (slice_index e.id 0) byte
 
 abbrev pub ids_within : ℕ → List IndexEntry → ℕ
 ids_within byte entries = count_by (begins_within byte) entries
 
--- the first numbers of the fan-out table: for each byte value below the limit, the number of ids whose first byte is at
--- most this value
+-- the first n numbers of the fan-out table: for each byte value below n, the number of ids whose first byte is at most
+-- this value
 unfoldable pub fan_out : ℕ → List IndexEntry → List ℕ
 fan_out zero entries = []
 fan_out (suc byte) entries = fan_out byte entries ++ to_be_bytes w32 (ids_within byte entries)
@@ -60,7 +60,7 @@ id_bytes e = e.id
 abbrev pub crc_bytes : IndexEntry → List ℕ
 crc_bytes e = to_be_bytes w32 e.crc
 
--- whether the offset of an entry fits in 31 bits, so that it is in the table of 32-bit offsets
+-- whether the offset of an entry fits in 31 bits, and so is stored in the table of 32-bit offsets
 abbrev pub is_short : IndexEntry → Bool
 is_short e = nat_lt e.offset 2147483648
 
@@ -72,7 +72,7 @@ short_offsets longs (e ∷ entries) =
     if is_short e then to_be_bytes w32 e.offset ++ short_offsets longs entries
     else to_be_bytes w32 (2147483648 + longs) ++ short_offsets (longs + 1) entries
 
--- the bytes of an entry in the table of 64-bit offsets
+-- the bytes of an entry in the table of 64-bit offsets, or none if the offset fits in 31 bits
 abbrev pub long_bytes : IndexEntry → List ℕ
 long_bytes e = if is_short e then [] else to_be_bytes w64 e.offset
 

@@ -1,4 +1,4 @@
--- Consequences of the definitions of packs.
+-- Laws that follow from the definitions of packs.
 use Rattle.std.specs.Prelude.{◌≡◌, ℕ, List, ◌++◌, Option, Some}
 use Rattle.gitpack.specs.Entries.{IsHead}
 use Rattle.gitpack.specs.Indexes.{HasText, Index, IsIndex, ReadsIndex, index_text}

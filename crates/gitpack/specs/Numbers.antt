@@ -17,8 +17,8 @@ abbrev pub carries : ℕ → ℕ
 carries zero = 0
 carries (suc n) = 128 ^ suc n + carries n
 
--- the number with these groups of seven bits, the highest group first, plus 2^7 + 2^14 + .. with a term for each byte
--- after the first
+-- the number with these groups of seven bits, the highest group first, plus 2^7 + 2^14 + .. + 2^(7 n) if n bytes follow
+-- the first byte
 abbrev pub high_first : List ℕ → ℕ
 high_first bytes = low_first (reverse bytes) + carries (length bytes - 1)
 

@@ -6,11 +6,12 @@ use std::alloc::{AllocError, Allocator};
 pub(crate) const BLOCK: usize = 16;
 
 // The multiplier of the rolling hash of a block.
-const DIGITS: u32 = 0x0100_0193;
+const MULTIPLIER: u32 = 0x0100_0193;
 
-const FIRST_DIGIT: u32 = 0xd69d_215b;
+// `MULTIPLIER` to the power 15, the factor of the first byte of a block in the hash.
+const FIRST_FACTOR: u32 = 0xd69d_215b;
 
-// The maximum number of blocks in a slot that are compared with the target.
+// The maximum number of blocks of a slot that are compared with the target.
 const MAX_TRIES: usize = 32;
 
 // The minimum length of a match that is accepted without a search for longer matches.
@@ -23,8 +24,8 @@ struct Block {
     next: u32,
 }
 
-/// A hash table of the blocks of a delta base. The number of a block is its position among the
-/// blocks plus 1, and 0 means no block.
+/// A hash table of the blocks of a delta base. The number of a block is its index plus 1, and 0
+/// means no block.
 #[derive(Drop)]
 pub(crate) struct Blocks<A: Allocator + Copy> {
     // The number of the first block in each slot.
@@ -56,24 +57,25 @@ impl<A: Allocator + Copy> Blocks<A> {
         Ok(made)
     }
 
-    // Adds the blocks, from last to first. If consecutive blocks are equal, only the first of these
-    // blocks stays in the table.
+    // Adds the blocks, from last to first. If consecutive blocks have the same hash, only the first
+    // of them stays in the table.
     fn add_all(&mut self, base: &[u8]) {
         let count = self.blocks.len();
-        let mut after = None;
-        for less in 0..count {
-            let number = count.wrapping_sub(less).wrapping_sub(1);
-            let Some(bytes) = block_at(base, number.wrapping_mul(BLOCK)) else {
+        let mut following_hash = None;
+        for added in 0..count {
+            let index = count.wrapping_sub(added).wrapping_sub(1);
+            let Some(bytes) = block_at(base, index.wrapping_mul(BLOCK)) else {
                 return;
             };
             let hash = hash_of(bytes);
-            self.add(number, hash, after == Some(hash));
-            after = Some(hash);
+            self.add(index, hash, following_hash == Some(hash));
+            following_hash = Some(hash);
         }
     }
 
-    // Adds a block. If `replaces_first` is set, the new block replaces the first block in its slot.
-    fn add(&mut self, number: usize, hash: u32, replaces_first: bool) {
+    // Adds the block at an index. If `replaces_first` is set, the new block replaces the first
+    // block in its slot.
+    fn add(&mut self, index: usize, hash: u32, replaces_first: bool) {
         let slot = slot_of(hash, self.heads.len());
         let Some(head) = self.heads.get_mut(slot) else {
             return;
@@ -83,15 +85,15 @@ impl<A: Allocator + Copy> Blocks<A> {
         } else {
             *head
         };
-        *head = (number.wrapping_add(1) & 0xffff_ffff) as u32;
-        if let Some(block) = self.blocks.get_mut(number) {
+        *head = (index.wrapping_add(1) & 0xffff_ffff) as u32;
+        if let Some(block) = self.blocks.get_mut(index) {
             *block = Block { hash, next };
         }
     }
 
-    /// Returns the first match of at least one block whose offset in the target is in `from..to`.
-    /// Returns `None` if the search finds no such match. The match ends where the target and the
-    /// base differ.
+    /// Returns the first match that begins in `from..to` of the target and has at least the length
+    /// of a block. Returns `None` if the search finds no match. The match ends where the target and
+    /// the base differ, or where one of them ends.
     pub(crate) fn next_match(
         &self,
         base: &[u8],
@@ -113,9 +115,9 @@ impl<A: Allocator + Copy> Blocks<A> {
         None
     }
 
-    // Returns the longest match that the search finds at offset `at` of the target. `start` is a
-    // pair: the hash of the target's block at `at`, and the number of the first base block in the
-    // slot for this hash.
+    // Returns the longest match that the search finds at offset `at` of the target. The pair
+    // `start` contains the hash of the target's block at `at`, and the number of the first base
+    // block in the slot for this hash.
     fn longest(&self, base: &[u8], target: &[u8], at: usize, start: (u32, u32)) -> Match {
         let mut best = Match {
             at,
@@ -124,12 +126,12 @@ impl<A: Allocator + Copy> Blocks<A> {
         };
         let mut number = start.1;
         for _try in 0..MAX_TRIES {
-            let place = (number as usize).wrapping_sub(1);
-            let Some(block) = self.blocks.get(place) else {
+            let index = (number as usize).wrapping_sub(1);
+            let Some(block) = self.blocks.get(index) else {
                 break;
             };
             if block.hash == start.0 {
-                let offset = place.wrapping_mul(BLOCK);
+                let offset = index.wrapping_mul(BLOCK);
                 let length = common_front(base.get(offset..), target.get(at..));
                 if length > best.length {
                     best = Match { at, offset, length };
@@ -145,10 +147,10 @@ impl<A: Allocator + Copy> Blocks<A> {
 }
 
 impl Match {
-    /// Returns the match, extended backwards as long as bytes are equal. The extended match does
-    /// not begin before offset `least` of the target.
-    pub(crate) fn from_front(self, base: &[u8], target: &[u8], least: usize) -> Match {
-        let more = common_back(base.get(..self.offset), target.get(least..self.at));
+    /// Returns the match, extended backwards as long as the bytes of base and target are equal. The
+    /// extended match does not begin before offset `start` of the target.
+    pub(crate) fn extend_back(self, base: &[u8], target: &[u8], start: usize) -> Match {
+        let more = common_back(base.get(..self.offset), target.get(start..self.at));
         Match {
             at: self.at.wrapping_sub(more),
             offset: self.offset.wrapping_sub(more),
@@ -180,7 +182,7 @@ fn slot_of(hash: u32, slots: usize) -> usize {
 fn hash_of(bytes: &[u8]) -> u32 {
     let mut hash = 0u32;
     for byte in bytes {
-        hash = hash.wrapping_mul(DIGITS).wrapping_add(digit(*byte));
+        hash = hash.wrapping_mul(MULTIPLIER).wrapping_add(term(*byte));
     }
     hash
 }
@@ -188,11 +190,12 @@ fn hash_of(bytes: &[u8]) -> u32 {
 // Returns the rolling hash after removing the byte `first` at the front and appending the byte
 // `next`.
 fn roll(hash: u32, first: u8, next: u8) -> u32 {
-    let rest = hash.wrapping_sub(digit(first).wrapping_mul(FIRST_DIGIT));
-    rest.wrapping_mul(DIGITS).wrapping_add(digit(next))
+    let rest = hash.wrapping_sub(term(first).wrapping_mul(FIRST_FACTOR));
+    rest.wrapping_mul(MULTIPLIER).wrapping_add(term(next))
 }
 
-fn digit(byte: u8) -> u32 {
+// Returns the term that a byte adds to the rolling hash.
+fn term(byte: u8) -> u32 {
     u32::from(byte).wrapping_add(1)
 }
 
@@ -202,8 +205,8 @@ fn common_front(one: Option<&[u8]>, other: Option<&[u8]>) -> usize {
         return 0;
     };
     let mut length = 0usize;
-    for (byte, same) in one.iter().zip(other) {
-        if *byte != *same {
+    for (byte, other_byte) in one.iter().zip(other) {
+        if *byte != *other_byte {
             return length;
         }
         length = length.wrapping_add(1);
@@ -217,8 +220,8 @@ fn common_back(one: Option<&[u8]>, other: Option<&[u8]>) -> usize {
         return 0;
     };
     let mut length = 0usize;
-    for (byte, same) in one.iter().rev().zip(other.iter().rev()) {
-        if *byte != *same {
+    for (byte, other_byte) in one.iter().rev().zip(other.iter().rev()) {
+        if *byte != *other_byte {
             return length;
         }
         length = length.wrapping_add(1);

@@ -9,7 +9,8 @@ use std::alloc::{AllocError, Allocator};
 // The minimum length of a delta in bytes.
 const MIN_DELTA: usize = 4;
 
-// The lowest value of a copy command. A command with a lower value inserts that number of bytes.
+// The lowest value of a copy command. The value of an insertion command is lower, and is the number
+// of inserted bytes.
 const COPIES: u8 = 128;
 
 // The number of values of the low four bits of a copy command, which mark the bytes of the offset.
@@ -18,13 +19,14 @@ const OFFSET_BITS: u8 = 16;
 // The maximum number of bytes for the offset of a copy.
 const OFFSET_BYTES: u32 = 4;
 
+// The maximum number of bytes for the size of a copy.
 const SIZE_BYTES: u32 = 3;
 
 // The size of a copy whose encoded size is 0.
 const FULL_COPY: usize = 0x10000;
 
-/// Returns the size of the resulting object, as recorded in a delta. Returns `None` if the bytes do
-/// not begin with two sizes, as every delta does.
+/// Returns the size of the object that a delta makes, as recorded in the delta. Returns `None` if
+/// the bytes do not begin with two sizes, as every delta does.
 pub fn made_size(delta: &[u8]) -> Option<usize>
     ensures { MatchOption result
         ((base body : List ℕ) → ¬ (IsDelta base delta.now body))
@@ -141,7 +143,7 @@ fn split_instruction<'a>(base: &'a [u8], text: &'a [u8]) -> Option<(&'a [u8], &'
     Some((bytes, rest))
 }
 
-/// The offset and size of a range of bytes, as a copy instruction reads it.
+/// A range of bytes, such as the range that a copy instruction copies from the base.
 #[derive(Clone, Copy)]
 pub(crate) struct Range {
     pub offset: usize,
@@ -164,6 +166,7 @@ pub(crate) fn part_of(base: &[u8], range: Range) -> Option<&[u8]>
 }
 
 // Returns the range of a copy instruction with this command, and the bytes after the instruction.
+// Returns `None` if the bytes end within the instruction.
 fn split_copy(command: u8, bytes: &[u8]) -> Option<(Range, &[u8])>
     requires { 128 ≤ command }
     ensures cases { MatchOption result
@@ -190,8 +193,8 @@ fn copy_size(number: usize) -> usize
     if number == 0 { FULL_COPY } else { number }
 }
 
-// Decodes a little-endian number in which only the bytes with a set bit in `bits` are present.
-// Returns the number and the remaining bytes.
+// Decodes a little-endian number of `count` bytes, of which only the bytes with a set bit in `bits`
+// are stored. Returns the number and the remaining bytes, or `None` if there are too few bytes.
 fn split_sparse(bits: u8, count: u32, bytes: &[u8]) -> Option<(usize, &[u8])>
     requires { count ≤ 4 }
     ensures cases { MatchOption result

@@ -13,16 +13,19 @@ use std::marker::Model;
 // The maximum length of one insertion.
 const MAX_INSERTION: usize = 127;
 
+// The maximum length of one copy.
 const MAX_COPY: usize = 0x10000;
 
 // The bit that marks a copy command.
 const COPY: u8 = 0x80;
 
+// The bits of a copy command that are set if the lowest byte of the offset, or of the size, is
+// present.
 const OFFSET_BIT: u8 = 0x01;
 
 const SIZE_BIT: u8 = 0x10;
 
-/// A base that deltas can refer to. In contracts, a base is the list of its bytes.
+/// An object against which deltas can be made. In contracts, a base is the list of its bytes.
 #[derive(Drop)]
 pub struct DeltaBase<A: Allocator + Copy> {
     alloc: A,
@@ -60,7 +63,7 @@ impl<A: Allocator + Copy> DeltaBase<A> {
     }
 
     /// Returns a delta of at most `limit` bytes that makes the target from this base, or `None` if
-    /// the search does not find one. The delta is applied as a check before it is returned.
+    /// the search finds no delta. The delta is applied as a check before it is returned.
     ///
     /// Fails only if out of memory.
     pub fn make_delta(&self, target: &[u8], limit: usize) -> Result<Option<Vec<u8, A>>, AllocError>
@@ -83,7 +86,8 @@ impl<A: Allocator + Copy> DeltaBase<A> {
         Ok(Some(delta))
     }
 
-    // Searches for a delta of at most `limit` bytes, but may return a longer one.
+    // Searches for a delta of at most `limit` bytes, and returns `None` if none is found. The
+    // returned delta may be longer than `limit`.
     fn search(&self, target: &[u8], limit: usize) -> Result<Option<Vec<u8, A>>, AllocError> {
         let base = self.bytes.as_slice();
         let mut delta = Vec::new(self.alloc);
@@ -96,7 +100,7 @@ impl<A: Allocator + Copy> DeltaBase<A> {
             let Some(found) = self.blocks.next_match(base, target, done, end) else {
                 break;
             };
-            let copy = found.from_front(base, target, done);
+            let copy = found.extend_back(base, target, done);
             put_insertions(&mut delta, target.get(done..copy.at))?;
             put_copies(&mut delta, copy.offset, copy.length)?;
             done = copy.at.wrapping_add(copy.length);
@@ -144,19 +148,19 @@ fn put_copy<A: Allocator + Copy>(
     offset: usize,
     size: usize,
 ) -> Result<(), AllocError> {
-    let place = delta.len();
+    let command_index = delta.len();
     delta.push(COPY)?;
     let number = if size == MAX_COPY { 0 } else { size };
     let offset_bits = put_sparse(delta, offset, 4, OFFSET_BIT)?;
     let size_bits = put_sparse(delta, number, 3, SIZE_BIT)?;
-    if let Some(command) = delta.get_mut(place) {
+    if let Some(command) = delta.get_mut(command_index) {
         *command = COPY | offset_bits | size_bits;
     }
     Ok(())
 }
 
-// Appends the nonzero bytes of a number in little-endian order, and returns the bits that mark
-// these bytes.
+// Appends the nonzero bytes of a number of `count` bytes in little-endian order. Returns the bits
+// that mark the appended bytes; `first` is the bit for the lowest byte.
 fn put_sparse<A: Allocator + Copy>(
     delta: &mut Vec<u8, A>,
     number: usize,

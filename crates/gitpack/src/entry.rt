@@ -15,14 +15,16 @@ pub const MAX_HEAD: usize = 29;
 // The maximum encoded length of the type and the size in an entry header.
 const MAX_TYPE_AND_SIZE: usize = 9;
 
-// The number of values of the low four bits of the first byte, which belong to the size.
+// The number of values of the low four bits of the first byte. These bits are part of the size.
 const LOW_SIZES: u8 = 16;
 
+// The number of values of the three bits of a type number.
 const TYPES: u8 = 8;
 
 // The type number of an offset delta (gitformat-pack(5), "Object types").
 pub(crate) const OFFSET_DELTA: u8 = 6;
 
+// The type number of a ref delta.
 pub(crate) const REF_DELTA: u8 = 7;
 
 /// The type of a pack entry (gitformat-pack(5), "Object types").
@@ -36,7 +38,7 @@ pub enum EntryForm {
     RefDelta(Oid),
 }
 
-/// The header of a pack entry, which precedes the zlib stream.
+/// The header of a pack entry. The zlib stream of the entry follows its header.
 #[derive(Clone, Copy, Debug, Drop)]
 pub struct EntryHead {
     /// The type of the entry.
@@ -75,7 +77,8 @@ struct TypeAndSize {
     size: usize,
 }
 
-// Returns the type and size at the start of the bytes, and the remaining bytes.
+// Returns the type number and the size at the start of the bytes, and the remaining bytes. Returns
+// `None` if the bytes do not begin with a type number and a size.
 fn split_type_and_size(bytes: &[u8]) -> Option<(TypeAndSize, &[u8])>
     ensures { MatchOption result
         ((number size : ℕ) (text rest : List ℕ) → IsTypeAndSize number size text
@@ -95,7 +98,8 @@ fn split_type_and_size(bytes: &[u8]) -> Option<(TypeAndSize, &[u8])>
 }
 
 // Returns the entry type with this number, and the remaining bytes. For a delta, the offset or id
-// of the base is read from the start of the bytes.
+// of the base is read from the start of the bytes. Returns `None` if no type has this number, or if
+// the bytes do not begin with the offset or id.
 fn split_form(number: u8, bytes: &[u8]) -> Option<(EntryForm, &[u8])>
     ensures { MatchOption result
         ((form : EntryForm) (text rest : List ℕ) → IsBaseOf form number text

@@ -30,16 +30,17 @@ pub(crate) enum PackHead {
     Wrong,
 }
 
-/// The bytes of a pack that are in memory, except the last twenty bytes, which may be the trailer.
+/// The bytes of a pack that are in memory, except the last twenty received bytes, which may be the
+/// trailer.
 #[derive(Clone, Copy)]
-pub(crate) struct Part<'a> {
-    /// The offset of the bytes in the pack.
+pub(crate) struct PackPart<'a> {
+    /// The offset of the first byte in the pack.
     pub first: usize,
     /// The bytes.
     pub bytes: &'a [u8],
 }
 
-impl<'a> Part<'a> {
+impl<'a> PackPart<'a> {
     /// Returns the offset of the end of the bytes.
     pub(crate) fn end(self) -> usize {
         self.first.saturating_add(self.bytes.len())
@@ -52,14 +53,15 @@ impl<'a> Part<'a> {
     }
 }
 
-/// The received bytes of a pack. All bytes are in a spool. Only the last bytes, which are not
-/// released yet, are also in memory. All bytes except the last twenty, which may be the trailer,
-/// are hashed on arrival. In contracts, this value is the list of received bytes.
+/// The received bytes of a pack. All bytes are in a spool. The last bytes are also in memory, until
+/// `release` drops them. All bytes except the last twenty, which may be the trailer, are hashed on
+/// arrival. In contracts, this value is the list of received bytes.
 #[derive(Drop)]
 pub(crate) struct PackBytes<S: Spool + Drop, A: Allocator + Copy> {
     spool: S,
-    // The bytes that are not released yet, and the offset of the first of them.
+    // The bytes that are not released yet.
     window: Vec<u8, A>,
+    // The offset of the first byte of `window`.
     first: usize,
     head: PackHead,
     hasher: Sha1,
@@ -72,7 +74,7 @@ pub(crate) struct FramedPack<S: Spool + Drop, A: Allocator + Copy> {
     pub spool: S,
     /// The bytes that are not released yet.
     pub window: Vec<u8, A>,
-    /// The offset of the first of these bytes.
+    /// The offset of the first byte of `window`.
     pub first: usize,
     /// The entry count in the pack header.
     pub count: u32,
@@ -82,8 +84,8 @@ pub(crate) struct FramedPack<S: Spool + Drop, A: Allocator + Copy> {
 
 impl<S: Spool + Drop, A: Allocator + Copy> FramedPack<S, A> {
     /// Returns the bytes in memory, without the trailer.
-    pub(crate) fn part(&self) -> Part<'_> {
-        Part {
+    pub(crate) fn part(&self) -> PackPart<'_> {
+        PackPart {
             first: self.first,
             bytes: body_of(self.window.as_slice()),
         }
@@ -117,16 +119,16 @@ impl<S: Spool + Drop, A: Allocator + Copy> PackBytes<S, A> {
         }
     }
 
-    /// Returns what is known about the header.
+    /// Returns the state of the header.
     pub(crate) fn head(&self) -> PackHead {
         self.head
     }
 
     /// Returns the bytes in memory, except the last twenty.
-    pub(crate) fn part(&self) -> Part<'_>
+    pub(crate) fn part(&self) -> PackPart<'_>
         ensures { IsPart self.now result.first result.bytes.now }
     {
-        Part {
+        PackPart {
             first: self.first,
             bytes: body_of(self.window.as_slice()),
         }
@@ -223,7 +225,7 @@ fn releasable(head: PackHead, window: &[u8], count: usize) -> usize
     }
 }
 
-// Removes the first `count` bytes.
+// Removes the first `count` bytes of the window.
 fn drop_front<A: Allocator + Copy>(window: &mut Vec<u8, A>, count: usize)
     requires { count ≤ length window.old.items }
     ensures { window.new.items ≡ drop count window.old.items }
@@ -233,8 +235,8 @@ fn drop_front<A: Allocator + Copy>(window: &mut Vec<u8, A>, count: usize)
     window.truncate(length - count);
 }
 
-// Returns what is known about the header of a pack that begins with `body`. If `head` is not
-// `Unread`, it was found earlier, and `body` is only a part of the pack.
+// Returns the state of the header after more bytes have arrived. If `head` is `Unread`, `body` is
+// the start of the pack, and the header is read from `body`. Otherwise `head` is returned.
 fn head_after(head: PackHead, body: &[u8]) -> PackHead
     ensures { HeadAfter head body.now result }
 {
@@ -245,7 +247,7 @@ fn head_after(head: PackHead, body: &[u8]) -> PackHead
     }
 }
 
-// Returns what is known about the header of a pack that begins with these bytes.
+// Returns the state of the header of a pack that begins with these bytes.
 fn head_of(body: &[u8]) -> PackHead
     ensures { IsHeadOf result body.now }
 {
@@ -273,8 +275,8 @@ fn body_of(pack: &[u8]) -> &[u8]
     }
 }
 
-// Returns the trailer of a pack that ends with these bytes. Returns `None` if the trailer differs
-// from `sum`.
+// Returns the trailer of a pack that ends with these bytes, or `None` if the last twenty bytes
+// differ from `sum`.
 fn trailer_of(pack: &[u8], sum: &[u8; ID_BYTES]) -> Option<Oid>
     ensures parts { IfSome result (λ id. (id ≡ sum.now)
         × (pack.now ≡ take (length pack.now - 20) pack.now ++ sum.now)) }

@@ -14,15 +14,16 @@ use std::alloc::{AllocError, Allocator};
 // The bit of a byte that is set if more bytes of the number follow.
 const MORE: u8 = 128;
 
-const DIGITS: usize = 128;
+// The number of values of a group of seven bits.
+const GROUP_VALUES: usize = 128;
 
-// The number of values of the low four bits of the first byte, which belong to the size.
+// The number of values of the low four bits of the first byte. These bits are part of the size.
 const LOW_SIZES: usize = 16;
 
-// The exclusive upper bound of the sizes that nine bytes can encode.
+// The lowest size that nine bytes cannot encode.
 const SIZES: usize = 1 << 60;
 
-// The exclusive upper bound of written offsets, which eight bytes can encode.
+// The lowest offset that is refused. Eight bytes can encode all lower offsets.
 const OFFSETS: usize = 1 << 56;
 
 /// Appends the header of an entry of type `form`, whose stream inflates to `size` bytes.
@@ -84,8 +85,8 @@ pub(crate) fn put_size<A: Allocator + Copy>(
         × ((k : ℕ) → number < 128 ^ (k + 1) → length text ≤ k + 1)
         × (out.new.items ≡ out.old.items ++ text)) }
 {
-    let digit = (number % DIGITS) as u8;
-    let high = number / DIGITS;
+    let digit = (number % GROUP_VALUES) as u8;
+    let high = number / GROUP_VALUES;
     if high == 0 {
         out.push(digit)?;
         return Ok(());
@@ -102,8 +103,8 @@ fn put_offset<A: Allocator + Copy>(out: &mut Vec<u8, A>, offset: usize) -> Resul
     if offset >= OFFSETS {
         return Err(PackFileFault::TooLarge);
     }
-    let digit = (offset % DIGITS) as u8;
-    let high = offset / DIGITS;
+    let digit = (offset % GROUP_VALUES) as u8;
+    let high = offset / GROUP_VALUES;
     if high == 0 {
         out.push(digit)?;
         return Ok(());
@@ -120,8 +121,8 @@ fn put_high<A: Allocator + Copy>(out: &mut Vec<u8, A>, number: usize) -> Result<
         × ((k : ℕ) → number < 128 ^ (k + 1) → length text ≤ k + 1)
         × (out.new.items ≡ out.old.items ++ text)) }
 {
-    let byte = MORE + (number % DIGITS) as u8;
-    let high = number / DIGITS;
+    let byte = MORE + (number % GROUP_VALUES) as u8;
+    let high = number / GROUP_VALUES;
     if high == 0 {
         out.push(byte)?;
         return Ok(());

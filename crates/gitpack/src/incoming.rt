@@ -46,8 +46,8 @@ impl<S: Spool + Drop, A: Allocator + Copy> IncomingPack<S, A> {
     }
 
     /// Adds the next bytes of the pack. The visitor receives each undeltified object that is
-    /// inflated in this call. Faults of the pack or of the visitor are reported by `finish`. After
-    /// such a fault, the remaining bytes are still appended to the spool.
+    /// inflated in this call. Faults of the pack or of the visitor are reported by `finish`. Bytes
+    /// that arrive after such a fault are still appended to the spool.
     ///
     /// Fails if the spool fails, or with `Memory` if out of memory. After a fault, the pack is
     /// unusable.
@@ -61,16 +61,16 @@ impl<S: Spool + Drop, A: Allocator + Copy> IncomingPack<S, A> {
         self.bytes.push(piece)?;
         let end = match self.bytes.head() {
             PackHead::Unread => 0,
-            PackHead::Count(count) => self.scanner.scan_more(count, self.bytes.part(), visitor),
+            PackHead::Count(count) => self.scanner.scan(count, self.bytes.part(), visitor),
             PackHead::Wrong => usize::MAX,
         };
         self.bytes.release(end);
         Ok(())
     }
 
-    /// Returns the spool of the received pack and the objects of the pack, once all bytes have
-    /// arrived. The visitor must be the same as in all `feed` calls, and receives the remaining
-    /// objects.
+    /// Returns the spool with the received pack, and the objects of the pack. Must be called after
+    /// all bytes have arrived. The visitor must be the same as in all `feed` calls, and receives
+    /// the remaining objects.
     ///
     /// Fails for the same reasons as [`crate::index_pack`]. Fails with `Spool` if the spool fails,
     /// or returns a zlib stream that cannot be inflated.
@@ -100,7 +100,7 @@ impl<S: Spool + Drop, A: Allocator + Copy> IncomingPack<S, A> {
     }
 }
 
-// Returns the objects of a scanned pack.
+// Applies the deltas of a scanned pack, and returns all objects of the pack.
 fn objects_of<S: Spool, A: Allocator + Copy, V: ObjectVisitor>(
     spool: &S,
     scanned: ScannedPack<A>,

@@ -16,7 +16,7 @@ const HEADER: &[u8; 8] = b"\xfftOc\0\0\0\x02";
 // The lowest offset that is written in the table of 64-bit offsets.
 const LONG: u64 = 1 << 31;
 
-// The bit that marks a position in the table of 64-bit offsets.
+// The bit that marks a number as a position in the table of 64-bit offsets.
 const LONG_MARK: u32 = 1 << 31;
 
 // Appends a pack index without its own checksum.

@@ -3,15 +3,15 @@
 ghost use Rattle.std.specs.Prelude.{◌≡◌, ◌^◌, ◌<◌, ◌≤◌, ◌++◌, ◌∷◌, List, ℕ, MatchOption, length, slice_index};
 ghost use Rattle.gitpack.specs.Numbers.{IsNumber, IsOffset, IsSize, high_first, low_first};
 
-// The number of values of seven bits. If a byte has at least this value, more bytes of the number
-// follow.
-const DIGITS: u8 = 128;
+// The number of values of a group of seven bits. A byte of at least this value is not the last byte
+// of its number.
+const GROUP_VALUES: u8 = 128;
 
 // The maximum number of bytes of an encoded size or offset.
 const MAX_BYTES: usize = 8;
 
 /// Splits the bytes into the encoded number at their start and the remaining bytes. Returns `None`
-/// if this number has more than `most` bytes or does not end.
+/// if the number has more than `most` bytes, or if the bytes end before the number does.
 pub(crate) fn split_number(most: usize, bytes: &[u8]) -> Option<(&[u8], &[u8])>
     ensures { MatchOption result
         ((text rest : List ℕ) → IsNumber text → length text ≤ most → ¬ (bytes.now ≡ text ++ rest))
@@ -27,7 +27,7 @@ pub(crate) fn split_number(most: usize, bytes: &[u8]) -> Option<(&[u8], &[u8])>
     Some(bytes.split_at(last + 1))
 }
 
-// Returns the index of the first byte below 128.
+// Returns the index of the first byte below 128, or `None` if no byte is below 128.
 fn last_place(bytes: &[u8]) -> Option<usize>
     ensures { MatchOption result
         ((k : ℕ) → k < length bytes.now → 128 ≤ slice_index bytes.now k)
@@ -35,7 +35,7 @@ fn last_place(bytes: &[u8]) -> Option<usize>
         × ((k : ℕ) → k < place → 128 ≤ slice_index bytes.now k)) }
 {
     for (place, byte) in bytes.iter().enumerate() {
-        if *byte < DIGITS {
+        if *byte < GROUP_VALUES {
             return Some(place);
         }
     }
@@ -51,8 +51,8 @@ pub(crate) fn low_first(bytes: &[u8]) -> usize
     let mut number = 0;
     let mut unit = 1;
     for byte in bytes {
-        number += usize::from(*byte % DIGITS) * unit;
-        unit *= usize::from(DIGITS);
+        number += usize::from(*byte % GROUP_VALUES) * unit;
+        unit *= usize::from(GROUP_VALUES);
     }
     number
 }
@@ -62,9 +62,9 @@ fn high_first(first: u8, more: &[u8]) -> usize
     requires { length more.now ≤ 7 }
     ensures { result ≡ high_first (first ∷ more.now) }
 {
-    let mut number = usize::from(first % DIGITS);
+    let mut number = usize::from(first % GROUP_VALUES);
     for byte in more {
-        number = (number + 1) * usize::from(DIGITS) + usize::from(*byte % DIGITS);
+        number = (number + 1) * usize::from(GROUP_VALUES) + usize::from(*byte % GROUP_VALUES);
     }
     number
 }

@@ -1,5 +1,5 @@
-//! Applying deltas to their bases in depth-first order, so that only the objects of one chain are
-//! in memory.
+//! Applying deltas to their bases in depth-first order. Only the objects of one chain are in memory
+//! at a time.
 
 ghost use Rattle.std.specs.Prelude.{All, IfOk};
 ghost use Rattle.gitpack.specs.Indexes.{IsLine, line_of};
@@ -27,10 +27,10 @@ const MAX_DEPTH: usize = 8_191;
 struct Base<A: Allocator + Copy> {
     kind: ObjectType,
     body: Vec<u8, A>,
-    // The number of deltas between this object and the start of its chain.
+    // The number of deltas between the undeltified object of the chain and this object.
     depth: usize,
     // The deltas against this object that are not applied yet.
-    left: Cursor,
+    remaining: Cursor,
 }
 
 /// The state of applying the deltas of a pack.
@@ -40,11 +40,12 @@ pub(crate) struct Resolver<'a, S: Spool, A: Allocator + Copy> {
     spool: &'a S,
     limits: IndexLimits,
     entries: Vec<Scanned, A>,
-    // The inflated stream of each entry, or `None` if the stream is not in memory.
-    texts: Vec<Option<Vec<u8, A>>, A>,
+    // The inflated stream of each entry, or `None` if the stream is not cached.
+    cache: Vec<Option<Vec<u8, A>>, A>,
     children: Children<A>,
     // The current chain of bases, starting with the undeltified object.
     bases: Vec<Base<A>, A>,
+    // The total size of the objects in `bases`.
     held: usize,
     // The total size of all objects made from deltas so far.
     total: usize,
@@ -61,7 +62,7 @@ impl<'a, S: Spool, A: Allocator + Copy> Resolver<'a, S, A> {
             alloc,
             limits,
             entries,
-            texts,
+            cache,
             inflater,
         } = scanned;
         let children = Children::new(alloc, entries.as_slice())?;
@@ -70,7 +71,7 @@ impl<'a, S: Spool, A: Allocator + Copy> Resolver<'a, S, A> {
             spool,
             limits,
             entries,
-            texts,
+            cache,
             children,
             bases: Vec::new(alloc),
             held: 0,
@@ -84,55 +85,55 @@ impl<'a, S: Spool, A: Allocator + Copy> Resolver<'a, S, A> {
         &mut self,
         visitor: &mut V,
     ) -> Result<(), PackFileFault> {
-        for place in 0..self.entries.len() {
-            self.begin(place)?;
+        for index in 0..self.entries.len() {
+            self.begin_chain(index)?;
             self.resolve_chain(visitor)?;
         }
         Ok(())
     }
 
     // Begins a chain at this entry if the entry is undeltified and is the base of a delta.
-    fn begin(&mut self, place: usize) -> Result<(), PackFileFault> {
-        let Some(entry) = self.entries.get(place).copied() else {
+    fn begin_chain(&mut self, index: usize) -> Result<(), PackFileFault> {
+        let Some(entry) = self.entries.get(index).copied() else {
             return Ok(());
         };
         let (EntryForm::Whole(_), Some(object)) = (entry.form, entry.object) else {
             return Ok(());
         };
-        let left = self.children.of(entry.start, object.id);
-        if self.children.peek(&left).is_none() {
+        let remaining = self.children.deltas_of(entry.start, object.id);
+        if self.children.peek(&remaining).is_none() {
             return Ok(());
         }
-        let body = self.text_of(place, &entry)?;
-        self.hold(Base {
+        let body = self.take_stream(index, &entry)?;
+        self.push_base(Base {
             kind: object.kind,
             body,
             depth: 0,
-            left,
+            remaining,
         })
     }
 
-    // Returns the inflated stream of the entry at position `place`. This function is called at most
-    // once for each entry.
-    fn text_of(&mut self, place: usize, entry: &Scanned) -> Result<Vec<u8, A>, PackFileFault> {
-        match self.take_text(place) {
-            Some(text) => Ok(text),
-            None => self.inflate(place, entry),
+    // Returns the inflated stream of the entry at this index. This function is called at most once
+    // for each entry.
+    fn take_stream(&mut self, index: usize, entry: &Scanned) -> Result<Vec<u8, A>, PackFileFault> {
+        match self.take_cached(index) {
+            Some(stream) => Ok(stream),
+            None => self.reinflate(index, entry),
         }
     }
 
-    // Removes and returns the inflated stream of an entry, or `None` if the stream is not in
-    // memory.
-    fn take_text(&mut self, place: usize) -> Option<Vec<u8, A>> {
-        self.texts.get_mut(place)?.take()
+    // Takes the inflated stream of an entry out of the cache. Returns `None` if the stream is not
+    // cached.
+    fn take_cached(&mut self, index: usize) -> Option<Vec<u8, A>> {
+        self.cache.get_mut(index)?.take()
     }
 
-    // Inflates the stream of an entry again. Fails with `Spool` if the spool returns a stream that
-    // cannot be inflated, since the received stream was inflated before.
-    fn inflate(&mut self, place: usize, entry: &Scanned) -> Result<Vec<u8, A>, PackFileFault> {
+    // Reads the stream of an entry from the spool and inflates it again. The stream was inflated
+    // once when it arrived. So if it cannot be inflated again, the fault is `Spool`.
+    fn reinflate(&mut self, index: usize, entry: &Scanned) -> Result<Vec<u8, A>, PackFileFault> {
         let stream = self.read_stream(entry)?;
         let bytes = stream.as_slice();
-        match inflate(self.alloc, &mut self.inflater, bytes, entry.size, place) {
+        match inflate(self.alloc, &mut self.inflater, bytes, entry.size, index) {
             Ok(Some(inflated)) => Ok(inflated.body),
             Err(PackFileFault::Memory) => Err(PackFileFault::Memory),
             Ok(None) | Err(_) => Err(PackFileFault::Spool(ErrorKind::InvalidData)),
@@ -148,8 +149,9 @@ impl<'a, S: Spool, A: Allocator + Copy> Resolver<'a, S, A> {
         Ok(stream)
     }
 
-    // Appends an object to the chain of bases.
-    fn hold(&mut self, base: Base<A>) -> Result<(), PackFileFault> {
+    // Appends an object to the chain of bases. Fails with `TooLarge` if the memory limit would be
+    // exceeded.
+    fn push_base(&mut self, base: Base<A>) -> Result<(), PackFileFault> {
         self.check_held(base.body.len())?;
         self.held = self.held.saturating_add(base.body.len());
         self.bases.push(base)?;
@@ -165,80 +167,82 @@ impl<'a, S: Spool, A: Allocator + Copy> Resolver<'a, S, A> {
                 return Ok(());
             }
             match self.next_delta() {
-                Some(place) => self.resolve(place, visitor)?,
-                None => self.let_go(),
+                Some(index) => self.resolve(index, visitor)?,
+                None => self.release_last_base(),
             }
         }
         Err(PackFileFault::Frame)
     }
 
-    fn let_go(&mut self) {
+    fn release_last_base(&mut self) {
         if let Some(base) = self.bases.pop() {
             self.held = self.held.saturating_sub(base.body.len());
         }
     }
 
-    // Releases the last base if no more deltas depend on it. So a chain without branches needs only
-    // two objects in memory.
+    // Releases the last base if all deltas against this base are applied. So a chain without
+    // branches needs only two objects in memory.
     fn release_finished_base(&mut self) {
         let Some(last) = self.bases.last() else {
             return;
         };
-        let left = last.left;
-        if self.children.peek(&left).is_none() {
-            self.let_go();
+        let remaining = last.remaining;
+        if self.children.peek(&remaining).is_none() {
+            self.release_last_base();
         }
     }
 
-    // Returns the position of the next delta whose base is the last base of the chain.
+    // Returns the index of the next delta against the last base of the chain, or `None` if all
+    // deltas against this base are applied.
     fn next_delta(&mut self) -> Option<usize> {
         let last = self.bases.last_mut()?;
-        let left = last.left;
-        last.left = self.children.after(&left);
-        self.children.peek(&left)
+        let current = last.remaining;
+        last.remaining = self.children.cursor_after(&current);
+        self.children.peek(&current)
     }
 
-    // Applies the delta at position `place` to the last base of the chain.
+    // Applies the delta at this index to the last base of the chain, and passes the result to the
+    // visitor.
     fn resolve<V: ObjectVisitor>(
         &mut self,
-        place: usize,
+        index: usize,
         visitor: &mut V,
     ) -> Result<(), PackFileFault> {
-        let Some(entry) = self.entries.get(place).copied() else {
-            return Err(PackFileFault::Entry(place));
+        let Some(entry) = self.entries.get(index).copied() else {
+            return Err(PackFileFault::Entry(index));
         };
         // This delta was already applied to another base with the same id.
         if entry.object.is_some() {
-            return Err(PackFileFault::Entry(place));
+            return Err(PackFileFault::Entry(index));
         }
         let depth = self.next_depth()?;
         self.check_held(entry.size)?;
-        let delta = self.text_of(place, &entry)?;
+        let delta = self.take_stream(index, &entry)?;
         self.check_size(delta.as_slice())?;
         let Some((kind, body)) = self.apply(delta.as_slice())? else {
-            return Err(PackFileFault::Entry(place));
+            return Err(PackFileFault::Entry(index));
         };
         self.count(body.len())?;
         self.release_finished_base();
         let id = id_of(kind, body.as_slice());
         visitor.visit(&id, kind, body.as_slice())?;
-        if let Some(entry) = self.entries.get_mut(place) {
+        if let Some(entry) = self.entries.get_mut(index) {
             entry.object = Some(Object { id, kind });
         }
-        let left = self.children.of(entry.start, id);
-        if self.children.peek(&left).is_some() {
-            self.hold(Base {
+        let remaining = self.children.deltas_of(entry.start, id);
+        if self.children.peek(&remaining).is_some() {
+            self.push_base(Base {
                 kind,
                 body,
                 depth,
-                left,
+                remaining,
             })?;
         }
         Ok(())
     }
 
-    // Returns the length of the chain with one more delta. Fails with `TooLarge` if the chain is
-    // too long.
+    // Returns the number of deltas in the chain after one more delta is applied. Fails with
+    // `TooLarge` if the chain would be too long.
     fn next_depth(&self) -> Result<usize, PackFileFault> {
         match self.bases.last() {
             Some(base) if base.depth >= MAX_DEPTH => Err(PackFileFault::TooLarge),
@@ -255,8 +259,8 @@ impl<'a, S: Spool, A: Allocator + Copy> Resolver<'a, S, A> {
         Ok(())
     }
 
-    // Fails with `TooLarge` if the object that a delta makes exceeds the limits for one object or
-    // for memory.
+    // Fails with `TooLarge` if the object that a delta makes exceeds the size limit, or if the
+    // delta and this object would exceed the memory limit.
     fn check_size(&self, delta: &[u8]) -> Result<(), PackFileFault> {
         match made_size(delta) {
             Some(size) if size > self.limits.object => Err(PackFileFault::TooLarge),
@@ -275,7 +279,7 @@ impl<'a, S: Spool, A: Allocator + Copy> Resolver<'a, S, A> {
     }
 
     // Applies the delta to the last base of the chain, and returns the type and the bytes of the
-    // result.
+    // result. Returns `None` if the delta cannot be applied.
     fn apply(&self, delta: &[u8]) -> Result<Option<(ObjectType, Vec<u8, A>)>, AllocError> {
         let Some(base) = self.bases.last() else {
             return Ok(None);

@@ -6,7 +6,7 @@ ghost use Rattle.std.proofs.Props.{props};
 
 use crate::entry::{EntryForm, EntryHead, MAX_HEAD, read_head};
 use crate::fault::PackFileFault;
-use crate::frame::{HEADER_BYTES, Part};
+use crate::frame::{HEADER_BYTES, PackPart};
 use crate::indexing::{IndexLimits, ObjectVisitor};
 use crate::streams::inflate;
 use gitobject::{ObjectType, id_of};
@@ -18,12 +18,12 @@ use std::alloc::Allocator;
 // time on inflating incomplete entries.
 const BATCH: usize = 131_072;
 
-// The maximum length of the header and the zlib stream of an entry together, 128 MiB. An incomplete
-// entry is kept in memory.
+// The maximum length of the header and the zlib stream of an entry together, 128 MiB. The limit is
+// needed because an incomplete entry stays in memory.
 const MAX_ENTRY: usize = 134_217_728;
 
 // The maximum memory for cached inflated streams, 64 MiB.
-const MAX_KEPT: usize = 67_108_864;
+const MAX_CACHED: usize = 67_108_864;
 
 /// The id and type of an object.
 #[derive(Clone, Copy, Debug, Drop)]
@@ -64,8 +64,8 @@ pub(crate) struct ScannedPack<A: Allocator + Copy> {
     pub limits: IndexLimits,
     /// The entries, in the order of the pack.
     pub entries: Vec<Scanned, A>,
-    /// The inflated stream of each entry, or `None` if it is not cached.
-    pub texts: Vec<Option<Vec<u8, A>>, A>,
+    /// The inflated stream of each entry, or `None` if the stream is not cached.
+    pub cache: Vec<Option<Vec<u8, A>>, A>,
     /// The inflater for further streams.
     pub inflater: Inflater,
 }
@@ -79,14 +79,15 @@ pub(crate) struct ScannedPack<A: Allocator + Copy> {
 pub(crate) struct Scanner<A: Allocator + Copy> {
     alloc: A,
     limits: IndexLimits,
-    // The offset of the next entry, and the number of bytes that must have arrived before the next
-    // scan.
-    place: usize,
-    enough: usize,
+    // The offset of the next entry.
+    next_entry: usize,
+    // The number of bytes that must have arrived before the next scan.
+    needed: usize,
     entries: Vec<Scanned, A>,
-    texts: Vec<Option<Vec<u8, A>>, A>,
-    // The memory used for cached streams, and the total size of all inflated streams so far.
-    kept: usize,
+    cache: Vec<Option<Vec<u8, A>>, A>,
+    // The number of bytes of memory that the cached streams use.
+    cached: usize,
+    // The total size of all inflated streams so far.
     total: usize,
     // The first fault, which `finish` reports.
     fault: Option<PackFileFault>,
@@ -99,45 +100,46 @@ impl<A: Allocator + Copy> Scanner<A> {
         Scanner {
             alloc,
             limits,
-            place: HEADER_BYTES,
-            enough: 0,
+            next_entry: HEADER_BYTES,
+            needed: 0,
             entries: Vec::new(alloc),
-            texts: Vec::new(alloc),
-            kept: 0,
+            cache: Vec::new(alloc),
+            cached: 0,
             total: 0,
             fault: None,
             inflater: Inflater::new(),
         }
     }
 
-    /// Scans the bytes that arrived of a pack with `count` entries. Returns the offset before which
-    /// no bytes are needed any more. A fault is reported only by `finish`, since a wrong trailer
-    /// takes precedence.
-    pub(crate) fn scan_more<V: ObjectVisitor>(
+    /// Scans the received bytes of a pack with `count` entries. Returns the offset before which no
+    /// bytes are needed any more. A fault is reported only by `finish`, since a wrong trailer takes
+    /// precedence.
+    pub(crate) fn scan<V: ObjectVisitor>(
         &mut self,
         count: u32,
-        part: Part<'_>,
+        part: PackPart<'_>,
         visitor: &mut V,
     ) -> usize {
         let end = part.end();
-        if self.fault.is_none() && end >= self.enough {
+        if self.fault.is_none() && end >= self.needed {
             if let Err(fault) = self.scan_entries(count, part, visitor) {
                 self.fault = Some(fault);
             }
-            self.enough = self.next_scan(end);
+            self.needed = self.needed_after(end);
         }
         if self.fault.is_some() || self.has_all(count) {
             usize::MAX
         } else {
-            self.place
+            self.next_entry
         }
     }
 
-    /// Scans the remaining entries of a complete pack with `count` entries.
+    /// Scans the remaining entries of a complete pack with `count` entries. Fails with the first
+    /// fault of the pack or of the visitor.
     pub(crate) fn finish<V: ObjectVisitor>(
         self,
         count: u32,
-        part: Part<'_>,
+        part: PackPart<'_>,
         visitor: &mut V,
     ) -> Result<ScannedPack<A>, PackFileFault> {
         let mut scanner = self;
@@ -148,7 +150,7 @@ impl<A: Allocator + Copy> Scanner<A> {
         if !scanner.has_all(count) {
             return Err(PackFileFault::Entry(scanner.entries.len()));
         }
-        if scanner.place != part.end() {
+        if scanner.next_entry != part.end() {
             return Err(PackFileFault::Frame);
         }
         Ok(scanner.into_pack(count))
@@ -159,12 +161,12 @@ impl<A: Allocator + Copy> Scanner<A> {
         self.entries.len() >= count as usize
     }
 
-    // Returns how many bytes of the pack must have arrived before the next scan, if `end` bytes
-    // have arrived.
-    fn next_scan(&self, end: usize) -> usize {
-        let waiting = end.saturating_sub(self.place);
-        let longest = self.place.saturating_add(MAX_ENTRY);
-        end.saturating_add(waiting.max(BATCH)).min(longest)
+    // Returns the number of bytes that must have arrived before the next scan, if `end` bytes have
+    // arrived.
+    fn needed_after(&self, end: usize) -> usize {
+        let unscanned = end.saturating_sub(self.next_entry);
+        let longest = self.next_entry.saturating_add(MAX_ENTRY);
+        end.saturating_add(unscanned.max(BATCH)).min(longest)
     }
 
     fn into_pack(self, count: u32) -> ScannedPack<A> {
@@ -176,7 +178,7 @@ impl<A: Allocator + Copy> Scanner<A> {
                 ..limits
             },
             entries: self.entries,
-            texts: self.texts,
+            cache: self.cache,
             inflater: self.inflater,
         }
     }
@@ -185,7 +187,7 @@ impl<A: Allocator + Copy> Scanner<A> {
     fn scan_entries<V: ObjectVisitor>(
         &mut self,
         count: u32,
-        part: Part<'_>,
+        part: PackPart<'_>,
         visitor: &mut V,
     ) -> Result<(), PackFileFault> {
         let limits = self.limits.for_count(count);
@@ -200,18 +202,18 @@ impl<A: Allocator + Copy> Scanner<A> {
         Ok(())
     }
 
-    // Scans the next entry, and returns whether it is complete. Fails with `TooLarge` if the entry
-    // is longer than `MAX_ENTRY`, even if it is incomplete.
+    // Scans the next entry. Returns `false` if some bytes of the entry have not arrived. Fails with
+    // `TooLarge` if the entry is longer than `MAX_ENTRY`, even if its end has not arrived.
     fn scan_entry<V: ObjectVisitor>(
         &mut self,
         limits: IndexLimits,
-        part: Part<'_>,
+        part: PackPart<'_>,
         visitor: &mut V,
     ) -> Result<bool, PackFileFault> {
-        let start = self.place;
+        let start = self.next_entry;
         let number = self.entries.len();
-        let bytes = longest_entry(part.from(start));
-        let Some(head) = arrived_head(bytes, number)? else {
+        let bytes = at_most_one_entry(part.from(start));
+        let Some(head) = complete_head(bytes, number)? else {
             return Ok(false);
         };
         let total = self.total_with(limits, head.size)?;
@@ -220,7 +222,7 @@ impl<A: Allocator + Copy> Scanner<A> {
         let Some(inflated) = inflated else {
             return wait_for_more(bytes);
         };
-        let object = whole_object(head.form, inflated.body.as_slice(), visitor)?;
+        let object = visit_undeltified(head.form, inflated.body.as_slice(), visitor)?;
         let length = head.length.saturating_add(inflated.length);
         let end = start.saturating_add(length);
         self.entries.push(Scanned {
@@ -232,9 +234,9 @@ impl<A: Allocator + Copy> Scanner<A> {
             crc: crc32_of(bytes.get(..length).unwrap_or(b"")),
             object,
         })?;
-        self.keep(inflated.body)?;
+        self.cache_stream(inflated.body)?;
         self.total = total;
-        self.place = end;
+        self.next_entry = end;
         Ok(true)
     }
 
@@ -249,26 +251,26 @@ impl<A: Allocator + Copy> Scanner<A> {
     }
 
     // Caches the inflated stream of the last entry, unless the cache is full.
-    fn keep(&mut self, text: Vec<u8, A>) -> Result<(), PackFileFault> {
-        let kept = self.kept.saturating_add(text.capacity());
-        if kept > MAX_KEPT {
-            self.texts.push(None)?;
+    fn cache_stream(&mut self, stream: Vec<u8, A>) -> Result<(), PackFileFault> {
+        let cached = self.cached.saturating_add(stream.capacity());
+        if cached > MAX_CACHED {
+            self.cache.push(None)?;
         } else {
-            self.texts.push(Some(text))?;
-            self.kept = kept;
+            self.cache.push(Some(stream))?;
+            self.cached = cached;
         }
         Ok(())
     }
 }
 
-// Returns the bytes that an entry at the start of `bytes` can have at most.
-fn longest_entry(bytes: &[u8]) -> &[u8] {
+// Returns the first `MAX_ENTRY` bytes, or all bytes if there are fewer.
+fn at_most_one_entry(bytes: &[u8]) -> &[u8] {
     bytes.get(..MAX_ENTRY).unwrap_or(bytes)
 }
 
-// Returns the header of the entry at position `number`, or `None` if the header is incomplete.
-// Fails with `Entry` if the header is malformed.
-fn arrived_head(bytes: &[u8], number: usize) -> Result<Option<EntryHead>, PackFileFault> {
+// Returns the header of the entry at index `number`, or `None` if the header is incomplete. Fails
+// with `Entry` if the header is malformed.
+fn complete_head(bytes: &[u8], number: usize) -> Result<Option<EntryHead>, PackFileFault> {
     match read_head(bytes) {
         Some(head) => Ok(Some(head)),
         None if bytes.len() < MAX_HEAD => Ok(None),
@@ -276,8 +278,8 @@ fn arrived_head(bytes: &[u8], number: usize) -> Result<Option<EntryHead>, PackFi
     }
 }
 
-// Returns `false`, since these bytes are only a part of an entry. Fails with `TooLarge` if a whole
-// entry would be too long.
+// Returns `false`, since the entry that begins with these bytes is incomplete. Fails with
+// `TooLarge` if the entry is longer than `MAX_ENTRY`.
 fn wait_for_more(bytes: &[u8]) -> Result<bool, PackFileFault> {
     if bytes.len() < MAX_ENTRY {
         Ok(false)
@@ -288,7 +290,7 @@ fn wait_for_more(bytes: &[u8]) -> Result<bool, PackFileFault> {
 
 // Passes the object of an undeltified entry to the visitor, and returns its id and type. Returns
 // `None` if the entry is a delta.
-fn whole_object<V: ObjectVisitor>(
+fn visit_undeltified<V: ObjectVisitor>(
     form: EntryForm,
     body: &[u8],
     visitor: &mut V,

@@ -6,8 +6,8 @@ use crate::fault::PackFileFault;
 use gzlib::{InflateFault, Inflater};
 use std::alloc::Allocator;
 
-// The maximum ratio of the inflated size to the length of a zlib stream, since two bits can encode
-// 258 bytes (RFC 1951, section 3.2.5).
+// The maximum ratio of the inflated size to the length of a zlib stream. Two bits can encode 258
+// bytes (RFC 1951, section 3.2.5).
 const MAX_RATIO: usize = 1_032;
 
 // The number of bytes that an inflater reserves beyond the inflated size.
@@ -22,8 +22,9 @@ pub(crate) struct Inflated<A: Allocator + Copy> {
     pub length: usize,
 }
 
-/// Inflates the stream at the start of `bytes` to exactly `size` bytes, for the entry at position
-/// `number`. Returns `None` if `bytes` ends before the stream does.
+/// Inflates the stream at the start of `bytes` to exactly `size` bytes. Returns `None` if `bytes`
+/// ends before the stream does. Fails with `Entry(number)` if the stream is malformed or inflates
+/// to another size, or with `Memory` if out of memory.
 pub(crate) fn inflate<A: Allocator + Copy>(
     alloc: A,
     inflater: &mut Inflater,

@@ -37,8 +37,8 @@ impl<A: Allocator + Copy> Model for PackWriter<A> {
 }
 
 impl<A: Allocator + Copy> PackWriter<A> {
-    /// Returns a writer for a pack of `count` entries. The pack may have at most `most` bytes
-    /// without its trailer, and memory for `room` bytes is reserved. Fails only if out of memory.
+    /// Returns a writer for a pack of `count` entries, with reserved memory for `room` bytes. The
+    /// pack may have at most `most` bytes without its trailer. Fails only if out of memory.
     pub fn new(alloc: A, count: u32, room: usize, most: usize) -> Result<PackWriter<A>, AllocError>
         ensures { IfOk result (λ writer. writer ≡ pack_header count) }
     {

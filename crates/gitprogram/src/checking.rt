@@ -1,4 +1,4 @@
-//! `gitrepo check`: a connectivity check of the refs.
+//! The command `gitrepo check`, which checks the connectivity of the refs.
 
 use crate::directory::{Directories, find_repository};
 use crate::fault::Fault;

@@ -1,4 +1,5 @@
-//! `gitrepo clone`: a bare repository with the branches and tags of a server.
+//! The command `gitrepo clone`, which makes a bare repository with the branches and tags of a
+//! server.
 
 ghost use Rattle.std.specs.Prelude.{◌≡◌, true, IfOk, Some};
 ghost use Rattle.gitprogram.specs.Heads.{IsHead, IsListedHead, IsSymrefOf, IsUnbornHead, default_branch, is_branch};
@@ -30,9 +31,10 @@ const SPECS: [&[u8]; 2] = [b"+refs/heads/*:refs/heads/*", b"+refs/tags/*:refs/ta
 // The ref prefixes that a clone sends in its ls-refs request.
 const PREFIXES: [&[u8]; 3] = [b"HEAD", b"refs/heads/", b"refs/tags/"];
 
-// The temporary ref for a detached HEAD during the fetch, and its refspec.
+// The temporary ref for a detached HEAD during the fetch.
 const HEAD_REF: &[u8] = b"refs/clone/HEAD";
 
+// The refspec that fetches a detached HEAD into the temporary ref.
 const HEAD_SPEC: &[u8] = b"+HEAD:refs/clone/HEAD";
 
 // The prefix of branch names.
@@ -41,7 +43,7 @@ const BRANCHES: &[u8] = b"refs/heads/";
 // The branch for HEAD if the server does not report its HEAD.
 const DEFAULT_BRANCH: &[u8] = b"refs/heads/main";
 
-// The HEAD of a server.
+// The HEAD of a clone, which depends on the server's reply to ls-refs.
 #[derive(Drop)]
 enum ServerHead {
     // A HEAD that points at this branch, which may be unborn.
@@ -50,37 +52,37 @@ enum ServerHead {
     Detached,
 }
 
-// The HEAD of a server, and the ids of its refs.
+// The HEAD of a clone, and the ids of the server's refs.
 #[derive(Drop)]
-struct Source {
+struct ServerRefs {
     head: ServerHead,
     tips: Tips<Global>,
 }
 
-/// Clones a server's repository into a new or empty directory, as a bare repository. A failed clone
-/// removes all files that it created.
-pub(crate) fn clone_remote<R, E>(rt: &R, asked: &CloneArgs<'_>, errors: &mut E) -> Result<(), Fault>
+/// Clones a server's repository into a new or empty directory, as a bare repository. If the clone
+/// fails, all files that it created are removed.
+pub(crate) fn clone_remote<R, E>(rt: &R, args: &CloneArgs<'_>, errors: &mut E) -> Result<(), Fault>
 where
     R: Files + AllocGlobal + Net,
     E: Write + IsTerminal,
 {
-    check_vacant(rt, asked.dir)?;
-    let remote = Remote::new(rt.alloc(), &asked.url)?;
-    let source = source_of(rt, &remote)?;
-    let mut progress = progress_of(rt.alloc(), asked.verbosity, errors);
-    let outcome = clone_source(rt, asked.dir, &remote, &source, &mut progress);
+    check_vacant(rt, args.dir)?;
+    let remote = Remote::new(rt.alloc(), &args.url)?;
+    let server = server_refs_of(rt, &remote)?;
+    let mut progress = progress_of(rt.alloc(), args.verbosity, errors);
+    let outcome = clone_server(rt, args.dir, &remote, &server, &mut progress);
     progress.finish();
     outcome
 }
 
-// Returns the server's HEAD and the ids of its refs. The names of the refs can use much memory, so
-// this function drops them. The fetch lists the refs again.
-fn source_of<R: AllocGlobal + Net>(rt: &R, remote: &Remote) -> Result<Source, Fault> {
+// Returns the HEAD for the clone, and the ids of the server's refs. The names of the refs can use
+// much memory, so this function drops them. The fetch lists the refs again.
+fn server_refs_of<R: AllocGlobal + Net>(rt: &R, remote: &Remote) -> Result<ServerRefs, Fault> {
     let alloc = rt.alloc();
     let listed = list(rt, remote)?;
     let head = head_of(alloc, &listed)?;
     let tips = tips_of(alloc, &listed)?;
-    Ok(Source { head, tips })
+    Ok(ServerRefs { head, tips })
 }
 
 // Lists HEAD, the branches and the tags of the server.
@@ -138,7 +140,7 @@ fn push_spec(alloc: Global, specs: &mut Vec<Spec>, text: &[u8]) -> Result<(), Fa
     }
 }
 
-// Returns the server's HEAD, according to the server's reply to ls-refs.
+// Returns the HEAD for the clone, given the server's reply to ls-refs.
 fn head_of(alloc: Global, reply: &LsReply<Global>) -> Result<ServerHead, Fault>
     ensures { IfOk result (IsHead reply.now.unborn reply.now.lines) }
 {
@@ -148,7 +150,8 @@ fn head_of(alloc: Global, reply: &LsReply<Global>) -> Result<ServerHead, Fault>
     }
 }
 
-// Returns the HEAD for the clone of a server whose HEAD points at an unborn branch of this name.
+// Returns the HEAD for the clone of a server whose HEAD is unborn and points at this name. If the
+// name is not a branch name, the result points at the default branch.
 fn unborn_head(alloc: Global, name: &RefName<Global>) -> Result<ServerHead, Fault>
     ensures { IfOk result (IsUnbornHead name.now) }
 {
@@ -159,7 +162,7 @@ fn unborn_head(alloc: Global, name: &RefName<Global>) -> Result<ServerHead, Faul
     }
 }
 
-// Returns the server's HEAD according to the first line of the reply. If HEAD is not in the first
+// Returns the HEAD for the clone, given the first line of the reply. If HEAD is not in the first
 // line, the result points at the default branch.
 fn listed_head(alloc: Global, reply: &LsReply<Global>) -> Result<ServerHead, Fault>
     ensures { IfOk result (IsListedHead reply.now.lines) }
@@ -173,8 +176,8 @@ fn listed_head(alloc: Global, reply: &LsReply<Global>) -> Result<ServerHead, Fau
     }
 }
 
-// Returns the HEAD for the clone of a server whose HEAD is a symbolic ref to this name. Git
-// detaches the HEAD of a clone if the name is not a branch.
+// Returns the HEAD for the clone of a server whose HEAD is a symbolic ref to this name. As in
+// Git, the result is detached if the name is not a branch name.
 fn symref_of(alloc: Global, name: &RefName<Global>) -> Result<ServerHead, Fault>
     ensures { IfOk result (IsSymrefOf (Some name.now)) }
 {
@@ -222,11 +225,11 @@ fn default_target(alloc: Global) -> Result<Target<Global>, Fault>
 }
 
 // Creates the repository, and fetches the server's refs into it.
-fn clone_source<R, E>(
+fn clone_server<R, E>(
     rt: &R,
     dir: &str,
     remote: &Remote,
-    source: &Source,
+    server: &ServerRefs,
     progress: &mut Progress<'_, E>,
 ) -> Result<(), Fault>
 where
@@ -234,7 +237,7 @@ where
     E: Write,
 {
     let alloc = rt.alloc();
-    let Source { head, tips } = source;
+    let ServerRefs { head, tips } = server;
     let specs = specs(alloc, head)?;
     let found = Directories::of_bare(alloc, dir)?;
     let wanted = Wanted {
@@ -264,7 +267,8 @@ fn make_fault(alloc: Global, dir: &str, fault: &RepositoryFault<Global>) -> Faul
     }
 }
 
-// Creates the repository, with a HEAD that points at a branch.
+// Creates the repository, with a HEAD that points at a branch. The outer result fails only if out
+// of memory.
 fn make<'r, R: Files + AllocGlobal>(
     rt: &'r R,
     dir: &'r str,
@@ -316,8 +320,8 @@ fn keep<'r, R: Files>(
     }
 }
 
-// Returns the branches and tags of the clone, and its HEAD if HEAD is detached. A HEAD that points
-// at a tag is peeled to the tag's commit.
+// Returns the branches and tags of the clone, and its HEAD if HEAD is detached, or `Head::None`
+// otherwise. A HEAD that is detached at a tag is peeled to the tag's commit.
 fn kept_refs(alloc: Global, repo: &Repo<Global>) -> Result<(Refs<Global>, Head<Global>), Fault> {
     let mut kept = Refs::new(alloc);
     let mut head = Head::None;

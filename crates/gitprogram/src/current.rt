@@ -33,7 +33,7 @@ where
     let path = found.common.as_str();
     check_form(&files, alloc, path)?;
     let (refs, _head) = found.refs(alloc, rt).read_refs()?;
-    if !are_set(&asks, &refs) {
+    if !are_current(&asks, &refs) {
         return Ok(None);
     }
     let mut reader = QuickReader::open(&files, alloc, path)?;
@@ -69,8 +69,8 @@ fn add_asks(
     spec: &Spec<Global>,
     listed: &LsReply<Global>,
 ) -> Result<bool, RepositoryFault<Global>> {
-    for place in 0..listed.len() {
-        if let Some(line) = listed.at(place) {
+    for index in 0..listed.len() {
+        if let Some(line) = listed.at(index) {
             if !add_ask(alloc, asks, spec, line)? {
                 return Ok(false);
             }
@@ -79,7 +79,7 @@ fn add_asks(
     Ok(true)
 }
 
-// Adds the ref update for a server's ref, if the refspec matches it. Returns `false` if the
+// Adds the ref update for a server's ref, if the refspec matches the ref. Returns `false` if the
 // destination is not a ref name.
 fn add_ask(
     alloc: Global,
@@ -102,8 +102,8 @@ fn add_ask(
 }
 
 // Returns whether each destination ref already has its requested id.
-fn are_set(asks: &Asks<Global>, refs: &Refs<Global>) -> bool {
-    (0..asks.len()).all(|place| match asks.at(place) {
+fn are_current(asks: &Asks<Global>, refs: &Refs<Global>) -> bool {
+    (0..asks.len()).all(|index| match asks.at(index) {
         Some((name, id)) => refs.get(name) == Some(id),
         None => false,
     })

@@ -69,13 +69,13 @@ impl Directories {
         }
     }
 
-    /// Returns the refs of the repository.
+    /// Returns access to the ref files of the repository.
     pub(crate) fn refs<'r, R: Files>(&'r self, alloc: Global, rt: &'r R) -> GitDirectory<'r, R> {
-        GitDirectory::linked_worktree(alloc, rt, self.common.as_str(), self.own.as_str())
+        GitDirectory::with_common_directory(alloc, rt, self.common.as_str(), self.own.as_str())
     }
 }
 
-/// Returns the repository at a path, which is a bare repository or a work tree
+/// Returns the repository at a path, which names a bare repository or a work tree
 /// (git-upload-pack(1)).
 pub(crate) fn find_repository<R>(rt: &R, path: &str) -> Result<Directories, Fault>
 where
@@ -84,7 +84,7 @@ where
     for ending in Ending::in_order() {
         let mut candidate = String::from_str(rt.alloc(), path)?;
         candidate.push_str(ending.text())?;
-        if let Some(found) = look_at(rt, candidate)? {
+        if let Some(found) = repository_at(rt, candidate)? {
             return Ok(found);
         }
     }
@@ -116,7 +116,7 @@ where
     for ending in Ending::in_order() {
         let relative = path.candidate(rt.alloc(), ending)?;
         let candidate = below(rt.alloc(), exports.base, relative.as_str())?;
-        if let Some(found) = look_at(rt, candidate)? {
+        if let Some(found) = repository_at(rt, candidate)? {
             return exported_repository(rt, exports, found);
         }
     }
@@ -145,13 +145,13 @@ fn exported_repository<R: Files + AllocGlobal>(
 
 // Returns the repository at a path. The path names the Git directory itself, or a file that
 // contains the path of the Git directory.
-fn look_at<R>(rt: &R, path: String) -> Result<Option<Directories>, Fault>
+fn repository_at<R>(rt: &R, path: String) -> Result<Option<Directories>, Fault>
 where
     R: Files + AllocGlobal,
 {
     match read_pointer(rt, path.as_str())? {
         Pointer::Absent => Ok(None),
-        Pointer::Directory => look_into(rt, path, false),
+        Pointer::Directory => repository_in(rt, path, false),
         Pointer::File(text) => match parse_git_file(text.as_slice()) {
             Some(target) => follow(rt, parent_of(path.as_str()), target),
             None => Ok(None),
@@ -165,14 +165,14 @@ where
     R: Files + AllocGlobal,
 {
     match target_path(rt.alloc(), directory, target)? {
-        Some(path) => look_into(rt, path, true),
+        Some(path) => repository_in(rt, path, true),
         None => Ok(None),
     }
 }
 
 // Returns the repository with this Git directory, or `None` if HEAD, the objects or the refs are
 // missing.
-fn look_into<R>(rt: &R, own: String, is_linked: bool) -> Result<Option<Directories>, Fault>
+fn repository_in<R>(rt: &R, own: String, is_linked: bool) -> Result<Option<Directories>, Fault>
 where
     R: Files + AllocGlobal,
 {

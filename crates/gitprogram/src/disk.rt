@@ -14,11 +14,11 @@ use std::alloc::Global;
 use std::rc::Rc;
 use std::time::SystemTime;
 
-/// A handle to an open object store. The store stays open as long as a ticket with the store's
-/// number exists.
+/// A handle to an open object store: the number of the store's slot. The store stays open while a
+/// ticket for it exists.
 pub(crate) type Ticket = Rc<u64, Global>;
 
-/// The repositories on a disk, and the open object stores.
+/// Access to the repositories on a disk, and to the open object stores.
 pub(crate) trait Disk {
     /// Returns the repository that a client's path names, or `None` if no served repository has
     /// this path.
@@ -27,16 +27,18 @@ pub(crate) trait Disk {
     /// Returns the current refs and HEAD of a repository.
     fn list(&self, found: &Directories) -> Result<Listed, NotOpened>;
 
-    /// Reads only those objects of a repository that ls-refs needs for these refs.
-    fn show(&self, found: &Directories, listed: Listed) -> Result<Extent, NotOpened>;
+    /// Reads the objects that these refs and HEAD point to. If a quick look-up does not find one of
+    /// these objects, reads the whole history.
+    fn open_for_ls_refs(&self, found: &Directories, listed: Listed) -> Result<Extent, NotOpened>;
 
     /// Returns the modification time of the pack directory, or `None` if the time is unknown.
     fn change_time(&self, found: &Directories) -> Option<SystemTime>;
 
-    /// Opens the objects of a repository.
+    /// Opens the objects of a repository, and returns a ticket for them.
     fn open_objects(&self, found: &Directories) -> Result<Ticket, NotOpened>;
 
-    /// Opens the objects of a repository, and reads the history of the refs in `tips`.
+    /// Opens the objects of a repository, and reads the history of the refs and HEAD in `tips`.
+    /// Returns a server with this history, and a ticket for the objects.
     fn open_history(
         &self,
         found: &Directories,
@@ -46,7 +48,7 @@ pub(crate) trait Disk {
     /// Closes each object store for which no ticket exists.
     fn close_unused(&self);
 
-    /// Begins a pack of these entries, read from the object store of a ticket.
+    /// Begins a pack of these entries, whose objects are read from the ticket's object store.
     fn begin(
         &self,
         ticket: &Ticket,
@@ -58,7 +60,7 @@ pub(crate) trait Disk {
 
     /// Copies the next bytes of a pack to the front of `out`. Returns the number of copied bytes,
     /// which is 0 at the end of the pack.
-    fn part(
+    fn copy_part(
         &self,
         ticket: &Ticket,
         parts: &mut StoreParts<Global>,
@@ -71,6 +73,6 @@ pub(crate) trait Disk {
             (λ fault. gives_rest parts.old [] (Some fault)) };
 
     /// Removes and returns the detailed fault of the last call with this ticket that failed with
-    /// `Other`.
+    /// `Other`. Returns `None` if no fault is stored.
     fn take_fault(&self, ticket: &Ticket, found: &Directories) -> Option<Fault>;
 }

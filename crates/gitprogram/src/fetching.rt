@@ -1,4 +1,4 @@
-//! `gitrepo fetch`, and the code that it shares with `gitrepo clone`.
+//! The command `gitrepo fetch`, and the code that it shares with `gitrepo clone`.
 
 use crate::current::fetched_already;
 use crate::directory::{Directories, find_repository};
@@ -35,8 +35,9 @@ use std::rt::Files;
 // The size of a connection buffer.
 const BUFFER: usize = 65_536;
 
-// The maximum number of new ids in a request. Git's batches double up to 16,384 ids. A server of
-// `gitv2` accepts 4,096 haves, so this maximum leaves room for common ids.
+// The maximum number of new haves in a request. Git doubles the number of new haves from request to
+// request, up to 16,384. `gitv2` as a server accepts at most 4,096 haves in a request, so this
+// maximum leaves room for common ids.
 const MAX_BATCH: usize = 2_048;
 
 // The prefix of branch names.
@@ -51,7 +52,7 @@ pub(crate) struct Wanted<'a> {
     pub(crate) specs: &'a [Spec<Global>],
     /// The ids of the server's refs.
     pub(crate) tips: &'a Tips<Global>,
-    /// The name of the temporary ref for the HEAD of a clone.
+    /// The name of the temporary ref for the HEAD of a clone, or an empty slice for a fetch.
     pub(crate) head_ref: &'a [u8],
     /// The path of the client's repository.
     pub(crate) path: &'a str,
@@ -85,7 +86,7 @@ pub(crate) struct Fetch<'r, R: Files> {
     pub(crate) client: Client,
     /// The report of the fetch.
     pub(crate) fetched: Fetched<Global>,
-    /// The received pack.
+    /// The received pack, or `None` if no pack was received.
     pub(crate) received: Option<StoredReceived<'r, R>>,
 }
 
@@ -100,7 +101,7 @@ struct Report {
 /// bytes of ref names are replaced.
 pub(crate) fn fetch_remote<R, E>(
     rt: &R,
-    asked: &FetchArgs<'_>,
+    args: &FetchArgs<'_>,
     is_terminal: bool,
     errors: &mut E,
 ) -> Result<(), Fault>
@@ -108,27 +109,27 @@ where
     R: Files + Print + AllocGlobal + Net,
     E: Write + IsTerminal,
 {
-    let found = find_repository(rt, asked.dir)?;
-    let remote = Remote::new(rt.alloc(), &asked.url)?;
+    let found = find_repository(rt, args.dir)?;
+    let remote = Remote::new(rt.alloc(), &args.url)?;
     let report = Report {
-        is_quiet: asked.verbosity.quiet,
+        is_quiet: args.verbosity.quiet,
         is_terminal,
     };
     let tips = {
-        let listed = list_sources(rt, &remote, asked.specs.as_slice())?;
-        if let Some(fetched) = find_current(rt, &found, asked.specs.as_slice(), &listed)? {
+        let listed = list_sources(rt, &remote, args.specs.as_slice())?;
+        if let Some(fetched) = find_current(rt, &found, args.specs.as_slice(), &listed)? {
             return report_unless(rt, report, &fetched);
         }
         tips_of(rt.alloc(), &listed)?
     };
     let wanted = Wanted {
         remote: &remote,
-        specs: asked.specs.as_slice(),
+        specs: args.specs.as_slice(),
         tips: &tips,
         head_ref: b"",
         path: found.common.as_str(),
     };
-    let mut progress = progress_of(rt.alloc(), asked.verbosity, errors);
+    let mut progress = progress_of(rt.alloc(), args.verbosity, errors);
     fetch_found(rt, &found, report, wanted, &mut progress)
 }
 
@@ -149,8 +150,8 @@ where
     conclude(rt, found, report, outcome)
 }
 
-// Returns those refs of the server that could match the refspecs. Fails if a refspec names a ref
-// that the server does not have.
+// Returns the server's refs whose names begin with a prefix of a refspec. The server may also list
+// other refs. Fails if a refspec names a ref that the server does not have.
 fn list_sources<R>(
     rt: &R,
     remote: &Remote,
@@ -236,7 +237,8 @@ pub(crate) fn progress_of<E: Write + IsTerminal>(
     Progress::new(alloc, errors, is_shown)
 }
 
-// Fails at the first refspec for a single ref that the server does not have (git-fetch(1)).
+// Fails if a refspec that is not a pattern names a ref that the server does not have
+// (git-fetch(1)).
 fn check_sources(
     alloc: Global,
     remote: &Remote,
@@ -267,7 +269,7 @@ fn has_source(listed: &LsReply<Global>, spec: &Spec<Global>) -> bool {
     if spec.is_head() && listed.unborn().is_some() {
         return true;
     }
-    (0..listed.len()).any(|place| match listed.at(place) {
+    (0..listed.len()).any(|index| match listed.at(index) {
         Some(line) => spec.matches(&line.name),
         None => false,
     })
@@ -380,9 +382,9 @@ fn updates_of(
 // Fails if the fetch rejected an update because it is not a fast-forward.
 fn check_moved(alloc: Global, fetched: &Fetched<Global>) -> Result<(), Fault> {
     let settled = &fetched.settled;
-    for (place, update) in settled.updates.iter().enumerate() {
+    for (index, update) in settled.updates.iter().enumerate() {
         if let RefUpdate::NotForward = update {
-            if let Some((name, _id)) = settled.asks.at(place) {
+            if let Some((name, _id)) = settled.asks.at(index) {
                 let name = name.as_bytes();
                 return Err(Fault::of(alloc, Sentence::NotForward { name }));
             }
@@ -422,7 +424,7 @@ fn print_report<R: Print + AllocGlobal>(
 }
 
 /// Fetches into a repository in memory. This function writes only the temporary file of the pack,
-/// and creates its folder if the folder does not exist.
+/// and creates the folder of this file if necessary.
 pub(crate) fn receive<'r, R, E>(
     rt: &'r R,
     found: &'r Directories,

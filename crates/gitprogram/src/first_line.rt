@@ -21,7 +21,7 @@ pub(crate) struct FirstLine<'s, S> {
 }
 
 impl<'s, S: Source> FirstLine<'s, S> {
-    /// Returns a source that has returned no byte.
+    /// Returns a source of the whole first line and then the bytes of `source`.
     pub(crate) fn new(source: &'s mut S) -> FirstLine<'s, S> {
         FirstLine {
             source,
@@ -31,7 +31,7 @@ impl<'s, S: Source> FirstLine<'s, S> {
     }
 }
 
-// Copies bytes into `room` until it is full or no bytes remain. Returns the number of copied bytes.
+// Copies bytes until `room` is full or no bytes remain. Returns the number of copied bytes.
 fn copy_front(bytes: &[u8], room: &mut [u8]) -> usize
     ensures { result ≤ length room.new }
 {

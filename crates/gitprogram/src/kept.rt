@@ -1,6 +1,6 @@
 //! The cache of repositories, which all connections share.
 
-use crate::shared::{Shared, Shown};
+use crate::shared::{Loaded, Shared};
 use ggraph::MAX_NODES;
 use std::alloc::{AllocError, Global};
 use std::rc::{Rc, Weak};
@@ -11,39 +11,39 @@ const MAX_REPOSITORIES: usize = 64;
 
 // A cached repository.
 #[derive(Drop)]
-struct Kept {
-    shown: Rc<Shown, Global>,
-    // A weak handle to the open objects, which close when no connection uses them.
+struct CachedRepository {
+    loaded: Rc<Loaded, Global>,
+    // A weak handle to the ticket for the objects, which stay open while a connection uses them.
     objects: Weak<u64, Global>,
     // The modification time of the pack directory, read before the objects were opened, or `None`
     // if the time is unknown.
     changed: Option<SystemTime>,
 }
 
-impl Kept {
+impl CachedRepository {
     fn path(&self) -> &str {
-        self.shown.found.own.as_str()
+        self.loaded.found.own.as_str()
     }
 
     // Returns a handle to the repository for another connection.
     fn share<'d, D>(&self, alloc: Global, disk: &'d D) -> Result<Shared<'d, D>, AllocError> {
-        let shown = self.shown.clone()?;
-        Shared::new(alloc, disk, shown, self.objects.upgrade(), self.changed)
+        let loaded = self.loaded.clone()?;
+        Shared::new(alloc, disk, loaded, self.objects.upgrade(), self.changed)
     }
 }
 
 /// The most recently read repositories, oldest first, with at most 1,048,576 commits and tags in
 /// total. A connection may still use a repository that the cache has dropped.
 #[derive(Drop)]
-pub(crate) struct KeptRepositories {
-    kept: Vec<Kept>,
+pub(crate) struct RepositoryCache {
+    entries: Vec<CachedRepository>,
 }
 
-impl KeptRepositories {
+impl RepositoryCache {
     /// Returns an empty cache.
-    pub(crate) fn new(alloc: Global) -> KeptRepositories {
-        KeptRepositories {
-            kept: Vec::new(alloc),
+    pub(crate) fn new(alloc: Global) -> RepositoryCache {
+        RepositoryCache {
+            entries: Vec::new(alloc),
         }
     }
 
@@ -55,8 +55,8 @@ impl KeptRepositories {
         disk: &'d D,
         path: &str,
     ) -> Result<Option<Shared<'d, D>>, AllocError> {
-        match self.kept.iter().find(|kept| kept.path() == path) {
-            Some(kept) => Ok(Some(kept.share(alloc, disk)?)),
+        match self.entries.iter().find(|entry| entry.path() == path) {
+            Some(entry) => Ok(Some(entry.share(alloc, disk)?)),
             None => Ok(None),
         }
     }
@@ -65,20 +65,20 @@ impl KeptRepositories {
     /// drops the oldest repositories. Fails only if out of memory. After a failure the cache has no
     /// entry for this Git directory.
     pub(crate) fn put<D>(&mut self, shared: &Shared<'_, D>) -> Result<(), AllocError> {
-        let path = shared.shown.found.own.as_str();
-        if let Some(place) = self.kept.iter().position(|kept| kept.path() == path) {
-            let _old = self.kept.remove(place);
+        let path = shared.loaded.found.own.as_str();
+        if let Some(index) = self.entries.iter().position(|entry| entry.path() == path) {
+            let _old = self.entries.remove(index);
         }
-        self.make_room(nodes_of(&shared.shown));
-        let kept = Kept {
-            shown: shared.shown.clone()?,
+        self.make_room(nodes_of(&shared.loaded));
+        let entry = CachedRepository {
+            loaded: shared.loaded.clone()?,
             objects: match &shared.objects {
                 Some(ticket) => Rc::downgrade(ticket)?,
                 None => Weak::new(),
             },
             changed: shared.changed,
         };
-        match self.kept.push(kept) {
+        match self.entries.push(entry) {
             Ok(()) => Ok(()),
             Err(_) => Err(AllocError),
         }
@@ -96,26 +96,26 @@ impl KeptRepositories {
     }
 
     fn has_room(&self, nodes: usize) -> bool {
-        let kept = self.nodes().saturating_add(nodes);
-        self.kept.is_empty() || (self.kept.len() < MAX_REPOSITORIES && kept <= MAX_NODES)
+        let total = self.nodes().saturating_add(nodes);
+        self.entries.is_empty() || (self.entries.len() < MAX_REPOSITORIES && total <= MAX_NODES)
     }
 
     fn drop_oldest(&mut self) {
-        if !self.kept.is_empty() {
-            let _oldest = self.kept.remove(0);
+        if !self.entries.is_empty() {
+            let _oldest = self.entries.remove(0);
         }
     }
 
     // Returns the total number of commits and tags in the cache.
     fn nodes(&self) -> usize {
         let mut nodes: usize = 0;
-        for kept in &self.kept {
-            nodes = nodes.saturating_add(nodes_of(&kept.shown));
+        for entry in &self.entries {
+            nodes = nodes.saturating_add(nodes_of(&entry.loaded));
         }
         nodes
     }
 }
 
-fn nodes_of(shown: &Shown) -> usize {
-    shown.extent.server().graph().len()
+fn nodes_of(loaded: &Loaded) -> usize {
+    loaded.extent.server().graph().len()
 }

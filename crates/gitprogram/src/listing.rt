@@ -1,4 +1,4 @@
-//! `gitrepo ls`: the refs of a server.
+//! The command `gitrepo ls`, which prints the refs of a server.
 
 ghost use Rattle.std.specs.Prelude.{◌≡◌, ◌<◌, ◌++◌, IfOk, OnOk, Some, length, nat_eq, slice_get};
 ghost use Rattle.std.specs.List.{list_any, starts_with};
@@ -17,13 +17,13 @@ use std::net::Net;
 
 /// Prints the refs of a server as git-ls-remote(1) does. On a terminal, non-printable bytes of ref
 /// names are replaced.
-pub(crate) fn list_refs<R>(rt: &R, asked: &LsArgs<'_>, is_terminal: bool) -> Result<(), Fault>
+pub(crate) fn list_refs<R>(rt: &R, args: &LsArgs<'_>, is_terminal: bool) -> Result<(), Fault>
 where
     R: Print + AllocGlobal + Net,
 {
     let alloc = rt.alloc();
-    let remote = Remote::new(alloc, &asked.url)?;
-    let prefixes = asked.prefixes.as_slice();
+    let remote = Remote::new(alloc, &args.url)?;
+    let prefixes = args.prefixes.as_slice();
     let reply = remote.list(rt, alloc, prefixes_to_ask(prefixes))?;
     let text = reply_text(alloc, &reply, prefixes)?;
     print_peer(rt, is_terminal, text.as_slice())
@@ -39,8 +39,8 @@ fn prefixes_to_ask(prefixes: &[Prefix<Global>]) -> &[Prefix<Global>] {
     }
 }
 
-// Returns a line for each ref that begins with one of these prefixes, or for each ref if there are
-// no prefixes.
+// Returns the lines of each ref whose name begins with one of these prefixes, or of each ref if
+// there are no prefixes.
 fn reply_text(
     alloc: Global,
     reply: &LsReply<Global>,
@@ -55,8 +55,8 @@ fn reply_text(
     Ok(text)
 }
 
-// Appends the lines of the ref at this position if the name of the ref begins with one of the
-// prefixes.
+// Appends the lines of the ref at this position if its name begins with one of the prefixes, or if
+// there are no prefixes.
 fn put_at(
     text: &mut Vec<u8>,
     reply: &LsReply<Global>,

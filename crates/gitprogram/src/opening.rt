@@ -86,7 +86,7 @@ pub(crate) struct Listed {
 
 impl Listed {
     /// Returns whether the refs and HEAD of a server equal these refs and this HEAD.
-    pub(crate) fn is_of(&self, server: &Server<Global>) -> bool {
+    pub(crate) fn matches(&self, server: &Server<Global>) -> bool {
         has_refs(server, &self.refs, &self.head)
     }
 }
@@ -119,39 +119,39 @@ fn find_listed<R: Files, F: ObjectFiles>(
     Ok(found.refs(alloc, rt).read_peeled_refs()?)
 }
 
-/// Reads the objects that refs point to, because ls-refs needs no other objects. If a `QuickReader`
-/// does not find an object, this function reads the whole history.
-pub(crate) fn open_shown<F: ObjectFiles>(
+/// Reads the objects that refs and HEAD point to, because ls-refs needs no other objects. If a
+/// `QuickReader` does not find one of these objects, this function reads the whole history.
+pub(crate) fn open_for_ls_refs<F: ObjectFiles>(
     alloc: Global,
     files: &F,
     found: &Directories,
     listed: Listed,
 ) -> Result<Extent, NotOpened> {
-    match find_shown(alloc, files, found, listed) {
-        Ok(Shown::Tips(tips)) => Ok(Extent::Tips(make_server(alloc, found, tips)?)),
-        Ok(Shown::Whole(whole)) => Ok(Extent::Whole(make_server(alloc, found, whole)?)),
+    match read_for_ls_refs(alloc, files, found, listed) {
+        Ok(Opened::Tips(tips)) => Ok(Extent::Tips(make_server(alloc, found, tips)?)),
+        Ok(Opened::Whole(whole)) => Ok(Extent::Whole(make_server(alloc, found, whole)?)),
         Err(fault) => Err(not_opened(alloc, found, &fault)),
     }
 }
 
-// A repository opened to answer ls-refs.
+// A repository that was opened to answer ls-refs.
 #[derive(Drop)]
-enum Shown {
+enum Opened {
     // Only the objects that refs point to.
     Tips(Repository<Global>),
     // The whole history.
     Whole(Repository<Global>),
 }
 
-fn find_shown<F: ObjectFiles>(
+fn read_for_ls_refs<F: ObjectFiles>(
     alloc: Global,
     files: &F,
     found: &Directories,
     listed: Listed,
-) -> Result<Shown, RepositoryFault<Global>> {
+) -> Result<Opened, RepositoryFault<Global>> {
     let path = found.common.as_str();
     if let Some(tips) = find_tips(alloc, files, path, &listed)? {
-        return Ok(Shown::Tips(tips));
+        return Ok(Opened::Tips(tips));
     }
     let mut reader = open_reader(alloc, files, path)?;
     let Listed {
@@ -160,7 +160,7 @@ fn find_shown<F: ObjectFiles>(
         peels: _peels,
     } = listed;
     let whole = read_history(alloc, files, path, &mut reader, &refs, head)?;
-    Ok(Shown::Whole(whole))
+    Ok(Opened::Whole(whole))
 }
 
 fn is_same_head(one: &Head<Global>, other: &Head<Global>) -> bool {
@@ -196,7 +196,7 @@ pub(crate) fn open_objects<'f, F: ObjectFiles>(
     }
 }
 
-/// Opens the objects of a repository, and reads the history of the refs in `tips`.
+/// Opens the objects of a repository, and reads the history of the refs and HEAD in `tips`.
 pub(crate) fn open_history<'f, F: ObjectFiles>(
     alloc: Global,
     files: &'f F,
@@ -265,9 +265,9 @@ fn make_server(
     }
 }
 
-/// Opens a repository to fetch from a server whose refs have the ids in `tips`. Puts extra refs to
-/// the newest objects before all other refs, so that the client sends these objects as its first
-/// haves.
+/// Opens a repository to fetch from a server whose refs have the ids in `tips`. Adds refs that
+/// point to the newest objects, before all other refs, so that the client sends these objects as
+/// its first haves.
 pub(crate) fn open_client<'f, R: Files, F: ObjectFiles>(
     alloc: Global,
     rt: &R,
@@ -309,7 +309,7 @@ fn open<'f, R: Files, F: ObjectFiles>(
     Ok((repository, reader))
 }
 
-/// Opens the objects of a repository.
+/// Returns a reader of the objects of the Git directory at `path`.
 pub(crate) fn open_reader<'f, F: ObjectFiles>(
     alloc: Global,
     files: &'f F,

@@ -1,6 +1,7 @@
 //! Finding the pack and the messages in the bytes of a server's reply.
 
-// The packet before a pack (gitprotocol-v2(5), "fetch"). A server may omit the line feed.
+// The payload of the packet that precedes a pack (gitprotocol-v2(5), "fetch"). A server may omit
+// the line feed.
 const PACKFILE: &[u8] = b"packfile\n";
 
 /// The meaning of a part of a server's reply.
@@ -19,11 +20,12 @@ pub(crate) enum Seen<'b> {
 // The current position in a packet.
 #[derive(Clone, Copy)]
 enum PacketPosition {
-    // Among the four length digits of a packet: the number of digits read, and their value.
+    // The parser is among the four length digits of a packet. `count` digits were read, and encode
+    // `number`.
     Digits { count: u8, number: u16 },
-    // In a payload: the number of bytes read, and the number of bytes left.
+    // The parser is in a payload, after `before` bytes and before the last `left` bytes.
     Payload { before: u16, left: u16 },
-    // After a malformed packet: all further bytes are ignored.
+    // The parser found a malformed packet, and ignores all further bytes.
     Lost,
 }
 
@@ -38,10 +40,11 @@ enum Band {
 /// A parser of the packets of a reply, which does not store the packets.
 #[derive(Drop)]
 pub(crate) struct Packets {
-    place: PacketPosition,
-    // Whether the payload read so far is a prefix of `packfile`.
-    begins_packs: bool,
-    // Whether the packets have side bands. All packets after `packfile` have side bands.
+    position: PacketPosition,
+    // Whether the payload read so far is a prefix of `PACKFILE`.
+    matches_packfile: bool,
+    // Whether each payload begins with the number of a side band. This is so between the packet
+    // `packfile` and the flush packet.
     has_bands: bool,
     band: Band,
 }
@@ -55,8 +58,8 @@ impl Packets {
     /// Returns a parser at the start of a reply.
     pub(crate) fn new() -> Packets {
         Packets {
-            place: START,
-            begins_packs: false,
+            position: START,
+            matches_packfile: false,
             has_bands: false,
             band: Band::Other,
         }
@@ -64,29 +67,29 @@ impl Packets {
 
     /// Parses a prefix of `bytes`. Returns the length and the meaning of this prefix. The length is
     /// 0 only if `bytes` is empty.
-    pub(crate) fn look<'b>(&mut self, bytes: &'b [u8]) -> (usize, Seen<'b>) {
+    pub(crate) fn parse<'b>(&mut self, bytes: &'b [u8]) -> (usize, Seen<'b>) {
         let Some((first, _)) = bytes.split_first() else {
             return (0, Seen::Nothing);
         };
-        match self.place {
+        match self.position {
             PacketPosition::Digits { count, number } => (
                 1,
-                self.look_at_digit(*first, count, number),
+                self.parse_digit(*first, count, number),
             ),
-            PacketPosition::Payload { before, left } => self.look_at_payload(bytes, before, left),
+            PacketPosition::Payload { before, left } => self.parse_payload(bytes, before, left),
             PacketPosition::Lost => (bytes.len(), Seen::Nothing),
         }
     }
 
     // Reads a digit of a packet length.
-    fn look_at_digit<'b>(&mut self, byte: u8, count: u8, number: u16) -> Seen<'b> {
+    fn parse_digit<'b>(&mut self, byte: u8, count: u8, number: u16) -> Seen<'b> {
         let Some(digit) = char::from(byte).to_digit(16) else {
-            self.place = PacketPosition::Lost;
+            self.position = PacketPosition::Lost;
             return Seen::Nothing;
         };
         let number = (number << 4) | (digit as u16);
         if count < 3 {
-            self.place = PacketPosition::Digits {
+            self.position = PacketPosition::Digits {
                 count: count + 1,
                 number,
             };
@@ -97,16 +100,16 @@ impl Packets {
 
     // Begins a packet of `length` bytes, including the four digits.
     fn begin_packet<'b>(&mut self, length: u16) -> Seen<'b> {
-        self.begins_packs = true;
+        self.matches_packfile = true;
         self.band = Band::Other;
         if length > 4 {
-            self.place = PacketPosition::Payload {
+            self.position = PacketPosition::Payload {
                 before: 0,
                 left: length - 4,
             };
             return Seen::Nothing;
         }
-        self.place = START;
+        self.position = START;
         if length == 0 && self.has_bands {
             self.has_bands = false;
             return Seen::End;
@@ -115,15 +118,10 @@ impl Packets {
     }
 
     // Reads bytes of a payload.
-    fn look_at_payload<'b>(
-        &mut self,
-        bytes: &'b [u8],
-        before: u16,
-        left: u16,
-    ) -> (usize, Seen<'b>) {
+    fn parse_payload<'b>(&mut self, bytes: &'b [u8], before: u16, left: u16) -> (usize, Seen<'b>) {
         if self.has_bands && before == 0 {
             self.band = band_of(bytes);
-            self.pass(0, left, 1);
+            self.skip(0, left, 1);
             return (1, Seen::Nothing);
         }
         let count = bytes.len().min(left as usize);
@@ -131,30 +129,30 @@ impl Packets {
         if !self.has_bands {
             self.compare(seen, before);
         }
-        self.pass(before, left, count as u16);
+        self.skip(before, left, count as u16);
         (count, self.show_packet(seen))
     }
 
-    // Skips `count` bytes of a payload.
-    fn pass(&mut self, before: u16, left: u16, count: u16) {
+    // Moves past `count` bytes of a payload.
+    fn skip(&mut self, before: u16, left: u16, count: u16) {
         if count < left {
-            self.place = PacketPosition::Payload {
+            self.position = PacketPosition::Payload {
                 before: before.saturating_add(count),
                 left: left - count,
             };
             return;
         }
-        self.place = START;
-        if !self.has_bands && self.begins_packs && before.saturating_add(count) >= 8 {
+        self.position = START;
+        if !self.has_bands && self.matches_packfile && before.saturating_add(count) >= 8 {
             self.has_bands = true;
         }
     }
 
-    // Compares bytes of a payload with the `packfile` packet.
+    // Clears `matches_packfile` if bytes of a payload differ from `PACKFILE` at offset `before`.
     fn compare(&mut self, bytes: &[u8], before: u16) {
         let rest = PACKFILE.get(before as usize..).unwrap_or(&[]);
         if !rest.starts_with(bytes) {
-            self.begins_packs = false;
+            self.matches_packfile = false;
         }
     }
 

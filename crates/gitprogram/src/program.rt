@@ -19,6 +19,7 @@ use std::{env, io};
 // The exit status for a failed command.
 const FAILED: u8 = 1;
 
+// The exit status for wrong arguments.
 const WRONG_USAGE: u8 = 2;
 
 /// Runs `gitrepo` with the arguments, files, standard streams and sockets of the runtime. Error
@@ -106,10 +107,10 @@ where
 {
     match command {
         GitrepoCommand::Check { dir } => check(rt, dir),
-        GitrepoCommand::Clone(asked) => clone_remote(rt, asked, errors),
-        GitrepoCommand::Fetch(asked) => fetch_remote(rt, asked, is_terminal, errors),
-        GitrepoCommand::Ls(asked) => list_refs(rt, asked, is_terminal),
-        GitrepoCommand::Serve(asked) => serve(rt, asked, errors),
+        GitrepoCommand::Clone(args) => clone_remote(rt, args, errors),
+        GitrepoCommand::Fetch(args) => fetch_remote(rt, args, is_terminal, errors),
+        GitrepoCommand::Ls(args) => list_refs(rt, args, is_terminal),
+        GitrepoCommand::Serve(args) => serve(rt, args, errors),
         GitrepoCommand::UploadPack { dir } => upload_pack(rt, dir),
     }
 }

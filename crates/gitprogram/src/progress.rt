@@ -1,4 +1,4 @@
-//! Progress of a fetch, on standard error.
+//! The progress display of a fetch, on standard error.
 
 use crate::packets::{Packets, Seen};
 use gitwords::{Shown, push_clean};
@@ -16,7 +16,7 @@ const STEP: u64 = 262_144;
 // The prefix of each line from the server, as Git prints it.
 const REMOTE: &[u8] = b"remote: ";
 
-/// Progress of a fetch.
+/// The progress display of a fetch, on standard error.
 #[derive(Drop)]
 pub(crate) struct Progress<'e, E> {
     errors: &'e mut E,
@@ -73,21 +73,21 @@ impl<'e, E: Write> Progress<'e, E> {
         self.is_shown
     }
 
-    // Updates the displayed progress after more bytes from the server. If out of memory, some
+    // Updates the displayed progress after more bytes from the server. If memory runs out, some
     // output is left out.
     fn watch(&mut self, bytes: &[u8]) {
         if !self.is_shown {
             return;
         }
-        let _ = self.look_at_all(bytes);
+        let _ = self.parse_all(bytes);
         let _ = self.errors.write_all(self.text.as_slice());
         self.text.clear();
     }
 
-    fn look_at_all(&mut self, bytes: &[u8]) -> Result<(), AllocError> {
+    fn parse_all(&mut self, bytes: &[u8]) -> Result<(), AllocError> {
         let mut rest = bytes;
         for _ in 0..bytes.len() {
-            let (count, seen) = self.packets.look(rest);
+            let (count, seen) = self.packets.parse(rest);
             self.show(seen)?;
             rest = rest.get(count..).unwrap_or(&[]);
             if rest.is_empty() {
@@ -108,7 +108,7 @@ impl<'e, E: Write> Progress<'e, E> {
 
     // Counts bytes of a pack, and updates the progress line after each `STEP` bytes.
     fn show_pack(&mut self, bytes: &[u8]) -> Result<(), AllocError> {
-        self.pack.pass(bytes);
+        self.pack.count(bytes);
         if self.pack.bytes < self.shown.saturating_add(STEP) {
             return Ok(());
         }
@@ -154,9 +154,9 @@ impl<'e, E: Write> Progress<'e, E> {
 
     // Shows a piece of a line from the server.
     fn show_piece(&mut self, piece: &[u8]) -> Result<(), AllocError> {
-        let goes_on = self.line == Line::Server;
+        let continues = self.line == Line::Server;
         self.begin_line(Line::Server)?;
-        if !goes_on {
+        if !continues {
             self.text.extend_from_slice(REMOTE)?;
         }
         push_clean(&mut self.text, piece, Shown::Progress)?;
@@ -181,7 +181,7 @@ fn is_line_end(byte: u8) -> bool {
 
 impl PackSeen {
     // Counts bytes of the pack, and reads the object count in its header.
-    fn pass(&mut self, bytes: &[u8]) {
+    fn count(&mut self, bytes: &[u8]) {
         for byte in bytes.iter().take(HEADER) {
             if 8 <= self.bytes && self.bytes < HEADER as u64 {
                 self.objects = (self.objects << 8) | u32::from(*byte);

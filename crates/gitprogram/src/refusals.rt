@@ -1,4 +1,4 @@
-//! The packets that refuse a client.
+//! The error packets for refused clients.
 
 use gpkt::{PacketWriter, Sink, WriteFault};
 

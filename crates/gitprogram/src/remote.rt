@@ -52,8 +52,8 @@ impl Remote {
         }
     }
 
-    /// Returns the refs that begin with one of these prefixes, or all refs if there are no
-    /// prefixes. The server may list further refs.
+    /// Returns the refs whose names begin with one of these prefixes, or all refs if there are no
+    /// prefixes. The server may also list other refs.
     pub(crate) fn list<N: Net>(
         &self,
         net: &N,
@@ -98,8 +98,8 @@ fn url_text(alloc: Global, url: &GitUrl<'_>) -> Result<String, AllocError> {
 /// Returns the ids of the refs in a reply to ls-refs, and the peeled ids of its tags.
 pub(crate) fn tips_of(alloc: Global, reply: &LsReply<Global>) -> Result<Tips<Global>, AllocError> {
     let mut ids = Vec::new(alloc);
-    for place in 0..reply.len() {
-        if let Some(line) = reply.at(place) {
+    for index in 0..reply.len() {
+        if let Some(line) = reply.at(index) {
             ids.push(line.id)?;
             if let Some(peeled) = line.peeled {
                 ids.push(peeled)?;

@@ -3,14 +3,14 @@
 use crate::directory::Directories;
 use crate::disk::Disk;
 use crate::fault::Fault;
-use crate::kept::KeptRepositories;
+use crate::kept::RepositoryCache;
 use crate::notes::Notes;
 use crate::opening::{Extent, NotOpened, has_refs};
 use crate::refusals::{
     BAD_FIRST_LINE, BUSY, NOT_OPENED, NOT_SERVED, PACK_FAILED, TOO_LARGE_REQUEST,
 };
 use crate::sentences::{Sentence, form_text};
-use crate::shared::{Shared, Shown, share};
+use crate::shared::{Loaded, Shared, share};
 use ganswer::ServeFault;
 use ggrammar::{MessageFault, Why};
 use ghello::Hello;
@@ -21,7 +21,7 @@ use std::cell::RefCell;
 use std::time::SystemTime;
 
 /// A value that can close unused object stores.
-pub(crate) trait Closes {
+pub(crate) trait ClosesStores {
     /// Closes the object stores that no connection uses.
     fn close_unused(&self);
 }
@@ -32,7 +32,7 @@ pub(crate) struct Repositories<'d, D> {
     alloc: Global,
     disk: &'d D,
     notes: &'d Notes,
-    kept: RefCell<KeptRepositories>,
+    cache: RefCell<RepositoryCache>,
 }
 
 impl<'d, D> Repositories<'d, D> {
@@ -42,58 +42,58 @@ impl<'d, D> Repositories<'d, D> {
             alloc,
             disk,
             notes,
-            kept: RefCell::new(KeptRepositories::new(alloc)),
+            cache: RefCell::new(RepositoryCache::new(alloc)),
         }
     }
 
-    // Returns a handle to the cached repository in these directories, if there is one.
-    fn find_kept(&self, found: &Directories) -> Result<Option<Shared<'d, D>>, AllocError> {
-        match self.kept.try_borrow() {
-            Ok(kept) => kept.get(self.alloc, self.disk, found.own.as_str()),
+    // Returns a handle to the cached repository in these directories, or `None` if there is none.
+    fn find_cached(&self, found: &Directories) -> Result<Option<Shared<'d, D>>, AllocError> {
+        match self.cache.try_borrow() {
+            Ok(cache) => cache.get(self.alloc, self.disk, found.own.as_str()),
             Err(_) => Ok(None),
         }
     }
 
-    // Returns the cached repository if its refs equal those of `repo`, and `repo` otherwise.
+    // Returns the cached repository if it has the refs and HEAD of `repo`, and `repo` otherwise.
     fn find_same(&self, repo: &Shared<'d, D>) -> Result<Shared<'d, D>, AllocError> {
         let server = repo.server();
-        if let Some(kept) = self.find_kept(&repo.shown.found)? {
-            if has_refs(kept.server(), server.refs(), server.head()) {
-                return Ok(kept);
+        if let Some(cached) = self.find_cached(&repo.loaded.found)? {
+            if has_refs(cached.server(), server.refs(), server.head()) {
+                return Ok(cached);
             }
         }
         repo.handle()
     }
 
-    // Returns whether the refs of the cached repository differ from those of `opened`.
-    fn has_others(&self, opened: &Shared<'d, D>) -> Result<bool, AllocError> {
+    // Returns whether the repository is cached with other refs or another HEAD than `opened` has.
+    fn differs_from_cache(&self, opened: &Shared<'d, D>) -> Result<bool, AllocError> {
         let server = opened.server();
-        match self.find_kept(&opened.shown.found)? {
-            Some(kept) => Ok(!has_refs(kept.server(), server.refs(), server.head())),
+        match self.find_cached(&opened.loaded.found)? {
+            Some(cached) => Ok(!has_refs(cached.server(), server.refs(), server.head())),
             None => Ok(false),
         }
     }
 
-    fn keep(&self, shared: &Shared<'d, D>) -> Result<(), AllocError> {
-        match self.kept.try_borrow_mut() {
-            Ok(mut kept) => kept.put(shared),
+    fn add_to_cache(&self, shared: &Shared<'d, D>) -> Result<(), AllocError> {
+        match self.cache.try_borrow_mut() {
+            Ok(mut cache) => cache.put(shared),
             Err(_) => Ok(()),
         }
     }
 
     // Records why a repository cannot be opened, and returns the error text for the client.
     fn refuse(&self, cause: NotOpened) -> ErrText {
-        let mut words = ErrText::new();
+        let mut text = ErrText::new();
         match cause.form {
             Some(form) => {
-                words.add(b"upload-pack: the repository ");
-                words.add(form_text(form).as_bytes());
+                text.add(b"upload-pack: the repository ");
+                text.add(form_text(form).as_bytes());
             }
-            None if cause.is_busy => words.add(BUSY),
-            None => words.add(NOT_OPENED),
+            None if cause.is_busy => text.add(BUSY),
+            None => text.add(NOT_OPENED),
         }
         self.notes.note_fault(cause.fault);
-        words
+        text
     }
 }
 
@@ -107,31 +107,32 @@ impl<'d, D: Disk> Repositories<'d, D> {
             Err(fault) => fault,
         };
         self.notes.note_fault(fault);
-        let mut words = ErrText::new();
-        words.add(NOT_SERVED);
-        words.add(path);
-        Err(words)
+        let mut text = ErrText::new();
+        text.add(NOT_SERVED);
+        text.add(path);
+        Err(text)
     }
 
-    // Returns the repository in these directories. Its refs and HEAD are read again.
-    fn find_shown(&self, found: Directories) -> Result<Shared<'d, D>, NotOpened> {
+    // Reads the refs and HEAD in these directories. Returns the cached repository if it has these
+    // refs and this HEAD. Otherwise opens the repository for ls-refs, and adds it to the cache.
+    fn find_and_list(&self, found: Directories) -> Result<Shared<'d, D>, NotOpened> {
         let listed = self.disk.list(&found)?;
-        if let Some(shared) = self.find_kept(&found)? {
-            if listed.is_of(shared.server()) {
+        if let Some(shared) = self.find_cached(&found)? {
+            if listed.matches(shared.server()) {
                 return Ok(shared.without_objects());
             }
         }
-        let extent = self.disk.show(&found, listed)?;
-        let shown = share(self.alloc, Shown { found, extent })?;
-        let shared = Shared::new(self.alloc, self.disk, shown, None, None)?;
-        self.keep(&shared)?;
+        let extent = self.disk.open_for_ls_refs(&found, listed)?;
+        let loaded = share(self.alloc, Loaded { found, extent })?;
+        let shared = Shared::new(self.alloc, self.disk, loaded, None, None)?;
+        self.add_to_cache(&shared)?;
         Ok(shared)
     }
 
     // Returns a repository with its history and open objects. Connections with equal refs share the
     // history and the open objects while the pack directory is unchanged.
     fn open_shared(&self, repo: &Shared<'d, D>) -> Result<Shared<'d, D>, NotOpened> {
-        let changed = self.disk.change_time(&repo.shown.found);
+        let changed = self.disk.change_time(&repo.loaded.found);
         if repo.is_open_since(changed) {
             return Ok(repo.handle()?);
         }
@@ -140,8 +141,8 @@ impl<'d, D: Disk> Repositories<'d, D> {
             return Ok(known);
         }
         let opened = self.open_now(&known, changed)?;
-        if !self.has_others(&opened)? {
-            self.keep(&opened)?;
+        if !self.differs_from_cache(&opened)? {
+            self.add_to_cache(&opened)?;
         }
         Ok(opened)
     }
@@ -152,21 +153,21 @@ impl<'d, D: Disk> Repositories<'d, D> {
         repo: &Shared<'d, D>,
         changed: Option<SystemTime>,
     ) -> Result<Shared<'d, D>, NotOpened> {
-        let found = &repo.shown.found;
-        let (shown, ticket) = match &repo.shown.extent {
-            Extent::Whole(_) => (repo.shown.clone()?, self.disk.open_objects(found)?),
+        let found = &repo.loaded.found;
+        let (loaded, ticket) = match &repo.loaded.extent {
+            Extent::Whole(_) => (repo.loaded.clone()?, self.disk.open_objects(found)?),
             Extent::Tips(tips) => {
                 let (server, ticket) = self.disk.open_history(found, tips)?;
                 let found = found.copy_in(self.alloc)?;
                 let extent = Extent::Whole(server);
-                (share(self.alloc, Shown { found, extent })?, ticket)
+                (share(self.alloc, Loaded { found, extent })?, ticket)
             }
         };
-        Ok(Shared::new(self.alloc, self.disk, shown, Some(ticket), changed)?)
+        Ok(Shared::new(self.alloc, self.disk, loaded, Some(ticket), changed)?)
     }
 }
 
-impl<D: Disk> Closes for Repositories<'_, D> {
+impl<D: Disk> ClosesStores for Repositories<'_, D> {
     fn close_unused(&self) {
         self.disk.close_unused();
     }
@@ -177,7 +178,7 @@ impl<'d, D: Disk> Host<Global, Shared<'d, D>> for Repositories<'d, D> {
         if self.notes.note_path(hello.path()).is_err() {
             self.notes.note_fault(Fault::Memory);
         }
-        match self.find_shown(self.find_path(hello.path())?) {
+        match self.find_and_list(self.find_path(hello.path())?) {
             Ok(shared) => Ok(shared),
             Err(cause) => Err(self.refuse(cause)),
         }
@@ -191,27 +192,27 @@ impl<'d, D: Disk> Host<Global, Shared<'d, D>> for Repositories<'d, D> {
     }
 
     fn words(&self, fault: &ServeFault) -> ErrText {
-        let mut words = ErrText::new();
+        let mut text = ErrText::new();
         match fault {
             ServeFault::Request(
                 MessageFault {
                     why: Why::Limit,
                     ..
                 },
-            ) => words.add(TOO_LARGE_REQUEST),
-            ServeFault::Pack(_) => words.add(PACK_FAILED),
+            ) => text.add(TOO_LARGE_REQUEST),
+            ServeFault::Pack(_) => text.add(PACK_FAILED),
             ServeFault::Request(
                 MessageFault {
                     why: Why::BadText,
                     ..
                 },
-            ) if self.notes.is_first() => words.add(BAD_FIRST_LINE),
+            ) if self.notes.is_first() => text.add(BAD_FIRST_LINE),
             _ => {
-                let mut text = [0; MAX_ERR_TEXT];
-                let length = err_text(fault, &mut text);
-                words.add(&text[..length]);
+                let mut line = [0; MAX_ERR_TEXT];
+                let length = err_text(fault, &mut line);
+                text.add(&line[..length]);
             }
         }
-        words
+        text
     }
 }

@@ -1,4 +1,4 @@
-//! `gitrepo serve`: serving repositories to clients.
+//! The command `gitrepo serve`, which serves repositories to many clients at once.
 
 use crate::directory::{Exports, open_fault};
 use crate::disk::Disk;
@@ -7,9 +7,9 @@ use crate::limits::limits_beside;
 use crate::notes::Notes;
 use crate::output::print;
 use crate::refusals::{ADDRESS_LIMIT, FULL};
-use crate::repositories::{Closes, Repositories};
+use crate::repositories::{ClosesStores, Repositories};
 use crate::sentences::Sentence;
-use crate::shared::{Blames, Shared};
+use crate::shared::{RecordsFault, Shared};
 use crate::stored::{ServedFrom, Stored};
 use crate::visits::{Held, begin, log_ended};
 use gevents::{Event, EventLoop, Limits, Refusal};
@@ -26,25 +26,25 @@ use std::rt::{Clock, Files};
 
 /// Serves the repositories below a directory to many clients at once, and logs each connection to
 /// `errors`.
-pub(crate) fn serve<R, E>(rt: &R, asked: &ServeArgs<'_>, errors: &mut E) -> Result<(), Fault>
+pub(crate) fn serve<R, E>(rt: &R, args: &ServeArgs<'_>, errors: &mut E) -> Result<(), Fault>
 where
     R: Files + Print + AllocGlobal + Clock + Net,
     E: Write,
 {
-    check_base(rt, asked.base)?;
-    let listener = match listen(rt, asked.listen) {
+    check_base(rt, args.base)?;
+    let listener = match listen(rt, args.listen) {
         Ok(listener) => listener,
         Err(error) => return Err(Fault::of(
             rt.alloc(),
             Sentence::Listen {
-                address: asked.listen,
+                address: args.listen,
                 error: &error,
             },
         )),
     };
     announce(rt, &listener)?;
     let files = StoredFiles::new(rt);
-    match serve_files(rt, &files, asked, listener, errors) {
+    match serve_files(rt, &files, args, listener, errors) {
         Ok(()) => Ok(()),
         Err(error) => Err(Fault::of(rt.alloc(), Sentence::Accept { error: &error })),
     }
@@ -54,7 +54,7 @@ where
 fn serve_files<R, F, E>(
     rt: &R,
     files: &F,
-    asked: &ServeArgs<'_>,
+    args: &ServeArgs<'_>,
     listener: TcpListener,
     errors: &mut E,
 ) -> io::Result<()>
@@ -64,11 +64,11 @@ where
     E: Write,
 {
     let exports = Exports {
-        base: asked.base,
-        all: asked.export_all,
+        base: args.base,
+        all: args.export_all,
     };
     let stored = Stored::new(rt, files, ServedFrom::Below(exports));
-    serve_disk(rt, &stored, listener, &limits_of(asked), errors)
+    serve_disk(rt, &stored, listener, &limits_of(args), errors)
 }
 
 // Serves the repositories on a disk to clients.
@@ -106,8 +106,8 @@ fn serve_all<'h, R, H, K, E>(
 ) -> io::Result<()>
 where
     R: AllocGlobal + Clock,
-    H: Host<Global, K> + Closes,
-    K: ServedRepository<Global> + PartPacker<Global> + Blames + Drop,
+    H: Host<Global, K> + ClosesStores,
+    K: ServedRepository<Global> + PartPacker<Global> + RecordsFault + Drop,
     E: Write,
 {
     let served = serve_each(rt, host, notes, &mut clients, errors);
@@ -115,8 +115,8 @@ where
     served
 }
 
-// Serves clients until the allowed number of connections was accepted and all of them have ended.
-// Fails if no further connection can be accepted.
+// Serves clients until the allowed number of connections was accepted and every connection has
+// ended. Fails if no further connection can be accepted.
 fn serve_each<'h, R, H, K, E>(
     rt: &R,
     host: &'h H,
@@ -126,8 +126,8 @@ fn serve_each<'h, R, H, K, E>(
 ) -> io::Result<()>
 where
     R: AllocGlobal + Clock,
-    H: Host<Global, K> + Closes,
-    K: ServedRepository<Global> + PartPacker<Global> + Blames + Drop,
+    H: Host<Global, K> + ClosesStores,
+    K: ServedRepository<Global> + PartPacker<Global> + RecordsFault + Drop,
     E: Write,
 {
     for _ in 0..u64::MAX {
@@ -148,8 +148,8 @@ fn serve_next<'h, R, H, K, E>(
 ) -> io::Result<bool>
 where
     R: AllocGlobal + Clock,
-    H: Host<Global, K> + Closes,
-    K: ServedRepository<Global> + PartPacker<Global> + Blames + Drop,
+    H: Host<Global, K> + ClosesStores,
+    K: ServedRepository<Global> + PartPacker<Global> + RecordsFault + Drop,
     E: Write,
 {
     match clients.next(rt)? {
@@ -159,8 +159,8 @@ where
         }
         Some(Event::Refused(address, why)) => {
             clients.refuse(packet_of(why));
-            let words = words_of(why);
-            let _ = writeln!(errors, "{address} refused: {words}");
+            let text = log_text_of(why);
+            let _ = writeln!(errors, "{address} refused: {text}");
         }
         Some(Event::Ended(ended)) => {
             log_ended(rt.alloc(), ended, errors);
@@ -180,7 +180,7 @@ fn packet_of(why: Refusal) -> &'static [u8] {
 }
 
 // Returns the log text for a refused client.
-fn words_of(why: Refusal) -> &'static str {
+fn log_text_of(why: Refusal) -> &'static str {
     match why {
         Refusal::Full => "there are too many connections",
         Refusal::AddressLimit => "there are too many connections from this address",
@@ -188,13 +188,13 @@ fn words_of(why: Refusal) -> &'static str {
 }
 
 // Returns the limits that these arguments set.
-fn limits_of(asked: &ServeArgs<'_>) -> Limits {
+fn limits_of(args: &ServeArgs<'_>) -> Limits {
     let mut limits = Limits::default();
-    limits.accepted = asked.connections;
-    if let Some(most) = asked.max_connections {
+    limits.accepted = args.connections;
+    if let Some(most) = args.max_connections {
         limits.at_once = most as usize;
     }
-    if let Some(most) = asked.max_per_address {
+    if let Some(most) = args.max_per_address {
         limits.at_once_of_address = most as usize;
     }
     limits
@@ -212,7 +212,7 @@ fn check_base<R: Files + AllocGlobal>(rt: &R, base: &str) -> Result<(), Fault> {
     }
 }
 
-// Resolves `address`, a text HOST:PORT, and listens on the first usable result.
+// Resolves `address`, a text HOST:PORT, and listens on the first usable IP address.
 fn listen<R: Net>(rt: &R, address: &str) -> io::Result<TcpListener> {
     let mut last = io::Error::from(ErrorKind::AddrNotAvailable);
     for address in address.to_socket_addrs(rt)? {

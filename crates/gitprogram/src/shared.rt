@@ -19,7 +19,7 @@ use std::time::SystemTime;
 
 /// A repository with the refs, HEAD and history read so far.
 #[derive(Drop)]
-pub(crate) struct Shown {
+pub(crate) struct Loaded {
     /// The directories of the repository.
     pub(crate) found: Directories,
     /// The server for the repository, with the history read so far.
@@ -27,17 +27,17 @@ pub(crate) struct Shown {
 }
 
 /// A handle that records the fault of its last failed call.
-pub(crate) trait Blames {
-    /// Removes and returns the recorded fault.
+pub(crate) trait RecordsFault {
+    /// Removes and returns the recorded fault, or returns `None` if no fault was recorded.
     fn take_fault(&self) -> Option<Fault>;
 }
 
-/// A repository that several connections share. Each connection has its own handles.
+/// A connection's handle to a repository that several connections share.
 #[derive(Drop)]
 pub(crate) struct Shared<'d, D> {
     alloc: Global,
     disk: &'d D,
-    pub(crate) shown: Rc<Shown, Global>,
+    pub(crate) loaded: Rc<Loaded, Global>,
     /// The ticket for the open objects, or `None` until a connection needs objects.
     pub(crate) objects: Option<Ticket>,
     /// The modification time of the pack directory, read before the objects were opened, or `None`
@@ -52,14 +52,14 @@ impl<'d, D> Shared<'d, D> {
     pub(crate) fn new(
         alloc: Global,
         disk: &'d D,
-        shown: Rc<Shown, Global>,
+        loaded: Rc<Loaded, Global>,
         objects: Option<Ticket>,
         changed: Option<SystemTime>,
     ) -> Result<Shared<'d, D>, AllocError> {
         Ok(Shared {
             alloc,
             disk,
-            shown,
+            loaded,
             objects,
             changed,
             fault: share(alloc, RefCell::new(None))?,
@@ -74,29 +74,29 @@ impl<'d, D> Shared<'d, D> {
     }
 
     /// Returns whether the objects are open, and the pack directory has not changed since they were
-    /// opened. Returns false if the modification time `changed` is unknown.
+    /// opened. Returns `false` if the modification time `changed` is unknown.
     pub(crate) fn is_open_since(&self, changed: Option<SystemTime>) -> bool {
         self.objects.is_some() && changed.is_some() && self.changed == changed
     }
 }
 
 impl<D: Disk> Shared<'_, D> {
-    // Records the fault of a failed call, with details from the object store. Returns the fault.
+    // Records the fault of a failed call, with details from the object store. Returns `fault`.
     fn note(&self, ticket: &Ticket, fault: PackFault) -> PackFault {
         let cause = match fault {
-            PackFault::Other => self.disk.take_fault(ticket, &self.shown.found),
+            PackFault::Other => self.disk.take_fault(ticket, &self.loaded.found),
             _ => None,
         };
-        let said = match cause {
+        let recorded = match cause {
             Some(cause) => cause,
             None => Fault::of(self.alloc, Sentence::Request(&ServeFault::Pack(fault))),
         };
-        let _ = self.fault.try_replace(Some(said));
+        let _ = self.fault.try_replace(Some(recorded));
         fault
     }
 }
 
-impl<D> Blames for Shared<'_, D> {
+impl<D> RecordsFault for Shared<'_, D> {
     fn take_fault(&self) -> Option<Fault> {
         match self.fault.try_replace(None) {
             Ok(fault) => fault,
@@ -144,7 +144,7 @@ impl<D: Disk> PartPacker<Global> for Shared<'_, D> {
         let Some(ticket) = &self.objects else {
             return Err(PackFault::Other);
         };
-        match self.disk.part(ticket, parts, out) {
+        match self.disk.copy_part(ticket, parts, out) {
             Ok(count) => Ok(count),
             Err(fault) => Err(self.note(ticket, fault)),
         }
@@ -154,10 +154,10 @@ impl<D: Disk> PartPacker<Global> for Shared<'_, D> {
 impl<D> ServedRepository<Global> for Shared<'_, D> {
     ghost use Rattle.gitprogram.specs.Sharing.{server_in};
 
-    ghost server = { λ shared. server_in shared.shown.value.extent };
+    ghost server = { λ shared. server_in shared.loaded.value.extent };
 
     fn server(&self) -> &Server<Global> {
-        self.shown.extent.server()
+        self.loaded.extent.server()
     }
 
     fn handle(&self) -> Result<Self, AllocError> {
@@ -168,7 +168,7 @@ impl<D> ServedRepository<Global> for Shared<'_, D> {
         Ok(Shared {
             alloc: self.alloc,
             disk: self.disk,
-            shown: self.shown.clone()?,
+            loaded: self.loaded.clone()?,
             objects,
             changed: self.changed,
             fault: self.fault.clone()?,

@@ -19,7 +19,8 @@ const ROW: u64 = 4;
 /// The maximum number of repositories whose objects are open at once.
 pub(crate) const MAX_OPEN: u64 = 16;
 
-// The content of a slot: no object store, or an open one with its tickets.
+// The content of a slot: no object store, or an open object store with a weak handle to its
+// tickets.
 #[derive(Drop)]
 enum SlotContent<'f, F: ObjectFiles> {
     Vacant,
@@ -46,39 +47,39 @@ impl<'f, F: ObjectFiles> SlotContent<'f, F> {
 /// A slot for an object store, which stays open while a ticket for it exists.
 #[derive(Drop)]
 pub(crate) struct Slot<'f, F: ObjectFiles> {
-    place: RefCell<SlotContent<'f, F>>,
+    content: RefCell<SlotContent<'f, F>>,
 }
 
 impl<'f, F: ObjectFiles> Slot<'f, F> {
     fn vacant() -> Slot<'f, F> {
         Slot {
-            place: RefCell::new(SlotContent::Vacant),
+            content: RefCell::new(SlotContent::Vacant),
         }
     }
 
     /// Returns whether the slot is free for a new object store.
     pub(crate) fn is_free(&self) -> bool {
-        match self.place.try_borrow() {
-            Ok(place) => !place.is_used(),
+        match self.content.try_borrow() {
+            Ok(content) => !content.is_used(),
             Err(_) => false,
         }
     }
 
     /// Closes the object store if no ticket for it exists.
     pub(crate) fn close_unused(&self) {
-        if let Ok(mut place) = self.place.try_borrow_mut() {
-            if !place.is_used() {
-                *place = SlotContent::Vacant;
+        if let Ok(mut content) = self.content.try_borrow_mut() {
+            if !content.is_used() {
+                *content = SlotContent::Vacant;
             }
         }
     }
 
-    /// Puts an object store with its tickets into the slot. Returns `false` if the slot is
-    /// borrowed.
+    /// Puts an object store with its tickets into the slot. Returns `false`, and changes nothing,
+    /// if the slot is borrowed.
     pub(crate) fn fill(&self, tickets: Weak<u64, Global>, packer: ObjectPacker<'f, F>) -> bool {
-        match self.place.try_borrow_mut() {
-            Ok(mut place) => {
-                *place = SlotContent::Open(tickets, packer);
+        match self.content.try_borrow_mut() {
+            Ok(mut content) => {
+                *content = SlotContent::Open(tickets, packer);
                 true
             }
             Err(_) => false,
@@ -94,10 +95,10 @@ impl<'f, F: ObjectFiles> Slot<'f, F> {
         ensures { IfOk result
             (λ parts. Begins packs_any fails_any entries.now (gives_rest parts) (most_left parts)) }
     {
-        let Ok(place) = self.place.try_borrow() else {
+        let Ok(content) = self.content.try_borrow() else {
             return Err(PackFault::Other);
         };
-        match place.packer() {
+        match content.packer() {
             Some(packer) => packer.begin(alloc, entries),
             None => Err(PackFault::Other),
         }
@@ -105,7 +106,7 @@ impl<'f, F: ObjectFiles> Slot<'f, F> {
 
     /// Copies the next bytes of a pack to the front of `out`. Returns the number of copied bytes,
     /// which is 0 at the end of the pack.
-    pub(crate) fn part(
+    pub(crate) fn copy_part(
         &self,
         parts: &mut StoreParts<Global>,
         out: &mut [u8],
@@ -116,19 +117,20 @@ impl<'f, F: ObjectFiles> Slot<'f, F> {
             (gives_rest parts.new) (most_left parts.new) count out.new)
             (λ fault. gives_rest parts.old [] (Some fault)) }
     {
-        let Ok(place) = self.place.try_borrow() else {
+        let Ok(content) = self.content.try_borrow() else {
             return Err(PackFault::Other);
         };
-        match place.packer() {
+        match content.packer() {
             Some(packer) => packer.part(parts, out),
             None => Err(PackFault::Other),
         }
     }
 
-    /// Removes and returns the detailed fault of the last call that failed with `Other`.
+    /// Removes and returns the detailed fault of the last call that failed with `Other`. Returns
+    /// `None` if no fault is stored.
     pub(crate) fn take_fault(&self) -> Option<RepositoryFault<Global>> {
-        match self.place.try_borrow() {
-            Ok(place) => place.packer()?.take_fault(),
+        match self.content.try_borrow() {
+            Ok(content) => content.packer()?.take_fault(),
             Err(_) => None,
         }
     }

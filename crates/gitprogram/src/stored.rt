@@ -4,8 +4,8 @@ use crate::directory::{Directories, Exports, find_served};
 use crate::disk::{Disk, Ticket};
 use crate::fault::Fault;
 use crate::opening::{
-    Extent, Listed, NotOpened, ObjectPacker, open_history, open_objects, open_shown, read_listed,
-    repository_fault,
+    Extent, Listed, NotOpened, ObjectPacker, open_for_ls_refs, open_history, open_objects,
+    read_listed, repository_fault,
 };
 use crate::slots::{MAX_OPEN, Slots};
 use ganswer::Server;
@@ -47,7 +47,7 @@ impl<'f, 'r, R: Files + AllocGlobal, F: ObjectFiles> Stored<'f, 'r, R, F> {
         }
     }
 
-    // Returns the number of a free slot.
+    // Returns the number of a free slot. Fails if no slot is free.
     fn free(&self) -> Result<u64, NotOpened> {
         for number in 0..MAX_OPEN {
             if self.slots.at(number).is_free() {
@@ -57,7 +57,7 @@ impl<'f, 'r, R: Files + AllocGlobal, F: ObjectFiles> Stored<'f, 'r, R, F> {
         Err(NotOpened::busy(self.rt.alloc()))
     }
 
-    // Stores a packer in a slot, and returns a ticket for it.
+    // Stores a packer in the slot with this number, and returns a ticket for its object store.
     fn keep(&self, number: u64, packer: ObjectPacker<'f, F>) -> Result<Ticket, AllocError> {
         let Ok(ticket) = Rc::new(self.rt.alloc(), number) else {
             return Err(AllocError);
@@ -83,8 +83,8 @@ impl<R: Files + AllocGlobal, F: ObjectFiles> Disk for Stored<'_, '_, R, F> {
         read_listed(self.rt.alloc(), self.rt, self.files, found)
     }
 
-    fn show(&self, found: &Directories, listed: Listed) -> Result<Extent, NotOpened> {
-        open_shown(self.rt.alloc(), self.files, found, listed)
+    fn open_for_ls_refs(&self, found: &Directories, listed: Listed) -> Result<Extent, NotOpened> {
+        open_for_ls_refs(self.rt.alloc(), self.files, found, listed)
     }
 
     fn change_time(&self, found: &Directories) -> Option<SystemTime> {
@@ -124,13 +124,13 @@ impl<R: Files + AllocGlobal, F: ObjectFiles> Disk for Stored<'_, '_, R, F> {
         self.slots.at(**ticket).begin(alloc, entries)
     }
 
-    fn part(
+    fn copy_part(
         &self,
         ticket: &Ticket,
         parts: &mut StoreParts<Global>,
         out: &mut [u8],
     ) -> Result<usize, PackFault> {
-        self.slots.at(**ticket).part(parts, out)
+        self.slots.at(**ticket).copy_part(parts, out)
     }
 
     fn take_fault(&self, ticket: &Ticket, found: &Directories) -> Option<Fault> {

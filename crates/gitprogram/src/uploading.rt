@@ -1,4 +1,4 @@
-//! `gitrepo upload-pack`.
+//! The command `gitrepo upload-pack`, which serves one client on standard input and output.
 
 ghost use Rattle.std.specs.Prelude.{◌≡◌};
 ghost use Rattle.gitprogram.specs.Versions.{is_version_2, names_version_2};
@@ -12,7 +12,7 @@ use crate::notes::Notes;
 use crate::refusals::send_error;
 use crate::repositories::Repositories;
 use crate::sentences::Sentence;
-use crate::shared::{Blames, Shared};
+use crate::shared::{RecordsFault, Shared};
 use crate::stored::{ServedFrom, Stored};
 use crate::visits::{begin, fault_of_visit};
 use gevents::End;
@@ -123,7 +123,7 @@ fn converse<'h, H, K, S: Source, W: Sink>(
 ) -> Result<(), Fault>
 where
     H: Host<Global, K>,
-    K: ServedRepository<Global> + PartPacker<Global> + Blames + Drop,
+    K: ServedRepository<Global> + PartPacker<Global> + RecordsFault + Drop,
 {
     let mut connection = Connection::new(begin(alloc, host, notes, LIMITS), alloc);
     let end = match drive(&mut connection, source, sink) {

@@ -5,7 +5,7 @@ ghost use Rattle.gtalk.specs.Talks.{no_talk};
 use crate::fault::Fault;
 use crate::notes::Notes;
 use crate::sentences::{Clean, Sentence};
-use crate::shared::Blames;
+use crate::shared::RecordsFault;
 use crate::visitor::Visitor;
 use gdialogue::Dialogue;
 use gevents::{End, Ended};
@@ -49,7 +49,7 @@ pub(crate) fn log_ended<H, K, E>(
 )
 where
     H: Host<Global, K>,
-    K: ServedRepository<Global> + PartPacker<Global> + Blames + Drop,
+    K: ServedRepository<Global> + PartPacker<Global> + RecordsFault + Drop,
     E: Write,
 {
     let Ended {
@@ -61,8 +61,8 @@ where
         ..
     } = ended;
     let visitor = connection.into_conversation().into_side();
-    let (side, path, refused) = visitor.into_parts();
-    let fault = fault_of(alloc, &side, refused, end);
+    let (side, path, noted) = visitor.into_parts();
+    let fault = fault_of(alloc, &side, noted, end);
     let line = Line {
         address,
         path: path.as_slice(),
@@ -82,27 +82,28 @@ pub(crate) fn fault_of_visit<H, K>(
 ) -> Option<Fault>
 where
     H: Host<Global, K>,
-    K: ServedRepository<Global> + PartPacker<Global> + Blames + Drop,
+    K: ServedRepository<Global> + PartPacker<Global> + RecordsFault + Drop,
 {
     let visitor = connection.into_conversation().into_side();
-    let (side, _path, refused) = visitor.into_parts();
-    fault_of(alloc, &side, refused, end)
+    let (side, _path, noted) = visitor.into_parts();
+    fault_of(alloc, &side, noted, end)
 }
 
-// Returns the fault of a failed connection, or `None` if the connection ended without a fault.
-fn fault_of<H, K: Blames>(
+// Returns the fault of a failed connection, or `None` if the connection ended without a fault. If
+// the connection recorded the fault `noted` for its log line, returns this fault.
+fn fault_of<H, K: RecordsFault>(
     alloc: Global,
     side: &ServerSide<'_, Global, H, K>,
-    refused: Option<Fault>,
+    noted: Option<Fault>,
     end: End,
 ) -> Option<Fault> {
-    if refused.is_some() {
-        return refused;
+    if noted.is_some() {
+        return noted;
     }
     if let Some(fault) = fault_of_side(alloc, side) {
         return Some(fault);
     }
-    let said = match end {
+    let sentence = match end {
         End::Over => return None,
         End::Silent => Sentence::ClientSilent,
         End::Stalled => Sentence::ClientStalled,
@@ -110,11 +111,12 @@ fn fault_of<H, K: Blames>(
         End::Lost => Sentence::ClientLost,
         End::Memory => return Some(Fault::Memory),
     };
-    Some(Fault::of(alloc, said))
+    Some(Fault::of(alloc, sentence))
 }
 
-// Returns the fault of a refused request, or `None` if no request was refused.
-fn fault_of_side<H, K: Blames>(
+// Returns the recorded fault of the repository, or the fault of a refused request if the repository
+// recorded none. Returns `None` if there is neither fault.
+fn fault_of_side<H, K: RecordsFault>(
     alloc: Global,
     side: &ServerSide<'_, Global, H, K>,
 ) -> Option<Fault> {
@@ -137,6 +139,7 @@ struct Line<'p, 'f> {
     requests: u32,
     // The number of bytes sent.
     bytes: u64,
+    // The duration of the connection.
     took: time::Duration,
     fault: Option<&'f Fault>,
 }

@@ -9,7 +9,7 @@ use Rattle.gitrefs.specs.declared.fault.Cause.TheVariants as cause
 use Rattle.gitrefs.specs.declared.fault.RefFault.{RefFault}
 use Rattle.gitrefs.specs.declared.fault.RefFault.TheVariants as fault
 
--- a fault that parsing may return: `Malformed` only if the text has no valid reading, and `Memory` for any text
+-- a fault that parsing may return: `Malformed` only if the text is not valid, and `Memory` for any text
 abbrev pub IsTextFault : Type 0 → TextFault → Type 0
 IsTextFault Reading Malformed = ¬ Reading
 IsTextFault Reading Memory = ⊤

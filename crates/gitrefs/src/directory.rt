@@ -43,7 +43,7 @@ const FILES: [&str; 3] = ["HEAD", "config", "packed-refs"];
 
 // The directories that are removed with a new repository. While `objects` exists, no other process
 // can create a repository here, so `objects` is removed last.
-const FOLDERS: [&str; 2] = ["refs", OBJECTS];
+const REMOVED_DIRECTORIES: [&str; 2] = ["refs", OBJECTS];
 
 /// The state of a directory before a repository was created in it.
 #[derive(Clone, Copy, Debug, PartialEq, Eq, Drop)]
@@ -67,7 +67,7 @@ impl<'r, R: Files, A: Allocator + Copy> GitDirectory<'r, R, A> {
 
     /// Returns the Git directory of a linked worktree (git-worktree(1)), without opening anything.
     /// HEAD is in the directory `own`, and all refs below `refs/` are in the directory `common`.
-    pub fn linked_worktree(
+    pub fn with_common_directory(
         alloc: A,
         files: &'r R,
         common: &'r str,
@@ -90,17 +90,17 @@ impl<'r, R: Files, A: Allocator + Copy> GitDirectory<'r, R, A> {
         }
     }
 
-    /// Creates a repository without objects or refs (git-init(1)). HEAD points at `branch`, and the
-    /// file `config` contains `config`. An existing directory must be empty. A missing directory is
-    /// created with its parents. All files and directories are synced.
+    /// Creates a repository without objects or refs (git-init(1)). HEAD points at `branch`, and
+    /// `config` is the text of the configuration file. An existing directory must be empty. A
+    /// missing directory is created with its parents. All files and directories are synced.
     ///
     /// Fails with `Exists` and changes nothing if the directory is not empty, or if the path is not
     /// a directory. Fails with `Exists` if another process creates a repository there at the same
     /// time. Fails with `System` if a system call fails, and then removes the new repository.
     pub fn make(&self, config: &[u8], branch: &Target<A>) -> Result<Origin, RefFault<A>> {
-        let origin = self.make_own()?;
+        let origin = self.create_directory()?;
         if let Err(fault) = self.claim() {
-            self.leave(origin);
+            self.remove_directory(origin);
             return Err(fault);
         }
         match self.fill(config, branch) {
@@ -112,8 +112,8 @@ impl<'r, R: Files, A: Allocator + Copy> GitDirectory<'r, R, A> {
         }
     }
 
-    /// Removes a new repository, as far as the system permits. A directory that existed before
-    /// `make` remains, and is empty again.
+    /// Removes a repository that `make` created, as far as the system permits. A directory that
+    /// existed before `make` remains, and is empty again.
     pub fn unmake(&self, origin: Origin) {
         match origin {
             Origin::Made => {
@@ -127,7 +127,7 @@ impl<'r, R: Files, A: Allocator + Copy> GitDirectory<'r, R, A> {
 
     // Creates the directory and its parents. Fails with `Exists` if the directory exists and is not
     // empty.
-    fn make_own(&self) -> Result<Origin, RefFault<A>> {
+    fn create_directory(&self) -> Result<Origin, RefFault<A>> {
         if let Some(parent) = Path::new(self.path).parent() {
             if let Err(error) = fs::create_dir_all(self.files, parent) {
                 return Err(RefFault::system(self.alloc, parent.as_str(), error));
@@ -147,7 +147,7 @@ impl<'r, R: Files, A: Allocator + Copy> GitDirectory<'r, R, A> {
     }
 
     // Creates the first directory of a new repository. Fails with `Exists` if another process has
-    // created it.
+    // created this directory.
     fn claim(&self) -> Result<(), RefFault<A>> {
         let path = self.path_below(OBJECTS)?;
         match fs::create_dir(self.files, path.as_str()) {
@@ -159,8 +159,9 @@ impl<'r, R: Files, A: Allocator + Copy> GitDirectory<'r, R, A> {
         }
     }
 
-    // Removes the directory of the repository if this process created it and it is still empty.
-    fn leave(&self, origin: Origin) {
+    // Removes the directory of the repository if this process created the directory and the
+    // directory is still empty.
+    fn remove_directory(&self, origin: Origin) {
         if origin == Origin::Made {
             let _ = fs::remove_dir(self.files, self.path);
         }
@@ -180,7 +181,7 @@ impl<'r, R: Files, A: Allocator + Copy> GitDirectory<'r, R, A> {
             let path = self.path_below(name)?;
             let _ = fs::remove_file(self.files, path.as_str());
         }
-        for name in FOLDERS {
+        for name in REMOVED_DIRECTORIES {
             let path = self.path_below(name)?;
             let _ = self.files.remove_dir_all(self.alloc, path.as_str());
         }
@@ -285,7 +286,7 @@ impl<'r, R: Files, A: Allocator + Copy> GitDirectory<'r, R, A> {
         packed.replace(text.as_slice())
     }
 
-    // Checks that `HEAD` exists, as in every Git directory.
+    // Checks that `HEAD` exists, as in every Git directory. Fails with `Missing` if not.
     pub(crate) fn check_repository(&self) -> Result<(), RefFault<A>> {
         let path = self.path_of(&RefName::head(self.alloc)?)?;
         match self.files.symlink_metadata(path.as_str()) {
@@ -331,7 +332,7 @@ impl<'r, R: Files, A: Allocator + Copy> GitDirectory<'r, R, A> {
     }
 }
 
-// Returns whether a path names something other than a file or a directory.
+// Returns whether a path names something that is neither a regular file nor a directory.
 fn is_special<R: Files>(files: &R, path: &str) -> bool {
     match files.metadata(path) {
         Ok(metadata) => !metadata.is_file() && !metadata.is_dir(),

@@ -1,4 +1,4 @@
-//! Faults.
+//! The faults of reading and updating refs.
 
 ghost use Rattle.std.specs.Prelude.{◌≡◌, Some};
 ghost use Rattle.gitrefs.specs.Faults.{cause_text, ref_fault_text, text_fault_text};
@@ -27,7 +27,7 @@ pub enum Cause {
     Locked,
     /// The file or directory already exists.
     Exists,
-    /// The file is `HEAD` and is missing, so the directory is not a Git directory.
+    /// `HEAD` is missing, so the directory is not a Git directory.
     Missing,
     /// The ref does not have the expected old id.
     Moved,
@@ -37,7 +37,7 @@ pub enum Cause {
     Conflict,
     /// The name of the ref is not UTF-8, so the ref has no path.
     Utf8,
-    /// The update would result in more than 65,536 refs, or it would change `HEAD`.
+    /// There are or would be more than 65,536 refs, or an update names `HEAD`.
     Refs,
     /// The new id of the ref is not a SHA-1 id.
     Format,

@@ -1,6 +1,6 @@
 //! Files of a Git directory that can be locked and replaced.
 //!
-//! Unlike `StoredFile` of `glockfile`, this storage allows a missing file, refuses a symbolic link,
+//! Unlike a `StoredFile` of `glockfile`, a `GitFile` may be missing, must not be a symbolic link,
 //! and keeps the cause of a failure.
 
 ghost use Rattle.std.specs.Prelude.{◌≡◌, IfOk, None};
@@ -28,7 +28,9 @@ pub(crate) struct GitFile<'r, R: Files, A: Allocator + Copy = Global> {
     // The open lockfile, between writing and syncing.
     lock: Option<R::File>,
     is_locked: bool,
+    // The state of the lockfile.
     lockfile: Lockfile,
+    // The cause of the last failed call.
     cause: Option<Cause>,
 }
 
@@ -41,7 +43,8 @@ impl<'r, R: Files, A: Allocator + Copy> Model for GitFile<'r, R, A> {
 }
 
 impl<'r, R: Files, A: Allocator + Copy> GitFile<'r, R, A> {
-    /// Returns the `GitFile` at this path, without opening it. Fails only if out of memory.
+    /// Returns a `GitFile` for the file at this path, without opening the file. Fails only if out
+    /// of memory.
     pub(crate) fn new(
         alloc: A,
         files: &'r R,
@@ -105,8 +108,8 @@ impl<'r, R: Files, A: Allocator + Copy> GitFile<'r, R, A> {
         }
     }
 
-    // Removes a directory at the path of the file. Fails with the cause `Conflict` if the directory
-    // is not empty.
+    // Removes the directory at the path of the file. Fails with the cause `Conflict` if the
+    // directory cannot be removed, for example because it is not empty.
     fn clear_directory(&mut self) -> Result<(), StorageFault>
         ensures { self.new ≡ self.old }
     {
@@ -117,7 +120,6 @@ impl<'r, R: Files, A: Allocator + Copy> GitFile<'r, R, A> {
     }
 }
 
-// Creates the parent directories of a file.
 fn make_parents<R: Files>(files: &R, path: &str) -> Result<(), Cause> {
     let Some(parent) = Path::new(path).parent() else {
         return Ok(());
@@ -129,7 +131,7 @@ fn make_parents<R: Files>(files: &R, path: &str) -> Result<(), Cause> {
     }
 }
 
-// Returns whether an error means that a parent directory in the path is a file.
+// Returns whether an error of this kind means that a parent directory in the path is a file.
 fn is_no_directory(kind: ErrorKind) -> bool {
     kind == ErrorKind::AlreadyExists || kind == ErrorKind::NotADirectory
 }

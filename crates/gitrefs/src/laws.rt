@@ -9,12 +9,12 @@ use gname::laws::{
     texts_have_one_reading,
 };
 
-/// Proves that parsing a written text of `packed-refs` returns the refs that were written, with or
-/// without peeled ids.
+/// Proves that parsing a written text of `packed-refs` returns the written refs and peeled ids, if
+/// all ids are SHA-1 ids.
 pub fn written_refs_read_back()
     ensures { WrittenRefsReadBack }
 {
-    // Laws.
+    // Laws that the proof uses.
     ids_have_one_format();
     ids_have_texts();
     names_are_clean();
@@ -26,6 +26,6 @@ pub fn written_refs_read_back()
 pub fn names_descend()
     ensures { NamesDescend }
 {
-    // Laws.
+    // Laws that the proof uses.
     components_are_parts();
 }

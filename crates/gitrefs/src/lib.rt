@@ -4,14 +4,15 @@
 //! # Proved
 //!
 //! - [`parse_loose_ref`] and [`parse_packed_refs`] accept exactly the file formats of `specs/`.
-//!   `parse_loose_ref` returns the id, or the name of the other ref. `parse_packed_refs` returns
+//!   `parse_loose_ref` returns the id, or the target of a symbolic ref. `parse_packed_refs` returns
 //!   the refs with their peeled ids, in the order of the lines.
 //! - [`parse_common_dir`] accepts exactly the format of `commondir` files in `specs/`, and returns
 //!   the path in the file. The function [`parse_git_file`] returns a path only for a valid `.git`
 //!   file, but might refuse a valid file.
 //! - [`packed_refs_text`] and [`peeled_refs_text`] write a header and a line for each ref, sorted
 //!   by name. If all ids are SHA-1, parsing the text returns the same refs ([`laws`]).
-//! - If the crate writes a HEAD that points at a branch, parsing the text returns the branch.
+//! - If the crate writes a HEAD that points at a branch, parsing the written text returns the
+//!   branch.
 //! - [`prepare_ref`] writes an id to the lockfile of a ref file, with any `Storage` of `glockfile`,
 //!   and leaves the ref file unchanged. The function [`commit_file`] replaces the file atomically,
 //!   and always releases the lock. After `Ok`, the file has the new text.
@@ -21,8 +22,8 @@
 //!   only after it is written and synced.
 //! - A fault is displayed as the path of the file and the cause, as `specs/Faults.antt` defines. No
 //!   contract covers the text of a system error.
-//! - No call panics, overflows or reads out of bounds, and every call returns, whatever the files
-//!   contain.
+//! - No call panics, overflows or reads out of bounds, and every call returns, for any contents of
+//!   the files.
 //!
 //! # Differences from Git
 //!
@@ -35,7 +36,7 @@
 //! - A ref name has at most 1,000 bytes, and a repository has at most 65,536 refs.
 //! - A loose ref whose name is not UTF-8 is ignored, and cannot be updated. In `packed-refs`, names
 //!   that are not UTF-8 are accepted.
-//! - Git cannot resolve HEAD if it leads to a malformed ref file, or through too many symbolic
+//! - Git cannot resolve HEAD if HEAD leads to a malformed ref file, or through too many symbolic
 //!   refs. For a HEAD that Git cannot resolve, this crate returns the last ref name in the chain of
 //!   symbolic refs.
 //! - Git updates a symbolic ref by updating its target. This crate updates neither symbolic refs
@@ -51,8 +52,8 @@
 //! - Git refuses a ref to a missing object, and a branch that does not point to a commit. This
 //!   crate does not check the objects of refs.
 //! - The configuration is not read, so SHA-256, reftables and shared permissions are not supported.
-//!   Reflogs are not changed. A linked worktree has only its own HEAD; in Git, it also has its own
-//!   `refs/bisect` and a few other refs.
+//!   Reflogs are not changed. A linked worktree has only its own HEAD. In Git, a linked worktree
+//!   also has its own `refs/bisect` and a few other refs.
 //!
 //! # What the contracts do not rule out
 //!
@@ -64,13 +65,13 @@
 //! contents in a file that it should replace. No contract says for which reason a name that is not
 //! UTF-8 is refused.
 //!
-//! No contract says what a [`PackedPeels`] contains. In fact it contains the peeled ids that
-//! `packed-refs` lists, and the file can list wrong ids.
+//! No contract says what a [`PackedPeels`] contains. Its ids come from `packed-refs`, which can
+//! list wrong ids.
 //!
 //! Name conflicts are checked before files are locked, so a conflict with a ref that Git packs at
 //! the same time is missed. If two lines of `packed-refs` have the same name, the first line wins.
 //!
-//! No contract says when a call that allocates fails with out-of-memory. A killed process can leave
+//! No contract says when a call that allocates runs out of memory. A killed process can leave
 //! its lockfile on disk. The crate does not notice that two paths name the same Git directory, for
 //! example through symbolic links.
 //!

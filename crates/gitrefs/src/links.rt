@@ -1,13 +1,13 @@
-//! Files that name another directory.
+//! Files that contain the path of a directory: `.git` files and `commondir`.
 
 ghost use Rattle.std.specs.Prelude.{◌≡◌, List, ℕ, IfSome, MatchOption};
 ghost use Rattle.gitrefs.specs.Links.{IsGitFile, IsPathFile, is_line_end};
 
 use crate::words::strip;
 
-/// Returns the path of the Git directory that a file `.git` names, as in a linked worktree
-/// (git-worktree(1)) or a submodule (gitsubmodules(7)). Returns `None` if the text is not a valid
-/// `.git` file. A relative path starts at the directory of the file.
+/// Returns the path of a Git directory, parsed from the text of a `.git` file. A linked worktree
+/// (git-worktree(1)) and a submodule (gitsubmodules(7)) have `.git` files. Returns `None` if the
+/// text is not a valid `.git` file. A relative path starts at the directory of the file.
 pub fn parse_git_file(text: &[u8]) -> Option<&[u8]>
     ensures { IfSome result (λ path. IsGitFile text.now path.now) }
 {
@@ -17,9 +17,9 @@ pub fn parse_git_file(text: &[u8]) -> Option<&[u8]>
     }
 }
 
-/// Returns the path of the directory that a file `commondir` names (gitrepository-layout(5)).
-/// Returns `None` if the text is not a valid `commondir` file. A relative path starts at the Git
-/// directory.
+/// Returns the path of the common directory, parsed from the text of a `commondir` file
+/// (gitrepository-layout(5)). Returns `None` if the text is not a valid `commondir` file. A
+/// relative path starts at the Git directory.
 pub fn parse_common_dir(text: &[u8]) -> Option<&[u8]>
     ensures { MatchOption result ((path : List ℕ) → ¬ (IsPathFile text.now path))
         (λ path. IsPathFile text.now path.now) }

@@ -24,7 +24,7 @@ pub struct PackedRef<A: Allocator + Copy = Global> {
     pub peeled: Option<Oid>,
 }
 
-// The line of a ref, and the id in the peeled line after it.
+// The name and the id in the line of a ref, and the peeled id if a line of `^` and that id follows.
 #[derive(Clone, Copy)]
 struct Line<'a> {
     name: &'a [u8],
@@ -72,7 +72,8 @@ fn after_header(text: &[u8]) -> Option<&[u8]>
     }
 }
 
-// Returns the refs in the lines of `packed-refs`.
+// Returns the refs in the lines of `packed-refs`. Fails with `Malformed` if a line is malformed, or
+// with `Memory` if out of memory.
 fn parse_lines<A: Allocator + Copy>(
     alloc: A,
     text: &[u8],
@@ -102,8 +103,8 @@ fn is_over(text: &[u8]) -> bool
     text.is_empty()
 }
 
-// Returns the first line of a text, together with the peeled line that may follow, and the rest of
-// the text.
+// Parses the line of a ref at the start of the text, and the line of its peeled id if there is one.
+// Returns the ref and the rest of the text, or `None` if a line is malformed.
 fn cut_ref(text: &[u8]) -> Option<(Line<'_>, &[u8])>
     ensures line { MatchOption result
         ((line : PackedLine) (rest : List ℕ) → ¬ (BeginsWithLine text.now line rest))
@@ -130,8 +131,9 @@ fn cut_ref(text: &[u8]) -> Option<(Line<'_>, &[u8])>
     Some((line, peeled.1))
 }
 
-// Returns the id in the peeled line at the start of the text, if there is such a line, and the rest
-// of the text. Returns `None` if the peeled line is malformed.
+// Parses a line of `^` and a peeled id at the start of the text, if the text begins with `^`.
+// Returns the id and the rest of the text, or `None` if the line is malformed. If the text does not
+// begin with `^`, the id is `None` and the rest is the whole text.
 fn cut_peeled(text: &[u8]) -> Option<(Option<Oid>, &[u8])>
     ensures line { MatchOption result
         ((peeled : Option Id) (rest : List ℕ) → ¬ (BeginsWithPeeled text.now peeled rest))

@@ -60,7 +60,7 @@ fn push_line<A: Allocator + Copy>(
     Ok(())
 }
 
-// Appends the line of a peeled id, if there is one.
+// Appends the line of a peeled id, or nothing for `None`.
 fn push_peeled<A: Allocator + Copy>(
     text: &mut Vec<u8, A>,
     peeled: Option<Oid>,

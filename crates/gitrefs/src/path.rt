@@ -72,8 +72,8 @@ fn join<A: Allocator + Copy>(alloc: A, git_dir: &str, name: &str) -> Result<File
     Ok(FilePath { text })
 }
 
-/// Returns whether an error means that a path does not exist. This includes a path in which a
-/// parent directory is a file.
+/// Returns whether an error of this kind means that a path does not exist. This includes a path in
+/// which a parent directory is a file.
 pub(crate) fn is_absent(kind: ErrorKind) -> bool {
     matches!(kind, ErrorKind::NotFound | ErrorKind::NotADirectory)
 }

@@ -9,16 +9,16 @@ use std::cmp::Ordering;
 /// The peeled object of an object that a ref in `packed-refs` points to.
 #[derive(Clone, Copy, Debug, PartialEq, Eq, Drop)]
 pub enum Peel {
-    /// The object itself, since it is not a tag.
+    /// The object is not a tag, so it is its own peeled object.
     Itself,
-    /// The object with this id, to which a tag peels.
+    /// The object is a tag that peels to the object with this id.
     To(Oid),
 }
 
 /// The objects that the refs in `packed-refs` point to, with their peeled objects.
 #[derive(Drop)]
 pub struct PackedPeels<A: Allocator + Copy = Global> {
-    // The objects and their peeled objects, sorted by the id of the object.
+    // The ids of the objects, with their peeled objects, sorted by id.
     peels: Vec<(Oid, Peel), A>,
 }
 
@@ -48,9 +48,8 @@ impl<A: Allocator + Copy> PackedPeels<A> {
         Ok(PackedPeels { peels })
     }
 
-    /// Returns pairs of an object and its peeled object, sorted by the id of the object. The
-    /// objects are those that refs point to, and the peeled objects of tags. An object may occur
-    /// twice.
+    /// Returns the ids of objects with their peeled objects, sorted by id. The objects are those
+    /// that refs point to, and the peeled objects of tags. An id may occur more than once.
     pub fn as_slice(&self) -> &[(Oid, Peel)] {
         self.peels.as_slice()
     }

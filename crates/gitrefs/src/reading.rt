@@ -24,7 +24,7 @@ enum RefEntry<A: Allocator + Copy = Global> {
     Empty,
     // A directory of refs.
     Directory,
-    // A ref file with its value, or `None` if the file is malformed.
+    // A ref file, with the value of the ref. The value is `None` if the file is malformed.
     Ref(Option<LooseRef<A>>),
 }
 
@@ -42,7 +42,7 @@ pub(crate) struct PackedRefs<A: Allocator + Copy> {
 pub struct PeeledRefs<A: Allocator + Copy = Global> {
     /// The refs below `refs/`.
     pub refs: Refs<A>,
-    /// HEAD.
+    /// The `HEAD` of the Git directory.
     pub head: Head<A>,
     /// The peeled objects in `packed-refs`.
     pub peels: PackedPeels<A>,
@@ -87,7 +87,7 @@ impl<R: Files, A: Allocator + Copy> GitDirectory<'_, R, A> {
         Ok(PeeledRefs { refs, head, peels })
     }
 
-    // Resolves the refs below `refs/` and HEAD from the values of all refs.
+    // Resolves the refs below `refs/` and HEAD from the unresolved values of all refs.
     fn refs_and_head(&self, values: Values<A>) -> Result<(Refs<A>, Head<A>), RefFault<A>> {
         let head = head_of(self.alloc, &values)?;
         let refs = match refs_of(self.alloc, values) {
@@ -165,8 +165,8 @@ impl<R: Files, A: Allocator + Copy> GitDirectory<'_, R, A> {
     }
 
     // Reads the files of a directory. A file whose name is not UTF-8 is ignored. A directory that
-    // another process has removed, or has replaced by a file, is ignored, unless it is `refs`
-    // itself.
+    // another process has removed is ignored. A subdirectory that another process has replaced by a
+    // file is also ignored.
     fn read_directory(&self, directory: &str, walk: &mut Walk<A>) -> Result<(), RefFault<A>> {
         let mut path = String::from_str(self.alloc, self.path)?;
         path.push_str("/")?;
@@ -243,7 +243,8 @@ impl<R: Files, A: Allocator + Copy> GitDirectory<'_, R, A> {
         }
     }
 
-    // Returns the metadata of a file, or `None` if it does not exist.
+    // Returns the metadata of a file, or `None` if the file does not exist. `metadata` is the
+    // result of the system call.
     fn metadata_of(
         &self,
         path: &FilePath<A>,
@@ -256,7 +257,8 @@ impl<R: Files, A: Allocator + Copy> GitDirectory<'_, R, A> {
         }
     }
 
-    // Returns the target of a symbolic link if it is a ref name below `refs/`.
+    // Returns the target of a symbolic link, or `None` if the target is not a ref name below
+    // `refs/`.
     fn link_target(&self, path: &FilePath<A>) -> Result<Option<RefName<A>>, RefFault<A>> {
         match self.files.read_link(self.alloc, path.as_str()) {
             Ok(target) if target.as_str().starts_with("refs/") => {
@@ -266,7 +268,8 @@ impl<R: Files, A: Allocator + Copy> GitDirectory<'_, R, A> {
         }
     }
 
-    // Looks up a path with this metadata, which is not a symbolic link to a ref name.
+    // Returns `Directory` if this is the metadata of a directory, and otherwise reads the ref file
+    // at the path. The path must not be a symbolic link to a ref name.
     fn look_at(&self, path: &FilePath<A>, metadata: &Metadata) -> Result<RefEntry<A>, RefFault<A>> {
         if metadata.is_dir() {
             return Ok(RefEntry::Directory);

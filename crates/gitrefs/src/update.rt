@@ -33,7 +33,7 @@ impl<R: Files, A: Allocator + Copy> GitDirectory<'_, R, A> {
     /// are unchanged. Fails with `System` if a system call fails, or with `Memory` if out of
     /// memory. After `System` or `Memory`, some refs may have changed if renaming a lockfile
     /// failed. After any fault, each ref has its old or its new id. All locks of this call are
-    /// removed, but directories created for them may remain.
+    /// removed, but directories created for the lockfiles may remain.
     pub fn update_refs(&self, updates: &[RefUpdate<A>]) -> Result<(), RefFault<A>> {
         self.check_updates(updates)?;
         let mut locked = Vec::new(self.alloc);
@@ -152,12 +152,12 @@ impl<R: Files, A: Allocator + Copy> GitDirectory<'_, R, A> {
         packed: &Refs<A>,
         update: &RefUpdate<A>,
     ) -> Result<(), RefFault<A>> {
-        let now = if file.text().is_empty() {
+        let current_id = if file.text().is_empty() {
             packed.get(&update.name)
         } else {
             Some(self.loose_id(file)?)
         };
-        if now == update.old {
+        if current_id == update.old {
             Ok(())
         } else {
             Err(RefFault::at(self.alloc, file.path(), Cause::Moved))

@@ -36,7 +36,8 @@ impl<A: Allocator + Copy> Values<A> {
         Ok(())
     }
 
-    /// Sorts the refs by name. A caller must call `sort` before any function except `push`.
+    /// Sorts the refs by name, and keeps only the first ref of each name. A caller must call `sort`
+    /// before any function except `push`.
     pub(crate) fn sort(&mut self) -> Result<(), AllocError> {
         if self.values.is_sorted_by(|one, next| one.0 < next.0) {
             return Ok(());
@@ -89,9 +90,10 @@ fn is_null<A: Allocator + Copy>(value: &LooseRef<A>) -> bool {
     }
 }
 
-// Returns the id that a ref with this value resolves to, or `None` if the ref does not resolve.
-fn resolve<A: Allocator + Copy>(values: &Values<A>, meaning: &Option<LooseRef<A>>) -> Option<Oid> {
-    let mut value = meaning;
+// Returns the id that a ref with the value `first` resolves to, or `None` if the ref does not
+// resolve.
+fn resolve<A: Allocator + Copy>(values: &Values<A>, first: &Option<LooseRef<A>>) -> Option<Oid> {
+    let mut value = first;
     for _ in 0..MAX_DEPTH {
         match value {
             Some(LooseRef::Id(id)) => return Some(*id),
@@ -117,8 +119,9 @@ pub(crate) fn refs_of<A: Allocator + Copy>(
     Ok(refs)
 }
 
-/// Returns the last ref name that HEAD leads to, or the id of a detached HEAD. Returns `None` if
-/// HEAD is malformed or leads to itself. Fails only if out of memory.
+/// Returns HEAD with the last ref name in its chain of symbolic refs, or with the id of a detached
+/// HEAD. Returns `Head::None` if HEAD is missing. Returns `None` if HEAD is malformed or leads to
+/// itself. Fails only if out of memory.
 pub(crate) fn head_of<A: Allocator + Copy>(
     alloc: A,
     values: &Values<A>,

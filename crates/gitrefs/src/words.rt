@@ -39,7 +39,7 @@ pub(crate) fn cut_id(text: &[u8]) -> Option<(Oid, &[u8])>
         ((id : Id) (rest : List ℕ) → ¬ (BeginsWithId text.now id rest))
         (λ parts. BeginsWithId text.now parts.0 parts.1.now) }
 {
-    // Laws.
+    // Laws that the proof uses.
     texts_have_one_reading();
     let Some((digits, rest)) = split_front(ID_TEXT, text) else {
         return None;
@@ -84,14 +84,15 @@ pub(crate) fn ends_word(text: &[u8]) -> bool
     }
 }
 
-// Returns the position of the first white-space byte.
+// Returns the position of the first white-space byte, or `None` if there is no white space.
 fn space_at(text: &[u8]) -> Option<usize>
     ensures { result ≡ position is_space text.now }
 {
     text.iter().position(|byte| is_space(*byte))
 }
 
-// Returns the position of the first byte that is not white space.
+// Returns the position of the first byte that is not white space, or `None` if there is no such
+// byte.
 fn other_at(text: &[u8]) -> Option<usize>
     ensures { result ≡ position is_other text.now }
 {
@@ -110,7 +111,7 @@ pub(crate) fn skip_blank(text: &[u8]) -> (&[u8], &[u8])
     }
 }
 
-/// Splits a text into its first word and the rest.
+/// Splits a text into the bytes before its first white space, and the rest.
 pub(crate) fn cut_word(text: &[u8]) -> (&[u8], &[u8])
     ensures parts { text.now ≡ result.0.now ++ result.1.now }
     ensures word { All (λ b. is_space b ≡ false) result.0.now }

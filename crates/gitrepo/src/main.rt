@@ -2,8 +2,8 @@
 //!
 //! # Proved
 //!
-//! The program terminates without panics, overflows or reads out of bounds, whatever the arguments
-//! and files contain, and whatever the peers send.
+//! The program terminates without panics, overflows or reads out of bounds, for any arguments,
+//! files and bytes from peers.
 //!
 //! # Only tested
 //!
@@ -12,8 +12,8 @@
 //!
 //! # What the contracts do not rule out
 //!
-//! The contracts say nothing more, because no contract can describe a file, a stream or a socket of
-//! the system.
+//! The contracts say nothing more, because no contract can describe a file, a stream or a socket
+//! of the system.
 //!
 //! # Dependencies
 //!

@@ -4,7 +4,7 @@ use Rattle.gitrepository.specs.declared.folder.PackFileStage.{PackFileStage}
 use Rattle.gitrepository.specs.declared.memory_folder.PackFile.{PackFile}
 use Rattle.gitrepository.specs.declared.memory_folder.PackFile.TheVariants.{Index, Pack}
 
--- the arrival of a pack or of its index in a folder
+-- the arrival of this file in a folder
 abbrev pub file_of : {A : Type 0} → PackFile A → Arrival
 file_of (Pack bytes) = PackComes bytes.items
 file_of (Index bytes) = IndexComes bytes.items

@@ -24,25 +24,28 @@ use std::marker::Model;
 // MiB. Without this limit, a small pack of deltas could use up all memory.
 const MAX_KEPT: usize = 117_440_512;
 
-// The numbers of bytes of memory that are counted for each named id, for each commit or tag, and
-// for each parent. Spare table slots and allocator overhead are included.
+// The number of bytes of memory that are counted for each named id. Spare table slots and allocator
+// overhead are included.
 const NEED_BYTES: usize = 56;
 
+// The number of bytes of memory that are counted for each commit or tag.
 const ENTRY_BYTES: usize = 96;
 
+// The number of bytes of memory that are counted for each parent.
 const PARENT_BYTES: usize = 34;
 
-// The lengths of the tree line and of a parent line of a commit.
+// The length of the tree line of a commit.
 const TREE_LINE: usize = 46;
 
+// The length of a parent line of a commit.
 const PARENT_LINE: usize = 48;
 
-// The maximum size of a commit, a tree or a tag: 64 MiB. A tree of this size has two million
-// entries.
-const MAX_LINKING: usize = 67_108_864;
+// The maximum size of a commit, a tree or a tag: 64 MiB. A tree of this size has about two
+// million entries.
+const MAX_NON_BLOB: usize = 67_108_864;
 
-/// The objects of an incoming pack read so far, and the objects that they name. Contracts treat an
-/// `Arrival` as the list of its graph entries.
+/// The objects read so far from an incoming pack, and the objects that they name. Contracts treat
+/// an `Arrival` as the list of its graph entries.
 #[derive(Drop)]
 pub(crate) struct Arrival<A: Allocator + Copy> {
     alloc: A,
@@ -102,7 +105,7 @@ impl<A: Allocator + Copy> Arrival<A> {
         self.fault = Some(fault);
     }
 
-    /// Checks that each object that the pack's objects name is in the pack or in the store, with
+    /// Checks that each object named by an object of the pack is in the pack or in the store, with
     /// the expected type. Returns the graph entries of the pack.
     pub(crate) fn into_entries<F: ObjectFiles>(
         self,
@@ -135,7 +138,7 @@ impl<A: Allocator + Copy> Arrival<A> {
     }
 
     // Records an object, and the objects that it names.
-    fn learn(
+    fn record_object(
         &mut self,
         tips: &Tips<A>,
         id: &Oid,
@@ -147,7 +150,7 @@ impl<A: Allocator + Copy> Arrival<A> {
         self.need_links(id, kind, body)?;
         match kind {
             ObjectType::Commit => self.push_object(id, kind, body),
-            ObjectType::Tag => self.learn_tag(id, body),
+            ObjectType::Tag => self.record_tag(id, body),
             ObjectType::Tree | ObjectType::Blob if tips.contains(id) => {
                 self.push_object(id, kind, body)
             }
@@ -155,8 +158,8 @@ impl<A: Allocator + Copy> Arrival<A> {
         }
     }
 
-    // Adds the entry of a tag, then the entry of the tree or blob that the tag names.
-    fn learn_tag(&mut self, id: &Oid, body: &[u8]) -> Result<(), RepositoryFault<A>>
+    // Adds the entry of a tag. If the tag names a tree or blob, also adds the entry of that object.
+    fn record_tag(&mut self, id: &Oid, body: &[u8]) -> Result<(), RepositoryFault<A>>
         requires { id_of types.Tag body.now ≡ id.now }
     {
         self.push_object(id, ObjectType::Tag, body)?;
@@ -174,13 +177,13 @@ impl<A: Allocator + Copy> Arrival<A> {
         kind: ObjectType,
         body: &[u8],
     ) -> Result<(), RepositoryFault<A>> {
-        if kind != ObjectType::Blob && body.len() > MAX_LINKING {
+        if kind != ObjectType::Blob && body.len() > MAX_NON_BLOB {
             return Err(RepositoryFault::Pack(PackFileFault::TooLarge));
         }
         match kind {
             ObjectType::Blob => Ok(()),
             ObjectType::Tree => self.need_entries(id, body),
-            ObjectType::Commit if has_many_parents(body) => {
+            ObjectType::Commit if has_too_many_parents(body) => {
                 Err(RepositoryFault::object_fault(id, ObjectCause::Parents))
             }
             ObjectType::Commit | ObjectType::Tag => self.need_all(id, kind, body),
@@ -292,7 +295,7 @@ fn bytes_of(kind: ObjectType, links: usize) -> usize {
 
 // Returns whether a commit has more parent lines than a graph allows. Lines of the commit message
 // do not count.
-fn has_many_parents(commit: &[u8]) -> bool {
+fn has_too_many_parents(commit: &[u8]) -> bool {
     (0..MAX_PARENTS.saturating_add(1)).all(|number| is_parent_line(commit, number))
 }
 
@@ -305,8 +308,8 @@ fn is_parent_line(commit: &[u8], number: usize) -> bool {
     }
 }
 
-// Returns the entry of the tree or blob that a tag names, or `None` if the tag names a commit or a
-// tag.
+// Returns the graph entry for the tree or blob that a tag names, or `None` if the tag names a
+// commit or a tag.
 fn named_leaf<A: Allocator + Copy>(alloc: A, tag: &[u8]) -> Option<Entry<A>>
     ensures { IfSome result (λ entry. (entries : List (Entry A))
         → Holds entries (id_of types.Tag tag.now) → IsRead entries entry) }
@@ -361,8 +364,7 @@ impl<'a, 'r, 't, 'f, F: ObjectFiles, A: Allocator + Copy> Inspector<'a, 'r, 't, 
         self.arrival.take_fault()
     }
 
-    // Compares an object of the pack with the stored object of the same id, if the store has such
-    // an object.
+    // Compares an object of the pack with the stored object of the same id, if the store has one.
     fn compare(
         &mut self,
         id: &Oid,
@@ -373,7 +375,7 @@ impl<'a, 'r, 't, 'f, F: ObjectFiles, A: Allocator + Copy> Inspector<'a, 'r, 't, 
             return Ok(());
         };
         match self.reader.read_found(id, found)? {
-            Some(own) if own.kind != kind || own.body.as_slice() != body => {
+            Some(stored) if stored.kind != kind || stored.body.as_slice() != body => {
                 Err(RepositoryFault::object_fault(id, ObjectCause::Differs))
             }
             _ => Ok(()),
@@ -385,7 +387,7 @@ impl<'a, 'r, 't, 'f, F: ObjectFiles, A: Allocator + Copy> Inspector<'a, 'r, 't, 
         requires { id_of kind body.now ≡ id.now }
     {
         self.compare(id, kind, body)?;
-        self.arrival.learn(self.tips, id, kind, body)
+        self.arrival.record_object(self.tips, id, kind, body)
     }
 }
 

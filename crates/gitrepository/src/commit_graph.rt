@@ -15,13 +15,13 @@ use std::alloc::{AllocError, Allocator};
 // The maximum total size of the files of a commit-graph: 512 MiB.
 const MAX_FILES: usize = 536_870_912;
 
-// The maximum size of the file `commit-graph-chain`: 1,024 lines.
+// The maximum size of the file `commit-graph-chain`: 1,024 lines of 41 bytes.
 const MAX_CHAIN: usize = 41_984;
 
 /// Reads the commit-graph of a Git directory from the file `objects/info/commit-graph`. If that
-/// file cannot be used, the chain below `objects/info/commit-graphs` is read. The chain ends before
-/// the first file that is missing, too large or malformed. If `core.commitGraph` is off
-/// (git-config(1)), the commit-graph has no commits.
+/// file cannot be used, reads the commit-graph chain in `objects/info/commit-graphs`. Reading the
+/// chain stops before the first file that is missing, too large or malformed. If `core.commitGraph`
+/// is false (git-config(1)), the returned commit-graph has no commits.
 ///
 /// Fails only if out of memory.
 pub fn read_commit_graph<F: ObjectFiles, A: Allocator + Copy>(
@@ -91,10 +91,10 @@ fn add_file<F: ObjectFiles, A: Allocator + Copy>(
     files: &F,
     alloc: A,
     path: &str,
-    most: usize,
+    max_size: usize,
     commits: &mut CommitGraph<A>,
 ) -> Result<Option<usize>, AllocError> {
-    let Some(bytes) = read_file(files, alloc, path, most)? else {
+    let Some(bytes) = read_file(files, alloc, path, max_size)? else {
         return Ok(None);
     };
     let length = bytes.len();
@@ -110,9 +110,9 @@ fn read_file<F: ObjectFiles, A: Allocator + Copy>(
     files: &F,
     alloc: A,
     path: &str,
-    most: usize,
+    max_size: usize,
 ) -> Result<Option<Vec<u8, A>>, AllocError> {
-    match files.read(alloc, path, most) {
+    match files.read(alloc, path, max_size) {
         Ok(bytes) => Ok(bytes),
         Err(Cause::Memory) => Err(AllocError),
         Err(_) => Ok(None),

@@ -47,7 +47,7 @@ impl PackCounts {
 }
 
 /// The next entry to send: its form, the size of its inflated stream, and a buffer. The zlib stream
-/// extends from offset `from` to the end of the buffer.
+/// extends from offset `from` to the end of the buffer `bytes`.
 #[derive(Drop)]
 pub(crate) struct NextEntry<A: Allocator + Copy> {
     pub(crate) form: EntryForm,
@@ -71,8 +71,8 @@ struct Packed {
     path: PathHash,
 }
 
-// An object to deflate again: its id, the hash of its path, and the number of objects to deflate
-// again that were found before this object.
+// An object to deflate again: its id, the hash of its path, and its index in the unsorted list of
+// objects to deflate again.
 #[derive(Clone, Copy, Drop)]
 struct ToDeflate {
     id: Oid,
@@ -80,16 +80,16 @@ struct ToDeflate {
     number: usize,
 }
 
-// The progress through the packs: the number of the current pack, and how many of its entries were
-// examined.
+// The progress through the stored packs: the index of the current pack, and how many of its entries
+// were examined.
 #[derive(Clone, Copy, Drop)]
 struct Progress {
     pack: usize,
     number: usize,
 }
 
-/// The objects to send, entry by entry. Copied pack entries are first, in pack order, followed by
-/// objects that are deflated again.
+/// The entries of an outgoing pack, built one by one. Copied entries are first, in the order of the
+/// stored packs, followed by objects that are deflated again.
 #[derive(Drop)]
 pub(crate) struct Copying<A: Allocator + Copy> {
     alloc: A,
@@ -100,16 +100,18 @@ pub(crate) struct Copying<A: Allocator + Copy> {
     // The new offset of each entry of the current pack, by the entry's position in the pack index.
     // The offset is 0 if the entry was not copied.
     starts: Vec<usize, A>,
-    // The objects to deflate again, how many of them are already deflated, and a window of the most
-    // recently deflated objects. The list `anew` is sorted once all packs have been examined.
-    anew: Vec<ToDeflate, A>,
-    renewed: usize,
+    // The objects to deflate again.
+    to_deflate: Vec<ToDeflate, A>,
+    // The number of objects of `to_deflate` that were deflated so far.
+    deflated: usize,
+    // Whether `to_deflate` is sorted, which happens once all packs have been examined.
     is_sorted: bool,
+    // The most recently deflated objects, which can be bases of new deltas.
     window: Window<A>,
 }
 
 impl<A: Allocator + Copy> Copying<A> {
-    /// Returns the objects to send, with no entry sent yet.
+    /// Returns a `Copying` of the objects to send, which has built no entry yet.
     pub(crate) fn new(alloc: A, fates: Fates<A>) -> Result<Copying<A>, AllocError> {
         Ok(Copying {
             alloc,
@@ -118,8 +120,8 @@ impl<A: Allocator + Copy> Copying<A> {
             counts: PackCounts::NONE,
             progress: Progress { pack: 0, number: 0 },
             starts: Vec::new(alloc),
-            anew: Vec::new(alloc),
-            renewed: 0,
+            to_deflate: Vec::new(alloc),
+            deflated: 0,
             is_sorted: false,
             window: Window::new(alloc),
         })
@@ -146,7 +148,7 @@ impl<A: Allocator + Copy> Copying<A> {
                 number: 0,
             };
         }
-        self.next_anew(reader)
+        self.deflate_next(reader)
     }
 
     // Returns the next entry to copy from the current pack, or `None` if no entries remain.
@@ -184,44 +186,44 @@ impl<A: Allocator + Copy> Copying<A> {
         let id = reader.store().index(pack)?.id(place)?;
         match self.fates.of(&id, Found::Packed { pack, place }) {
             Fate::Sent(path) => Some(Packed { id, place, path }),
-            Fate::Open | Fate::Left => None,
+            Fate::Undecided | Fate::NotSent => None,
         }
     }
 
-    // Returns a stored entry to be written at this offset. If the entry cannot be copied, returns
-    // `None`, and its object is deflated again later.
+    // Returns a stored entry, to be copied to this offset of the new pack. If the entry cannot be
+    // copied, returns `None`, and its object is deflated again later.
     fn copy_entry<F: ObjectFiles>(
         &mut self,
         reader: &mut ObjectReader<'_, F, A>,
         pack: usize,
         object: Packed,
-        position: usize,
+        offset: usize,
     ) -> Result<Option<NextEntry<A>>, RepositoryFault<A>> {
-        let Some(entry) = whole_entry(reader, pack, object.place)? else {
-            self.renew(object)?;
+        let Some(entry) = intact_entry(reader, pack, object.place)? else {
+            self.deflate_later(object)?;
             return Ok(None);
         };
-        let Some(form) = self.form_of(reader, pack, &entry, position) else {
-            self.renew(object)?;
+        let Some(form) = self.form_of(reader, pack, &entry, offset) else {
+            self.deflate_later(object)?;
             return Ok(None);
         };
         if let Some(slot) = self.starts.get_mut(object.place) {
-            *slot = position;
+            *slot = offset;
         }
         Ok(Some(self.reuse_entry(form, entry)))
     }
 
     // Adds a packed object to the objects to deflate again.
-    fn renew(&mut self, object: Packed) -> Result<(), RepositoryFault<A>> {
+    fn deflate_later(&mut self, object: Packed) -> Result<(), RepositoryFault<A>> {
         self.counts.renewed = self.counts.renewed.saturating_add(1);
-        self.add_anew(&object.id, object.path)
+        self.add_to_deflate(&object.id, object.path)
     }
 
-    fn add_anew(&mut self, id: &Oid, path: PathHash) -> Result<(), RepositoryFault<A>> {
-        self.anew.push(ToDeflate {
+    fn add_to_deflate(&mut self, id: &Oid, path: PathHash) -> Result<(), RepositoryFault<A>> {
+        self.to_deflate.push(ToDeflate {
             id: *id,
             path,
-            number: self.anew.len(),
+            number: self.to_deflate.len(),
         })?;
         Ok(())
     }
@@ -276,22 +278,22 @@ impl<A: Allocator + Copy> Copying<A> {
     }
 
     // Deflates the next object again, or returns `None` if no objects remain.
-    fn next_anew<F: ObjectFiles>(
+    fn deflate_next<F: ObjectFiles>(
         &mut self,
         reader: &mut ObjectReader<'_, F, A>,
     ) -> Result<Option<NextEntry<A>>, RepositoryFault<A>> {
         if !self.is_sorted {
             self.add_loose()?;
-            self.sort_anew();
+            self.sort_to_deflate();
         }
-        let Some(object) = self.anew.get(self.renewed).copied() else {
+        let Some(object) = self.to_deflate.get(self.deflated).copied() else {
             return Ok(None);
         };
-        self.renewed = self.renewed.saturating_add(1);
-        Ok(Some(self.deflated_anew(reader, &object.id)?))
+        self.deflated = self.deflated.saturating_add(1);
+        Ok(Some(self.deflate_object(reader, &object.id)?))
     }
 
-    // Adds the loose objects that are sent to `anew`, the list of objects to deflate again.
+    // Adds the loose objects that are sent to `to_deflate`, the list of objects to deflate again.
     fn add_loose(&mut self) -> Result<(), RepositoryFault<A>> {
         for number in 0..self.fates.loose_count() {
             let Some((id, fate)) = self.fates.loose_at(number) else {
@@ -299,23 +301,23 @@ impl<A: Allocator + Copy> Copying<A> {
             };
             if let Fate::Sent(path) = fate {
                 self.counts.loose = self.counts.loose.saturating_add(1);
-                self.add_anew(&id, path)?;
+                self.add_to_deflate(&id, path)?;
             }
         }
         Ok(())
     }
 
-    // Sorts the objects to deflate again, so that objects whose paths have the same ending are
-    // adjacent. A delta between two such objects is probably small.
-    fn sort_anew(&mut self) {
-        self.anew
+    // Sorts the list `to_deflate` by the hashes of the objects' paths. Objects whose paths have the
+    // same ending are then adjacent, and a delta between two of them is probably small.
+    fn sort_to_deflate(&mut self) {
+        self.to_deflate
             .sort_unstable_by_key(|object| (object.path, object.number));
         self.is_sorted = true;
     }
 
     // Returns a new entry for an object: a delta or the whole object. The id of the object is
     // checked.
-    fn deflated_anew<F: ObjectFiles>(
+    fn deflate_object<F: ObjectFiles>(
         &mut self,
         reader: &mut ObjectReader<'_, F, A>,
         id: &Oid,
@@ -354,7 +356,7 @@ impl<A: Allocator + Copy> Copying<A> {
 
 // Returns a stored entry unchanged, or `None` if the entry is broken. The store may have an intact
 // copy of the object elsewhere.
-fn whole_entry<F: ObjectFiles, A: Allocator + Copy>(
+fn intact_entry<F: ObjectFiles, A: Allocator + Copy>(
     reader: &mut ObjectReader<'_, F, A>,
     pack: usize,
     place: usize,

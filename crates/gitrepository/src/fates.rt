@@ -1,4 +1,4 @@
-//! The fates of objects. The fate of an object says whether it is sent in a pack.
+//! The fates of objects. The fate of an object states whether the object is sent in a pack.
 
 use crate::fault::RepositoryFault;
 use crate::path_hash::PathHash;
@@ -13,11 +13,11 @@ use std::hash::BuildHasherDefault;
 #[derive(Clone, Copy, Debug, PartialEq, Eq)]
 pub(crate) enum Fate {
     /// The fate is undecided.
-    Open,
+    Undecided,
     /// The object is sent, and was found at the path with this hash.
     Sent(PathHash),
     /// The object is not sent: the peer has it.
-    Left,
+    NotSent,
 }
 
 impl Fate {
@@ -25,22 +25,22 @@ impl Fate {
     pub(crate) fn is_sent(self) -> bool {
         match self {
             Fate::Sent(_) => true,
-            Fate::Open | Fate::Left => false,
+            Fate::Undecided | Fate::NotSent => false,
         }
     }
 
-    /// Returns the fate of the object that a tree names in an entry with this name. `self` is the
-    /// fate of the tree.
+    /// Returns the fate of the object in the tree entry with this name. `self` is the fate of the
+    /// tree.
     pub(crate) fn of_entry(self, name: &[u8]) -> Fate {
         match self {
             Fate::Sent(path) => Fate::Sent(path.join(name)),
-            Fate::Open | Fate::Left => self,
+            Fate::Undecided | Fate::NotSent => self,
         }
     }
 }
 
-/// The fates of all objects of a store. The fates of packed objects are listed by position in the
-/// pack index.
+/// The fates of all objects of a store. The fates of the objects of a pack are listed by position
+/// in the pack index.
 #[derive(Drop)]
 pub(crate) struct Fates<A: Allocator + Copy> {
     alloc: A,
@@ -51,7 +51,7 @@ pub(crate) struct Fates<A: Allocator + Copy> {
 }
 
 impl<A: Allocator + Copy> Fates<A> {
-    /// Returns a `Fates` in which every object is undecided.
+    /// Returns a `Fates` in which the fate of every object is undecided.
     pub(crate) fn new(alloc: A) -> Fates<A> {
         Fates {
             alloc,
@@ -70,25 +70,25 @@ impl<A: Allocator + Copy> Fates<A> {
     pub(crate) fn of(&self, id: &Oid, found: Found) -> Fate {
         match found {
             Found::Packed { pack, place } => match self.packed.get(pack) {
-                Some(fates) => fates.get(place).copied().unwrap_or(Fate::Open),
-                None => Fate::Open,
+                Some(fates) => fates.get(place).copied().unwrap_or(Fate::Undecided),
+                None => Fate::Undecided,
             },
             Found::Loose => self.of_loose(id),
         }
     }
 
-    /// Returns the fate of an object that was found loose. The result is the same if Git packs the
-    /// object later.
+    /// Returns the fate that was set for this object while the object was loose, or `Undecided` if
+    /// none was set. Git may have packed the object since then.
     pub(crate) fn of_loose(&self, id: &Oid) -> Fate {
         // This early return avoids hashing the id if there are no loose objects.
         if self.loose.is_empty() {
-            return Fate::Open;
+            return Fate::Undecided;
         }
-        self.loose.get(id).copied().unwrap_or(Fate::Open)
+        self.loose.get(id).copied().unwrap_or(Fate::Undecided)
     }
 
-    /// Returns the id and the fate of the decided loose object with this number, or `None` past the
-    /// last object.
+    /// Returns the id and the fate at this index in the list of loose objects with decided fates.
+    /// Returns `None` if the index is out of range.
     pub(crate) fn loose_at(&self, number: usize) -> Option<(Oid, Fate)> {
         match self.loose.get_index(number) {
             Some((id, fate)) => Some((*id, *fate)),
@@ -96,12 +96,12 @@ impl<A: Allocator + Copy> Fates<A> {
         }
     }
 
-    /// Returns the number of decided loose objects.
+    /// Returns the number of loose objects with decided fates.
     pub(crate) fn loose_count(&self) -> usize {
         self.loose.len()
     }
 
-    /// Sets the fate of the object at this location. The fate must be undecided.
+    /// Sets the fate of the object at this location. The old fate must be undecided.
     pub(crate) fn settle<F: ObjectFiles>(
         &mut self,
         store: &ObjectStore<'_, F, A>,
@@ -144,7 +144,7 @@ impl<A: Allocator + Copy> Fates<A> {
             }
             let mut fates = Vec::new(self.alloc);
             if let Some(index) = store.index(number) {
-                fates.resize(index.len(), Fate::Open)?;
+                fates.resize(index.len(), Fate::Undecided)?;
             }
             self.packed.push(fates)?;
         }

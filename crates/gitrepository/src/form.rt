@@ -9,7 +9,7 @@ use std::alloc::{AllocError, Allocator};
 const MAX_CONFIG: usize = 1_048_576;
 
 // The names of the extensions that do not affect this crate.
-const KNOWN: [&[u8]; 5] = [
+const IGNORED_EXTENSIONS: [&[u8]; 5] = [
     b"noop",
     b"noop-v1",
     b"preciousobjects",
@@ -18,14 +18,15 @@ const KNOWN: [&[u8]; 5] = [
 ];
 
 // The values that mean false (git-config(1), "Values").
-const NO: [&[u8]; 5] = [b"", b"false", b"no", b"off", b"0"];
+const FALSE_VALUES: [&[u8]; 5] = [b"", b"false", b"no", b"off", b"0"];
 
 /// Opens the objects of the Git directory with this path, including its alternates. Refuses a
 /// shallow repository, a partial clone, and a repository with SHA-256 ids or a reftable. Also
 /// refuses a repository whose configuration names an unknown version, or an unknown extension of
 /// version 1 (git-config(1), "core.repositoryFormatVersion", "extensions").
 ///
-/// Fails with `Form` if the format is unsupported. Other faults are those of [`ObjectStore::open`].
+/// Fails with `Form` if the format is unsupported. Also fails for the same reasons as
+/// [`ObjectStore::open`].
 pub fn open_store<'f, F: ObjectFiles, A: Allocator + Copy>(
     files: &'f F,
     alloc: A,
@@ -128,7 +129,7 @@ fn last_flag<A: Allocator + Copy>(settings: &[Setting<A>], name: &[u8]) -> Optio
     let mut flag = None;
     for setting in settings {
         if is_of_core(setting, name) {
-            flag = Some(!is_no(setting));
+            flag = Some(!is_false(setting));
         }
     }
     flag
@@ -139,11 +140,11 @@ fn is_of_core<A: Allocator + Copy>(setting: &Setting<A>, name: &[u8]) -> bool {
 }
 
 // Returns whether a Boolean setting is false. A setting without a value is true.
-fn is_no<A: Allocator + Copy>(setting: &Setting<A>) -> bool {
+fn is_false<A: Allocator + Copy>(setting: &Setting<A>) -> bool {
     match &setting.value {
-        Some(value) => NO
+        Some(value) => FALSE_VALUES
             .iter()
-            .any(|no| value.as_slice().eq_ignore_ascii_case(*no)),
+            .any(|text| value.as_slice().eq_ignore_ascii_case(*text)),
         None => false,
     }
 }
@@ -162,7 +163,7 @@ fn check_shallow<F: ObjectFiles, A: Allocator + Copy>(
     }
 }
 
-// Refuses a partial clone, which has packs of promised objects (git-index-pack(1), `--promisor`).
+// Refuses a partial clone, which has promisor packs (git-index-pack(1), `--promisor`).
 fn check_promisors<F: ObjectFiles, A: Allocator + Copy>(
     files: &F,
     alloc: A,
@@ -215,7 +216,7 @@ fn is_version<A: Allocator + Copy>(setting: &Setting<A>) -> bool {
 
 fn has_value<A: Allocator + Copy>(setting: &Setting<A>, value: &[u8]) -> bool {
     match &setting.value {
-        Some(own) => own.as_slice() == value,
+        Some(actual) => actual.as_slice() == value,
         None => false,
     }
 }
@@ -248,12 +249,12 @@ fn extension_fault<A: Allocator + Copy>(
         b"refstorage" if has_value(setting, b"files") => None,
         b"refstorage" => Some(FormFault::RefStorage),
         b"partialclone" => Some(FormFault::PartialClone),
-        name if !is_version_1 || is_known(name) => None,
+        name if !is_version_1 || is_ignorable(name) => None,
         _ => Some(FormFault::Extension),
     }
 }
 
-// Returns whether the extension with this name does not affect this crate.
-fn is_known(name: &[u8]) -> bool {
-    KNOWN.iter().any(|known| *known == name)
+// Returns whether the extension with this name can be ignored.
+fn is_ignorable(name: &[u8]) -> bool {
+    IGNORED_EXTENSIONS.iter().any(|ignored| *ignored == name)
 }

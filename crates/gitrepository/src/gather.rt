@@ -31,7 +31,7 @@ struct Tree {
     fate: Fate,
 }
 
-/// The fates of objects decided so far.
+/// The fates of objects decided so far, and a reader of the store.
 #[derive(Drop)]
 pub(crate) struct Gathering<'r, 'f, F: ObjectFiles, A: Allocator + Copy> {
     alloc: A,
@@ -42,7 +42,7 @@ pub(crate) struct Gathering<'r, 'f, F: ObjectFiles, A: Allocator + Copy> {
 }
 
 impl<'r, 'f, F: ObjectFiles, A: Allocator + Copy> Gathering<'r, 'f, F, A> {
-    /// Returns a `Gathering` in which every object is undecided. If `is_strict` is set, the id and
+    /// Returns a `Gathering` in which no fate is decided. If `is_strict` is set, the id and
     /// the type of each object are checked.
     pub(crate) fn new(
         reader: &'r mut ObjectReader<'f, F, A>,
@@ -81,8 +81,8 @@ impl<'r, 'f, F: ObjectFiles, A: Allocator + Copy> Gathering<'r, 'f, F, A> {
         Ok(())
     }
 
-    // Marks the unlisted parents of listed commits, and the trees and blobs that they reach, as not
-    // sent. The peer has all of them.
+    // Marks the unlisted parents of listed commits, and the trees and blobs that these parents
+    // reach, as not sent, because the peer has them.
     fn leave_out_parents(&mut self, entries: &[Entry<A>]) -> Result<(), RepositoryFault<A>> {
         for entry in entries {
             self.leave_out(entry.node.parents.as_slice())?;
@@ -92,8 +92,8 @@ impl<'r, 'f, F: ObjectFiles, A: Allocator + Copy> Gathering<'r, 'f, F, A> {
 
     fn leave_out(&mut self, parents: &[Oid]) -> Result<(), RepositoryFault<A>> {
         for id in parents {
-            if let Some(_) = self.settle(id, Fate::Left)? {
-                self.walk_from(id, Fate::Left)?;
+            if let Some(_) = self.settle(id, Fate::NotSent)? {
+                self.walk_from(id, Fate::NotSent)?;
             }
         }
         Ok(())
@@ -123,19 +123,19 @@ impl<'r, 'f, F: ObjectFiles, A: Allocator + Copy> Gathering<'r, 'f, F, A> {
     // Sets the fate of an undecided object, and returns its location. Returns `None` if the fate
     // was already decided.
     fn settle(&mut self, id: &Oid, fate: Fate) -> Result<Option<Found>, RepositoryFault<A>> {
-        if self.fates.of_loose(id) != Fate::Open {
+        if self.fates.of_loose(id) != Fate::Undecided {
             return Ok(None);
         }
         let found = self.locate(id)?;
-        if self.fates.of(id, found) != Fate::Open {
+        if self.fates.of(id, found) != Fate::Undecided {
             return Ok(None);
         }
         self.fates.settle(self.reader.store(), (id, found), fate)?;
         Ok(Some(found))
     }
 
-    // Decides the fates of all objects that a tree, or the tree of a commit, reaches. The object
-    // that a tag names is skipped, because it is also in the list.
+    // Decides the fates of all objects that a tree, or the tree of a commit, reaches. Skips the
+    // object that a tag names, because the caller adds that object separately.
     fn walk_from(&mut self, id: &Oid, fate: Fate) -> Result<(), RepositoryFault<A>> {
         let object = self.read_object(id)?;
         let body = object.body.as_slice();
@@ -152,7 +152,7 @@ impl<'r, 'f, F: ObjectFiles, A: Allocator + Copy> Gathering<'r, 'f, F, A> {
         self.walk_trees(trees)
     }
 
-    // Checks the object that a tag names, if `is_strict` is set.
+    // Checks the id and the type of the object that a tag names, if `is_strict` is set.
     fn check_tag(&mut self, id: &Oid, body: &[u8]) -> Result<(), RepositoryFault<A>> {
         if !self.is_strict {
             return Ok(());

@@ -14,11 +14,11 @@ use gname::Oid;
 use std::alloc::Allocator;
 use std::cell::RefCell;
 
-/// An indexer of packs that a Git directory receives. The indexer keeps the last received pack.
+/// An indexer of packs that a Git directory receives. The indexer keeps the last accepted pack.
 ///
-/// Each object is inflated, and its id is computed. Each object to which an object of the pack
-/// refers must be in the pack or in the store, with the expected type. If the store already has an
-/// object with the same id, both must have the same bytes.
+/// Each object is inflated, and its id is computed. Each object named by an object of the pack must
+/// be in the pack or in the store, with the expected type. If the store already has an object with
+/// the id of an object of the pack, both must have the same type and bytes.
 ///
 /// A pack is too large if it has more than 1,048,576 objects. The maximum size of an object is 256
 /// MiB, less 224 bytes for each object of the pack. The same maximum applies to the total size of a
@@ -48,7 +48,7 @@ where
     A: Allocator + Copy,
 {
     /// Returns an indexer of packs that the reader's store receives. A tree or blob in a pack
-    /// becomes a leaf of the graph if a ref of the peer points to it.
+    /// becomes an entry without parents if a ref of the peer points to this object.
     pub fn new(
         reader: ObjectReader<'f, F, A>,
         tips: &'t Tips<A>,
@@ -94,7 +94,8 @@ where
         }
     }
 
-    // Returns the type of an object of the last pack, or `None` if the pack lacks the object.
+    // Returns the type of an object of the last accepted pack, or `None` if the pack lacks the
+    // object.
     fn received_kind(&self, id: &Oid) -> Option<ObjectType> {
         match self.received.try_borrow() {
             Ok(received) => match &*received {

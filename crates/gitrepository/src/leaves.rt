@@ -25,7 +25,7 @@ pub fn add_leaves<F: ObjectFiles, A: Allocator + Copy>(
     tips: &Tips<A>,
 ) -> Result<(), RepositoryFault<A>> {
     for id in tips.as_slice() {
-        if !graph.contains(id) && is_leaf(reader, id)? && is_whole(reader, id)? {
+        if !graph.contains(id) && is_leaf(reader, id)? && is_complete(reader, id)? {
             add_leaf(reader, graph, id)?;
         }
     }
@@ -45,7 +45,7 @@ fn is_leaf<F: ObjectFiles, A: Allocator + Copy>(
 
 // Returns whether the store has everything that an object reaches. A killed fetch may have stored a
 // tree without some of the blobs that it names.
-fn is_whole<F: ObjectFiles, A: Allocator + Copy>(
+fn is_complete<F: ObjectFiles, A: Allocator + Copy>(
     reader: &mut ObjectReader<'_, F, A>,
     id: &Oid,
 ) -> Result<bool, RepositoryFault<A>> {

@@ -72,7 +72,7 @@ fn is_taken<A: Allocator + Copy>(refs: &Refs<A>, prefix: &str) -> bool {
         .any(|pair| pair.0.as_bytes().starts_with(prefix.as_bytes()))
 }
 
-// Adds refs to the newest objects, with names that begin with the prefix.
+// Adds refs that point to the newest objects, with names that begin with the prefix.
 fn put_newest<A: Allocator + Copy>(
     graph: &Graph<A>,
     leading: &mut Refs<A>,
@@ -91,7 +91,7 @@ fn put_newest<A: Allocator + Copy>(
     Ok(())
 }
 
-// Adds a ref with this name to an object.
+// Adds a ref with this name that points to an object.
 fn put_named<A: Allocator + Copy>(
     graph: &Graph<A>,
     refs: &mut Refs<A>,
@@ -107,7 +107,7 @@ fn put_named<A: Allocator + Copy>(
     }
 }
 
-// Adds a ref to an object, if the graph holds it.
+// Adds a ref that points to an object, if the graph holds the object.
 fn put<A: Allocator + Copy>(
     graph: &Graph<A>,
     refs: &mut Refs<A>,
@@ -156,11 +156,11 @@ fn height_at<A: Allocator + Copy>(graph: &Graph<A>, heights: &[usize], place: us
     let Some((_id, node)) = graph.at(place) else {
         return 0;
     };
-    let mut below: usize = 0;
+    let mut highest: usize = 0;
     for parent in node.parents.as_slice() {
-        below = below.max(height_of(graph, heights, parent));
+        highest = highest.max(height_of(graph, heights, parent));
     }
-    below.saturating_add(1)
+    highest.saturating_add(1)
 }
 
 // Returns the height of the object with this id, or 0 if the height is unknown.

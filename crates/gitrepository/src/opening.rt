@@ -65,7 +65,7 @@ fn graph_of<F: ObjectFiles, A: Allocator + Copy>(
 {
     let mut history = History::new(reader.store().allocator(), commits);
     for pair in refs.as_slice() {
-        if is_there(reader, &pair.1)? {
+        if is_stored(reader, &pair.1)? {
             history.add(reader, &pair.1)?;
         }
     }
@@ -75,9 +75,9 @@ fn graph_of<F: ObjectFiles, A: Allocator + Copy>(
     history.into_graph()
 }
 
-// Returns whether an object exists. Reading a missing object lists the packs again, because Git may
-// have packed the object meanwhile.
-fn is_there<F: ObjectFiles, A: Allocator + Copy>(
+// Returns whether an object exists. If the object is not found at first, `read` lists the packs
+// again, because Git may have packed the object meanwhile.
+fn is_stored<F: ObjectFiles, A: Allocator + Copy>(
     reader: &mut ObjectReader<'_, F, A>,
     id: &Oid,
 ) -> Result<bool, RepositoryFault<A>> {

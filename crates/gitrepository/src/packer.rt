@@ -19,8 +19,8 @@ use std::cell::{Cell, RefCell};
 ///
 /// A pack contains the listed commits and tags. A pack also contains the trees and blobs that these
 /// commits reach, unless a parent outside the list reaches them. The stream of a stored pack entry
-/// is copied unchanged if the entry is whole, or is a delta whose base is also sent. Other objects
-/// are deflated again, as new deltas against each other if the deltas are small.
+/// is copied unchanged if the entry is undeltified, or is a delta whose base is also sent. Other
+/// objects are deflated again, as new deltas against each other if the deltas are small.
 #[derive(Drop)]
 pub struct StorePacker<'f, F: ObjectFiles, A: Allocator + Copy> {
     reader: RefCell<ObjectReader<'f, F, A>>,

@@ -29,8 +29,8 @@ struct Tag {
 /// directly to that object.
 ///
 /// Returns `None` if an object is missing or unreadable, if there are too many objects, or if
-/// `packed-refs` contradicts itself or a tag that was read. The caller must then open the
-/// repository. Fails only if out of memory.
+/// `packed-refs` contradicts itself or a tag that was read. The caller must then call
+/// [`crate::open_repository`] or [`crate::open_refs`]. Fails only if out of memory.
 pub fn open_tips<F: ObjectFiles, A: Allocator + Copy>(
     reader: &mut QuickReader<'_, F, A>,
     peels: &PackedPeels<A>,
@@ -43,7 +43,7 @@ pub fn open_tips<F: ObjectFiles, A: Allocator + Copy>(
     let alloc = reader.allocator();
     let peels = held_peels(reader, peels)?;
     let mut graph = Graph::new(alloc);
-    graph.make_room(peels.fronts.len());
+    graph.make_room(peels.prefixes.len());
     for pair in listed.as_slice() {
         if !add_tip(&mut graph, reader, &peels, &pair.1)? {
             return Ok(None);
@@ -64,8 +64,8 @@ pub fn open_tips<F: ObjectFiles, A: Allocator + Copy>(
 #[derive(Drop)]
 struct HeldPeels<A: Allocator + Copy> {
     peels: Vec<(Oid, Peel), A>,
-    // The first eight bytes of each object's id, as a number.
-    fronts: Vec<u64, A>,
+    // The first eight bytes of each object's id as a number, in the order of `peels`.
+    prefixes: Vec<u64, A>,
 }
 
 impl<A: Allocator + Copy> HeldPeels<A> {
@@ -73,7 +73,7 @@ impl<A: Allocator + Copy> HeldPeels<A> {
     // search can also miss an object if two ids begin with the same eight bytes. The caller then
     // reads the object.
     fn get(&self, id: &Oid) -> Option<Peel> {
-        let place = self.fronts.binary_search(&front_of(id)).ok()?;
+        let place = self.prefixes.binary_search(&prefix_of(id)).ok()?;
         match self.peels.get(place) {
             Some(pair) if pair.0 == *id => Some(pair.1),
             _ => None,
@@ -86,8 +86,8 @@ impl<A: Allocator + Copy> HeldPeels<A> {
     }
 }
 
-// Looks up the objects of `packed-refs` in the order of their ids, so that each part of an index is
-// read once.
+// Returns those entries of `peels` whose objects are in the store. Looks up the objects in the
+// order of their ids, so that each part of a pack index is read once.
 fn held_peels<F: ObjectFiles, A: Allocator + Copy>(
     reader: &mut QuickReader<'_, F, A>,
     peels: &PackedPeels<A>,
@@ -100,20 +100,21 @@ fn held_peels<F: ObjectFiles, A: Allocator + Copy>(
             peels.push(*pair)?;
         }
     }
-    let fronts = peels.iter().map(|pair| front_of(&pair.0)).collect(alloc)?;
-    Ok(HeldPeels { peels, fronts })
+    let prefixes = peels.iter().map(|pair| prefix_of(&pair.0)).collect(alloc)?;
+    Ok(HeldPeels { peels, prefixes })
 }
 
 // Returns the first eight bytes of an id as a big-endian number. Numbers are compared faster than
 // ids.
-fn front_of(id: &Oid) -> u64 {
+fn prefix_of(id: &Oid) -> u64 {
     match id.as_bytes().first_chunk::<8>() {
-        Some(front) => u64::from_be_bytes(*front),
+        Some(prefix) => u64::from_be_bytes(*prefix),
         None => 0,
     }
 }
 
-// Adds the object with this id, and its peeled object. Returns whether the objects were found.
+// Adds the object with this id, and its peeled object. Returns `false` if an object is missing or
+// malformed, or cannot be added.
 fn add_tip<F: ObjectFiles, A: Allocator + Copy>(
     graph: &mut Graph<A>,
     reader: &mut QuickReader<'_, F, A>,
@@ -138,7 +139,7 @@ fn add_tip<F: ObjectFiles, A: Allocator + Copy>(
     }
 }
 
-// Returns the peeled object of a tag, or `None` if the object is not a tag.
+// Returns the id of a tag's peeled object, or `None` if the object with this `Peel` is not a tag.
 fn peel_target(peel: &Peel) -> Option<Oid> {
     match peel {
         Peel::Itself => None,
@@ -146,8 +147,8 @@ fn peel_target(peel: &Peel) -> Option<Oid> {
     }
 }
 
-// Adds an object and its peeled object. Reads the object, because `packed-refs` does not determine
-// the peeled object.
+// Adds an object, the tags that it leads to, and its peeled object. Reads these objects. Returns
+// `false` if an object is missing or malformed, or cannot be added.
 fn add_read<F: ObjectFiles, A: Allocator + Copy>(
     graph: &mut Graph<A>,
     reader: &mut QuickReader<'_, F, A>,
@@ -174,7 +175,7 @@ fn add_read<F: ObjectFiles, A: Allocator + Copy>(
     Ok(false)
 }
 
-// Returns the object that a tag names, or `None` if the tag cannot be read or is malformed.
+// Returns the id of the object that a tag names, or `None` if the tag is unreadable or malformed.
 fn target_of<F: ObjectFiles, A: Allocator + Copy>(
     reader: &mut QuickReader<'_, F, A>,
     id: &Oid,
@@ -188,7 +189,8 @@ fn target_of<F: ObjectFiles, A: Allocator + Copy>(
     }
 }
 
-// Adds a chain of tags, from the last tag to the first.
+// Adds these tags to the graph, the last tag first, so that each tag follows its target. Returns
+// `false` if a tag cannot be added.
 fn add_tags<A: Allocator + Copy>(
     graph: &mut Graph<A>,
     tags: Vec<Tag, A>,
@@ -202,8 +204,7 @@ fn add_tags<A: Allocator + Copy>(
     Ok(true)
 }
 
-// Adds a tag. Returns false if the graph already has another node for its id, or cannot hold the
-// tag.
+// Adds a tag. Returns `false` if the graph already has another node for the tag's id, or is full.
 fn add_tag<A: Allocator + Copy>(
     graph: &mut Graph<A>,
     tag: Tag,
@@ -213,8 +214,8 @@ fn add_tag<A: Allocator + Copy>(
     add(graph, &tag.id, Node { kind, parents })
 }
 
-// Adds an object that is not a tag. Returns false if the graph already has another node for its id,
-// or cannot hold the object.
+// Adds an object that is not a tag. Returns `false` if the graph already has another node for the
+// object's id, or is full.
 fn add_leaf<A: Allocator + Copy>(
     graph: &mut Graph<A>,
     id: &Oid,

@@ -1,4 +1,4 @@
-//! Places where received packs are spooled.
+//! Spools of received packs, in memory or in files.
 
 ghost use Rattle.std.specs.Prelude.{◌≡◌, []};
 
@@ -7,7 +7,7 @@ use gitpack::Spool;
 use std::alloc::Allocator;
 use std::fs::Files;
 
-/// A place where received packs are spooled.
+/// A type that opens spools. A spool stores the bytes of a received pack.
 pub trait PackSpools {
     /// The spool of a pack.
     type Spool: Spool + Drop;
@@ -17,13 +17,14 @@ pub trait PackSpools {
         ensures { Self.Spool.bytes result ≡ [] };
 }
 
-/// Memory, where each received pack is a vector.
+/// Spools in memory. Each received pack is stored in a vector.
 #[derive(Clone, Copy, Drop)]
 pub struct MemorySpools<A: Allocator + Copy> {
     alloc: A,
 }
 
-/// The folder of packs of a Git directory, where each received pack is a temporary file.
+/// Spools in the folder of packs of a Git directory. Each received pack is stored in a temporary
+/// file.
 #[derive(Clone, Copy, Drop)]
 pub struct StoredSpools<'r, R: Files, A: Allocator + Copy> {
     alloc: A,
@@ -32,14 +33,14 @@ pub struct StoredSpools<'r, R: Files, A: Allocator + Copy> {
 }
 
 impl<A: Allocator + Copy> MemorySpools<A> {
-    /// Returns the memory of this allocator.
+    /// Returns a `MemorySpools` whose spools use this allocator.
     pub fn new(alloc: A) -> MemorySpools<A> {
         MemorySpools { alloc }
     }
 }
 
 impl<'r, R: Files, A: Allocator + Copy> StoredSpools<'r, R, A> {
-    /// Returns the folder of packs of this Git directory.
+    /// Returns a `StoredSpools` for the folder of packs of this Git directory.
     pub fn new(alloc: A, files: &'r R, git_dir: &'r str) -> StoredSpools<'r, R, A> {
         StoredSpools {
             alloc,

@@ -12,14 +12,14 @@ use std::io;
 use std::io::ErrorKind;
 
 /// The spool of a received pack: a temporary file in the folder of packs of a Git directory. The
-/// file is created when the first piece arrives. If the pack is not installed, the file is removed
+/// file is created when the first bytes arrive. If the pack is not installed, the file is removed
 /// when the spool is dropped.
 #[derive(Drop)]
 pub struct StoredSpool<'r, R: Files, A: Allocator + Copy> {
     alloc: A,
     files: &'r R,
     git_dir: &'r str,
-    // The file, or `None` before the first piece arrives.
+    // The file, or `None` before the first bytes arrive.
     file: Option<Temporary<'r, R, A>>,
     length: usize,
     written: Written,
@@ -40,7 +40,7 @@ impl<'r, R: Files, A: Allocator + Copy> StoredSpool<'r, R, A> {
         }
     }
 
-    /// Returns the temporary file, or `None` if no piece arrived.
+    /// Returns the temporary file, or `None` if no bytes arrived.
     pub(crate) fn into_file(self) -> Option<Temporary<'r, R, A>> {
         self.file
     }
@@ -97,7 +97,7 @@ fn fault_of<A: Allocator + Copy>(fault: RepositoryFault<A>) -> SpoolFault {
     }
 }
 
-// Converts the system's error.
+// Converts an error of the system.
 fn fault_of_error(error: &io::Error) -> SpoolFault {
     match error.kind() {
         ErrorKind::OutOfMemory => SpoolFault::Memory,

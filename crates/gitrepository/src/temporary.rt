@@ -41,9 +41,9 @@ impl<R: Files, A: Allocator + Copy> Drop for Temporary<'_, R, A> {
 }
 
 impl<'r, R: Files, A: Allocator + Copy> Temporary<'r, R, A> {
-    /// Creates an empty file in a folder. Its name begins with `name`, and ends with random digits.
-    /// Git may remove an old temporary file (git-prune(1)), and no other process then creates a file
-    /// of the same name.
+    /// Creates an empty file in a folder. The name of the file begins with `name`, and ends with
+    /// random digits. Git may remove an old temporary file (git-prune(1)). The digits make it
+    /// unlikely that another process then creates a file with the same name.
     pub(crate) fn create(
         alloc: A,
         files: &'r R,

@@ -6,21 +6,23 @@ use gitpack::DeltaBase;
 use gname::Oid;
 use std::alloc::{AllocError, Allocator};
 
-// The maximum number of objects in the window, and their maximum total size.
+// The maximum number of objects in the window.
 const MAX_BASES: usize = 10;
 
+// The maximum total size of the objects in the window: 32 MiB.
 const MAX_BYTES: usize = 33_554_432;
 
-// The minimum and maximum size of an object in the window: 50 bytes, and 8 MiB.
-const LEAST_BODY: usize = 50;
+// The minimum size of an object in the window, in bytes.
+const MIN_SIZE: usize = 50;
 
-const MOST_BODY: usize = 8_388_608;
+// The maximum size of an object in the window: 8 MiB.
+const MAX_SIZE: usize = 8_388_608;
 
 // The maximum length of a delta chain.
 const MAX_CHAIN: usize = 50;
 
 // The length of the base id that precedes a delta.
-const BASE_ID: usize = 20;
+const BASE_ID_LENGTH: usize = 20;
 
 // The maximum ratio of the size of a base to the size of its target.
 const MAX_RATIO: usize = 32;
@@ -73,12 +75,12 @@ impl<A: Allocator + Copy> Window<A> {
         object: &Object<A>,
     ) -> Result<Option<Delta<A>>, AllocError> {
         let target = object.body.as_slice();
-        if !has_fit_size(target.len()) {
+        if !has_suitable_size(target.len()) {
             return Ok(None);
         }
         let mut best: Option<(usize, Delta<A>)> = None;
-        for less in 0..self.bases.len() {
-            let place = self.bases.len().wrapping_sub(less).wrapping_sub(1);
+        for from_end in 0..self.bases.len() {
+            let place = self.bases.len().wrapping_sub(from_end).wrapping_sub(1);
             let Some(base) = self.bases.get(place) else {
                 break;
             };
@@ -100,8 +102,8 @@ impl<A: Allocator + Copy> Window<A> {
     }
 
     /// Adds an object that was sent as this delta, or that was sent whole if `delta` is `None`. An
-    /// object of unsuitable size, or with a chain of maximum length, is not added. The oldest
-    /// objects are removed until the new object fits into the window.
+    /// object of unsuitable size, or with a chain of maximum length, is not added. The least
+    /// recently used objects are removed until the new object fits into the window.
     pub(crate) fn push(
         &mut self,
         id: &Oid,
@@ -110,7 +112,7 @@ impl<A: Allocator + Copy> Window<A> {
     ) -> Result<(), AllocError> {
         let size = object.body.len();
         let depth = depth_of(delta);
-        if !has_fit_size(size) || depth >= MAX_CHAIN {
+        if !has_suitable_size(size) || depth >= MAX_CHAIN {
             return Ok(());
         }
         self.make_room(size);
@@ -125,15 +127,15 @@ impl<A: Allocator + Copy> Window<A> {
         Ok(())
     }
 
-    // Removes the oldest objects until an object of this size fits into the window.
+    // Removes the least recently used objects until an object of this size fits into the window.
     fn make_room(&mut self, size: usize) {
         for _base in 0..MAX_BASES {
             let has_room = self.bytes.saturating_add(size) <= MAX_BYTES;
             if self.bases.is_empty() || (has_room && self.bases.len() < MAX_BASES) {
                 return;
             }
-            let first = self.bases.remove(0);
-            self.bytes = self.bytes.saturating_sub(first.body.len());
+            let removed = self.bases.remove(0);
+            self.bytes = self.bytes.saturating_sub(removed.body.len());
         }
     }
 
@@ -158,7 +160,7 @@ impl<A: Allocator + Copy> Base<A> {
         }
         let (most, depth) = match best {
             Some((_, delta)) => (delta.text.len().saturating_sub(1), delta.depth),
-            None => ((size / 2).saturating_sub(BASE_ID), 1),
+            None => ((size / 2).saturating_sub(BASE_ID_LENGTH), 1),
         };
         // The longer the delta chain, the more bytes a delta must save.
         let left = MAX_CHAIN.saturating_sub(self.depth);
@@ -180,8 +182,8 @@ impl<A: Allocator + Copy> Base<A> {
 }
 
 // Returns whether an object of this size may be a base or be sent as a delta.
-fn has_fit_size(size: usize) -> bool {
-    LEAST_BODY <= size && size <= MOST_BODY
+fn has_suitable_size(size: usize) -> bool {
+    MIN_SIZE <= size && size <= MAX_SIZE
 }
 
 // Returns the depth of the delta chain of an object: 0 if the object is sent whole.

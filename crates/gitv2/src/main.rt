@@ -2,8 +2,8 @@
 //!
 //! # Proved
 //!
-//! The program terminates without panics, overflows or use after free, whatever the arguments,
-//! files and streams contain.
+//! For any arguments, files and streams, the program terminates without panics, overflows or use
+//! after free.
 //!
 //! # Only tested
 //!
@@ -12,8 +12,8 @@
 //!
 //! # What the contracts do not rule out
 //!
-//! The contracts say nothing more, because no contract can describe a file, a stream or a socket of
-//! the system.
+//! The contracts make no other statement, because no contract can describe a file, a stream or a
+//! socket of the system.
 //!
 //! # Dependencies
 //!

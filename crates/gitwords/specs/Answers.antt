@@ -1,4 +1,4 @@
--- The text of the answer to a command line, its stream, and its exit status.
+-- The answers that `gitrepo` prints instead of running a command: their texts, streams and exit statuses.
 use Rattle.std.specs.Prelude.{ℕ, List, string_bytes}
 use Rattle.gname.specs.Faults.{out_of_memory_text}
 use Rattle.gitwords.specs.declared.answer.Answer.{Answer}

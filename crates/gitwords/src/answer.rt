@@ -1,4 +1,4 @@
-//! Answers that are printed instead of running a command.
+//! The texts that `gitrepo` prints instead of running a command.
 
 ghost use Rattle.std.specs.Prelude.{◌≡◌};
 ghost use Rattle.gitwords.specs.Answers.{answer_status, answer_stream, answer_text};
@@ -12,7 +12,7 @@ pub enum Answer {
     Asked(String),
     /// The first mistake in the arguments, and the usage of the command.
     Usage(String),
-    /// Out of memory.
+    /// The text that reports that `gitrepo` is out of memory.
     Memory,
 }
 

@@ -1,4 +1,4 @@
-//! The reasons why a text is not a URL of `git://`.
+//! The faults of URLs that `gitrepo` refuses.
 
 ghost use Rattle.std.specs.Prelude.{◌≡◌, Some};
 ghost use Rattle.gitwords.specs.Faults.{cause_text, transport_text, url_fault_text};
@@ -6,17 +6,17 @@ ghost use Rattle.gitwords.specs.Faults.{cause_text, transport_text, url_fault_te
 use std::error::Error;
 use std::fmt;
 
-/// A URL from which `gitrepo` can't fetch. The displayed text of the fault is one sentence that
-/// names the URL and suggests a remedy.
+/// A refused URL, and the reason. The displayed text is one sentence that quotes the URL and
+/// suggests a remedy.
 #[derive(Clone, Copy, Debug, Drop)]
 pub struct UrlFault<'a> {
-    /// The refused text.
+    /// The refused URL.
     pub url: &'a str,
-    /// The reason to refuse the text.
+    /// The reason why the URL is refused.
     pub cause: Cause,
 }
 
-/// The reason to refuse a URL.
+/// The reason why a URL is refused.
 #[derive(Clone, Copy, Debug, PartialEq, Eq, Drop)]
 pub enum Cause {
     /// The URL does not begin with `git://`.
@@ -25,7 +25,7 @@ pub enum Cause {
     NoPath,
     /// The host is malformed. A host is a name, an IPv4 address, or an IPv6 address in brackets.
     BadHost,
-    /// The text after the host and its colon is not a number from 1 to 65,535.
+    /// The port after the host and a colon is not a number from 1 to 65,535.
     BadPort,
     /// The path has more than 1,000 bytes, a percent sign, or a byte that is not printable ASCII.
     BadPath,
@@ -73,6 +73,7 @@ impl Transport {
         }
     }
 
+    // Returns the transport with this URL scheme.
     fn of_scheme(scheme: &str) -> Transport {
         match scheme {
             "ssh" | "git+ssh" | "ssh+git" => Transport::Ssh,
@@ -82,6 +83,7 @@ impl Transport {
         }
     }
 
+    // Returns the part of the displayed sentence that follows the URL.
     fn phrase(self) -> &'static str
         ensures { result.now ≡ transport_text self }
     {

@@ -1,7 +1,7 @@
 //! The parser of the arguments.
 
 ghost use Rattle.std.specs.Prelude.{◌≤◌, IfOk, IfSome, length};
-ghost use Rattle.gitwords.specs.Commands.{IsCommand, IsServed, IsUrl};
+ghost use Rattle.gitwords.specs.Commands.{IsCommand, IsConnectionLimit, IsUrl};
 ghost use Rattle.gitwords.specs.Urls.{IsListenAddress};
 
 use crate::answer::Answer;
@@ -17,33 +17,39 @@ use grefs::{Spec, SpecFault};
 use std::alloc::{AllocError, AllocFailed, Global};
 use std::fmt;
 
-// The reasons to refuse arguments that `clap` accepts.
+// The reason to refuse arguments that `clap` accepts.
 #[derive(Drop)]
-enum WordFault<'a> {
+enum ArgFault<'a> {
     // The argument with this name is missing.
     Missing(&'static str),
+    // An argument is not a valid `git://` URL.
     Url(UrlFault<'a>),
+    // This argument is not a refspec.
     Spec(&'a str),
+    // This argument is not a prefix of a ref name.
     Prefix(&'a str),
+    // This argument is not a listening address.
     Address(&'a str),
+    // This argument is not a number of connections from 1 to 1,000,000.
     Connections(&'a str),
+    // Out of memory.
     Memory,
 }
 
 /// Parses the arguments, the first of which is the program name, into a command. The returned
 /// command is well-formed (`specs/Commands.antt`).
 ///
-/// Fails with the answer to print: the requested help or version, a mistake in the arguments, or
-/// out of memory.
-pub fn read_words<'a>(alloc: Global, words: &'a [String]) -> Result<GitrepoCommand<'a>, Answer>
+/// Fails with the answer to print if the arguments request help or the version, if the arguments
+/// are wrong, or if out of memory.
+pub fn read_words<'a>(alloc: Global, arguments: &'a [String]) -> Result<GitrepoCommand<'a>, Answer>
     ensures { IfOk result IsCommand }
 {
-    let matches = match parse(alloc, words) {
+    let matches = match parse(alloc, arguments) {
         Ok(matches) => matches,
         Err(error) => return Err(answer_of_clap(alloc, error)),
     };
     let Some((name, matches)) = matches.subcommand() else {
-        return Err(answer_of(alloc, "", WordFault::Missing("COMMAND")));
+        return Err(answer_of(alloc, "", ArgFault::Missing("COMMAND")));
     };
     match read_command(alloc, name, matches) {
         Ok(command) => Ok(command),
@@ -51,8 +57,8 @@ pub fn read_words<'a>(alloc: Global, words: &'a [String]) -> Result<GitrepoComma
     }
 }
 
-fn parse<'a>(alloc: Global, words: &'a [String]) -> Result<ArgMatches<'a>, clap::Error> {
-    program(alloc)?.try_get_matches_from(words)
+fn parse<'a>(alloc: Global, arguments: &'a [String]) -> Result<ArgMatches<'a>, clap::Error> {
+    program(alloc)?.try_get_matches_from(arguments)
 }
 
 // Returns the answer for an error of `clap`: wrong arguments, help or the version.
@@ -71,8 +77,8 @@ fn answer_of_clap(alloc: Global, error: clap::Error) -> Answer {
 }
 
 // Returns the answer for wrong arguments of a command, in the format of `clap`.
-fn answer_of(alloc: Global, name: &str, fault: WordFault<'_>) -> Answer {
-    if let WordFault::Memory = fault {
+fn answer_of(alloc: Global, name: &str, fault: ArgFault<'_>) -> Answer {
+    if let ArgFault::Memory = fault {
         return Answer::Memory;
     }
     let usage = usage_of(name);
@@ -88,148 +94,146 @@ fn answer_of(alloc: Global, name: &str, fault: WordFault<'_>) -> Answer {
 fn read_command<'a>(
     alloc: Global,
     name: &str,
-    words: &ArgMatches<'a>,
-) -> Result<GitrepoCommand<'a>, WordFault<'a>>
+    args: &ArgMatches<'a>,
+) -> Result<GitrepoCommand<'a>, ArgFault<'a>>
     ensures { IfOk result IsCommand }
 {
     match name {
-        "clone" => clone_command(words),
-        "fetch" => fetch_command(alloc, words),
-        "ls" => ls_command(alloc, words),
-        "serve" => serve_command(words),
+        "clone" => clone_command(args),
+        "fetch" => fetch_command(alloc, args),
+        "ls" => ls_command(alloc, args),
+        "serve" => serve_command(args),
         "upload-pack" => Ok(GitrepoCommand::UploadPack {
-            dir: word(words, "DIR")?,
+            dir: required_arg(args, "DIR")?,
         }),
         "check" => Ok(GitrepoCommand::Check {
-            dir: word(words, "DIR")?,
+            dir: required_arg(args, "DIR")?,
         }),
-        _ => Err(WordFault::Missing("COMMAND")),
+        _ => Err(ArgFault::Missing("COMMAND")),
     }
 }
 
-fn clone_command<'a>(words: &ArgMatches<'a>) -> Result<GitrepoCommand<'a>, WordFault<'a>>
+fn clone_command<'a>(args: &ArgMatches<'a>) -> Result<GitrepoCommand<'a>, ArgFault<'a>>
     ensures { IfOk result IsCommand }
 {
     Ok(GitrepoCommand::Clone(CloneArgs {
-        verbosity: verbosity(words),
-        url: url(words)?,
-        dir: word(words, "DIR")?,
+        verbosity: verbosity(args),
+        url: url(args)?,
+        dir: required_arg(args, "DIR")?,
     }))
 }
 
 fn fetch_command<'a>(
     alloc: Global,
-    words: &ArgMatches<'a>,
-) -> Result<GitrepoCommand<'a>, WordFault<'a>>
+    args: &ArgMatches<'a>,
+) -> Result<GitrepoCommand<'a>, ArgFault<'a>>
     ensures { IfOk result IsCommand }
 {
     Ok(GitrepoCommand::Fetch(FetchArgs {
-        verbosity: verbosity(words),
-        dir: word(words, "DIR")?,
-        url: url(words)?,
-        specs: specs(alloc, words)?,
+        verbosity: verbosity(args),
+        dir: required_arg(args, "DIR")?,
+        url: url(args)?,
+        specs: specs(alloc, args)?,
     }))
 }
 
-fn ls_command<'a>(
-    alloc: Global,
-    words: &ArgMatches<'a>,
-) -> Result<GitrepoCommand<'a>, WordFault<'a>>
+fn ls_command<'a>(alloc: Global, args: &ArgMatches<'a>) -> Result<GitrepoCommand<'a>, ArgFault<'a>>
     ensures { IfOk result IsCommand }
 {
     Ok(GitrepoCommand::Ls(LsArgs {
-        url: url(words)?,
-        prefixes: prefixes(alloc, words)?,
+        url: url(args)?,
+        prefixes: prefixes(alloc, args)?,
     }))
 }
 
-fn serve_command<'a>(words: &ArgMatches<'a>) -> Result<GitrepoCommand<'a>, WordFault<'a>>
+fn serve_command<'a>(args: &ArgMatches<'a>) -> Result<GitrepoCommand<'a>, ArgFault<'a>>
     ensures { IfOk result IsCommand }
 {
     Ok(GitrepoCommand::Serve(ServeArgs {
-        listen: listen(words)?,
-        connections: connections(words, "connections")?,
-        max_connections: connections(words, "max-connections")?,
-        max_per_address: connections(words, "max-per-address")?,
-        export_all: words.get_flag("export-all"),
-        base: word(words, "BASE")?,
+        listen: listen(args)?,
+        connections: connections(args, "connections")?,
+        max_connections: connections(args, "max-connections")?,
+        max_per_address: connections(args, "max-per-address")?,
+        export_all: args.get_flag("export-all"),
+        base: required_arg(args, "BASE")?,
     }))
 }
 
-fn word<'a>(words: &ArgMatches<'a>, name: &'static str) -> Result<&'a str, WordFault<'a>> {
-    match words.get_str(name) {
-        Some(word) => Ok(word),
-        None => Err(WordFault::Missing(name)),
+// Returns the argument with this name. Fails with `Missing` if the argument is absent.
+fn required_arg<'a>(args: &ArgMatches<'a>, name: &'static str) -> Result<&'a str, ArgFault<'a>> {
+    match args.get_str(name) {
+        Some(text) => Ok(text),
+        None => Err(ArgFault::Missing(name)),
     }
 }
 
-fn url<'a>(words: &ArgMatches<'a>) -> Result<GitUrl<'a>, WordFault<'a>>
+fn url<'a>(args: &ArgMatches<'a>) -> Result<GitUrl<'a>, ArgFault<'a>>
     ensures { IfOk result IsUrl }
 {
-    match GitUrl::parse(word(words, "URL")?) {
+    match GitUrl::parse(required_arg(args, "URL")?) {
         Ok(url) => Ok(url),
-        Err(fault) => Err(WordFault::Url(fault)),
+        Err(fault) => Err(ArgFault::Url(fault)),
     }
 }
 
-fn listen<'a>(words: &ArgMatches<'a>) -> Result<&'a str, WordFault<'a>>
+fn listen<'a>(args: &ArgMatches<'a>) -> Result<&'a str, ArgFault<'a>>
     ensures { IfOk result (λ address. IsListenAddress address.now) }
 {
-    let address = word(words, "listen")?;
+    let address = required_arg(args, "listen")?;
     if is_listen_address(address) {
         Ok(address)
     } else {
-        Err(WordFault::Address(address))
+        Err(ArgFault::Address(address))
     }
 }
 
 // Returns the number of connections that an option specifies, or `None` if the option is absent.
-fn connections<'a>(words: &ArgMatches<'a>, name: &'static str) -> Result<Option<u32>, WordFault<'a>>
-    ensures { IfOk result (λ count. IfSome count IsServed) }
+fn connections<'a>(args: &ArgMatches<'a>, name: &'static str) -> Result<Option<u32>, ArgFault<'a>>
+    ensures { IfOk result (λ count. IfSome count IsConnectionLimit) }
 {
-    let Some(text) = words.get_str(name) else {
+    let Some(text) = args.get_str(name) else {
         return Ok(None);
     };
     match connections_of(text) {
         Some(count) => Ok(Some(count)),
-        None => Err(WordFault::Connections(text)),
+        None => Err(ArgFault::Connections(text)),
     }
 }
 
-fn verbosity(words: &ArgMatches<'_>) -> Verbosity {
+fn verbosity(args: &ArgMatches<'_>) -> Verbosity {
     Verbosity {
-        quiet: words.get_flag("quiet"),
-        progress: words.get_flag("progress"),
+        quiet: args.get_flag("quiet"),
+        progress: args.get_flag("progress"),
     }
 }
 
-fn specs<'a>(alloc: Global, words: &ArgMatches<'a>) -> Result<Vec<Spec>, WordFault<'a>>
+fn specs<'a>(alloc: Global, args: &ArgMatches<'a>) -> Result<Vec<Spec>, ArgFault<'a>>
     ensures { IfOk result (λ specs. 1 ≤ length specs.items) }
 {
     let mut specs = Vec::new(alloc);
-    if let Some(texts) = words.get_strs("SPEC") {
+    if let Some(texts) = args.get_strs("SPEC") {
         for text in texts {
             specs.push(read_spec(alloc, text)?)?;
         }
     }
     if specs.is_empty() {
-        Err(WordFault::Missing("SPEC"))
+        Err(ArgFault::Missing("SPEC"))
     } else {
         Ok(specs)
     }
 }
 
-fn read_spec<'a>(alloc: Global, text: &'a str) -> Result<Spec, WordFault<'a>> {
+fn read_spec<'a>(alloc: Global, text: &'a str) -> Result<Spec, ArgFault<'a>> {
     match Spec::parse(alloc, text.as_bytes()) {
         Ok(spec) => Ok(spec),
-        Err(SpecFault::BadSpec) => Err(WordFault::Spec(text)),
-        Err(SpecFault::Memory) => Err(WordFault::Memory),
+        Err(SpecFault::BadSpec) => Err(ArgFault::Spec(text)),
+        Err(SpecFault::Memory) => Err(ArgFault::Memory),
     }
 }
 
-fn prefixes<'a>(alloc: Global, words: &ArgMatches<'a>) -> Result<Vec<Prefix>, WordFault<'a>> {
+fn prefixes<'a>(alloc: Global, args: &ArgMatches<'a>) -> Result<Vec<Prefix>, ArgFault<'a>> {
     let mut prefixes = Vec::new(alloc);
-    if let Some(texts) = words.get_strs("PREFIX") {
+    if let Some(texts) = args.get_strs("PREFIX") {
         for text in texts {
             prefixes.push(read_prefix(alloc, text)?)?;
         }
@@ -237,56 +241,56 @@ fn prefixes<'a>(alloc: Global, words: &ArgMatches<'a>) -> Result<Vec<Prefix>, Wo
     Ok(prefixes)
 }
 
-fn read_prefix<'a>(alloc: Global, text: &'a str) -> Result<Prefix, WordFault<'a>> {
+fn read_prefix<'a>(alloc: Global, text: &'a str) -> Result<Prefix, ArgFault<'a>> {
     match Prefix::new(alloc, text.as_bytes()) {
         Ok(prefix) => Ok(prefix),
-        Err(NameFault::Memory) => Err(WordFault::Memory),
-        Err(_) => Err(WordFault::Prefix(text)),
+        Err(NameFault::Memory) => Err(ArgFault::Memory),
+        Err(_) => Err(ArgFault::Prefix(text)),
     }
 }
 
-impl fmt::Display for WordFault<'_> {
+impl fmt::Display for ArgFault<'_> {
     fn fmt<W: fmt::Write>(&self, f: &mut fmt::Formatter<W>) -> fmt::Result {
         match self {
-            WordFault::Missing(name) => write!(f, "the argument {name} is missing"),
-            WordFault::Url(fault) => write!(f, "{fault}"),
-            WordFault::Spec(text) => {
+            ArgFault::Missing(name) => write!(f, "the argument {name} is missing"),
+            ArgFault::Url(fault) => write!(f, "{fault}"),
+            ArgFault::Spec(text) => {
                 write!(
                     f,
-                    "'{text}' is no refspec: write [+]SOURCE:DESTINATION, both full names, or both ending in /*"
+                    "'{text}' is not a refspec: write [+]SOURCE:DESTINATION, both full names, or both ending in /*"
                 )
             }
-            WordFault::Prefix(text) => {
+            ArgFault::Prefix(text) => {
                 write!(
                     f,
-                    "'{text}' begins no ref: write the first bytes of a ref's name"
+                    "'{text}' is not a ref prefix: write the first bytes of a ref's name"
                 )
             }
-            WordFault::Address(text) => {
+            ArgFault::Address(text) => {
                 write!(
                     f,
-                    "'{text}' is no address: write HOST:PORT, with a port from 0 to 65535"
+                    "'{text}' is not an address: write HOST:PORT, with a port from 0 to 65535"
                 )
             }
-            WordFault::Connections(text) => {
+            ArgFault::Connections(text) => {
                 write!(
                     f,
-                    "'{text}' is no number of connections: write one from 1 to 1000000"
+                    "'{text}' is not a valid connection limit: write a number from 1 to 1000000"
                 )
             }
-            WordFault::Memory => f.write_str(OUT_OF_MEMORY_TEXT),
+            ArgFault::Memory => f.write_str(OUT_OF_MEMORY_TEXT),
         }
     }
 }
 
-impl From<AllocError> for WordFault<'_> {
+impl From<AllocError> for ArgFault<'_> {
     fn from(_refused: AllocError) -> Self {
-        WordFault::Memory
+        ArgFault::Memory
     }
 }
 
-impl<T: Drop> From<AllocFailed<T>> for WordFault<'_> {
+impl<T: Drop> From<AllocFailed<T>> for ArgFault<'_> {
     fn from(_refused: AllocFailed<T>) -> Self {
-        WordFault::Memory
+        ArgFault::Memory
     }
 }

@@ -1,4 +1,4 @@
-//! The directories that the path of a request may name.
+//! The path of a request, and the directories that it may name.
 
 ghost use Rattle.std.specs.Prelude.{◌≡◌, ◌≢◌, ◌⊎◌, ◌++◌, ◌∷◌, [], IfOk, List, ℕ, MatchOption, string_bytes};
 ghost use Rattle.std.specs.List.{list_all};
@@ -47,7 +47,8 @@ impl Ending {
     }
 }
 
-/// The path of a request, each component of which may be the name of a directory (git-daemon(1)).
+/// The path of a repository in a request (git-daemon(1)). No component of the path is empty or
+/// begins with a dot.
 #[derive(Debug, Drop)]
 pub struct ServedPath<'a> {
     relative: &'a str,
@@ -96,7 +97,7 @@ impl<'a> ServedPath<'a> {
     }
 }
 
-// Returns the text without the slash at its end, if there is one.
+// Returns the text without the slash at its end, or the whole text if it does not end with a slash.
 fn without_last_slash(text: &str) -> &str
     ensures { (text.now ≡ result.now ++ 47 ∷ [])
         ⊎ ((text.now ≡ result.now) × ((front : List ℕ) → text.now ≢ front ++ 47 ∷ [])) }
@@ -107,7 +108,7 @@ fn without_last_slash(text: &str) -> &str
     }
 }
 
-// Returns whether each component of the path may be the name of a directory.
+// Returns whether no component of the path is empty or begins with a dot.
 fn has_names(relative: &str) -> bool
     ensures { result ≡ list_all is_name (components relative.now) }
 {

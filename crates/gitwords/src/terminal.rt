@@ -1,16 +1,16 @@
-//! Cleaning the bytes from a peer before a terminal shows them.
+//! Replacing bytes from a peer that a terminal must not show.
 
 ghost use Rattle.std.specs.Prelude.{◌≡◌, ◌++◌, IfOk, OnOk};
 ghost use Rattle.gitwords.specs.Clean.{clean_byte, clean_text};
 
 use std::alloc::{AllocError, Allocator};
 
-/// The kinds of text that a terminal shows.
+/// A kind of text that a terminal shows.
 #[derive(Clone, Copy, Debug, PartialEq, Eq, Drop)]
 pub enum Shown {
     /// Lines of text.
     Lines,
-    /// Progress lines: a carriage return restarts the line.
+    /// Progress lines, in which a carriage return restarts the line.
     Progress,
 }
 

@@ -14,10 +14,10 @@ use std::net::Ipv6Addr;
 /// The default port of `git://`.
 pub const DEFAULT_PORT: u16 = 9418;
 
-// The maximum lengths in bytes of a host and of a path. The first line of a connection has the same
-// limits.
+// The maximum length of a host in bytes, in URLs and in the first line of a `git://` connection.
 const MAX_HOST: usize = 255;
 
+// The maximum length of a path in bytes, in URLs and in the first line of a `git://` connection.
 const MAX_PATH: usize = 1_000;
 
 // The highest port.
@@ -38,7 +38,7 @@ pub struct GitUrl<'a> {
 }
 
 impl<'a> GitUrl<'a> {
-    /// Parses a URL. The path stays unchanged, including a `~user` at its start.
+    /// Parses a URL. The returned path is unchanged, even if it begins with `/~user`.
     ///
     /// Fails if the text does not have the form `git://HOST[:PORT]/PATH`. The fault contains the
     /// text and the cause.
@@ -76,7 +76,7 @@ pub(crate) fn is_listen_address(text: &str) -> bool
     }
 }
 
-// Returns whether the decimal digits denote a number up to 65,535.
+// Returns whether a text consists of decimal digits that denote a number up to 65,535.
 fn is_port_or_zero(digits: &str) -> bool
     ensures { MatchBool result ((port : ℕ) × IsNumber 10 digits.now port × (port ≤ 65_535))
         ((port : ℕ) → port ≤ 65_535 → ¬ (IsNumber 10 digits.now port)) }
@@ -140,7 +140,8 @@ fn is_path_byte(byte: u8) -> bool
     (b' '..=b'~').contains(&byte) && byte != b'%'
 }
 
-// Returns the host and the port of a text of the form HOST[:PORT].
+// Returns the host and the port of a text of the form HOST[:PORT]. Fails with `BadHost` or
+// `BadPort` if the text does not have this form.
 fn read_authority(text: &str) -> Result<(&str, u16), Cause>
     ensures { MatchResult result (λ parts. IsAuthority text.now parts.0.now parts.1)
         (IsAuthorityCause text.now) }
@@ -169,8 +170,8 @@ fn split_port(text: &str) -> Option<(&str, &str)>
     text.rsplit_once(':')
 }
 
-// Returns the port number that these decimal digits denote, or `None` if it is not from 1 to
-// 65,535.
+// Returns the port number from 1 to 65,535 that these decimal digits denote, or `None` for any
+// other text.
 fn port_of(digits: &str) -> Option<u16>
     ensures { MatchOption result ((port : ℕ) → ¬ (IsPort digits.now port)) (IsPort digits.now) }
 {

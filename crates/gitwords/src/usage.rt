@@ -5,50 +5,50 @@ use std::alloc::{AllocError, Global};
 
 /// A command: its name, the first line of its help, its usage line, its arguments, and the last
 /// part of its help.
-pub(crate) struct Row {
+pub(crate) struct CommandRow {
     name: &'static str,
     about: &'static str,
     pub(crate) usage: &'static str,
-    words: &'static [Word],
+    args: &'static [Argument],
     notes: &'static str,
 }
 
-// One or more arguments of a command. The first field is the name that identifies the argument, and
-// the last field is its help text.
+// An argument of a command. The first field is the name of the argument, and the last field is its
+// help text. The middle field of `Required` and `Optional` is the name of the option's value.
 #[derive(Clone, Copy)]
-enum Word {
+enum Argument {
     // `--NAME`
     Flag(&'static str, &'static str),
     // `--NAME VALUE`, a required option.
-    Valued(&'static str, &'static str, &'static str),
-    // `--NAME VALUE`, an optional option.
+    Required(&'static str, &'static str, &'static str),
+    // `--NAME VALUE`, an option that may be omitted.
     Optional(&'static str, &'static str, &'static str),
-    // A required argument.
+    // An argument that must be given exactly once.
     One(&'static str, &'static str),
-    // At least one argument.
+    // An argument that must be given at least once.
     Many(&'static str, &'static str),
-    // Any number of arguments.
+    // An argument that may be given any number of times.
     Any(&'static str, &'static str),
 }
 
-const QUIET: Word = Word::Flag(
+const QUIET: Argument = Argument::Flag(
     "quiet",
     "Print only errors, and no progress unless --progress is given",
 );
 
-const PROGRESS: Word = Word::Flag(
+const PROGRESS: Argument = Argument::Flag(
     "progress",
-    "Show progress even if standard error is no terminal",
+    "Show progress even if standard error is not a terminal",
 );
 
-const URL: Word = Word::One(
+const URL: Argument = Argument::One(
     "URL",
     "The repository on the server: git://HOST[:PORT]/PATH",
 );
 
-const DIR: Word = Word::One(
+const DIR: Argument = Argument::One(
     "DIR",
-    "The repository: bare, a work tree, or a .git file that leads to one",
+    "The repository: bare, a work tree, or a .git file that names one",
 );
 
 const PROGRAM: &str = "gitrepo";
@@ -68,109 +68,109 @@ Limits:
 
 'gitrepo COMMAND --help' describes a command.";
 
-const COMMANDS: &[Row] = &[
-    Row {
+const COMMANDS: &[CommandRow] = &[
+    CommandRow {
         name: "clone",
         about: "Clone a repository from a server",
         usage: "gitrepo clone [--quiet] [--progress] URL DIR",
-        words: &[
+        args: &[
             QUIET,
             PROGRESS,
             URL,
-            Word::One("DIR", "The directory of the new bare repository"),
+            Argument::One("DIR", "The directory of the new bare repository"),
         ],
         notes: "\
 DIR gets the branches and tags of the server's repository, and its HEAD.
 A repository with more than 65,536 branches and tags, or whose pack would have 4 GiB or
 more, cannot be cloned.",
     },
-    Row {
+    CommandRow {
         name: "fetch",
         about: "Fetch refs from a server into a repository",
         usage: "gitrepo fetch [--quiet] [--progress] DIR URL SPEC...",
-        words: &[
+        args: &[
             QUIET,
             PROGRESS,
             DIR,
             URL,
-            Word::Many(
+            Argument::Many(
                 "SPEC",
                 "A refspec [+]SOURCE:DESTINATION; at most 16 are fetched at a time",
             ),
         ],
         notes: "\
 SOURCE and DESTINATION are full names of refs, or both end in /*. SOURCE may be HEAD.
-A + moves a ref even if that is no fast-forward.
-A line is printed for each ref that was asked for:
-  moved NAME ID     it is new, or moved to ID
-  same NAME         it was there already
-  notforward NAME   it stays, since the move is no fast-forward
-  unborn NAME       HEAD was asked for, and its branch has no commit yet",
+A + moves a ref even if the update is not a fast-forward.
+A line is printed for each requested ref:
+  moved NAME ID     the ref is new, or moved to ID
+  same NAME         the ref already had this id
+  notforward NAME   the ref is unchanged, since the update is not a fast-forward
+  unborn NAME       HEAD was requested, and its branch has no commit yet",
     },
-    Row {
+    CommandRow {
         name: "ls",
         about: "List the refs of a repository on a server",
         usage: "gitrepo ls URL [PREFIX]...",
-        words: &[
+        args: &[
             URL,
-            Word::Any("PREFIX", "List only refs whose name begins with a PREFIX"),
+            Argument::Any("PREFIX", "List only refs whose name begins with a PREFIX"),
         ],
         notes: "\
-The lines are those of git ls-remote: an id, a tab, and a name. After the line of a tag
-comes one whose name ends in ^{}, with the id of the object that the tag leads to.",
+The output has the format of git ls-remote: each line has an id, a tab, and a name. The
+line after an annotated tag has a name that ends in ^{}, and the id of the peeled tag.",
     },
-    Row {
+    CommandRow {
         name: "serve",
         about: "Serve every repository below a directory over git://",
         usage: "gitrepo serve --listen ADDR [OPTION]... BASE",
-        words: &[
-            Word::Valued(
+        args: &[
+            Argument::Required(
                 "listen",
                 "ADDR",
                 "Accept connections at HOST:PORT, or at any free port if PORT is 0",
             ),
-            Word::Optional(
+            Argument::Optional(
                 "connections",
                 "N",
                 "End after N connections, from 1 to 1000000",
             ),
-            Word::Optional(
+            Argument::Optional(
                 "max-connections",
                 "N",
                 "Refuse more than N connections at once (1024 by default)",
             ),
-            Word::Optional(
+            Argument::Optional(
                 "max-per-address",
                 "N",
                 "Refuse more than N connections at once from one address (64 by default)",
             ),
-            Word::Flag(
+            Argument::Flag(
                 "export-all",
                 "Serve also repositories without a file git-daemon-export-ok",
             ),
-            Word::One("BASE", "The directory below which the repositories are"),
+            Argument::One("BASE", "The directory below which the repositories are"),
         ],
         notes: "\
 It prints 'listening PORT'. Then git://HOST:PORT/PATH is the repository BASE/PATH, with or
 without .git at its end. A PATH with a part that begins with a dot names no repository.
 A line about each connection goes to standard error. SIGTERM ends the server.",
     },
-    Row {
+    CommandRow {
         name: "upload-pack",
         about: "Serve one repository on standard input and output",
         usage: "gitrepo upload-pack DIR",
-        words: &[DIR],
+        args: &[DIR],
         notes: "\
 git clone runs it at the other end of ssh or file:// if the option -u names it:
   git clone -u 'gitrepo upload-pack' HOST:DIR
-It needs GIT_PROTOCOL=version=2 in its environment, which sshd has to accept.",
+It needs GIT_PROTOCOL=version=2 in its environment, which sshd must accept.",
     },
-    Row {
+    CommandRow {
         name: "check",
-        about: "Check that all that the refs lead to is there",
+        about: "Check that all objects reachable from refs exist",
         usage: "gitrepo check DIR",
-        words: &[DIR],
-        notes: "An object that is missing is named, with the ref that leads to it.",
+        args: &[DIR],
+        notes: "If an object is missing, its id and a ref that reaches it are printed.",
     },
 ];
 
@@ -189,7 +189,8 @@ pub(crate) fn program<'a>(alloc: Global) -> Result<Command<'a>, AllocError> {
     Ok(program)
 }
 
-/// Returns the usage line of the command, or of the program for an unknown command.
+/// Returns the usage line of the command with this name. Returns the usage line of the program if
+/// the name is unknown.
 pub(crate) fn usage_of(name: &str) -> &'static str {
     match COMMANDS.iter().find(|row| row.name == name) {
         Some(row) => row.usage,
@@ -197,37 +198,37 @@ pub(crate) fn usage_of(name: &str) -> &'static str {
     }
 }
 
-fn command<'a>(alloc: Global, row: &Row) -> Result<Command<'a>, AllocError> {
+fn command<'a>(alloc: Global, row: &CommandRow) -> Result<Command<'a>, AllocError> {
     let mut command = Command::new(alloc, row.name)
         .about(row.about)
         .after_help(row.notes)
         .override_usage(row.usage);
-    for &word in row.words {
-        command = command.arg(arg(alloc, word))?;
+    for &argument in row.args {
+        command = command.arg(arg(alloc, argument))?;
     }
     Ok(command)
 }
 
-fn arg<'a>(alloc: Global, word: Word) -> Arg<'a> {
-    match word {
-        Word::Flag(name, help) => Arg::new(alloc, name)
+fn arg<'a>(alloc: Global, argument: Argument) -> Arg<'a> {
+    match argument {
+        Argument::Flag(name, help) => Arg::new(alloc, name)
             .long(name)
             .action(ArgAction::SetTrue)
             .help(help),
-        Word::Valued(name, value, help) => Arg::new(alloc, name)
+        Argument::Required(name, value, help) => Arg::new(alloc, name)
             .long(name)
             .value_name(value)
             .required(true)
             .help(help),
-        Word::Optional(name, value, help) => Arg::new(alloc, name)
+        Argument::Optional(name, value, help) => Arg::new(alloc, name)
             .long(name)
             .value_name(value)
             .help(help),
-        Word::One(name, help) => Arg::new(alloc, name).required(true).help(help),
-        Word::Many(name, help) => Arg::new(alloc, name)
+        Argument::One(name, help) => Arg::new(alloc, name).required(true).help(help),
+        Argument::Many(name, help) => Arg::new(alloc, name)
             .required(true)
             .num_args(1..)
             .help(help),
-        Word::Any(name, help) => Arg::new(alloc, name).num_args(0..).help(help),
+        Argument::Any(name, help) => Arg::new(alloc, name).num_args(0..).help(help),
     }
 }

@@ -16,7 +16,7 @@ WhereKnown (Some before) (Some after) P = P before after
 WhereKnown None None P = ⊤
 WhereKnown _ _ P = ⊥
 
--- the call does not change the text of the file
+-- the call adds no text to the texts that the file has had, if these texts are known
 abbrev pub KeepsStates : Option Texts → Option Texts → Type 0
 KeepsStates old new = WhereKnown old new (λ before after. after.states ≡ before.states)
 
@@ -28,7 +28,7 @@ Holds texts text = IfSome texts (λ known. (earlier : List Bytes) × (known.stat
 abbrev pub HasWritten : Option Texts → Bytes → Type 0
 HasWritten texts text = IfSome texts (λ known. known.written ≡ text)
 
--- this text replaces the text of the file
+-- this text replaces the current text of the file
 abbrev pub Adds : Texts → Texts → Bytes → Type 0
 Adds before after text = after.states ≡ before.states ++ text ∷ []
 

@@ -7,8 +7,8 @@
 //!
 //! # Proved
 //!
-//! - [`open_file`] returns the text of the file, and does not change the file. The run holds the
-//!   lockfile exactly if [`open_file`] returns `Ok`.
+//! - [`open_file`] returns the text of the file, and does not change the file. After the call, the
+//!   run holds the lockfile exactly if the call returned `Ok`.
 //! - [`replace_file`] replaces the text of the file by the new text, or leaves the file unchanged
 //!   if both texts are equal (`specs/Storing.antt`). During and after the call the file has the old
 //!   text or the whole new text. After `Ok` the file has the new text. When the call returns, the
@@ -20,14 +20,14 @@
 //!
 //! # Only tested
 //!
-//! The cases of `conformance` make each call of a `MemoryFile` fail in turn, and test whether a
+//! The program `conformance` makes each call of a `MemoryFile` fail in turn, and tests whether a
 //! lockfile remains.
 //!
 //! # What the contracts do not rule out
 //!
-//! No contract can describe the contents of a file of the operating system. So the contracts of
-//! [`StoredFile`] state only the order of its calls. If the file system renames atomically and
-//! syncs on request, a crash leaves the old text or the new text. If the system refuses to remove a
+//! No contract can describe the contents of a file on disk. So the contracts of [`StoredFile`]
+//! state only the order of its calls. If the file system renames atomically and syncs on request, a
+//! crash leaves the old text or the new text in the file. If the system refuses to remove a
 //! lockfile, the lockfile stays. No contract rules out that a call fails.
 #![tactic(auto)]
 

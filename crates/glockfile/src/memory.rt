@@ -1,4 +1,4 @@
-//! A file in memory for tests, which fails or stops at a chosen call.
+//! A file in memory for tests, whose calls fail as the test chooses.
 
 ghost use Rattle.std.specs.Prelude.{◌≡◌, ◌∷◌, [], IfOk, Some, map};
 ghost use Rattle.glockfile.specs.declared.storage.Lockfile.TheVariants.{Absent};
@@ -10,8 +10,8 @@ use std::mem;
 
 /// A file in memory, which records each text that it has had.
 ///
-/// The contracts state the texts, and the state of the lockfile that this run created. The
-/// contracts do not state which call fails.
+/// The contracts state the recorded texts, and the state of the lockfile that this run of the
+/// program created. The contracts do not state which call fails.
 #[derive(Drop)]
 pub struct MemoryFile<A: Allocator + Copy = Global> {
     alloc: A,
@@ -19,11 +19,11 @@ pub struct MemoryFile<A: Allocator + Copy = Global> {
     written: Vec<u8, A>,
     lockfile: Lockfile,
     is_locked: bool,
-    trouble: FailurePlan,
+    failure_plan: FailurePlan,
     calls: usize,
 }
 
-// The calls that fail. Calls are numbered from 1.
+// The calls that fail. The calls of all functions of `Storage` are numbered together, from 1.
 #[derive(Clone, Copy)]
 enum FailurePlan {
     None,
@@ -37,11 +37,11 @@ enum FailurePlan {
 
 // The outcome of a call.
 #[derive(Clone, Copy, PartialEq, Eq)]
-enum Effect {
+enum Outcome {
     // The call has its effect, and succeeds.
     Done,
     // The call has its effect, but fails.
-    Unanswered,
+    DoneButFailed,
     // The call has no effect, and fails.
     Refused,
 }
@@ -72,7 +72,7 @@ impl<A: Allocator + Copy> MemoryFile<A> {
             written: Vec::new(alloc),
             lockfile: Lockfile::Absent,
             is_locked: false,
-            trouble: FailurePlan::None,
+            failure_plan: FailurePlan::None,
             calls: 0,
         })
     }
@@ -89,7 +89,7 @@ impl<A: Allocator + Copy> MemoryFile<A> {
     pub fn fail_call(mut self, call: usize) -> MemoryFile<A>
         ensures { result ≡ self }
     {
-        self.trouble = FailurePlan::At(call);
+        self.failure_plan = FailurePlan::At(call);
         self
     }
 
@@ -98,7 +98,7 @@ impl<A: Allocator + Copy> MemoryFile<A> {
     pub fn stop_from(mut self, call: usize) -> MemoryFile<A>
         ensures { result ≡ self }
     {
-        self.trouble = FailurePlan::From(call);
+        self.failure_plan = FailurePlan::From(call);
         self
     }
 
@@ -107,11 +107,11 @@ impl<A: Allocator + Copy> MemoryFile<A> {
     pub fn stopping_after(mut self, call: usize) -> MemoryFile<A>
         ensures { result ≡ self }
     {
-        self.trouble = FailurePlan::After(call);
+        self.failure_plan = FailurePlan::After(call);
         self
     }
 
-    /// Returns each text that the file has had. The last text is the current one.
+    /// Returns each text that the file has had, with the current text last.
     pub fn states(&self) -> &[Vec<u8, A>]
         ensures { map (λ v. v.items) result.now ≡ self.now.texts.states }
     {
@@ -129,16 +129,16 @@ impl<A: Allocator + Copy> MemoryFile<A> {
     }
 
     // Counts a call, and returns its outcome.
-    fn call(&mut self) -> Effect
+    fn call(&mut self) -> Outcome
         ensures { self.new ≡ self.old }
     {
         self.calls = self.calls.saturating_add(1);
-        match self.trouble {
-            FailurePlan::At(call) if self.calls == call => Effect::Refused,
-            FailurePlan::From(call) if self.calls >= call => Effect::Refused,
-            FailurePlan::After(call) if self.calls == call => Effect::Unanswered,
-            FailurePlan::After(call) if self.calls > call => Effect::Refused,
-            _ => Effect::Done,
+        match self.failure_plan {
+            FailurePlan::At(call) if self.calls == call => Outcome::Refused,
+            FailurePlan::From(call) if self.calls >= call => Outcome::Refused,
+            FailurePlan::After(call) if self.calls == call => Outcome::DoneButFailed,
+            FailurePlan::After(call) if self.calls > call => Outcome::Refused,
+            _ => Outcome::Done,
         }
     }
 }
@@ -149,12 +149,12 @@ impl<A: Allocator + Copy> Storage for MemoryFile<A> {
     ghost lockfile = { λ f. f.lockfile };
 
     fn lock(&mut self) -> Result<(), StorageFault> {
-        let effect = self.call();
-        if self.is_locked || effect == Effect::Refused {
+        let outcome = self.call();
+        if self.is_locked || outcome == Outcome::Refused {
             return Err(StorageFault::Failed);
         }
         self.is_locked = true;
-        if effect == Effect::Unanswered {
+        if outcome == Outcome::DoneButFailed {
             return Err(StorageFault::Failed);
         }
         self.lockfile = Lockfile::Empty;
@@ -162,7 +162,7 @@ impl<A: Allocator + Copy> Storage for MemoryFile<A> {
     }
 
     fn read<B: Allocator + Copy>(&mut self, alloc: B) -> Result<Vec<u8, B>, StorageFault> {
-        if self.call() != Effect::Done {
+        if self.call() != Outcome::Done {
             return Err(StorageFault::Failed);
         }
         match self.states.last() {
@@ -173,12 +173,12 @@ impl<A: Allocator + Copy> Storage for MemoryFile<A> {
 
     fn write(&mut self, text: &[u8]) -> Result<(), StorageFault> {
         self.lockfile = Lockfile::Unusable;
-        let effect = self.call();
-        if effect == Effect::Refused {
+        let outcome = self.call();
+        if outcome == Outcome::Refused {
             return Err(StorageFault::Failed);
         }
         self.written = text.to_vec(self.alloc)?;
-        if effect == Effect::Unanswered {
+        if outcome == Outcome::DoneButFailed {
             return Err(StorageFault::Failed);
         }
         self.lockfile = Lockfile::Written;
@@ -186,7 +186,7 @@ impl<A: Allocator + Copy> Storage for MemoryFile<A> {
     }
 
     fn sync(&mut self) -> Result<(), StorageFault> {
-        if self.call() == Effect::Done {
+        if self.call() == Outcome::Done {
             self.lockfile = Lockfile::Synced;
             Ok(())
         } else {
@@ -197,14 +197,14 @@ impl<A: Allocator + Copy> Storage for MemoryFile<A> {
 
     fn rename(&mut self) -> Result<(), StorageFault> {
         self.lockfile = Lockfile::Unusable;
-        let effect = self.call();
-        if effect == Effect::Refused {
+        let outcome = self.call();
+        if outcome == Outcome::Refused {
             return Err(StorageFault::Failed);
         }
         let text = mem::replace(&mut self.written, Vec::new(self.alloc));
         self.states.push(text)?;
         self.is_locked = false;
-        if effect == Effect::Unanswered {
+        if outcome == Outcome::DoneButFailed {
             return Err(StorageFault::Failed);
         }
         self.lockfile = Lockfile::Absent;
@@ -212,7 +212,7 @@ impl<A: Allocator + Copy> Storage for MemoryFile<A> {
     }
 
     fn unlock(&mut self) {
-        if self.call() != Effect::Refused {
+        if self.call() != Outcome::Refused {
             self.is_locked = false;
         }
         self.lockfile = Lockfile::Absent;

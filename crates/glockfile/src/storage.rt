@@ -16,7 +16,7 @@ use std::{fmt, io};
 pub enum StorageFault {
     /// Out of memory.
     Memory,
-    /// The lockfile already exists, the file is not a regular file, or the system refused a call.
+    /// The lockfile already exists, the file is not a regular file, or a system call failed.
     Failed,
 }
 
@@ -59,18 +59,18 @@ impl From<io::Error> for StorageFault {
     }
 }
 
-/// The state of this run's lockfile.
+/// The state of the lockfile that this run of the program created.
 #[derive(Clone, Copy, Debug, PartialEq, Eq)]
 pub enum Lockfile {
     /// This run holds no lockfile.
     Absent,
-    /// The lockfile was created, and is empty.
+    /// The lockfile exists and is empty.
     Empty,
     /// The lockfile has the new text, which is not synced yet.
     Written,
     /// The lockfile has the new text, and the text is synced to disk.
     Synced,
-    /// A call failed, and the run can only remove the lockfile.
+    /// A call failed. The only call that is still allowed is [`Storage::unlock`].
     Unusable,
 }
 
@@ -79,14 +79,14 @@ pub enum Lockfile {
 /// The lockfile is renamed over the file only after its text is synced. A crash therefore leaves
 /// the file with its old text or the whole new text.
 pub trait Storage {
-    // Each text that the file has had, and the text written to the lockfile, if these texts are
-    // known.
+    // Each text that the file has had, and the text that was written to the lockfile, or `None` if
+    // these texts are unknown.
     ghost texts: { Self → Option Texts };
 
     // The state of this run's lockfile.
     ghost lockfile: { Self → Lockfile };
 
-    /// Creates the lockfile. Fails without a change if a lockfile already exists.
+    /// Creates the lockfile. Fails and changes nothing if a lockfile already exists.
     fn lock(&mut self) -> Result<(), StorageFault>
         requires { lockfile self.old ≡ Absent }
         ensures lockfile { MatchResult result (λ _. lockfile self.new ≡ Empty)
@@ -108,7 +108,7 @@ pub trait Storage {
             (λ _. lockfile self.new ≡ Unusable) }
         ensures states { KeepsStates (texts self.old) (texts self.new) };
 
-    /// Syncs the text of the lockfile to disk.
+    /// Syncs the lockfile to disk.
     fn sync(&mut self) -> Result<(), StorageFault>
         requires { lockfile self.old ≡ Written }
         ensures lockfile { MatchResult result (λ _. lockfile self.new ≡ Synced)

@@ -1,4 +1,4 @@
-//! A file of the operating system.
+//! A file on disk, with its lockfile.
 
 ghost use Rattle.std.specs.Prelude.{◌≡◌, None};
 ghost use Rattle.glockfile.specs.declared.storage.Lockfile.TheVariants.{Absent};
@@ -12,12 +12,12 @@ use std::marker::Model;
 use std::os::unix::fs::OpenOptionsExt;
 use std::path::{Path, PathBuf};
 
-/// A file of the system, and its lockfile. The lockfile's name is the file's name followed by
+/// A file on disk, with its lockfile. The name of the lockfile is the name of the file followed by
 /// `.lock`.
 ///
-/// If the name is a symbolic link, its target is locked and replaced. The target must be a regular
-/// file. The new file has the permissions of the old file. A process that is killed can leave its
-/// lockfile behind.
+/// If the given name is a symbolic link, the target of the link is locked and replaced. The file
+/// that is replaced must be a regular file. The new file has the permissions of the old file. The
+/// lockfile may remain if the process is killed.
 #[derive(Drop)]
 pub struct StoredFile<'r, R: Files, A: Allocator + Copy = Global> {
     files: &'r R,
@@ -27,10 +27,10 @@ pub struct StoredFile<'r, R: Files, A: Allocator + Copy = Global> {
     lock: Option<Lock<R, A>>,
 }
 
-// The lockfile of this run.
+// A lockfile that this run created, and the path of the file that it locks.
 #[derive(Drop)]
 struct Lock<R: Files, A: Allocator + Copy> {
-    // The path of the locked file, which is not a symbolic link.
+    // The path of the locked file. The path is not a symbolic link.
     target: PathBuf<A>,
     path: PathBuf<A>,
     file: R::File,
@@ -59,9 +59,9 @@ impl<'r, R: Files, A: Allocator + Copy> StoredFile<'r, R, A> {
     }
 }
 
-// The permissions of a new lockfile: only its owner can open it. Later the lockfile gets the
-// permissions of the file that it replaces.
-const OWNER_ALONE: u32 = 0o600;
+// The permissions of a new lockfile: only its owner can open it. `make_lock` then gives the
+// lockfile the permissions of the locked file.
+const OWNER_ONLY: u32 = 0o600;
 
 // Creates the lockfile, with the permissions of the file to lock.
 fn make_lock<R: Files, A: Allocator + Copy>(
@@ -76,10 +76,10 @@ fn make_lock<R: Files, A: Allocator + Copy>(
     let file = OpenOptions::new()
         .write(true)
         .create_new(true)
-        .mode(OWNER_ALONE)
+        .mode(OWNER_ONLY)
         .open(files, path.as_str())?;
     let lock = Lock { target, path, file };
-    match share_permissions(files, &lock) {
+    match copy_permissions(files, &lock) {
         Ok(()) => Ok(lock),
         Err(fault) => {
             let _ = fs::remove_file(files, lock.path.as_str());
@@ -110,8 +110,8 @@ fn check_is_regular<R: Files>(files: &R, path: &str) -> Result<Metadata, Storage
     }
 }
 
-// Gives the lockfile the permissions of the locked file.
-fn share_permissions<R: Files, A: Allocator + Copy>(
+// Copies the permissions of the locked file to the lockfile.
+fn copy_permissions<R: Files, A: Allocator + Copy>(
     files: &R,
     lock: &Lock<R, A>,
 ) -> Result<(), StorageFault> {

@@ -1,6 +1,6 @@
--- The grammar of an ls-refs reply: the value that a list of packets encodes, the packets that are refused and why, and
--- the packets that are written. On a stateless connection a response-end follows the flush (gitprotocol-v2(5),
--- "Packet-Line Framing": 0002).
+-- The grammar of an ls-refs reply: the value that a list of packets encodes, the packets that are refused with the
+-- reasons, and the packets that are written. On a stateless connection a response-end follows the flush
+-- (gitprotocol-v2(5), "Packet-Line Framing": 0002).
 use Rattle.std.specs.Prelude.{◌≡◌, ℕ, Bool, true, false, List, [], ◌∷◌, ◌++◌, length, map, if◌then◌else◌, nat_lt}
 use Rattle.std.specs.Prelude.{◌==◌, Option, Some, None, Result, Ok, Err}
 use Rattle.std.specs.List.{filter_map, list_any}
@@ -16,7 +16,7 @@ use Rattle.ggrammar.specs.declared.fault.Why.{Why}
 use Rattle.ggrammar.specs.declared.fault.Why.TheVariants.{UnexpectedFrame}
 use Rattle.glsreply.specs.RefTexts.{RefLine, line_of, FirstForm, UnbornForm, RefForm, first_form, ref_text, unborn_text}
 
--- the maximum number of lines of a reply: one for HEAD, born or unborn, and 65,536 for other refs
+-- the maximum number of lines of a reply: one for HEAD, even if it is unborn, and 65,536 for other refs
 abbrev pub max_lines : ℕ
 max_lines = 65537
 

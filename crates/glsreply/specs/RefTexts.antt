@@ -14,7 +14,7 @@ use Rattle.ggrammar.specs.Texts.{is_space}
 use Rattle.ggrammar.specs.declared.fault.Why.{Why}
 use Rattle.ggrammar.specs.declared.fault.Why.TheVariants.{BadText, BadId, BadName}
 
--- a ref in the reply
+-- the line of a ref in the reply
 pub record RefLine : Type 0 where
   pub id : Id
   pub name : Name
@@ -42,7 +42,7 @@ abbrev pub symref_or_else : Option Bytes → Attribute → Attribute
 symref_or_else None other = other
 symref_or_else (Some target) other = Symref target
 
--- the attribute that a part after the name encodes; the value of the attribute is not checked yet
+-- the attribute that a part after the name encodes, with its unchecked value
 unfoldable pub attribute_of : Bytes → Attribute
 attribute_of part =
     symref_or_else (after_word (codes "symref-target:") part) (peeled_or_unknown (after_word (codes "peeled:") part))

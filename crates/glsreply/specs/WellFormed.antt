@@ -73,7 +73,7 @@ has_room reply = nat_lt (line_count reply) max_lines
 abbrev pub has_room_for_unborn : LsReply → Bool
 has_room_for_unborn reply = is_some reply.unborn || has_room reply
 
--- the line is added to the reply, or it is refused and the reply is unchanged
+-- the line is added to the reply, or the line is refused and the reply is unchanged
 abbrev pub Pushes : LsReply → RefLine → LsReply → Result Unit MessageFault → Type 0
 Pushes old line new result =
     Builds (has_one_format old.lines line) (has_room old) old new (record old { lines = old.lines ++ line ∷ [] }) result

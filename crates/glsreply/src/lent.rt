@@ -17,21 +17,21 @@ use std::marker::Model;
 // The maximum length of a line's text in bytes: two ids, two names, and the attribute words.
 const MAX_REF_TEXT: usize = 2_152;
 
-/// The line of a ref (gitprotocol-v2(5), "ls-refs"), with borrowed names.
+/// The line of a ref in an ls-refs reply (gitprotocol-v2(5), "ls-refs"), with borrowed names.
 #[derive(Clone, Copy, Debug)]
 pub struct LentLine<'a, A: Allocator + Copy> {
-    /// The id of the ref.
+    /// The id that the ref points at.
     pub id: Oid,
     /// The name of the ref.
     pub name: &'a RefName<A>,
-    /// The target of a symbolic ref.
+    /// The value of `symref-target:`, if present: the name that the symbolic ref points at.
     pub symref: Option<&'a RefName<A>>,
-    /// The peeled object of a tag.
+    /// The value of `peeled:`, if present: the id of the object that the tag peels to.
     pub peeled: Option<Oid>,
 }
 
 impl<'a, A: Allocator + Copy> LentLine<'a, A> {
-    /// Returns the line with the given id, name, symref target and peeled object. The name and the
+    /// Returns the line with the given id, name, symref target and peeled id. The name and the
     /// target may be borrowed from different values.
     pub fn new(
         id: Oid,
@@ -96,7 +96,7 @@ impl RefText {
         }
     }
 
-    /// Replaces the text by the text of `line`: the id, a space, the name, ` symref-target:` with
+    /// Replaces the text with the text of `line`: the id, a space, the name, ` symref-target:` with
     /// the target, and ` peeled:` with the peeled id. The two attributes are optional. The text has
     /// no line feed, and the ids are in lower case.
     pub fn set<A: Allocator + Copy>(&mut self, line: &LentLine<'_, A>)

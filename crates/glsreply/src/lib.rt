@@ -1,33 +1,33 @@
-//! The ls-refs reply (gitprotocol-v2(5), "ls-refs"): the refs of a repository with their ids. If
-//! the client requests it, the reply also contains the targets of symbolic refs, the peeled objects
-//! of tags, and the target of an unborn `HEAD`. Ids are SHA-1 or SHA-256.
+//! The ls-refs reply (gitprotocol-v2(5), "ls-refs"): the refs of a repository with their ids. On
+//! request, the reply also contains the targets of symbolic refs, the peeled objects of tags, and
+//! the target of an unborn `HEAD`. Ids are SHA-1 or SHA-256.
 //!
 //! # Proved
 //!
 //! - [`read_ls_reply`] and [`read_ls_reply_in`] read one reply exactly to its end, however its
-//!   bytes are split into pieces. Both functions return the value that the packets encode. Both
-//!   functions refuse any other input at the first packet that does not fit, for the reason that
-//!   the grammar states (`judge` in `specs/LsReplies.antt`). Both functions check a line from left
-//!   to right. Both functions report out of memory only at a line that the grammar accepts.
-//! - Every reply that was read can be written. A reply that was read has ids of the requested
-//!   format, valid ref names, and at most 65,537 lines.
+//!   bytes are split into pieces, and return the value that the packets encode. Both functions
+//!   refuse any other input at the first packet that does not fit, with the fault that the grammar
+//!   gives (`judge` in `specs/LsReplies.antt`). Both functions check a line from left to right, and
+//!   report out of memory only at a line that the grammar accepts.
+//! - Every reply that was read can be written. The reply has ids of the requested format, valid ref
+//!   names, and at most 65,537 lines.
 //! - All ids of an [`LsReply`] have the same format, and an [`LsReply`] has at most 65,537 lines. A
 //!   call that would violate these invariants fails and leaves the reply unchanged.
 //!   [`LsReply::last_frame`] is the position of the last packet of the reply.
 //! - [`write_ls_reply`] writes exactly the bytes of the canonical packets, or a prefix of them if
-//!   the sink fails. No line is too long for a packet, and a reader for the format of the ids reads
-//!   the same reply back. A caller without an [`LsReply`] can write a reply line by line, with
+//!   the sink fails. No line is too long for a packet, and a reader for the format of the ids
+//!   returns the same reply. A caller without an [`LsReply`] can write a reply line by line, with
 //!   [`write_unborn`], [`write_ref`] and [`write_end`]. The names in a line may be borrowed. Each
-//!   written line is a valid line of a reply in the format of the line's ids.
-//! - [`RefText`] holds the text of a ref's line.
+//!   written line is valid in a reply whose ids have the same format as the ids of the line.
+//! - [`RefText`] stores the text of a ref's line.
 //! - [`laws`] proves laws about the grammar. A list of packets encodes at most one reply. No reply
 //!   is a prefix of another, as packets or as bytes. Every accepted prefix can be completed, and a
 //!   refused packet is the first that fits no reply. The grammar accepts exactly the replies of
-//!   gitprotocol-v2(5) that have at most 65,537 lines, with the same values
+//!   gitprotocol-v2(5) that have at most 65,537 lines, with the values that the manual states
 //!   (`specs/LsManual.antt`). The packets that are written for a reply encode it, and each payload
 //!   fits in a packet. The reader returns a reply exactly when the input begins with that reply.
-//!   Any other input is refused because of its bytes. A written reply reads back, whatever bytes
-//!   follow it. [`MAX_LINES`] equals the limit of the specs.
+//!   Any other input is refused because of its bytes. A written reply reads back unchanged, even if
+//!   other bytes follow. [`MAX_LINES`] equals the limit in the specs.
 //!
 //! # Only tested
 //!

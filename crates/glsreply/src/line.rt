@@ -18,7 +18,7 @@ pub(crate) struct LineParts<'a> {
     pub(crate) peeled: Option<Oid>,
 }
 
-// An attribute after the ref name. Its value is not checked yet.
+// An attribute after the ref name, with its unchecked value.
 #[derive(Clone, Copy)]
 enum Attribute<'a> {
     Symref(&'a [u8]),
@@ -45,7 +45,7 @@ fn cut(text: &[u8]) -> (&[u8], Option<&[u8]>)
     }
 }
 
-// Returns the position of the first space.
+// Returns the position of the first space, if any.
 fn first_space(text: &[u8]) -> Option<usize>
     ensures place { result ≡ position is_space text.now }
     ensures within { IfSome result (λ at. at < length text.now) }

@@ -1,4 +1,4 @@
-//! Reading of a reply.
+//! Reading an ls-refs reply.
 
 ghost use Rattle.std.specs.Prelude.{◌≡◌, ◌<◌, true, false, [], IfOk, Ok};
 ghost use Rattle.gpkt.specs.Packets.{Data, Flush, ResponseEnd, packet_of, text};
@@ -37,13 +37,13 @@ pub fn read_ls_reply<S: Source, A: Allocator + Copy, B: Allocator + Copy>(
     read_ls_reply_in(reader, Format::Sha1, ends, alloc)
 }
 
-/// Reads one ls-refs reply exactly to its end (gitprotocol-v2(5), "ls-refs"). The ids of the reply
-/// have the given format.
+/// Reads one ls-refs reply, and nothing after it (gitprotocol-v2(5), "ls-refs"). The ids of the
+/// reply have the given format.
 ///
-/// The fault states the reason, and the position of the first packet that does not fit. A fault of
-/// the packet reader ([`Why::Line`]) takes precedence over all other faults. The end of the input
-/// ([`Why::Ended`]) comes second, an error that the peer reports ([`Why::RemoteErr`]) third, and a
-/// refusal by the grammar last. The grammar checks a line from left to right. A well-formed
+/// The fault contains the reason, and the position of the first packet that does not fit. A fault
+/// of the packet reader ([`Why::Line`]) takes precedence over the end of the input
+/// ([`Why::Ended`]). Next in precedence is an error that the peer reports ([`Why::RemoteErr`]), and
+/// last a fault of the grammar. The grammar checks a line from left to right. A well-formed
 /// 65,538th line is refused with [`Why::Limit`]. [`Why::Memory`] is reported only at a line that
 /// the grammar accepts. After a refusal, the packet reader is unusable exactly if the fault is
 /// [`Why::Line`].
@@ -59,16 +59,16 @@ pub fn read_ls_reply_in<S: Source, A: Allocator + Copy, B: Allocator + Copy>(
     ensures loans { S.loans reader.new.source ≡ S.loans reader.old.source }
     ensures reader { LeavesReader S.is_down reader.old reader.new result }
 {
-    // Laws.
+    // Laws that the proof uses.
     texts_have_one_reading();
-    let mut reply = LsReplyReader::new(alloc, format, ends);
-    match read_message(reader, &mut reply) {
-        Ok(()) => Ok(reply.finish()),
+    let mut message = LsReplyReader::new(alloc, format, ends);
+    match read_message(reader, &mut message) {
+        Ok(()) => Ok(message.finish()),
         Err(fault) => Err(fault),
     }
 }
 
-/// The state of reading a reply.
+/// A reply that is being read.
 #[derive(Drop)]
 pub(crate) struct LsReplyReader<A: Allocator + Copy> {
     alloc: A,
@@ -100,7 +100,7 @@ impl<A: Allocator + Copy> LsReplyReader<A> {
         }
     }
 
-    /// Returns the reply that the packets encode.
+    /// Returns the reply that the accepted packets encode.
     fn finish(self) -> LsReply<A>
         requires { IsReplyValue (state_in self).reply }
         ensures { result ≡ (state_in self).reply }
@@ -162,8 +162,8 @@ impl<A: Allocator + Copy> LsReplyReader<A> {
             (state_in self.new ≡ with_text self.old.format (state_in self.old) (text payload.now))
             result }
     {
-        if let Some(said) = peer_error(payload) {
-            return Err(Why::RemoteErr(PeerText::new(said)));
+        if let Some(error) = peer_error(payload) {
+            return Err(Why::RemoteErr(PeerText::new(error)));
         }
         if self.is_over {
             return Err(Why::UnexpectedFrame);
@@ -262,7 +262,7 @@ fn keep_line<A: Allocator + Copy>(alloc: A, line: &LineParts<'_>) -> Result<RefL
     })
 }
 
-// Stores a name that is already checked.
+// Copies the text of a valid ref name into an owned name.
 fn keep_name<A: Allocator + Copy>(alloc: A, text: &[u8]) -> Result<RefName<A>, AllocError>
     ensures { IfOk result (λ kept. kept ≡ text.now) }
 {

@@ -15,20 +15,20 @@ use gname::{Oid, RefName};
 use std::alloc::Allocator;
 use std::marker::Model;
 
-/// The maximum number of lines of a reply: one for `HEAD`, born or unborn, and 65,536 for other
-/// refs.
+/// The maximum number of lines of a reply: one for `HEAD`, even if it is unborn, and 65,536 for
+/// other refs.
 pub const MAX_LINES: usize = 65_537;
 
-/// A ref of the reply (gitprotocol-v2(5), "ls-refs").
+/// The line of a ref in an ls-refs reply (gitprotocol-v2(5), "ls-refs").
 #[derive(Debug, Drop)]
 pub struct RefLine<A: Allocator + Copy> {
-    /// The id of the ref.
+    /// The id that the ref points at.
     pub id: Oid,
     /// The name of the ref.
     pub name: RefName<A>,
-    /// The target of a symbolic ref.
+    /// The value of `symref-target:`, if present: the name that the symbolic ref points at.
     pub symref: Option<RefName<A>>,
-    /// The peeled object of a tag.
+    /// The value of `peeled:`, if present: the id of the object that the tag peels to.
     pub peeled: Option<Oid>,
 }
 
@@ -54,8 +54,8 @@ impl<A: Allocator + Copy> RefLine<A> {
     }
 }
 
-/// An ls-refs reply: the target of an unborn `HEAD`, and the refs, in order. All ids have the same
-/// format.
+/// An ls-refs reply: the target of an unborn `HEAD`, if any, and the refs in order. All ids have
+/// the same format.
 #[derive(Debug, Drop)]
 pub struct LsReply<A: Allocator + Copy> {
     unborn: Option<RefName<A>>,
@@ -84,7 +84,7 @@ impl<A: Allocator + Copy> LsReply<A> {
         }
     }
 
-    // Returns the reply with the given unborn `HEAD` and lines.
+    // Returns the reply with this target of an unborn `HEAD`, and with these lines.
     pub(crate) fn of_parts(unborn: Option<RefName<A>>, lines: Vec<RefLine<A>, A>) -> LsReply<A>
         requires { IsReplyValue (record { unborn = unborn; lines = lines.items }) }
         ensures { result ≡ record { unborn = unborn; lines = lines.items } }
@@ -98,7 +98,7 @@ impl<A: Allocator + Copy> LsReply<A> {
         ensures sets { SetsUnborn self.old target self.new result }
         ensures full { IfErr result (λ fault. fault.why ≡ Limit) }
     {
-        // Laws.
+        // Laws that the proof uses.
         target.laws();
         if self.unborn.is_none() && !self.has_room() {
             return Err(MessageFault::of_value(Why::Limit));
@@ -113,10 +113,10 @@ impl<A: Allocator + Copy> LsReply<A> {
     pub fn push(&mut self, line: RefLine<A>) -> Result<(), MessageFault>
         ensures { Pushes self.old line self.new result }
     {
-        // Laws.
+        // Laws that the proof uses.
         ids_have_one_format();
         line.lend().laws();
-        if !goes_with(self.lines(), &line) {
+        if !has_one_format(self.lines(), &line) {
             return Err(MessageFault::of_value(Why::BadText));
         }
         if !self.has_room() {
@@ -164,7 +164,7 @@ impl<A: Allocator + Copy> LsReply<A> {
         }
     }
 
-    /// Returns the ref at a position, counted from 0, or `None` after the last ref.
+    /// Returns the ref at index `place`, or `None` after the last ref.
     pub fn at(&self, place: usize) -> Option<&RefLine<A>>
         ensures { option_copied result ≡ slice_get self.now.lines place }
     {
@@ -179,7 +179,7 @@ impl<A: Allocator + Copy> LsReply<A> {
         self.lines.as_slice()
     }
 
-    /// Returns the target of an unborn `HEAD`.
+    /// Returns the target of an unborn `HEAD`, if any.
     pub fn unborn(&self) -> Option<&RefName<A>>
         ensures { option_copied result ≡ self.now.unborn }
     {
@@ -188,19 +188,19 @@ impl<A: Allocator + Copy> LsReply<A> {
 }
 
 // Returns whether the ids of `line` and of `lines` all have the same format.
-fn goes_with<A: Allocator + Copy>(lines: &[RefLine<A>], line: &RefLine<A>) -> bool
+fn has_one_format<A: Allocator + Copy>(lines: &[RefLine<A>], line: &RefLine<A>) -> bool
     ensures { result ≡ has_one_format lines.now line.now }
 {
     let format = line.id.format();
-    let is_first = match lines.first() {
+    let fits_first_line = match lines.first() {
         Some(first) => first.id.format() == format,
         None => true,
     };
-    let is_peeled = match &line.peeled {
+    let fits_peeled_id = match &line.peeled {
         Some(id) => id.format() == format,
         None => true,
     };
-    is_first && is_peeled
+    fits_first_line && fits_peeled_id
 }
 
 // Adds a line, or fails with `Memory` and changes nothing.

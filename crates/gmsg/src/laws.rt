@@ -1,7 +1,7 @@
-//! Laws of all five kinds of message. Each function does nothing, and its contract states a proved
-//! property. The kinds are the hello (the first line of a `git://` connection), the advertisement,
-//! the request, the ls-refs reply and the fetch reply. Each law holds for all parameters of a
-//! kind's grammar, such as the object format and the limits on a message.
+//! Laws of all five kinds of message. Each function does nothing at run time, and its contract
+//! states the law. The kinds are the hello (the first line of a `git://` connection), the
+//! advertisement, the request, the ls-refs reply and the fetch reply. Each law holds for all
+//! parameters of the grammar of a kind, such as the object format and the limits on a message.
 
 ghost use Rattle.std.specs.Prelude.{◌≤◌};
 ghost use Rattle.gname.specs.declared.formats.Format.{Format};
@@ -56,9 +56,9 @@ pub fn prefix_free()
     gfetchreply::laws::prefix_free();
 }
 
-/// Proves that no byte string begins with both an ls-refs reply and a fetch reply, whatever the
-/// parameters of each reader. A client that awaits one kind of reply therefore rejects a reply of
-/// the other kind.
+/// Proves that no byte string begins with both an ls-refs reply and a fetch reply, for any
+/// parameters of the two readers. A client that awaits one kind of reply therefore rejects a reply
+/// of the other kind.
 pub fn replies_differ()
     ensures { (format : Format) (ends : Ends) (reading : fetch_reply.Reading)
         → NoneBeginsAsBoth (ls_reply.judge format ends) (fetch_reply.judge reading) }

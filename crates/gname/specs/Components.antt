@@ -39,7 +39,7 @@ abbrev pub PassesEarlierRules : List ℕ → Type 0
 PassesEarlierRules text = first_fault (empty ∷ too_long ∷ not_ref ∷ bad_byte ∷ []) text ≡ None
 
 -- Facts about components. A component begins at the start of a text and after each slash. The rule of components finds
--- the first forbidden component. The first forbidden component is the fault of the text exactly if no earlier rule
+-- the first forbidden component. The first forbidden component is the fault of the text exactly when no earlier rule
 -- finds a fault. A ref name has no forbidden component.
 pub record ComponentFacts (text : List ℕ) : Type 0 where
   pub each : (front back : List ℕ) → text ≡ front ++ back → ComesBefore front →

@@ -19,7 +19,7 @@ abbrev pub IsDigest : Digest → Type 0
 IsDigest (Sha1 bytes) = IsIdOf format.Sha1 bytes
 IsDigest (Sha256 bytes) = IsIdOf format.Sha256 bytes
 
--- the digest with the bytes of a given digest is that digest
+-- converting a digest to its bytes and back returns the same digest
 pub digest_of-bytes : (digest : Digest) → IsDigest digest → digest_of (digest_bytes digest) ≡ digest
 digest_of-bytes (Sha1 bytes) h = rw h.long refl
 digest_of-bytes (Sha256 bytes) h = rw h.long refl

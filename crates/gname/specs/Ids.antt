@@ -17,7 +17,7 @@ use Rattle.gname.specs.declared.ids.OidFault.TheVariants.{Length, Digit}
 abbrev pub Id : Type 0
 Id = List ℕ
 
--- a valid object id of a format: it has as many bytes as the format demands
+-- a valid object id of a format: bytes, in the number that the format requires
 pub record IsIdOf (format : Format) (id : Id) : Type 0 where
   pub long : length id ≡ id_length format
   pub bytes : IsBytes id

@@ -25,7 +25,7 @@ first_fault (rule ∷ rules) text = option_or (rule text) (first_fault rules tex
 
 -- ---- positions in a text
 
--- the first of the `more` positions from `at` on that passes the test
+-- the first position that passes the test, among the `more` positions that start at `at`
 unfoldable pub first_place_from : (ℕ → Bool) → ℕ → ℕ → Option ℕ
 first_place_from test at zero = None
 first_place_from test at (suc more) = if test at then Some at else first_place_from test (at + 1) more

@@ -19,7 +19,7 @@ pub const OUT_OF_MEMORY_TEXT: &str = "out of memory";
 /// share this fault.
 pub const MISSING_PARENT: (u32, &str) = (72, "MissingParent");
 
-/// The reason why a text is not a ref name or not a prefix. If a text has several faults, the one
+/// The reason why a text is not a ref name or not a prefix. If a text has several faults, the fault
 /// that comes first in this enum is reported, with its first position in the text.
 #[derive(Clone, Copy, Debug, PartialEq, Eq, Drop)]
 pub enum NameFault {
@@ -58,7 +58,7 @@ impl NameFault {
         self.fault_row().1
     }
 
-    /// Returns the fault's row in the table of faults: the number and the name of the fault.
+    /// Returns the number and the name of the fault.
     pub fn fault_row(&self) -> (u32, &'static str)
         ensures { (result.0, result.1.now) ≡ name_fault_row self.now }
     {

@@ -52,9 +52,9 @@ impl RefName {
 impl<A: Allocator + Copy> RefName<A> {
     /// Returns the ref name with this text, checked by the rules of git-check-ref-format(1). A ref
     /// name has at most 1,000 bytes, and is `HEAD` or begins with `refs/`. A ref name has no
-    /// control character, DEL, space or any of `~ ^ : ? * [ \`, no `..`, no `@{` and no dot at its
-    /// end. No part between slashes is empty, begins with a dot or ends with `.lock`. Bytes from
-    /// 128 up are allowed.
+    /// control character, DEL, space or any of `~ ^ : ? * [ \`. It does not contain `..` or `@{`,
+    /// or end with a dot. No part between slashes is empty, begins with a dot or ends with `.lock`.
+    /// Bytes from 128 up are allowed.
     ///
     /// Fails with the first fault of the text in the order of [`NameFault`]. Fails with `Memory`
     /// only if a well-formed name could not be stored.

@@ -111,7 +111,7 @@ pub record BeginsPack (A : Type 0) (lines : List (List ℕ)) : Type 0 where
 abbrev pub IsWholePack : (A : Type 0) → List (List ℕ) → Type 0
 IsWholePack A lines = (list : List (Entry A)) × ArePackLines lines list
 
--- the bytes consist of the lines, the line `next`, and any rest
+-- the bytes begin with the lines and then the line `next`
 abbrev pub GoesOn : List ℕ → List (List ℕ) → List ℕ → Type 0
 GoesOn bytes lines next = (rest : List ℕ) × (bytes ≡ text_of (lines ++ next ∷ []) ++ rest) × IsInLine next
 

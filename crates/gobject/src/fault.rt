@@ -18,7 +18,7 @@ pub enum PackFault {
     /// The pack would have more bytes than the packer's limit: `gname::MAX_PACK`, or
     /// `gparts::MAX_PARTS` for a pack in parts.
     TooLarge,
-    /// A cause that is specific to the packer.
+    /// A fault that is specific to the packer.
     Other,
 }
 
@@ -37,7 +37,8 @@ impl PackFault {
         self.fault_row().1
     }
 
-    // Returns the number and the name of the fault, which are the same for all variants.
+    // Returns the number and the name of the fault. All variants have the same number and name, but
+    // different texts.
     fn fault_row(&self) -> (u32, &'static str)
         ensures { (result.0, result.1.now) ≡ pack_fault_row self.now }
     {
@@ -64,10 +65,10 @@ impl Error for PackFault {}
 pub enum IndexFault {
     /// Out of memory.
     Memory,
-    /// `line` is the number of the first line that is malformed or missing. Lines are counted from
+    /// The line with this number is the first that is malformed or missing. Lines are counted from
     /// 1.
     Bad { line: usize },
-    /// A cause that is specific to the indexer.
+    /// A fault that is specific to the indexer.
     Other,
 }
 
@@ -86,7 +87,8 @@ impl IndexFault {
         self.fault_row().1
     }
 
-    /// Returns the number and the name of the fault, which are the same for all variants.
+    /// Returns the number and the name of the fault. All variants have the same number and name,
+    /// but different texts.
     pub fn fault_row(&self) -> (u32, &'static str)
         ensures { (result.0, result.1.now) ≡ index_fault_row self.now }
     {

@@ -1,4 +1,4 @@
-//! Nodes and entries of a graph.
+//! Commits and tags, with their parents and ids.
 
 ghost use Rattle.std.specs.Prelude.{◌≡◌, ◌++◌, ◌∷◌, [], OnOk, OnErr, IfOk, IsTrue, ◌↔◌};
 
@@ -66,12 +66,12 @@ impl<A: Allocator + Copy> Parents<A> {
     }
 }
 
-/// An object: its kind and its parents.
+/// A commit or tag without its id: the kind and the parents.
 #[derive(Debug, Drop)]
 pub struct Node<A: Allocator + Copy = Global> {
     /// The type of the object.
     pub kind: Kind,
-    /// The parents of a commit, or the tagged object of a tag.
+    /// The parents of a commit, or the object that a tag refers to.
     pub parents: Parents<A>,
 }
 

@@ -12,8 +12,8 @@ use std::alloc::Allocator;
 
 /// A packer writes entries as a pack.
 ///
-/// `packs` relates a list of entries to the bytes that the packer may return, and `pack_fails`
-/// relates a list to the possible faults.
+/// The relation `packs` states which bytes the packer may return for a list of entries, and
+/// `pack_fails` states the possible faults.
 pub trait Packer<A: Allocator + Copy> {
     ghost packs: { Self → List (Entry A) → List ℕ → Type 0 };
 
@@ -29,9 +29,9 @@ pub trait Packer<A: Allocator + Copy> {
 
 /// An indexer reads entries from the pieces of a pack.
 ///
-/// `indexes` relates the bytes of a whole pack to the entries that the indexer may return.
-/// `index_fails` relates the bytes of a pack to the possible faults. `fed` relates the state of an
-/// indexer to the bytes that were fed.
+/// The relation `indexes` states which entries the indexer may return for the bytes of a whole
+/// pack, and `index_fails` states the possible faults. The relation `fed` states which bytes may
+/// have led to a state of the indexer.
 pub trait Indexer<A: Allocator + Copy> {
     /// The state of the indexer after it has received a part of a pack.
     type Feed: Drop;
@@ -42,16 +42,16 @@ pub trait Indexer<A: Allocator + Copy> {
 
     ghost fed: { Self → Self.Feed → List ℕ → Type 0 };
 
-    /// Returns the state before the first piece. The call can return a fault only if `index_fails`
-    /// allows this fault for every pack.
+    /// Returns the state before the first piece. Fails only with a fault that `index_fails` allows
+    /// for every pack.
     fn start(&self, alloc: A) -> Result<Self::Feed, IndexFault>
         ensures { MatchResult result
             (λ feed. fed self.now feed [])
             (λ fault. ((bytes : List ℕ) → index_fails self.now bytes fault)) };
 
-    /// Feeds the next piece of a pack. The call can return a fault only if `index_fails` allows
-    /// this fault for every pack that begins with all pieces up to this one. After a fault the feed
-    /// can't be used further.
+    /// Feeds the next piece of a pack. Fails only with a fault that `index_fails` allows for every
+    /// pack that begins with the pieces so far, including this piece. After a fault the feed can't
+    /// be used further.
     fn feed(&self, feed: &mut Self::Feed, piece: &[u8]) -> Result<(), IndexFault>
         ensures { MatchResult result
             (λ _. ((given : List ℕ) → fed self.now feed.old given
@@ -59,8 +59,8 @@ pub trait Indexer<A: Allocator + Copy> {
             (λ fault. ((given more : List ℕ) → fed self.now feed.old given
             → index_fails self.now ((given ++ piece.now) ++ more) fault)) };
 
-    /// Returns the entries of the pack whose pieces were fed, in order. The call can return a fault
-    /// only if `index_fails` allows this fault for the pack of exactly these pieces.
+    /// Returns the entries of the pack whose pieces were fed, in order. Fails only with a fault
+    /// that `index_fails` allows for the pack that consists of these pieces.
     fn finish(&self, feed: Self::Feed) -> Result<Vec<Entry<A>, A>, IndexFault>
         ensures { MatchResult result
             (λ entries. ((given : List ℕ) → fed self.now feed given
@@ -81,9 +81,9 @@ pub trait Indexer<A: Allocator + Copy> {
 
 /// A packer that is also an indexer, and that reads back the entries that it writes.
 ///
-/// Each list has one `image`. For a list with distinct ids, `pack` returns the image, or fails with
-/// `TooLarge` if the image has more than `gname::MAX_PACK` bytes. `index` reads the image back as
-/// that list. Both `pack` and `index` may fail with `Memory`.
+/// Each list of entries has one pack, its `image`. For a list with distinct ids, `pack` returns the
+/// image, or fails with `TooLarge` if the image has more than `gname::MAX_PACK` bytes. `index`
+/// reads the image back as that list. Both `pack` and `index` may fail with `Memory`.
 pub trait Faithful<A: Allocator + Copy>: Packer<A> + Indexer<A> {
     ghost image: { Self → List (Entry A) → List ℕ };
 

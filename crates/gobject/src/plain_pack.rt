@@ -17,18 +17,19 @@ use std::alloc::Allocator;
 
 /// A packer and indexer of packs in plain text.
 ///
-/// The first line is `GPK1`. Each entry has a line: `c` for a commit or `t` for a tag, its id and
-/// the ids of its parents. The last line is `end` and the number of entries, in decimal without
-/// leading zeros. One space separates parts, and a line feed ends each line.
+/// The first line is `GPK1`. Each entry has a line: `c` for a commit or `t` for a tag, the id of
+/// the entry, and the ids of the parents. The last line is `end` and the number of entries, in
+/// decimal without leading zeros. One space separates the parts of a line, and a line feed ends
+/// each line.
 ///
 /// `pack` writes the entries in the given order, with ids in lower case. `pack` fails with
 /// `TooLarge` if the text has more than `gname::MAX_PACK` bytes.
 ///
 /// `index` accepts exactly the texts of this form, with ids in upper or lower case, and returns the
 /// entries in order. `index` does not check the number of parents, or that ids are distinct.
-/// `index` fails with `Bad` at the first line that is not the expected first line, an entry or the
-/// correct last line, or at a line after the last line. If the input ends too early, `Bad` states
-/// the line at which the input ends: the number of line feeds plus one.
+/// `index` fails with `Bad` at the first line that breaks this form, or at a line after the last
+/// line. If the input ends too early, `Bad` states the line at which the input ends: the number of
+/// line feeds plus one.
 ///
 /// `pack` and `index` fail with `Memory` if memory runs out. `pack` never fails with `Memory` for a
 /// list whose pack is too large. `index` fails with `Memory` only if every line so far was valid,

@@ -11,10 +11,10 @@ use std::alloc::Allocator;
 /// The maximum number of bytes of a pack that is returned in parts.
 pub const MAX_PARTS: usize = 4_294_967_295;
 
-/// A packer that writes entries as a pack, and returns it in parts.
+/// A packer that writes entries as a pack, and returns the pack in parts.
 ///
-/// `packs` states which packs the packer may return for a list of entries, and `pack_fails` states
-/// the faults that it may return. A fault may occur after some parts.
+/// The relation `packs` states which packs the packer may return for a list of entries, and
+/// `pack_fails` states the possible faults. A fault may occur after some parts.
 pub trait PartPacker<A: Allocator + Copy> {
     /// The state of a pack that is being returned in parts.
     type Parts: Drop;
@@ -37,8 +37,9 @@ pub trait PartPacker<A: Allocator + Copy> {
             (gives self.now parts) (most self.now parts))
             (pack_fails self.now entries.now) };
 
-    /// Writes the next bytes of the pack into the front of `out`, and returns their number, or 0
-    /// when the pack is complete. After the result 0 or a fault, the caller should drop `parts`.
+    /// Writes the next bytes of the pack into the front of `out`, and returns the number of bytes
+    /// written. The result 0 means that the pack is complete. After this result or a fault, the
+    /// caller should drop `parts`.
     fn part(&self, parts: &mut Self::Parts, out: &mut [u8]) -> Result<usize, PackFault>
         requires { 0 < length out.old }
         ensures { MatchResult result

@@ -1,4 +1,4 @@
-//! A packer that builds the whole pack first, and returns it in parts.
+//! A packer that builds a whole pack before it returns the pack in parts.
 
 ghost use Rattle.std.specs.Prelude.{◌<◌, ◌≡◌, None, length};
 ghost use Rattle.gobject.specs.Packs.{MayPack};
@@ -16,7 +16,7 @@ pub struct WholePack<'a, K> {
 }
 
 impl<'a, K> WholePack<'a, K> {
-    /// Wraps the packer as a [`PartPacker`](crate::PartPacker).
+    /// Returns a [`PartPacker`](crate::PartPacker) that wraps this packer.
     pub fn new(packer: &'a K) -> WholePack<'a, K>
         ensures { result.packer.now ≡ packer.now }
     {
@@ -24,7 +24,7 @@ impl<'a, K> WholePack<'a, K> {
     }
 }
 
-/// A pack that was built completely and is returned in parts.
+/// A complete pack that is returned in parts.
 #[derive(Drop)]
 pub struct WholeParts<A: Allocator + Copy> {
     pack: Vec<u8, A>,

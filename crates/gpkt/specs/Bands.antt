@@ -13,7 +13,7 @@ pub data BandPacket : Type 0 where
   Progress : (bytes : Bytes) → BandPacket
   Fatal : (bytes : Bytes) → BandPacket
 
--- the first byte of a payload, for each band
+-- the band byte of each band: the first byte of its payloads
 abbrev pub data_band : ℕ
 data_band = 1
 

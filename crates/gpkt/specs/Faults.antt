@@ -34,7 +34,7 @@ abbrev pub band_fault_row : BandFault → FaultRow
 band_fault_row band.NoBand = (29, codes "NoBand")
 band_fault_row band.BadBand = (30, codes "BadBand")
 
--- the text of each fault
+-- the text of each fault, as `Display` writes it
 abbrev pub packet_fault_text : PacketFault → Bytes
 packet_fault_text line.BadDigits = codes "bad packet length"
 packet_fault_text line.Reserved = codes "reserved packet length"

@@ -12,7 +12,7 @@ use Rattle.gpkt.specs.declared.packet.Packet.TheVariants as lent
 abbrev pub Bytes : Type 0
 Bytes = List ℕ
 
--- a packet: a payload or one of the three special packets
+-- a data packet with its payload, or one of the three special packets, which have no payload
 pub data Packet : Type 0 where
   Data : (payload : Bytes) → Packet
   Flush : Packet
@@ -31,7 +31,7 @@ max_packet = 65520
 abbrev pub max_payload : ℕ
 max_payload = max_packet - digit_count
 
--- the value of the digits of each special packet
+-- the number that the digits of each special packet encode
 abbrev pub flush_len : ℕ
 flush_len = 0
 
@@ -41,7 +41,7 @@ delim_len = 1
 abbrev pub response_end_len : ℕ
 response_end_len = 2
 
--- the reserved value of the digits, which no packet uses
+-- the reserved number, which the digits of no packet encode
 abbrev pub reserved_len : ℕ
 reserved_len = 3
 

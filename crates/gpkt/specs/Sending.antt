@@ -15,7 +15,7 @@ abbrev pub input_of : {S : Type 0} → (S → Option Bytes) → (S → Bool) →
 input_of remaining is_down old new =
     record { read = change_of remaining old new; was_down = is_down old; is_down = is_down new }
 
--- the later part of the call, which begins when the unread bytes of the source are `between`
+-- the part of the call that begins when the unread bytes of the source are `between`
 abbrev pub rest_of : Input → Option Bytes → Input
 rest_of input between = record {
   read = record { old = between; new = input.read.new };

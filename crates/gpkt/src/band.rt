@@ -6,11 +6,13 @@ ghost use Rattle.gpkt.specs.Bands.{band_at, band_form, band_packet, band_payload
 use crate::fault::BandFault;
 use crate::packet::MAX_PAYLOAD;
 
-// The first byte of a payload, for each band (gitprotocol-v2(5), "fetch", "packfile").
+// The band byte of pack data (gitprotocol-v2(5), "fetch", "packfile").
 const DATA: u8 = 1;
 
+// The band byte of progress messages.
 const PROGRESS: u8 = 2;
 
+// The band byte of a fatal error.
 const FATAL: u8 = 3;
 
 /// The maximum number of bytes that a packet carries on a side band.
@@ -29,7 +31,7 @@ pub enum Band<'a> {
 }
 
 impl<'a> Band<'a> {
-    // Returns the band byte and the bytes after it.
+    // Returns the band byte, and the bytes of the band.
     pub(crate) fn parts(&self) -> (u8, &'a [u8])
         ensures { result.0 ∷ result.1.now ≡ band_payload (band_packet self.now) }
     {
@@ -41,7 +43,8 @@ impl<'a> Band<'a> {
     }
 }
 
-/// Splits a payload into its band, which the first byte selects, and the other bytes.
+/// Returns the band of a payload: the first byte is the band number, and the other bytes are the
+/// bytes of the band.
 ///
 /// Fails with [`NoBand`](BandFault::NoBand) if the payload is empty. Fails with
 /// [`BadBand`](BandFault::BadBand) if the first byte of the payload is not 1, 2 or 3.
@@ -54,7 +57,8 @@ pub fn band_of(payload: &[u8]) -> Result<Band<'_>, BandFault>
     }
 }
 
-// Returns `bytes` on the band whose number is `first`.
+// Returns the band with the number `first` and the given bytes. Fails unless the number is 1, 2 or
+// 3.
 fn band_at(first: u8, bytes: &[u8]) -> Result<Band<'_>, BandFault>
     ensures { band_read result ≡ band_at first bytes.now }
 {

@@ -1,4 +1,4 @@
-//! Other names for items of this library.
+//! Alternative names for items of this crate.
 
 pub use crate::fault::PacketFault as LineFault;
 pub use crate::packet::Packet as Line;

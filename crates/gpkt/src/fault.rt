@@ -8,7 +8,7 @@ use std::alloc::{AllocError, AllocFailed};
 use std::error::Error;
 use std::fmt;
 
-/// The reasons why a packet was not read.
+/// The reason why a packet was not read.
 #[derive(Clone, Copy, Debug, PartialEq, Eq)]
 pub enum PacketFault {
     /// One of the four digits is not a hexadecimal digit. No byte after the digits is read.
@@ -21,7 +21,7 @@ pub enum PacketFault {
     Truncated,
     /// The source failed in this call.
     Io,
-    /// An earlier call had failed. This call reads nothing.
+    /// An earlier call failed, so this call reads nothing.
     Failed,
     /// There was not enough memory for the buffer.
     Memory,
@@ -92,16 +92,16 @@ impl<T: Drop> From<AllocFailed<T>> for PacketFault {
     }
 }
 
-/// The reasons why a packet was not written.
+/// The reason why a packet was not written.
 #[derive(Clone, Copy, Debug, PartialEq, Eq)]
 pub enum WriteFault {
-    /// An earlier call had failed. This call writes nothing.
+    /// An earlier call failed, so this call writes nothing.
     Failed,
     /// The payload, with its line feed if any, has more than 65,516 bytes. Nothing is written, and
     /// the writer stays usable.
     Payload,
-    /// The sink failed in this call. If the call writes a packet, it wrote only a part of the
-    /// packet.
+    /// The sink failed in this call. If the call was writing a packet, only a part of the packet
+    /// was written.
     Io,
 }
 
@@ -146,7 +146,7 @@ impl fmt::Display for WriteFault {
 
 impl Error for WriteFault {}
 
-/// The reasons why a payload has no valid band.
+/// The reason why a payload has no valid band.
 #[derive(Clone, Copy, Debug, PartialEq, Eq)]
 pub enum BandFault {
     /// The payload is empty and has no band byte.

@@ -1,24 +1,24 @@
 //! Packets of Git's protocol (gitprotocol-common(5), "pkt-line Format"), read from sources and
 //! written to sinks, and the side bands of a payload (gitprotocol-pack(5), "Packfile Data").
 //!
-//! A packet starts with four hexadecimal digits. The digits `0000` announce a flush, `0001` a
-//! delimiter, and `0002` a response-end. Any other valid digits are the length of a data packet,
-//! and the length includes the digits. [`PacketReader`] reads packets from a [`Source`].
+//! A packet starts with four hexadecimal digits. The digits `0000` announce a flush packet, `0001`
+//! a delimiter packet, and `0002` a response-end packet. Any other valid digits are the length of a
+//! data packet, including the four digits. [`PacketReader`] reads packets from a [`Source`].
 //! [`PacketWriter`] writes packets to a [`Sink`], and [`write_all`] writes any bytes. [`FromRead`]
 //! and [`ToWrite`] borrow std's readers and writers as sources and sinks. [`memory`] defines
 //! sources and sinks in memory. [`band_of`] decodes the side band of a payload.
 //!
 //! # Proved
 //!
-//! - If the input is known, the consumed bytes encode the packet that is read. The reader consumes
-//!   no byte after the packet, however the source splits the input. The reader reports the end only
-//!   if no byte is left. For each fault, the contract states when the reader may report it and
-//!   which bytes are consumed (`HasRead` in `specs/PacketReading.antt`, which uses `Spells` and
-//!   `NoPacket`).
+//! - The bytes of a source or sink are known if its contract states them. If the input is known,
+//!   the consumed bytes encode the packet that is read. The reader consumes no byte after the
+//!   packet, however the source splits the input. The reader reports the end only if no byte is
+//!   left. For each fault, the contract states when the reader may report it and which bytes are
+//!   consumed (`HasRead` in `specs/PacketReading.antt`).
 //! - For any source, a reader that has failed returns `Failed` and reads nothing. After any fault,
 //!   the reader has failed. If the reader had not failed before a call, the call reports `Io`
-//!   exactly when the source has failed after it. A payload has at most 65,516 bytes. Only the
-//!   constructor reports `Memory`.
+//!   exactly when the source has failed after the call. A payload has at most 65,516 bytes. Only
+//!   the constructor reports `Memory`.
 //! - A successful write appends exactly the canonical encoding, if the written bytes are known. A
 //!   write reports `Payload` exactly when the payload is too long for a packet, and then changes
 //!   nothing. After `Io`, a proper prefix of the encoding was written. A writer that has failed
@@ -26,24 +26,25 @@
 //! - If the flushed bytes are known, writing flushes nothing, and a successful
 //!   [`push`](PacketWriter::push) flushes all written bytes (`HasPushed`).
 //! - [`write_all`] writes all of its bytes, or a prefix of the bytes if the sink fails.
-//! - A source or sink over std's readers and writers fails exactly when a call to the reader or
-//!   writer fails, or a write accepts no byte of a nonempty slice. Two private functions, which
-//!   receive the result of that call, state this condition in their contracts.
-//! - Bytes begin with at most one encoded packet, which ends at only one position. Bytes that a
-//!   reader rejects begin with no encoded packet, and there is only one possible reason to reject
-//!   them. The canonical form of a packet is one of its encodings. If the same bytes begin with the
-//!   encodings of two lists of packets, one list is a prefix of the other. Every byte sequence is
-//!   empty, or begins with an encoded packet, or is rejected by a reader with a fault. Consecutive
-//!   reads have the effect of one read, and consecutive writes the effect of one write. A payload
-//!   decodes to a band exactly when it consists of the band byte followed by the bytes of that band
-//!   ([`laws`]).
+//! - A source over one of std's readers fails exactly when a call to the reader fails. A sink over
+//!   one of std's writers fails exactly when a call to the writer fails, or a write accepts no byte
+//!   of a nonempty slice. The contracts of two private functions, which receive the result of the
+//!   call, state these conditions.
+//! - A sequence of bytes begins with at most one encoded packet, which ends at only one position. A
+//!   sequence that a reader rejects begins with no encoded packet, and there is only one possible
+//!   reason to reject it. The canonical form of a packet is one of its encodings. If the same bytes
+//!   begin with the encodings of two lists of packets, one list is a prefix of the other. Every
+//!   byte sequence is empty, or begins with an encoded packet, or is rejected by a reader with a
+//!   fault. Consecutive reads consume the encodings of all their packets, in sequence. Consecutive
+//!   writes have the effect of a single write of all the bytes. A payload decodes to a band exactly
+//!   when it consists of the band byte followed by the bytes of that band ([`laws`]).
 //! - Each fault has the number, the name and the text that `specs/Faults.antt` states.
 //!
 //! # Only tested
 //!
 //! - A source or sink over std's readers and writers makes one call to the reader or writer for
 //!   each call that it receives. A flush of the sink flushes the writer.
-//! - A failed call is not retried, whatever the error is. No read has an empty buffer.
+//! - A failed call is never retried. No read has an empty buffer.
 //!
 //! # What the contracts do not rule out
 //!
@@ -54,9 +55,9 @@
 //!   from the source before it fails.
 //! - No contract rules out that a [`memory::Limited`] ignores its limits, or that a
 //!   [`memory::VecSink`] does not count flushes.
-//! - A sink that flushes at every write has unknown flushed bytes, since a write must not change
-//!   known flushed bytes. No contract rules out that a failed flush has flushed any part of the
-//!   buffered bytes.
+//! - A write must leave the flushed bytes unchanged if they are known. So the contracts treat the
+//!   flushed bytes of a sink that flushes at every write as unknown. No contract rules out that a
+//!   failed flush has flushed any part of the buffered bytes.
 //! - No contract rules out that formatting a fault returns `fmt::Error` although the text was
 //!   written correctly.
 //!

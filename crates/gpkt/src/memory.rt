@@ -52,8 +52,8 @@ impl Source for SliceSource<'_> {
     }
 }
 
-// Copies the front of `from` into the front of `to`, as many bytes as fit, and returns their
-// number.
+// Copies as many bytes as fit from the front of `from` to the front of `to`, and returns the number
+// of copied bytes.
 fn copy_front(from: &[u8], to: &mut [u8]) -> usize
     ensures bound { result ≤ length from.now }
     ensures room { result ≤ length to.old }
@@ -174,8 +174,8 @@ impl<A: Allocator + Copy> Sink for VecSink<A> {
 /// A source or sink that transfers only a limited number of bytes per call, and fails at a chosen
 /// call.
 ///
-/// Only tests check the limit and the failing call. The contracts describe the wrapped source or
-/// sink, and whether the wrapper has failed.
+/// The contracts describe only the wrapped source or sink, and whether the wrapper has failed. The
+/// limit and the failing call are only tested.
 #[derive(Drop)]
 pub struct Limited<D> {
     device: D,
@@ -241,7 +241,7 @@ impl<D> Limited<D> {
 }
 
 // Counts a call, and returns whether the call may proceed.
-fn goes_on(calls_left: &mut Option<usize>) -> bool {
+fn allows_call(calls_left: &mut Option<usize>) -> bool {
     match *calls_left {
         None => true,
         Some(0) => false,
@@ -260,7 +260,7 @@ impl<S: Source> Source for Limited<S> {
     ghost loans = { λ h. S.loans h.inner };
 
     fn read(&mut self, buf: &mut [u8]) -> Result<usize, Down> {
-        if self.down.is_down() || !goes_on(&mut self.calls_left) {
+        if self.down.is_down() || !allows_call(&mut self.calls_left) {
             return self.down.fail();
         }
         let room = buf.len().min(self.most.max(1));
@@ -281,7 +281,7 @@ impl<W: Sink> Sink for Limited<W> {
     ghost loans = { λ h. W.loans h.inner };
 
     fn write(&mut self, buf: &[u8]) -> Result<usize, Down> {
-        if self.down.is_down() || !goes_on(&mut self.calls_left) {
+        if self.down.is_down() || !allows_call(&mut self.calls_left) {
             return self.down.fail();
         }
         let part = buf.len().min(self.most.max(1));

@@ -3,14 +3,16 @@
 /// The number of hexadecimal digits at the start of a packet.
 pub(crate) const DIGITS: usize = 4;
 
-/// The value of the digits of each special packet.
+/// The number that the digits of a flush packet encode.
 pub(crate) const FLUSH: u16 = 0;
 
+/// The number that the digits of a delimiter packet encode.
 pub(crate) const DELIM: u16 = 1;
 
+/// The number that the digits of a response-end packet encode.
 pub(crate) const RESPONSE_END: u16 = 2;
 
-/// The reserved value of the digits, which no packet uses.
+/// The reserved number, which the digits of no packet encode.
 pub(crate) const RESERVED: u16 = 3;
 
 /// The maximum number of bytes of a packet, including its four digits.

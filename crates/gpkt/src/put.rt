@@ -1,4 +1,4 @@
-//! Writing bytes in full.
+//! Writing all bytes of a slice or of a packet.
 
 ghost use Rattle.std.specs.Prelude.{◌≡◌, ◌+◌, ◌<◌, ◌≤◌, ◌^◌, ◌++◌, false, true, length, is_err, MatchOption, OnErr, OnOk};
 ghost use Rattle.std.specs.Io.KnownBytes.{Appends, Keeps};
@@ -13,8 +13,7 @@ use crate::packet::{DIGITS, MAX_PAYLOAD};
 /// empty.
 ///
 /// If the call fails, only a prefix of the bytes was written, and the sink has failed. Written
-/// bytes may still be buffered until a [`Sink::flush`]. A sink that had failed before the call is
-/// still failed afterwards.
+/// bytes may still be buffered until a [`Sink::flush`]. A sink that failed earlier stays failed.
 pub fn write_all<W: Sink>(sink: &mut W, bytes: &[u8]) -> Result<(), Down>
     ensures ok { OnOk result (Appends (W.contents sink.old) (W.contents sink.new) bytes.now) }
     ensures err { OnErr result
@@ -35,7 +34,7 @@ pub fn write_all<W: Sink>(sink: &mut W, bytes: &[u8]) -> Result<(), Down>
     Ok(())
 }
 
-/// Writes the digits of a packet and then the three pieces of its payload.
+/// Writes the four digits of a packet, and then its payload: `first`, `second` and `end`.
 pub(crate) fn put_packet<W: Sink>(
     sink: &mut W,
     digits: &[u8],

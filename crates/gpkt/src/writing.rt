@@ -58,7 +58,7 @@ impl<W: Sink> PacketWriter<W> {
         self.put_parts(payload, b"", b"")
     }
 
-    /// Writes one data packet whose payload is the two pieces in sequence.
+    /// Writes one data packet whose payload is `first` followed by `second`.
     pub fn put2(&mut self, first: &[u8], second: &[u8]) -> Result<(), WriteFault>
         ensures written { HasWritten W.contents W.passed_on W.is_down W.loans self.old self.new
             result (canonical (packets.Data (first.now ++ second.now))) }
@@ -78,7 +78,7 @@ impl<W: Sink> PacketWriter<W> {
         self.put_parts(text, b"", b"\n")
     }
 
-    /// Writes one data packet whose payload is the two pieces in sequence and a line feed.
+    /// Writes one data packet whose payload is `first`, `second` and a line feed.
     pub fn text2(&mut self, first: &[u8], second: &[u8]) -> Result<(), WriteFault>
         ensures written { HasWritten W.contents W.passed_on W.is_down W.loans self.old self.new
             result (canonical (packets.Data (first.now ++ second.now ++ line_feed ∷ []))) }
@@ -131,7 +131,7 @@ impl<W: Sink> PacketWriter<W> {
         self.put_pieces(b"0002", b"", b"", b"")
     }
 
-    /// Flushes all written bytes with one flush of the sink. After [`Io`](WriteFault::Io), bytes
+    /// Flushes all written bytes, with one flush of the sink. After [`Io`](WriteFault::Io), bytes
     /// flushed earlier stay flushed, and the writer has failed.
     pub fn push(&mut self) -> Result<(), WriteFault>
         ensures { HasPushed W.contents W.passed_on W.is_down W.loans self.old self.new result }
@@ -156,7 +156,7 @@ impl<W: Sink> PacketWriter<W> {
         sink
     }
 
-    // Writes one data packet whose payload is the three pieces in sequence.
+    // Writes one data packet whose payload is `first`, `second` and `end`.
     fn put_parts(&mut self, first: &[u8], second: &[u8], end: &[u8]) -> Result<(), WriteFault>
         ensures written { HasWritten W.contents W.passed_on W.is_down W.loans self.old self.new
             result (canonical (packets.Data (first.now ++ second.now ++ end.now))) }
@@ -173,7 +173,7 @@ impl<W: Sink> PacketWriter<W> {
         }
     }
 
-    // Writes the digits, which must not be empty, and then the three pieces.
+    // Writes `digits`, which must not be empty, and then `first`, `second` and `end`.
     fn put_pieces(
         &mut self,
         digits: &[u8],

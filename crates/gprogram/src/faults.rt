@@ -1,4 +1,4 @@
-//! Faults that end a program before its work starts.
+//! Faults that occur before a command starts.
 
 use gcmd::{ProgramFault, cmd_failed};
 use gpkt::Sink;

@@ -18,8 +18,8 @@
 //!
 //! # What the contracts do not rule out
 //!
-//! The contracts state nothing else about the effects of the program. No contract can state the
-//! bytes that a file, a stream or a socket of the system reads or writes.
+//! The contracts make no other statement about the effects of the program. No contract can state
+//! the bytes that a file, a stream or a socket of the system reads or writes.
 //!
 //! # Dependencies
 //!

@@ -2,7 +2,7 @@
 
 use crate::faults::fail;
 use crate::files::read;
-use crate::streams::let_go;
+use crate::streams::drop_unflushed;
 use gcmd::{Ends, ProgramFault, cmd_check, cmd_lines, cmd_ls, cmd_upload};
 use gpkt::{FromRead, Sink, ToWrite};
 use std::io;
@@ -12,7 +12,7 @@ use std::rt::Files;
 // The capacity in bytes of the buffer that collects the packets of a reply for one write.
 const REPLY_BUFFER: usize = 65_536;
 
-/// `gitv2 check FILE`
+/// Runs `gitv2 check FILE`, and returns the exit status.
 pub(crate) fn check<R, E>(rt: &R, file: &str, errors: &mut E) -> u8
 where
     R: Files + Print + AllocGlobal,
@@ -33,14 +33,14 @@ where
         Ok(mut stdout) => {
             let mut output = ToWrite::new(&mut stdout);
             let status = cmd_check(rt.alloc(), text, &mut output, errors);
-            let_go(stdout);
+            drop_unflushed(stdout);
             status
         }
         Err(_) => fail(ProgramFault::Memory, errors),
     }
 }
 
-/// `gitv2 lines`
+/// Runs `gitv2 lines`, and returns the exit status.
 pub(crate) fn show_lines<R, E>(rt: &R, errors: &mut E) -> u8
 where
     R: Input + Print + AllocGlobal,
@@ -55,7 +55,7 @@ where
     let mut input = FromRead::new(&mut stdin);
     let mut output = ToWrite::new(&mut stdout);
     let status = cmd_lines(rt.alloc(), &mut input, &mut output, errors);
-    let_go(stdout);
+    drop_unflushed(stdout);
     status
 }
 
@@ -69,20 +69,20 @@ pub(crate) enum StdioService {
     Connection(Ends),
 }
 
-/// Serves the repository of a file on standard input and output.
-pub(crate) fn serve<R, E>(rt: &R, served: StdioService, file: &str, errors: &mut E) -> u8
+/// Serves the repository of a file on standard input and output, and returns the exit status.
+pub(crate) fn serve<R, E>(rt: &R, service: StdioService, file: &str, errors: &mut E) -> u8
 where
     R: Files + Input + Print + AllocGlobal,
     E: Sink,
 {
     match read(rt, file) {
-        Ok(text) => serve_text(rt, served, text.as_slice(), errors),
+        Ok(text) => serve_text(rt, service, text.as_slice(), errors),
         Err(fault) => fail(fault, errors),
     }
 }
 
 // Serves the repository that this text describes.
-fn serve_text<R, E>(rt: &R, served: StdioService, text: &[u8], errors: &mut E) -> u8
+fn serve_text<R, E>(rt: &R, service: StdioService, text: &[u8], errors: &mut E) -> u8
 where
     R: Input + Print + AllocGlobal,
     E: Sink,
@@ -96,12 +96,12 @@ where
     };
     let mut input = FromRead::new(&mut stdin);
     let mut output = ToWrite::new(&mut stdout);
-    let status = match served {
+    let status = match service {
         StdioService::Request => cmd_ls(alloc, text, &mut input, &mut output, errors),
         StdioService::Connection(ends) => {
             cmd_upload(alloc, text, ends, &mut input, &mut output, errors)
         }
     };
-    let_go(stdout);
+    drop_unflushed(stdout);
     status
 }

@@ -1,8 +1,8 @@
-//! The entry point of the program, which selects the command that the arguments describe.
+//! The entry point of the program, which runs the command that the arguments describe.
 
 use crate::fetching::fetch;
 use crate::local::{StdioService, check, serve, show_lines};
-use crate::remote::{Meeting, list, listen, pair};
+use crate::remote::{PairArgs, list, listen, pair};
 use crate::simulating::simulate;
 use gargs::{Gitv2Command, read_command};
 use gpkt::{Sink, ToWrite};
@@ -20,7 +20,7 @@ const WRONG_USAGE: u8 = 2;
 /// Faults and the usage line are written to `stderr`.
 ///
 /// Returns exit status 0 on success, and 1 if a fault was printed. Returns 2 if the arguments do
-/// not match the usage or are not UTF-8, or if out of memory for the arguments.
+/// not match the usage or are not UTF-8, or if memory for the arguments runs out.
 pub fn run_gitv2<R, W>(rt: &R, stderr: &mut W) -> u8
 where
     R: Env + Files + Input + Print + AllocGlobal + Clock + Net,
@@ -51,7 +51,7 @@ where
 {
     match command {
         Gitv2Command::Check { file } => check(rt, file.as_str(), errors),
-        Gitv2Command::Fetch(asked) => fetch(rt, asked, errors),
+        Gitv2Command::Fetch(args) => fetch(rt, args, errors),
         Gitv2Command::Lines => show_lines(rt, errors),
         Gitv2Command::LsStdioServer { file } => serve(
             rt,
@@ -68,14 +68,14 @@ where
             client,
             specs,
         } => {
-            let meeting = Meeting {
+            let args = PairArgs {
                 server: server.as_str(),
                 client: client.as_str(),
                 specs: specs.as_slice(),
             };
-            pair(rt, meeting, errors)
+            pair(rt, args, errors)
         }
-        Gitv2Command::Serve(asked) => listen(rt, asked, errors),
-        Gitv2Command::Simulate(asked) => simulate(rt, asked, errors),
+        Gitv2Command::Serve(args) => listen(rt, args, errors),
+        Gitv2Command::Simulate(args) => simulate(rt, args, errors),
     }
 }

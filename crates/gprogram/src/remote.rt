@@ -10,28 +10,29 @@ use std::io;
 use std::net::Net;
 use std::rt::{Clock, Files};
 
-/// `gitv2 serve --listen ADDR --path PATH --connections N [--response-end] FILE`
-pub(crate) fn listen<R, E>(rt: &R, asked: &Serve, errors: &mut E) -> u8
+/// Runs `gitv2 serve --listen ADDR --path PATH --connections N [--response-end] FILE`, and returns
+/// the exit status.
+pub(crate) fn listen<R, E>(rt: &R, args: &Serve, errors: &mut E) -> u8
 where
     R: Files + Print + AllocGlobal + Clock + Net,
     E: Sink,
 {
-    match read(rt, asked.file.as_str()) {
-        Ok(text) => listen_for(rt, asked, text.as_slice(), errors),
+    match read(rt, args.file.as_str()) {
+        Ok(text) => serve_text(rt, args, text.as_slice(), errors),
         Err(fault) => fail(fault, errors),
     }
 }
 
-// Serves clients over sockets. `text` describes the repository.
-fn listen_for<R, E>(rt: &R, asked: &Serve, text: &[u8], errors: &mut E) -> u8
+// Serves the repository that `text` describes to clients over sockets.
+fn serve_text<R, E>(rt: &R, args: &Serve, text: &[u8], errors: &mut E) -> u8
 where
     R: Print + AllocGlobal + Clock + Net,
     E: Sink,
 {
     let service = Service {
-        place: &asked.place,
-        connections: asked.connections,
-        ends: asked.ends,
+        place: &args.place,
+        connections: args.connections,
+        ends: args.ends,
         file: text,
     };
     let mut stdout = io::writer(rt);
@@ -39,7 +40,7 @@ where
     cmd_serve(rt, rt.alloc(), &service, &mut output, errors)
 }
 
-/// `gitv2 ls --tcp ADDR --path PATH [PREFIX]...`
+/// Runs `gitv2 ls --tcp ADDR --path PATH [PREFIX]...`, and returns the exit status.
 pub(crate) fn list<R, E>(rt: &R, place: &Location, words: &[String], errors: &mut E) -> u8
 where
     R: Print + AllocGlobal + Clock + Net,
@@ -58,34 +59,34 @@ where
     cmd_ls_remote(rt, rt.alloc(), &listing, &mut output, errors)
 }
 
-/// The file names of `pair`, and its refspecs, which are not parsed yet.
+/// The arguments of `pair`: the names of the two files, and the unparsed refspecs.
 #[derive(Clone, Copy)]
-pub(crate) struct Meeting<'a> {
+pub(crate) struct PairArgs<'a> {
     pub(crate) server: &'a str,
     pub(crate) client: &'a str,
     pub(crate) specs: &'a [String],
 }
 
-/// `gitv2 pair SERVERFILE CLIENTFILE SPEC...`
-pub(crate) fn pair<R, E>(rt: &R, meeting: Meeting<'_>, errors: &mut E) -> u8
+/// Runs `gitv2 pair SERVERFILE CLIENTFILE SPEC...`, and returns the exit status.
+pub(crate) fn pair<R, E>(rt: &R, args: PairArgs<'_>, errors: &mut E) -> u8
 where
     R: Files + Print + AllocGlobal + Net,
     E: Sink,
 {
-    match read_specs(rt.alloc(), meeting.specs) {
-        Ok(specs) => pair_by(rt, meeting, specs.as_slice(), errors),
+    match read_specs(rt.alloc(), args.specs) {
+        Ok(specs) => pair_with_specs(rt, args, specs.as_slice(), errors),
         Err(fault) => fail(fault, errors),
     }
 }
 
 // Loads the server, and then reads the client's file.
-fn pair_by<R, E>(rt: &R, meeting: Meeting<'_>, specs: &[Spec], errors: &mut E) -> u8
+fn pair_with_specs<R, E>(rt: &R, args: PairArgs<'_>, specs: &[Spec], errors: &mut E) -> u8
 where
     R: Files + Print + AllocGlobal + Net,
     E: Sink,
 {
-    match open_server(rt, meeting.server) {
-        Ok(server) => pair_with(rt, &server, meeting.client, specs, errors),
+    match open_server(rt, args.server) {
+        Ok(server) => fetch_from(rt, &server, args.client, specs, errors),
         Err(fault) => fail(fault, errors),
     }
 }
@@ -99,7 +100,7 @@ fn open_server<R: Files + AllocGlobal>(rt: &R, file: &str) -> Result<Server, Pro
 }
 
 // Fetches from the server into the repository of the client's file, and prints the report.
-fn pair_with<R, E>(rt: &R, server: &Server, client: &str, specs: &[Spec], errors: &mut E) -> u8
+fn fetch_from<R, E>(rt: &R, server: &Server, client: &str, specs: &[Spec], errors: &mut E) -> u8
 where
     R: Files + Print + AllocGlobal + Net,
     E: Sink,

@@ -1,4 +1,4 @@
-//! The simulation of a client and a server under the events of a scenario.
+//! The command that simulates a client and a server with the events of a scenario.
 
 use crate::faults::fail;
 use crate::files::read;
@@ -10,30 +10,30 @@ use std::alloc::Global;
 use std::io;
 use std::rt::Files;
 
-/// `gitv2 simulate SERVERFILE CLIENTFILE SCENARIOFILE`
-pub(crate) fn simulate<R, E>(rt: &R, asked: &Simulate, errors: &mut E) -> u8
+/// Runs `gitv2 simulate SERVERFILE CLIENTFILE SCENARIOFILE`, and returns the exit status.
+pub(crate) fn simulate<R, E>(rt: &R, args: &Simulate, errors: &mut E) -> u8
 where
     R: Files + Print + AllocGlobal,
     E: Sink,
 {
-    match read(rt, asked.server.as_str()) {
-        Ok(server) => simulate_server(rt, asked, server.as_slice(), errors),
+    match read(rt, args.server.as_str()) {
+        Ok(server) => simulate_server(rt, args, server.as_slice(), errors),
         Err(fault) => fail(fault, errors),
     }
 }
 
-// Runs a simulation whose server has the repository that this text describes.
-fn simulate_server<R, E>(rt: &R, asked: &Simulate, server: &[u8], errors: &mut E) -> u8
+// Runs a simulation whose server has the repository that the text `server` describes.
+fn simulate_server<R, E>(rt: &R, args: &Simulate, server: &[u8], errors: &mut E) -> u8
 where
     R: Files + Print + AllocGlobal,
     E: Sink,
 {
-    let Ok(client) = read(rt, asked.client.as_str()) else {
-        return fail(unread(rt.alloc(), server, None), errors);
+    let Ok(client) = read(rt, args.client.as_str()) else {
+        return fail(first_file_fault(rt.alloc(), server, None), errors);
     };
     let client = client.as_slice();
-    let Ok(scenario) = read(rt, asked.scenario.as_str()) else {
-        return fail(unread(rt.alloc(), server, Some(client)), errors);
+    let Ok(scenario) = read(rt, args.scenario.as_str()) else {
+        return fail(first_file_fault(rt.alloc(), server, Some(client)), errors);
     };
     let files = Simulation {
         server,
@@ -45,9 +45,9 @@ where
     cmd_simulate(rt.alloc(), &files, &mut output, errors)
 }
 
-// Returns the fault of the first invalid file among the files read so far. If there is none,
+// Returns the fault of the first invalid file among `server` and `client`. If both are valid,
 // returns the fault for a file that can't be read.
-fn unread(alloc: Global, server: &[u8], client: Option<&[u8]>) -> ProgramFault {
+fn first_file_fault(alloc: Global, server: &[u8], client: Option<&[u8]>) -> ProgramFault {
     if let Err(fault) = load_server(alloc, server) {
         return fault;
     }

@@ -16,6 +16,6 @@ abbrev pub RefsComeInOrder : Type 0
 RefsComeInOrder = (front : RefList) (ref : Name × Id) (back : RefList) →
     IsRefs (front ++ ref ∷ back) → MayComeNext front ref.0
 
--- two lists of refs are equal if each name has the same id in both
+-- two lists of refs are equal if each name has the same id in both lists
 abbrev pub RefsAreTheirLookUps : Type 0
 RefsAreTheirLookUps = (a b : RefList) → IsRefs a → IsRefs b → ((name : Name) → ref_at a name ≡ ref_at b name) → a ≡ b

@@ -85,8 +85,8 @@ matches spec name =
 abbrev pub destination_of : Refspec → Name → List ℕ
 destination_of spec name = spec.destination ++ drop (length spec.source) name
 
--- the result of mapping a name to its destination: `None` if the source does not match the name, otherwise the
--- destination, or the first fault of the destination as a ref name, or `Memory` if the destination has no fault
+-- the result of mapping a name to its destination: `None` if the source does not match the name; otherwise the
+-- destination, or its first fault as a ref name, or `Memory` if it has no fault
 abbrev pub FindsDestination : Refspec → Name → Result (Option Name) NameFault → Type 0
 FindsDestination spec name (Ok None) = matches spec name ≡ false
 FindsDestination spec name (Ok (Some destination)) =

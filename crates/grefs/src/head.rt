@@ -33,7 +33,7 @@ impl<A: Allocator + Copy> Target<A> {
         ensures { MatchOption result (name ≡ head_name)
             (λ target. (target ≡ name) × (name ≢ head_name)) }
     {
-        // Laws.
+        // The proof uses this law.
         names_are_clean();
         if name.is_head() {
             return None;
@@ -65,8 +65,7 @@ pub enum Head<A: Allocator + Copy = Global> {
     None,
     /// `HEAD` is detached at this id.
     Id(Oid),
-    /// `HEAD` is symbolic, and refers to this target. `HEAD` is unborn if no ref has the target's
-    /// name.
+    /// `HEAD` is a symbolic ref to this target. `HEAD` is unborn if no ref has the target's name.
     Symref(Target<A>),
 }
 

@@ -1,4 +1,4 @@
-//! The refs of a repository (names below `refs/` with their ids), and its `HEAD`.
+//! The refs of a repository, which are names below `refs/` with their ids, and its `HEAD`.
 //!
 //! # Proved
 //!
@@ -6,7 +6,7 @@
 //!   names. No ref has the name `HEAD`. A look-up by name returns the id of the ref, or `None` if
 //!   no ref has that name.
 //! - [`Refs::set`] sets one name to an id and leaves all other refs unchanged, or fails and changes
-//!   nothing. The call fails with `Refs` exactly for `HEAD`, and for a new name if there are
+//!   nothing. The call fails with `Refs` exactly when the name is `HEAD`, or is new and there are
 //!   already [`MAX_REFS`] refs. The call never fails for a name that already has a ref.
 //! - A copy of refs, of a target or of a `HEAD` value is equal to the original.
 //! - A [`Target`] is any ref name below `refs/`.
@@ -14,8 +14,9 @@
 //!   (`specs/Faults.antt`).
 //! - No call panics, overflows or reads out of bounds, and every call returns.
 //!
-//! [`laws`] proves that each ref could be appended to the refs before it. The module also proves
-//! that two lists of refs are equal if every name has the same id in both.
+//! [`laws`] proves that each ref of a list could be appended to a list of the refs before it with
+//! [`Refs::push`]. The module also proves that two lists of refs are equal if every name has the
+//! same id in both lists.
 //!
 //! # Only tested
 //!

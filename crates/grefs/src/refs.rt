@@ -126,7 +126,8 @@ impl<A: Allocator + Copy> Refs<A> {
         are_below(self.refs.as_slice(), name)
     }
 
-    /// Appends a ref. If memory runs out, the call fails and leaves the refs unchanged.
+    /// Appends a ref. Its name must be below `refs/` and sort after the names of all refs in the
+    /// list. If memory runs out, the call fails and leaves the refs unchanged.
     pub fn push(&mut self, name: RefName<A>, id: Oid) -> Result<(), AllocError>
         requires name { IsBelowRefs name }
         requires above { AreBelow self.old name }
@@ -153,7 +154,7 @@ impl<A: Allocator + Copy> Refs<A> {
         ensures err { OnErr result (self.new ≡ self.old) }
         ensures refs { IsRefs self.new }
     {
-        // Laws.
+        // The proof uses this law.
         names_are_clean();
         let count = self.refs.len();
         if name.is_head() {
@@ -208,8 +209,8 @@ fn are_below<A: Allocator + Copy>(refs: &[(RefName<A>, Oid)], name: &[u8]) -> bo
     }
 }
 
-// Returns the position of the ref with this name, or in `Err` the position at which a ref with this
-// name would be inserted.
+// Returns the position of the ref with this name. If no ref has the name, returns `Err` with the
+// position at which to insert the ref.
 fn place_of<A: Allocator + Copy>(
     refs: &[(RefName<A>, Oid)],
     name: &RefName<A>,
@@ -217,7 +218,7 @@ fn place_of<A: Allocator + Copy>(
     requires { IsRefs refs.now }
     ensures { MatchResult result (IsFound refs.now name.now) (IsGap refs.now name.now) }
 {
-    // Callers usually set refs in the order of their names.
+    // Callers usually set refs in the order of their names, so most new names sort last.
     if are_below(refs, name.as_bytes()) {
         return Err(refs.len());
     }

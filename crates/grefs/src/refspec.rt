@@ -3,8 +3,9 @@
 //!
 //! # Proved
 //!
-//! - [`Spec::parse`] accepts exactly the texts of refspecs, and returns the encoded refspec. A text
-//!   encodes at most one refspec. The call reports out of memory only for the text of a refspec.
+//! - [`Spec::parse`] accepts exactly the texts of refspecs, and returns the refspec that the text
+//!   encodes. A text encodes at most one refspec. The call reports out of memory only for the text
+//!   of a refspec.
 //! - [`Spec::matches`] returns whether the source matches a name. [`Spec::destination`] maps a name
 //!   that the source matches to its destination, or reports why that destination is not a ref name.
 //!   [`Spec::can_take`] returns whether the destination is a ref name, and does not allocate.

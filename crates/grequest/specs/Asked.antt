@@ -49,7 +49,7 @@ pub data Asked : Type 0 where
   Ls : (asked : LsRefsAsked) → Asked
   Fetches : (asked : FetchAsked) → Asked
 
--- the request has this flag
+-- whether the request has this flag
 abbrev pub ls_has : LsRefsAsked → LsRefsFlag → Bool
 ls_has asked flag = has_flag same_ls_flag ls_flags asked.flags flag
 
@@ -73,7 +73,7 @@ is_direct asked = fetch_has asked Done || length asked.haves == 0
 abbrev pub max_arguments : ℕ
 max_arguments = 4294967295
 
--- the maximum length of each list of a request, whatever its limits, so that all values fit into one request
+-- the maximum length of each list of a request, even with higher limits, so that all values fit into one request
 abbrev pub max_listed : ℕ
 max_listed = 1073741824
 

@@ -1,6 +1,6 @@
 -- The grammar of a request (gitprotocol-v2(5), "Command Request"): the packets that are rejected in each section, and
--- why. The verdict on a packet depends only on the `State` after the packets before it. The parameters are the limits
--- on a request, and the object format of the repository.
+-- the reasons. The verdict on a packet depends only on the `State` after the packets before it. The parameters are the
+-- limits on a request, and the object format of the repository.
 use Rattle.std.specs.Prelude.{◌≡◌, ℕ, Bool, true, false, ◌&&◌, List, [], length, if◌then◌else◌, nat_lt, ◌==◌, Option}
 use Rattle.std.specs.Prelude.{None, is_none, is_some}
 use Rattle.gname.specs.Ids.{Id}
@@ -75,7 +75,7 @@ judge_capability format state (ObjectFormat value) =
 judge_capability format state UnknownCapability = Refused why.UnknownCapability
 judge_capability format state BadCapability = Refused why.BadText
 
--- a request with this many arguments has room for another argument
+-- whether a request with this number of arguments has room for another argument
 abbrev pub has_room : ℕ → Bool
 has_room arguments = nat_lt arguments max_arguments
 

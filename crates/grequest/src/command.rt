@@ -25,12 +25,13 @@ impl Command {
     }
 }
 
-/// The kinds of a request's first text.
+/// The kind of a request's first text.
 #[derive(Clone, Copy, Debug, PartialEq, Eq)]
 pub(crate) enum CommandForm {
     Known(Command),
     /// `command=` and a key that names no known command.
     Unknown,
+    /// A text of any other form.
     Bad,
 }
 

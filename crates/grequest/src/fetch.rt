@@ -32,7 +32,8 @@ use std::marker::Model;
 
 /// A fetch request (gitprotocol-v2(5), "fetch"), whose ids all have the same format.
 ///
-/// Its limits bound the numbers of wants and haves. A limit above 2^30 counts as 2^30.
+/// The limits of the request bound the numbers of its wants and haves. A limit above 2^30 counts as
+/// 2^30.
 #[derive(Debug, Drop)]
 pub struct FetchRequest<A: Allocator + Copy = Global> {
     format: Format,
@@ -110,7 +111,7 @@ impl<A: Allocator + Copy> FetchRequest<A> {
         self.limits
     }
 
-    /// Proves that every fetch request satisfies its invariant.
+    /// Proves that the request is well-formed and within its limits.
     pub fn laws(&self)
         ensures { IsFetchAsked self.now.limits self.now.format self.now.asked }
     {
@@ -150,8 +151,8 @@ impl<A: Allocator + Copy> FetchRequest<A> {
         self.flags[flag.number()]
     }
 
-    /// Returns a boolean for each flag. The index is the number of the flag. The boolean of `done`
-    /// is false, since `done` is written after the ids.
+    /// Returns the flags that are written before the ids: all flags of the request except `done`.
+    /// The index of a flag in the array is its number.
     pub(crate) fn early_flags(&self) -> [bool; MAX_FLAGS]
         ensures { flags_at fetch_number fetch_flags result
             ≡ (fetch_with self.now.asked Done false).flags }
@@ -296,7 +297,7 @@ impl<A: Allocator + Copy> FetchRequest<A> {
         Ok(())
     }
 
-    // Adds an argument to a request that has `arguments` arguments so far.
+    // Adds the argument that `text` encodes to a request with `arguments` earlier arguments.
     pub(crate) fn take_argument(&mut self, arguments: u32, text: &[u8]) -> Result<(), Why>
         ensures adds { AddsAs (judge_fetch_argument self.old.limits self.old.format arguments
             self.old.asked.wants self.old.asked.haves (fetch_argument text.now))
@@ -360,14 +361,15 @@ impl<A: Allocator + Copy> FetchRequest<A> {
 
 // Returns whether a request with `arguments` arguments has room for another argument, and a list
 // with `len` values has room for another value.
-fn has_room(arguments: u32, len: usize, most: usize) -> bool
-    ensures room { result ≡ (has_room arguments && nat_lt len most) }
-    ensures few { result ≡ true → len < most }
+fn has_room(arguments: u32, len: usize, limit: usize) -> bool
+    ensures room { result ≡ (has_room arguments && nat_lt len limit) }
+    ensures few { result ≡ true → len < limit }
 {
-    arguments < MAX_ARGUMENTS && len < most
+    arguments < MAX_ARGUMENTS && len < limit
 }
 
-// Appends the id if it has this format and `has_room` is true.
+// Appends the id. Fails if the id has another format, if `has_room` is false, or if memory runs
+// out.
 fn keep_id<A: Allocator + Copy>(
     format: Format,
     ids: &mut Vec<Oid, A>,
@@ -400,12 +402,12 @@ fn is_of(format: Format, id: &Oid) -> bool
     id.as_bytes().len() == format.id_length()
 }
 
-// Returns the id of this format that a text encodes.
+// Returns the id of this format that a text encodes, if any.
 fn id_in(format: Format, text: &[u8]) -> Option<Oid>
     ensures id { result ≡ id_of_text format text.now }
     ensures same { IfSome result (λ id. has_format format id ≡ true) }
 {
-    // Laws.
+    // Laws that the proof uses.
     texts_have_one_reading();
     id_of_text(format, text)
 }

@@ -71,7 +71,7 @@ impl Flag for FetchFlag {
     }
 }
 
-/// Returns the flag that has this text in the table.
+/// Returns the flag with this text in the table, if any.
 pub(crate) fn flag_in<F: Copy>(table: &[(F, &str)], text: &[u8]) -> Option<F>
     ensures { result ≡ flag_in (table_in table.now) text.now }
 {
@@ -86,14 +86,14 @@ pub(crate) fn flag_in<F: Copy>(table: &[(F, &str)], text: &[u8]) -> Option<F>
 /// Returns whether both arrays set the same flags of the table.
 pub(crate) fn are_same_flags<F: Flag>(
     table: &[(F, &str)],
-    ones: &[bool; MAX_FLAGS],
-    others: &[bool; MAX_FLAGS],
+    left: &[bool; MAX_FLAGS],
+    right: &[bool; MAX_FLAGS],
 ) -> bool
-    ensures { IsTrue result ↔ (flags_at F.number (table_in table.now) ones.now
-        ≡ flags_at F.number (table_in table.now) others.now) }
+    ensures { IsTrue result ↔ (flags_at F.number (table_in table.now) left.now
+        ≡ flags_at F.number (table_in table.now) right.now) }
 {
     for (flag, _) in table {
-        if ones[flag.number()] != others[flag.number()] {
+        if left[flag.number()] != right[flag.number()] {
             return false;
         }
     }

@@ -1,4 +1,5 @@
-//! Laws about the grammar of requests: each function does nothing, and its contract proves a law.
+//! Laws about the grammar of requests. Each function does nothing at run time, and its contract
+//! states the law.
 
 ghost use Rattle.std.specs.Prelude.{◌≡◌};
 ghost use Rattle.gname.specs.declared.formats.Format.{Format};
@@ -28,8 +29,8 @@ pub fn limits_are_the_constants()
 {}
 
 /// Proves that a list of packets is read as a request exactly if Git's manual and the limits allow
-/// the list. The list has the meaning that the manual states (gitprotocol-v2(5), "Command Request",
-/// "ls-refs" and "fetch").
+/// the list. The request has the contents that the manual states (gitprotocol-v2(5), "Command
+/// Request", "ls-refs" and "fetch").
 pub fn manual()
     ensures { (limits : Limits) (format : Format)
         → AsInManual (Says limits format) (IsRequest limits format) }
@@ -57,7 +58,7 @@ pub fn prefix_free()
 }
 
 /// Proves that the packets accepted so far can always be completed to a request, and that a
-/// rejected packet is the first that does not fit.
+/// rejected packet is the first that fits no request.
 pub fn endings()
     ensures each { (limits : Limits) (format : Format) → HasEndings (judge limits format) }
     ensures first { (limits : Limits) (format : Format)
@@ -66,8 +67,8 @@ pub fn endings()
     grammars_are_exact();
 }
 
-/// Proves that a packet is rejected only because of its content. Every byte sequence begins with a
-/// request, or is rejected because of its content.
+/// Proves that the grammar rejects a packet only because of its content. Every byte sequence begins
+/// with a request, or is rejected because of its content.
 pub fn every_input()
     ensures packets { (limits : Limits) (format : Format) → RefusesPackets (judge limits format) }
     ensures bytes { (limits : Limits) (format : Format)
@@ -89,8 +90,8 @@ pub fn canonical_says()
     prefixes_are_clean();
 }
 
-/// Proves that a request is read exactly if the bytes begin with packets that encode it. Nothing
-/// after these packets is read. `None` is returned exactly if there are no bytes.
+/// Proves that a request is read exactly if the input begins with packets that encode it. Nothing
+/// after these packets is read. The reader returns `None` exactly if the input is empty.
 pub fn reads_exactly()
     ensures request { (limits : Limits) (format : Format)
         → ReadsExactlyIfAny (judge limits format) brings (Says limits format) }
@@ -102,8 +103,8 @@ pub fn reads_exactly()
     kinds_are_read::<Requests>();
 }
 
-/// Proves that a written request that is read with its own limits reads back as the same request,
-/// whatever bytes follow.
+/// Proves that reading a written request with its own limits returns the same request, even if
+/// other bytes follow.
 pub fn reads_back()
     ensures { (limits : Limits) (format : Format)
         → ReadsBackIfAny (judge limits format) brings (Says limits format) (IsAsked limits format)

@@ -14,7 +14,7 @@ pub const MAX_WANTS: usize = 1_024;
 /// The maximum number of haves of a request with the default limits.
 pub const MAX_HAVES: usize = 4_096;
 
-// The maximum length of each list of a request, whatever its limits.
+// The maximum length of each list of a request, even with higher limits.
 const MAX_LISTED: usize = 1_073_741_824;
 
 /// Returns the maximum number of prefixes of a request with these limits.

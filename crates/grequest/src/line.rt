@@ -1,4 +1,4 @@
-//! The kinds of a request's texts, with their values.
+//! Parsing of the capabilities and the arguments of a request.
 
 ghost use Rattle.std.specs.Prelude.{◌≡◌, codes};
 ghost use Rattle.ggrammar.specs.PeerErrors.{after_word};
@@ -16,8 +16,9 @@ use ggrammar::{Capability, after_word, capability_of, is_word_value};
 pub(crate) enum CapabilityForm<'a> {
     Agent(&'a [u8]),
     ObjectFormat(&'a [u8]),
-    /// A capability with any other key.
+    /// A capability whose key is neither `agent` nor `object-format`.
     Unknown,
+    /// A text that is not a valid capability.
     Bad,
 }
 
@@ -25,7 +26,9 @@ pub(crate) enum CapabilityForm<'a> {
 #[derive(Clone, Copy, Debug, PartialEq, Eq)]
 pub(crate) enum LsArgument<'a> {
     Flag(LsRefsFlag),
+    /// The text after `ref-prefix `, which may be malformed.
     RefPrefix(&'a [u8]),
+    /// A text of any other form.
     Unknown,
 }
 
@@ -33,8 +36,11 @@ pub(crate) enum LsArgument<'a> {
 #[derive(Clone, Copy, Debug, PartialEq, Eq)]
 pub(crate) enum FetchArgument<'a> {
     Flag(FetchFlag),
+    /// The text after `want `, which may be malformed.
     Want(&'a [u8]),
+    /// The text after `have `, which may be malformed.
     Have(&'a [u8]),
+    /// A text of any other form.
     Unknown,
 }
 

@@ -30,7 +30,7 @@ use std::marker::Model;
 
 /// An ls-refs request (gitprotocol-v2(5), "ls-refs").
 ///
-/// Its limits bound the number of prefixes. A limit above 2^30 counts as 2^30.
+/// The limits of the request bound the number of its prefixes. A limit above 2^30 counts as 2^30.
 #[derive(Debug, Drop)]
 pub struct LsRefsRequest<A: Allocator + Copy = Global> {
     limits: Limits,
@@ -93,7 +93,7 @@ impl<A: Allocator + Copy> LsRefsRequest<A> {
         self.limits
     }
 
-    /// Proves that every ls-refs request satisfies its invariant.
+    /// Proves that the request is well-formed and within its limits.
     pub fn laws(&self)
         ensures { IsLsRefsAsked self.now.limits self.now.asked }
     {
@@ -115,8 +115,8 @@ impl<A: Allocator + Copy> LsRefsRequest<A> {
         self.flags[flag.number()]
     }
 
-    /// Returns a boolean for each flag, which is true if the flag is set. The index is the number
-    /// of the flag.
+    /// Returns an array with a boolean for each flag: whether the flag is set. The index of a flag
+    /// in the array is its number.
     pub(crate) fn flags(&self) -> &[bool; MAX_FLAGS]
         ensures { flags_at ls_number ls_flags result.now ≡ self.now.asked.flags }
     {
@@ -227,7 +227,8 @@ impl<A: Allocator + Copy> LsRefsRequest<A> {
         Ok(())
     }
 
-    // Appends a prefix if it is well-formed and `has_room` is true.
+    // Appends a prefix. Fails if the prefix is malformed, if `has_room` is false, or if memory runs
+    // out.
     fn keep_prefix(&mut self, has_room: bool, prefix: &[u8]) -> Result<(), NotKept>
         requires { has_room ≡ true
             → length self.old.asked.prefixes < max_prefixes self.old.limits }
@@ -237,7 +238,7 @@ impl<A: Allocator + Copy> LsRefsRequest<A> {
                   { prefixes = self.old.asked.prefixes ++ prefix.now ∷ [] };
             }) result }
     {
-        // Laws.
+        // Laws that the proof uses.
         rules_never_report_memory();
         match Prefix::new(*self.prefixes.allocator(), prefix) {
             Ok(prefix) if has_room => match self.prefixes.push(prefix) {
@@ -250,7 +251,7 @@ impl<A: Allocator + Copy> LsRefsRequest<A> {
         }
     }
 
-    // Adds an argument to a request that has `arguments` arguments so far.
+    // Adds the argument that `text` encodes to a request with `arguments` earlier arguments.
     pub(crate) fn take_argument(&mut self, arguments: u32, text: &[u8]) -> Result<(), Why>
         ensures adds { AddsAs (judge_ls_argument self.old.limits arguments self.old.asked.prefixes
             (ls_argument text.now)) (ls_argument_brings (ls_argument text.now))

@@ -63,24 +63,24 @@ pub(crate) fn is_same_agent(one: Option<&[u8]>, other: Option<&[u8]>) -> bool
 }
 
 /// Returns whether both lists have the same ids in the same order.
-pub(crate) fn are_same_ids(ones: &[Oid], others: &[Oid]) -> bool
-    ensures { IsTrue result ↔ (ones.now ≡ others.now) }
+pub(crate) fn are_same_ids(left: &[Oid], right: &[Oid]) -> bool
+    ensures { IsTrue result ↔ (left.now ≡ right.now) }
 {
-    ones == others
+    left == right
 }
 
 /// Returns whether both lists have the same prefixes in the same order.
 pub(crate) fn are_same_prefixes<A: Allocator + Copy, B: Allocator + Copy>(
-    ones: &[Prefix<A>],
-    others: &[Prefix<B>],
+    left: &[Prefix<A>],
+    right: &[Prefix<B>],
 ) -> bool
-    ensures { IsTrue result ↔ (ones.now ≡ others.now) }
+    ensures { IsTrue result ↔ (left.now ≡ right.now) }
 {
-    if ones.len() != others.len() {
+    if left.len() != right.len() {
         return false;
     }
-    for place in 0..ones.len() {
-        if !is_same_prefix(&ones[place], &others[place]) {
+    for place in 0..left.len() {
+        if !is_same_prefix(&left[place], &right[place]) {
             return false;
         }
     }

@@ -35,7 +35,9 @@ pub struct RequestReader<A: Allocator + Copy> {
     format: Format,
     limits: Limits,
     section: Section,
+    // Whether the request has named the object format.
     names_format: bool,
+    // The number of arguments read.
     arguments: u32,
     request: Request<A>,
 }
@@ -90,7 +92,7 @@ impl<A: Allocator + Copy> RequestReader<A> {
         }
     }
 
-    /// Returns the request, after its last packet was accepted.
+    /// Returns the request that the accepted packets encode.
     pub fn finish(self) -> Request<A>
         ensures asked { asked_by_request result ≡ self.state.asked }
         ensures format { IsOfFormat self.format result }
@@ -174,7 +176,7 @@ impl<A: Allocator + Copy> RequestReader<A> {
         ensures limits { self.new.limits ≡ self.old.limits }
     {
         match peer_error(payload) {
-            Some(said) => Err(Why::RemoteErr(PeerText::new(said))),
+            Some(error) => Err(Why::RemoteErr(PeerText::new(error))),
             None => self.take_text(text_of(payload)),
         }
     }
@@ -192,7 +194,7 @@ impl<A: Allocator + Copy> RequestReader<A> {
             (Request::Ls(_) | Request::Fetch(_), Section::Capabilities) => self.take_capability(
                 text,
             ),
-            (Request::Ls(asked), Section::Arguments) => match asked.take_argument(
+            (Request::Ls(request), Section::Arguments) => match request.take_argument(
                 self.arguments,
                 text,
             ) {
@@ -202,7 +204,7 @@ impl<A: Allocator + Copy> RequestReader<A> {
                 }
                 Err(why) => Err(why),
             },
-            (Request::Fetch(asked), Section::Arguments) => match asked.take_argument(
+            (Request::Fetch(request), Section::Arguments) => match request.take_argument(
                 self.arguments,
                 text,
             ) {

@@ -39,8 +39,8 @@ impl<A: Allocator + Copy> Request<A> {
     {
         match self {
             Request::Empty => {}
-            Request::Ls(asked) => asked.laws(),
-            Request::Fetch(asked) => asked.laws(),
+            Request::Ls(request) => request.laws(),
+            Request::Fetch(request) => request.laws(),
         }
     }
 
@@ -50,8 +50,8 @@ impl<A: Allocator + Copy> Request<A> {
     {
         match self {
             Request::Empty => None,
-            Request::Ls(asked) => asked.agent(),
-            Request::Fetch(asked) => asked.agent(),
+            Request::Ls(request) => request.agent(),
+            Request::Fetch(request) => request.agent(),
         }
     }
 
@@ -64,12 +64,12 @@ impl<A: Allocator + Copy> Request<A> {
     {
         match self {
             Request::Empty => Ok(Request::Empty),
-            Request::Ls(asked) => {
-                let copy = asked.copy_in(alloc)?;
+            Request::Ls(request) => {
+                let copy = request.copy_in(alloc)?;
                 Ok(Request::Ls(copy))
             }
-            Request::Fetch(asked) => {
-                let copy = asked.copy_in(alloc)?;
+            Request::Fetch(request) => {
+                let copy = request.copy_in(alloc)?;
                 Ok(Request::Fetch(copy))
             }
         }
@@ -97,8 +97,8 @@ impl<A: Allocator + Copy> Request<A> {
     {
         match self {
             Request::Empty => {}
-            Request::Ls(asked) => asked.set_limits(limits),
-            Request::Fetch(asked) => asked.set_limits(limits),
+            Request::Ls(request) => request.set_limits(limits),
+            Request::Fetch(request) => request.set_limits(limits),
         }
     }
 
@@ -112,8 +112,8 @@ impl<A: Allocator + Copy> Request<A> {
     {
         match self {
             Request::Empty => Ok(()),
-            Request::Ls(asked) => asked.keep_agent(agent),
-            Request::Fetch(asked) => asked.keep_agent(agent),
+            Request::Ls(request) => request.keep_agent(agent),
+            Request::Fetch(request) => request.keep_agent(agent),
         }
     }
 }

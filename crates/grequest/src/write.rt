@@ -27,12 +27,11 @@ use gpkt::{PacketWriter, Sink, WriteFault};
 use std::alloc::Allocator;
 
 /// Writes a request as its canonical list of packets (gitprotocol-v2(5), "Command Request").
-/// `format` is the format of the repository's objects. A fetch request must be for ids of this
-/// format.
+/// `format` is the format of the repository's objects. A fetch request must have this format.
 ///
 /// Allocates nothing. Fails with `Io` if the sink fails, after writing a prefix of the request.
 /// Fails with `Failed` if the writer failed before the call. Every request meets the conditions of
-/// [`reads_back`](crate::laws::reads_back), so a written request reads back.
+/// [`reads_back`](crate::laws::reads_back), so reading a written request returns the same request.
 pub fn write_request<A: Allocator + Copy, W: Sink>(
     request: &Request<A>,
     format: Format,
@@ -44,47 +43,47 @@ pub fn write_request<A: Allocator + Copy, W: Sink>(
     ensures form { (limits : Limits) → HasLimits limits request.now
         → IsAsked limits format (asked_by_request request.now) }
 {
-    // Laws.
+    // Laws that the proof uses.
     writes_packets::<W>();
     request.laws();
     match request {
         Request::Empty => writer.flush_pkt(),
-        Request::Ls(asked) => write_ls_refs(asked, format, writer),
-        Request::Fetch(asked) => write_fetch(asked, format, writer),
+        Request::Ls(ls) => write_ls_refs(ls, format, writer),
+        Request::Fetch(fetch) => write_fetch(fetch, format, writer),
     }
 }
 
 fn write_ls_refs<A: Allocator + Copy, W: Sink>(
-    asked: &LsRefsRequest<A>,
+    request: &LsRefsRequest<A>,
     format: Format,
     writer: &mut PacketWriter<W>,
 ) -> Result<(), WriteFault>
     ensures { WritesPackets W.contents W.passed_on W.is_down W.loans writer.old writer.new result
-        (canonical_request format (Ls asked.now.asked)) }
+        (canonical_request format (Ls request.now.asked)) }
 {
-    // Laws.
+    // Laws that the proof uses.
     writes_packets::<W>();
-    write_head(Command::LsRefs, asked.agent(), format, writer)?;
-    write_flags(LS_REFS_FLAGS, asked.flags(), writer)?;
-    write_prefixes(asked.prefixes(), writer)?;
+    write_head(Command::LsRefs, request.agent(), format, writer)?;
+    write_flags(LS_REFS_FLAGS, request.flags(), writer)?;
+    write_prefixes(request.prefixes(), writer)?;
     writer.flush_pkt()
 }
 
 fn write_fetch<A: Allocator + Copy, W: Sink>(
-    asked: &FetchRequest<A>,
+    request: &FetchRequest<A>,
     format: Format,
     writer: &mut PacketWriter<W>,
 ) -> Result<(), WriteFault>
     ensures { WritesPackets W.contents W.passed_on W.is_down W.loans writer.old writer.new result
-        (canonical_request format (Fetches asked.now.asked)) }
+        (canonical_request format (Fetches request.now.asked)) }
 {
-    // Laws.
+    // Laws that the proof uses.
     writes_packets::<W>();
-    write_head(Command::Fetch, asked.agent(), format, writer)?;
-    write_flags(FETCH_FLAGS, &asked.early_flags(), writer)?;
-    write_ids(b"want ", asked.wants(), writer)?;
-    write_ids(b"have ", asked.haves(), writer)?;
-    write_flag(b"done", asked.has(FetchFlag::Done), writer)?;
+    write_head(Command::Fetch, request.agent(), format, writer)?;
+    write_flags(FETCH_FLAGS, &request.early_flags(), writer)?;
+    write_ids(b"want ", request.wants(), writer)?;
+    write_ids(b"have ", request.haves(), writer)?;
+    write_flag(b"done", request.has(FetchFlag::Done), writer)?;
     writer.flush_pkt()
 }
 
@@ -100,7 +99,7 @@ fn write_head<W: Sink>(
         (command_packet command
         ∷ (agent_packets (option_copied agent.entry) ++ format_packets format ++ Delim ∷ [])) }
 {
-    // Laws.
+    // Laws that the proof uses.
     writes_packets::<W>();
     write_text(b"command=", command.name().as_bytes(), writer)?;
     write_agent(agent, writer)?;
@@ -116,7 +115,7 @@ fn write_agent<W: Sink>(
     ensures { WritesPart W.contents W.passed_on W.is_down W.loans writer.old writer.new result
         (agent_packets (option_copied agent.entry)) }
 {
-    // Laws.
+    // Laws that the proof uses.
     writes_packets::<W>();
     match agent {
         Some(agent) => write_text(b"agent=", agent, writer),
@@ -128,7 +127,7 @@ fn write_format<W: Sink>(format: Format, writer: &mut PacketWriter<W>) -> Result
     ensures { WritesPart W.contents W.passed_on W.is_down W.loans writer.old writer.new result
         (format_packets format) }
 {
-    // Laws.
+    // Laws that the proof uses.
     writes_packets::<W>();
     match format {
         Format::Sha1 => Ok(()),
@@ -146,7 +145,7 @@ fn write_flags<F: Flag, W: Sink>(
     ensures { WritesPart W.contents W.passed_on W.is_down W.loans writer.old writer.new result
         (flags_packets (table_in table.now) (flags_at F.number (table_in table.now) flags.now)) }
 {
-    // Laws.
+    // Laws that the proof uses.
     writes_packets::<W>();
     for (flag, word) in table {
         write_flag(word.as_bytes(), flags[flag.number()], writer)?;
@@ -163,7 +162,7 @@ fn write_flag<W: Sink>(
     ensures { WritesPart W.contents W.passed_on W.is_down W.loans writer.old writer.new result
         (flag_packets word.now is_set) }
 {
-    // Laws.
+    // Laws that the proof uses.
     writes_packets::<W>();
     if is_set {
         write_text(b"", word, writer)
@@ -179,7 +178,7 @@ fn write_prefixes<A: Allocator + Copy, W: Sink>(
     ensures { WritesPart W.contents W.passed_on W.is_down W.loans writer.old writer.new result
         (map prefix_packet prefixes.now) }
 {
-    // Laws.
+    // Laws that the proof uses.
     writes_packets::<W>();
     for prefix in prefixes {
         write_text(b"ref-prefix ", prefix.as_bytes(), writer)?;
@@ -197,7 +196,7 @@ fn write_ids<W: Sink>(
     ensures { WritesPart W.contents W.passed_on W.is_down W.loans writer.old writer.new result
         (map (id_packet word.now) ids.now) }
 {
-    // Laws.
+    // Laws that the proof uses.
     writes_packets::<W>();
     for id in ids {
         write_id(word, id, writer)?;
@@ -226,7 +225,7 @@ fn write_text<W: Sink>(
     ensures { WritesPackets W.contents W.passed_on W.is_down W.loans writer.old writer.new result
         (text_packet (word.now ++ rest.now) ∷ []) }
 {
-    // Laws.
+    // Laws that the proof uses.
     writes_packets::<W>();
     writer.text2(word, rest)
 }

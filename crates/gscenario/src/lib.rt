@@ -18,16 +18,16 @@
 //!
 //! # What the contracts do not rule out
 //!
-//! No contract rules out that a call reports out of memory although memory is available, if the
-//! first line of the text begins with a command and has a line feed. The call could then report out
-//! of memory in place of a later malformed line. No contract limits the time of a call, or the
-//! memory that it takes. No contract rules out that formatting a fault returns `fmt::Error` for no
-//! reason.
+//! A call may report out of memory although memory is available. This is possible only if the first
+//! line of the text begins with a command and has a line feed. Out of memory may then replace the
+//! report of a later malformed line. No contract limits the time of a call, or the memory that a
+//! call takes. Formatting a fault may return `fmt::Error` even if every write succeeds.
 //!
 //! # Dependencies
 //!
-//! The crate uses `grefs` for refspecs, `gname` for ids and ref names, `gobject` for objects, `hex`
-//! for bytes, `itoa` for numbers, and `memchr` to find the ends of words and lines.
+//! The crate uses `grefs` for refspecs, `gname` for ids and ref names, and `gobject` for objects.
+//! The crate uses `hex` for bytes, `itoa` for numbers, and `memchr` to find the ends of words and
+//! lines.
 #![tactic(auto)]
 
 mod arguments;

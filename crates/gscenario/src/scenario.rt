@@ -22,13 +22,13 @@ use std::alloc::{AllocError, Allocator};
 /// - `serve K`
 /// - `deliver J N`, or `deliver J all`
 /// - `forge BYTES`, `stranger BYTES`
-/// - `server-add c ID PARENT ..` for a commit, and the same with `t` instead of `c` for a tag.
+/// - `server-add c ID PARENT ..` for a commit, or `server-add t ID PARENT ..` for a tag.
 ///   `client-add` has the same arguments.
 /// - `server-ref ID NAME`, `client-ref ID NAME`
 ///
-/// Numbers are decimal, without leading zeros, and below 2^63. `BYTES` has two hexadecimal digits
-/// for each byte, or `-` for an empty list. Ids have 40 or 64 hexadecimal digits. Hexadecimal
-/// digits may be in either case.
+/// `K`, `J` and `N` are decimal numbers without leading zeros, below 2^63. `BYTES` has two
+/// hexadecimal digits for each byte, or `-` for an empty list. Ids have 40 or 64 hexadecimal
+/// digits. Hexadecimal digits may be in either case.
 pub struct Scenario;
 
 impl Scenario {
@@ -86,7 +86,8 @@ fn read_line<A: Allocator + Copy>(alloc: A, line: &[u8]) -> Result<Option<Event<
     }
 }
 
-// Returns the first line without its line feed, and the text after the line feed.
+// Returns the first line without its line feed, and the text after the line feed. Returns `None` if
+// the text has no line feed.
 fn split_line(text: &[u8]) -> Option<(&[u8], &[u8])>
     ensures { MatchOption result (IsInLine text.now) (λ pair.
         (text.now ≡ line pair.0.now ++ pair.1.now) × IsInLine pair.0.now) }

@@ -1,4 +1,4 @@
-//! Serving a connection of the `git://` transport, starting at its first line.
+//! Serving a connection of the `git://` transport, including the first line.
 
 ghost use Rattle.std.specs.Prelude.{◌≡◌, ◌↔◌, IsTrue};
 ghost use Rattle.gpkt.specs.Sending.{input_of, output_of};
@@ -18,14 +18,14 @@ use ghello::{Hello, read_hello};
 use gpkt::{PacketBuffer, PacketReader, Sink, Source, WriteFault};
 use std::alloc::Allocator;
 
-/// A repository served at a path, as git-daemon(1) exports one.
+/// A repository that a server exports at a path (git-daemon(1)).
 #[derive(Clone, Copy)]
 pub struct Export<'a, A: Allocator + Copy> {
     /// The repository to serve.
     pub server: &'a Server<A>,
     /// The path that a client must request, byte for byte.
     pub path: &'a [u8],
-    /// The packet that ends each reply.
+    /// The packets that end each reply.
     pub ends: Ends,
 }
 
@@ -44,15 +44,15 @@ pub enum GitEnd {
 }
 
 /// Serves one connection (gitprotocol-pack(5), "Git Transport"). Reads the client's first line, and
-/// continues as [`serve`] if the client requests the served path. Compares the paths byte by byte,
-/// and ignores the host.
+/// continues like [`serve`] if the client requests the served path. Compares the paths byte by
+/// byte, and ignores the host.
 ///
 /// If the line names another path or is refused, an `ERR` packet replaces the advertisement, and
 /// nothing after the line is read. If memory runs out before the line is read, nothing is read, and
 /// the `ERR` packet reports out of memory.
 ///
 /// The packer is used only if the client requests the served path. Faults of the packer are
-/// reported in the same manner as by [`serve`].
+/// reported as [`serve`] reports them.
 pub fn serve_git<S: Source, W: Sink, A: Allocator + Copy, K: Packer<A>>(
     export: &Export<'_, A>,
     packer: &mut OnePack<'_, K>,
@@ -119,7 +119,7 @@ fn asks_for<A: Allocator + Copy>(path: &[u8], hello: &Hello<A>) -> bool
     hello.path() == path
 }
 
-// Writes the error packet for a client that requests another path.
+// Writes and flushes the error packet for a client that requests another path.
 fn send_away<W: Sink>(sink: &mut W) -> Result<(), WriteFault>
     ensures sent { PassesPackets (output_of W.contents W.passed_on W.is_down sink.old sink.new)
         result elsewhere_packets }
@@ -128,7 +128,7 @@ fn send_away<W: Sink>(sink: &mut W) -> Result<(), WriteFault>
     send_error(b"upload-pack: no such repository", sink)
 }
 
-// Writes the error packet for a first line that was refused. Allocates nothing.
+// Writes and flushes the error packet for a first line that was refused. Allocates nothing.
 fn report<W: Sink>(fault: &ServeFault, sink: &mut W) -> Result<(), WriteFault>
     ensures sent { PassesPackets (output_of W.contents W.passed_on W.is_down sink.old sink.new)
         result (err_packets fault.now) }

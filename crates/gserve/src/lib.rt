@@ -1,5 +1,5 @@
-//! Serves connections of Git's fetch service, protocol version 2 (gitprotocol-v2(5)). The server
-//! sends the advertisement and then replies to each request, or it only replies to a single
+//! Serves connections of Git's fetch service, protocol version 2 (gitprotocol-v2(5)). [`serve`]
+//! sends the advertisement and then replies to each request. [`serve_one`] replies to a single
 //! request. A connection of the `git://` transport begins with a first line (gitprotocol-pack(5),
 //! "Git Transport").
 //!
@@ -32,7 +32,7 @@
 //!   have failed.
 //! - [`serve_one`] has the same contract for one request, without an advertisement
 //!   (`specs/Exchanges.antt`).
-//! - [`serve_git`] reads the first line of a `git://` connection, and reads on only after the
+//! - [`serve_git`] reads the first line of a `git://` connection, and reads more only after the
 //!   advertisement is flushed (`specs/GitConnections.antt`). If the line names the served path,
 //!   byte for byte, the connection continues as for [`serve`]. If the line names another path or is
 //!   refused, the server writes and flushes an error packet instead of the advertisement. Nothing
@@ -44,10 +44,10 @@
 //!   fails.
 //! - [`err_text`] writes the text of a fault, at most 128 bytes, and leaves the rest of the buffer
 //!   unchanged.
-//! - By [`laws`], a connection is a conversation over the bytes of its source (`specs/Talks.antt`),
-//!   if the bytes are known and neither the source nor the sink fails. With a faithful packer, a
-//!   client's bytes determine the output and the end of the conversation, unless memory runs out or
-//!   the packer fails.
+//! - By [`laws`], a connection satisfies `Talks` (`specs/Talks.antt`), if the bytes of its source
+//!   are known and neither the source nor the sink fails. `Talks` relates the client's bytes, the
+//!   output and the end of a conversation. With a faithful packer, a client's bytes determine the
+//!   output and the end of the conversation, unless memory runs out or the packer fails.
 //! - No call panics, overflows or reads out of bounds. Each call returns if all calls to its source
 //!   and its sink return.
 //!
@@ -64,17 +64,18 @@
 //!   rules out that more than the counted replies were flushed.
 //! - No contract rules out that a call reports out of memory even if there is enough memory. The
 //!   contracts permit this report in place of the advertisement, and at a packet whose contents are
-//!   stored. They also permit it in place of a fetch reply, if the server holds all wants and the
-//!   packer was not asked for a pack. At the start, they permit fault 28 and fault 64 for out of
-//!   memory.
-//! - No contract rules out that a call takes any amount of time, or flushes more often. No contract
-//!   rules out that one packet is written with several calls to the sink.
+//!   stored. They also permit this report in place of a fetch reply, if the server holds all wants
+//!   and the packer was not asked for a pack. At the start, they permit both fault 28 and fault 64
+//!   for out of memory.
+//! - No contract limits the time of a call. A call may flush more often than necessary, or write
+//!   one packet with several calls to the sink.
 //!
 //! # Dependencies
 //!
 //! `ganswer` defines the server and its answers. The crates `grequest`, `glsreply`, `gfetchreply`
-//! and `ghello` define the messages. They share the code of `ggrammar` and `gpkt`. `ggraph` defines
-//! packers, `gname` writes the digits of an id, and `arrayvec` stores a text of bounded length.
+//! and `ghello` define the messages. These four crates share the code of `ggrammar` and `gpkt`.
+//! `ggraph` defines packers, `gname` writes the digits of an id, and `arrayvec` stores a text of
+//! bounded length.
 #![tactic(auto)]
 
 mod connection;

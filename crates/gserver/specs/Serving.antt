@@ -24,7 +24,7 @@ use Rattle.gserver.specs.Fetching.{SaysFetch}
 use Rattle.gserver.specs.Listings.{SaysLsAnswer}
 use Rattle.gserver.specs.declared.side.ServerSide.{ServerSide}
 
--- the number of requests after which a connection accepts only one more request
+-- the maximum of the count of requests; after this number of requests, a connection accepts only one more
 abbrev pub max_requests : ℕ
 max_requests = 4294967295
 
@@ -32,7 +32,7 @@ max_requests = 4294967295
 abbrev pub goes_on_after : ℕ → Bool
 goes_on_after requests = nat_lt requests max_requests
 
--- the maximum number of further messages, the first line and requests, that are answered without ending the connection
+-- the maximum number of further messages (the first line and requests) whose answers do not end the connection
 abbrev pub messages_of : {R : Type 0} → Option R → ℕ → ℕ
 messages_of None requests = max_requests + 1
 messages_of (Some repo) requests = max_requests - requests
@@ -90,8 +90,8 @@ module _ {A R : Type 0} (server_of : R → Server A) where
     AnswersHello Finds new kept said goes = Greets Finds new said goes ⊎ Refuses (CannotGreet Finds new kept) said goes
 
     module _ (packs_of : R → Packs A) (fails_of : R → PackFails A) (Opens : Result R Bytes → Type 0) (ends : Ends) where
-      -- the host opens the repository again; the server answers the fetch request from the opened repository, which it
-      -- then serves
+      -- the host opens the repository again; the server answers the fetch request from the opened repository, and
+      -- serves this repository from then on
       pub record SendsFrom (asked : FetchAsked) (goes_on : Bool) (new : Option R) (said : List Packet)
           (goes : Bool) : Type 0 where
         pub found : R
@@ -137,13 +137,13 @@ pub record Stays {A H R : Type 0} (old new : ServerSide A H R) : Type 0 where
   pub ends : new.ends ≡ old.ends
   pub limits : new.limits ≡ old.limits
 
--- a side that has received no message
+-- a server side that has received no message
 pub record IsFresh {A H R : Type 0} (side : ServerSide A H R) : Type 0 where
   pub repo : side.repo ≡ None
   pub requests : side.requests ≡ 0
   pub fault : side.fault ≡ None
 
--- a side that has received no message opens the dialogue without a packet
+-- a server side that has received no message opens the dialogue without a packet
 abbrev pub OpensFresh : {A H R : Type 0} → ServerSide A H R → List Packet → Bool → Type 0
 OpensFresh side said goes = IsFresh side × SaysNothing said goes
 
@@ -188,7 +188,7 @@ pub record RefusesMessage {A H R : Type 0} (says : H → ServeFault → Bytes �
   pub words : IsFault says old.host.now (λ it. it ≡ serve.Request fault) new.fault text
   pub all : said ≡ text_packets text
 
--- whether a packet of the next message has contents to store
+-- whether the grammar of the next message (the first line or a request) stores the contents of a packet
 abbrev pub side_brings : {R : Type 0} → Option R → List Packet → Packet → Bool
 side_brings None = hello.brings
 side_brings (Some repo) = request.brings

@@ -1,4 +1,4 @@
-//! Replies that are sent in steps of at most one packet.
+//! Replies that are sent in steps. Each step sends at most one packet.
 
 ghost use Rattle.std.specs.Prelude.{◌≡◌, ◌<◌, ◌≤◌, ◌+◌, [], Bool, List, length, ℕ};
 ghost use Rattle.gpkt.specs.Packets.{Packet, max_packet};
@@ -11,9 +11,9 @@ use gtalk::Outgoing;
 use std::alloc::Allocator;
 
 // The maximum number of steps in one call.
-const MOST_STEPS: usize = 1024;
+const MAX_STEPS: usize = 1024;
 
-/// A reply that is sent in steps of at most one packet.
+/// A reply that is sent in steps. Each step sends at most one packet.
 pub(crate) trait Cursor {
     // Whether these packets may complete the reply. The boolean states whether the dialogue then
     // continues.
@@ -38,7 +38,7 @@ pub(crate) fn say_some<C: Cursor, B: Allocator + Copy>(
     ensures says { SaysSome C.may cursor.old cursor.new out.new result }
     ensures fewer { result ≡ Said.More → C.steps cursor.new < C.steps cursor.old }
 {
-    for _steps in 0..MOST_STEPS {
+    for _steps in 0..MAX_STEPS {
         match cursor.step(out) {
             Said::More => {
                 if !out.has_room() {

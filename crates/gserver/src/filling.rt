@@ -62,16 +62,17 @@ fn fill<A: Allocator + Copy, K: PartPacker<A>>(
 {
     let mut count = 0;
     while count < out.len() {
-        let given = put_part::<A, K>(packer, parts, out, count)?;
-        if given == 0 {
+        let added = put_part::<A, K>(packer, parts, out, count)?;
+        if added == 0 {
             return Ok(count);
         }
-        count += given;
+        count += added;
     }
     Ok(count)
 }
 
-// Writes the next part of a pack into a buffer, after the bytes that the buffer already contains.
+// Writes the next part of a pack into a buffer, after the first `from` bytes. Returns the number of
+// bytes written.
 fn put_part<A: Allocator + Copy, K: PartPacker<A>>(
     packer: &K,
     parts: &mut K::Parts,

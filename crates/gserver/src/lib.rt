@@ -3,39 +3,40 @@
 //!
 //! A [`ServerSide`] receives the first line of a connection, and then one request after another. A
 //! [`Host`] owns the repositories. Each repository is a [`ServedRepository`] that all connections
-//! share. The side sends each [`ServerReply`] packet by packet. A packer returns its pack in parts,
-//! so a whole pack is never in memory.
+//! share. The server side sends each [`ServerReply`] packet by packet. A packer returns its pack in
+//! parts, so a whole pack is never in memory.
 //!
 //! # Proved
 //!
 //! - The reply to the first line is the advertisement of a repository that the host's `finds`
-//!   allows for this line. The side then serves that repository (`Greets` in `specs/Serving.antt`).
+//!   allows for this line. The server side then serves that repository (`Greets` in
+//!   `specs/Serving.antt`).
 //! - The reply to an ls-refs request is the canonical encoding of a reply of `ganswer`
 //!   (`SaysLsAnswer` in `specs/Listings.antt`).
-//! - For each fetch request the host opens the repository again, and the side answers from the
-//!   opened repository (`SendsFrom`, and `SaysFetch` in `specs/Fetching.antt`). The packer produces
-//!   the pack, which is sent in packets of the maximum size.
+//! - For each fetch request the host opens the repository again, and the server side answers from
+//!   the opened repository (`SendsFrom`, and `SaysFetch` in `specs/Fetching.antt`). The packer
+//!   produces the pack, which is sent in packets of the maximum size.
 //! - If a packer fails while a pack is sent, the last packet carries the text of the fault on side
-//!   band 3. The packer's contract permits this fault for the objects to send. The connection then
-//!   ends.
+//!   band 3. The packer's contract permits this fault for the objects of the pack. The connection
+//!   then ends.
 //! - An empty request gets no reply, and ends the connection.
-//! - An error packet with the host's text can replace a reply. The connection then ends. The side
-//!   rejects a first line only if there is not enough memory, or if the host finds no repository
-//!   for the line (`CannotGreet`). The side rejects a request only if there is not enough memory,
-//!   if the repository can't answer the request, or if the host can't open the repository
-//!   (`CannotAnswer`). If the grammar rejects a message, the side sends the host's text for that
-//!   fault (`RefusesMessage`).
-//! - The side stores the fault with which it refused a message ([`ServerSide::fault`]). No fault is
-//!   stored if the host can't find or open a repository. While the connection accepts messages, no
-//!   fault is stored.
+//! - An error packet with the host's text can replace a reply. The connection then ends. The server
+//!   side rejects a first line only if there is not enough memory, or if the host finds no
+//!   repository for the line (`CannotGreet`). The server side rejects a request only if there is
+//!   not enough memory, if the repository can't answer the request, or if the host can't open the
+//!   repository (`CannotAnswer`). If the grammar rejects a message, the server side sends the
+//!   host's text for that fault (`RefusesMessage`).
+//! - The server side stores the fault with which it refused a message ([`ServerSide::fault`]). No
+//!   fault is stored if the host can't find or open a repository. While the connection accepts
+//!   messages, no fault is stored.
 //! - A connection begins with no repository, no request and no fault (`OpensFresh`).
-//!   [`ServerSide::within`] receives the host, the packets that end each reply, and the limits on
-//!   each request. The side uses these values for all messages. [`ServerSide::new`] gives the
-//!   default limits of 64 prefixes, 1,024 wants and 4,096 haves. Each ls-refs or fetch request is
-//!   counted. A connection ends only after an error packet, an empty request, a failed pack or the
-//!   last permitted request.
+//!   [`ServerSide::within`] receives the host, the limits on each request, and whether each reply
+//!   ends with a response-end packet. The server side uses these values for all messages.
+//!   [`ServerSide::new`] gives the default limits of 64 prefixes, 1,024 wants and 4,096 haves. Each
+//!   ls-refs or fetch request is counted. A connection ends only after an error packet, an empty
+//!   request, a failed pack or the last permitted request.
 //! - [`ServerSide::repo`], [`ServerSide::limits`], [`ServerSide::requests`] and
-//!   [`ServerSide::fault`] return the state of the side.
+//!   [`ServerSide::fault`] return the state of the server side.
 //! - Each call to [`Reply::say`](gdialogue::Reply) decreases the number of remaining steps, so
 //!   every reply ends. A connection ends after at most 4,294,967,296 requests.
 //! - An [`ErrText`] stores the first bytes of a text, as many as fit.
@@ -45,12 +46,10 @@
 //!
 //! - No contract restricts the results of a host, except the host's own `finds`, `opens` and
 //!   `says`. By default, these members allow every result. In that case, no contract requires the
-//!   side to call the host.
-//! - No contract rules out that an error packet for a failed allocation replaces any reply. The
-//!   connection then ends.
-//! - No contract rules out that a call queues few packets, or takes as long as the packer or the
-//!   host needs.
-//! - No contract restricts the pack data that the side sends before a packet on side band 3.
+//!   server side to call the host.
+//! - An error packet for a failed allocation may replace any reply. The connection then ends.
+//! - A call may queue few packets, and may take as long as the packer or the host needs.
+//! - No contract restricts the pack data that the server side sends before a packet on side band 3.
 //!
 //! # Only tested
 //!

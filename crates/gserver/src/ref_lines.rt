@@ -28,7 +28,7 @@ pub(crate) fn say_unborn<A: Allocator + Copy, B: Allocator + Copy>(
 {
     match server.unborn(asked) {
         Some(target) => {
-            // Laws.
+            // Laws that the proof uses.
             target.laws();
             out.put_text(b"unborn HEAD symref-target:", target.as_bytes());
         }
@@ -57,8 +57,8 @@ pub(crate) fn say_head<A: Allocator + Copy, B: Allocator + Copy>(
     }
 }
 
-/// Queues the line of the ref at this position, if the request includes this ref. The result is
-/// whether the server has a ref at this position. The function uses `text` as a buffer.
+/// Queues the line of the ref at this position, if the request includes this ref. Returns whether
+/// the server has a ref at this position. The function uses `text` as a buffer.
 pub(crate) fn say_ref<A: Allocator + Copy, B: Allocator + Copy>(
     server: &Server<A>,
     asked: &LsRefsRequest<A>,
@@ -71,8 +71,8 @@ pub(crate) fn say_ref<A: Allocator + Copy, B: Allocator + Copy>(
 {
     match server.refs().as_slice().get(at) {
         Some(found) => {
-            let known = server.peeled_at(at);
-            let line = server.line(asked, &found.0, found.1, known);
+            let peeled = server.peeled_at(at);
+            let line = server.line(asked, &found.0, found.1, peeled);
             say_line(line.as_ref(), text, out);
             true
         }

@@ -30,7 +30,8 @@ use gparts::PartPacker;
 use grequest::{FetchRequest, LsRefsRequest, Request, RequestReader};
 use std::alloc::Allocator;
 
-/// The number of requests after which a connection accepts only one more request.
+/// The maximum of [`ServerSide::requests`]. After this number of requests, a connection accepts
+/// only one more request.
 pub const MAX_REQUESTS: u32 = u32::MAX;
 
 /// The server's end of a connection. The server receives a first line, which names a repository,
@@ -52,7 +53,7 @@ pub struct ServerSide<'h, A: Allocator + Copy, H, R> {
 }
 
 impl<'h, A: Allocator + Copy, H, R> ServerSide<'h, A, H, R> {
-    /// Returns a side that has received no message, with the default limits on each request.
+    /// Returns a server side that has received no message, with the default limits on each request.
     pub fn new(host: &'h H, alloc: A, ends: Ends) -> ServerSide<'h, A, H, R>
         ensures fresh { IsFresh result }
         ensures host { result.host.now ≡ host.now }
@@ -62,8 +63,8 @@ impl<'h, A: Allocator + Copy, H, R> ServerSide<'h, A, H, R> {
         ServerSide::within(host, alloc, ends, Limits::default())
     }
 
-    /// Returns a side that has received no message, with these limits on each request. A limit
-    /// above 2^30 counts as 2^30.
+    /// Returns a server side that has received no message, with these limits on each request. A
+    /// limit above 2^30 counts as 2^30.
     pub fn within(host: &'h H, alloc: A, ends: Ends, limits: Limits) -> ServerSide<'h, A, H, R>
         ensures fresh { IsFresh result }
         ensures host { result.host.now ≡ host.now }
@@ -104,8 +105,9 @@ impl<'h, A: Allocator + Copy, H, R> ServerSide<'h, A, H, R> {
         self.requests
     }
 
-    /// Returns the fault with which this side refused a message, or `None`. No fault is stored if
-    /// the host can't find or open a repository, or if the packer fails while a pack is sent.
+    /// Returns the fault with which the server side refused a message, or `None`. No fault is
+    /// stored if the host can't find or open a repository, or if the packer fails while a pack is
+    /// sent.
     pub fn fault(&self) -> Option<&ServeFault>
         ensures { option_copied result ≡ self.now.fault }
     {
@@ -300,7 +302,7 @@ fn count(requests: &mut u32) -> bool
     goes_on
 }
 
-// Returns an error packet as the last answer.
+// Returns an answer that is an error packet with this text, and ends the connection.
 fn refusal_of<A: Allocator + Copy, R: ServedRepository<A> + PartPacker<A>>(
     text: ErrText,
 ) -> Answer<ServerReply<A, R, R::Parts>>

@@ -102,7 +102,8 @@ NoneFollows A =
 
 -- ---- the bound
 
--- each request for objects except the last offered at least one new id
+-- the offered ids are distinct, and the session has made at most as many requests for objects as it has offered ids, or
+-- one more if it has made its last request
 pub record IsCounted {A : Type 0} (s : SessionState A) : Type 0 where
   pub once : IsDistinct bytes_eq s.sent
   pub few : s.rounds ≤ length s.sent + 1
@@ -120,8 +121,8 @@ CountedStays {A} indexes index_fails =
     (repo : RepoState A) (old new : SessionState A)
     → IsCounted old → HasCalled indexes index_fails repo old new → IsCounted new
 
--- a session makes at most N + 1 requests for objects, if each request but the last offered a new id and the session's
--- tips reach N ids
+-- a session that satisfies `IsCounted` makes at most N + 1 requests for objects, if its tips reach N ids in the graph
+-- with which it began
 abbrev pub CountedAreFew : Type 0 → Type 0
 CountedAreFew A =
     (g : List (Entry A)) (s : SessionState A) (held parents : ℕ)

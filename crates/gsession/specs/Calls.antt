@@ -23,7 +23,7 @@ use Rattle.gsession.specs.declared.fault.ClientFault.TheVariants.{NoOpenRequest}
 use Rattle.gsession.specs.declared.taken.LsTaken.{LsTaken}
 use Rattle.gsession.specs.declared.taken.Taken.{Taken}
 
--- `new` is the session after one of its calls, whatever that call returned; `repo` is the repository before the call
+-- `new` is the session after one call, successful or not; `repo` is the repository before the call
 pub data HasCalled {A : Type 0} (indexes : Indexes A) (index_fails : IndexFails) (repo : RepoState A)
     (old new : SessionState A) : Type 0 where
   heard : (capabilities : List Capability) (result : Result (Unit {0}) (ClientFault A)) →
@@ -37,7 +37,7 @@ pub data HasCalled {A : Type 0} (indexes : Indexes A) (index_fails : IndexFails)
   settled : (after : RepoState A) (result : Result (List (Ask A) × List RefUpdate) (ClientFault A)) →
       SettlesSession old repo new after result → HasCalled indexes index_fails repo old new
 
--- the possible effects of a call on a session, whatever the call returns
+-- the possible effects of a successful or failed call on a session
 pub data Does {A : Type 0} (g : List (Entry A)) (old new : SessionState A) : Type 0 where
   does_nothing : new ≡ old → Does g old new
   does_end : new ≡ over old → Does g old new

@@ -40,14 +40,14 @@ batch_size most rounds = min most (16 * 2 ^ min rounds 10)
 abbrev pub batch_of : Limits → List Id → List Id → List Id
 batch_of limits commons offer = if nat_le (length commons + length offer) (max_haves limits) then offer else []
 
--- the limits of a request with these contents that a session with these limits makes: a request for refs has the
--- default limits
+-- the limits of a request, given the limits of the session: a request for refs has the default limits, and a request
+-- for objects has the limits of the session
 abbrev pub limits_for : Limits → Asked → Option Limits
 limits_for limits Empty = None
 limits_for limits (Ls asked) = Some profile
 limits_for limits (Fetches asked) = Some limits
 
--- the request has the limits of a request that a session with these limits makes
+-- the request has the limits that `limits_for` determines from the limits of the session
 abbrev pub HasLimitsFor : {A : Type 0} → Limits → Request A → Type 0
 HasLimitsFor limits request = limits_of request ≡ limits_for limits (asked_by_request request)
 

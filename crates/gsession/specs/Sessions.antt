@@ -92,7 +92,7 @@ pub record IsSession {A : Type 0} (s : SessionState A) : Type 0 where
 abbrev pub over : {A : Type 0} → SessionState A → SessionState A
 over s = record s { stage = Over; pending = None }
 
--- whether the fault ends the session: every fault except `NoOpenRequest` does
+-- whether the fault ends the session; every fault except `NoOpenRequest` ends the session
 abbrev pub ends_session : {A : Type 0} → ClientFault A → Bool
 ends_session NoOpenRequest = false
 ends_session _ = true
@@ -161,7 +161,7 @@ BeginsWith r refspecs limit ends options (Err fault) = Begins r refspecs limit e
 
 -- ---- the advertisement
 
--- the session has made no request yet
+-- the session has just begun: it has made no request yet
 abbrev pub IsBegun : {A : Type 0} → SessionState A → Type 0
 IsBegun s = (s.stage ≡ Listing) × (s.pending ≡ None)
 

@@ -18,14 +18,15 @@ use std::fmt;
 /// The reason why a call of a session failed.
 #[derive(Debug, Drop)]
 pub enum ClientFault<A: Allocator + Copy = Global> {
-    /// The session rejected a packet of the reply. The number of the fault is 20 to 25, 29, 30 or
-    /// 41 to 54.
+    /// A packet of the reply is unreadable or rejected. The number of the fault is 20 to 25, 29, 30
+    /// or 41 to 54.
     Message(MessageFault),
     /// Fault 66: the indexer rejected the pack.
     Index(IndexFault),
     /// Fault 82: there are more than `MAX_SPECS` refspecs.
     TooManySpecs,
-    /// Fault 83: the call does not fit the stage of the session. The session is unchanged.
+    /// Fault 83: the session does not allow this call at its current stage, for example because no
+    /// request is open. The session is unchanged.
     NoOpenRequest,
     /// Fault 84: the server acknowledged this id, which is not a have of the request.
     StrangeAck { id: Oid },
@@ -51,7 +52,8 @@ impl<A: Allocator + Copy> ClientFault<A> {
         self.fault_row().1
     }
 
-    /// Returns whether the fault ends the session. Every fault except `NoOpenRequest` does.
+    /// Returns whether the fault ends the session. Every fault except `NoOpenRequest` ends the
+    /// session.
     pub fn ends_session(&self) -> bool
         ensures { result ≡ ends_session self.now }
     {

@@ -82,7 +82,7 @@ impl<K: Indexer<A>, A: Allocator + Copy> PackSink for PackFeed<'_, K, A> {
 
     ghost same = { λ one other. one.indexer.now ≡ other.indexer.now };
 
-    // The sink accepts every piece. The session reports the indexer's fault after it read the
+    // The sink accepts every piece. The session reports the indexer's fault after the end of the
     // reply.
     ghost refuses = { false };
 

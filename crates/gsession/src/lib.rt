@@ -5,8 +5,8 @@
 //! # Proved
 //!
 //! - [`Session::begin`] stores the refspecs and the distinct ids of the local refs, in the order of
-//!   their names. The call fails for more than 16 refspecs. [`Session::hear`] stores whether the
-//!   server reports an unborn `HEAD`.
+//!   the refs' names. The call fails for more than 16 refspecs. [`Session::hear`] stores whether
+//!   the server can report an unborn `HEAD`.
 //! - [`Session::request`] makes the next request. A request for refs has the source of each refspec
 //!   as a prefix, and has `unborn` exactly when the server offers to report an unborn `HEAD`. A
 //!   request for objects has the wants, and its haves are the common ids and a batch of new ids. A
@@ -16,9 +16,9 @@
 //!   [`Session::request_on`] makes the same request, but continues the walk of the previous request
 //!   (`specs/Offering.antt`). This call requires that the graph has not changed since the previous
 //!   request.
-//! - The session's options contain its limits ([`ggrammar::Limits`]). They bound the numbers of
-//!   wants, haves and acknowledged ids. By default, the limits are 1,024 wants, 4,096 haves and
-//!   4,096 acknowledged ids.
+//! - The session's options contain its limits ([`ggrammar::Limits`]) on the numbers of wants, haves
+//!   and acknowledged ids. By default, the limits are 1,024 wants, 4,096 haves and 4,096
+//!   acknowledged ids.
 //! - The options also contain the maximum number of new ids in a request
 //!   ([`PackOptions::max_batch`]). A batch has at most 16 ids in the first request for objects. The
 //!   number doubles with each request up to this maximum, and at most to 16,384. By default, the

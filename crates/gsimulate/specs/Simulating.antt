@@ -32,13 +32,13 @@ plain_tools A = tools_of plain_packs plain_pack_fails plain_indexes (plain_index
 
 -- ---- files
 
--- the server file describes a server that satisfies the predicate
+-- the server file describes a server that satisfies the predicate `IsSo`
 pub record HasServer {A : Type 0} (files : Simulation) (IsSo : Server A → Type 0) : Type 0 where
   pub server : Server A
   pub names : NamesServer files.server.now server
   pub so : IsSo server
 
--- the server file and the client file describe a server and a client's repository that satisfy the predicate
+-- the server file and the client file describe a server and a client's repository that satisfy `IsSo`
 pub record HasEnds {A : Type 0} (files : Simulation) (IsSo : Server A → RepoState A → Type 0) : Type 0 where
   pub server : Server A
   pub repo : RepoState A
@@ -46,7 +46,7 @@ pub record HasEnds {A : Type 0} (files : Simulation) (IsSo : Server A → RepoSt
   pub opens : NamesClient files.client.now repo
   pub so : IsSo server repo
 
--- the three files describe a server, a client's repository and events that satisfy the predicate
+-- the three files describe a server, a client's repository and events that satisfy the predicate `IsSo`
 pub record HasEvents {A : Type 0} (files : Simulation) (IsSo : Server A → RepoState A → List (Event A) → Type 0)
     : Type 0 where
   pub server : Server A
@@ -57,7 +57,7 @@ pub record HasEvents {A : Type 0} (files : Simulation) (IsSo : Server A → Repo
   pub reads : IsScenario files.scenario.now events
   pub so : IsSo server repo events
 
--- the server and the client can form a world, and the predicate holds of this world and the events
+-- the server and the client can form a world, and this world and the events satisfy the predicate `IsSo`
 abbrev pub CanHappen : {A : Type 0} → (WorldState A → List (Event A) → Type 0)
     → Server A → RepoState A → List (Event A) → Type 0
 CanHappen IsSo server repo events = CanStart server repo × IsSo (new_world server repo) events

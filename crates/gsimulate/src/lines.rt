@@ -25,24 +25,23 @@ pub(crate) fn text_of<A: Allocator + Copy>(
     Ok(text)
 }
 
-// Appends a line for each outcome.
 fn put_outcomes<A: Allocator + Copy>(
     text: &mut Vec<u8, A>,
     outcomes: &[Outcome],
 ) -> Result<(), AllocError>
     ensures { OnOk result (text.new.items ≡ text.old.items ++ flat_map outcome_line outcomes.now) }
 {
-    for place in 0..outcomes.len() {
-        put_line(text, &outcome_at(outcomes, place))?;
+    for index in 0..outcomes.len() {
+        put_line(text, &outcome_at(outcomes, index))?;
     }
     Ok(())
 }
 
-fn outcome_at(outcomes: &[Outcome], place: usize) -> Outcome
-    requires { place < length outcomes.now }
-    ensures { slice_get outcomes.now place ≡ Some result }
+fn outcome_at(outcomes: &[Outcome], index: usize) -> Outcome
+    requires { index < length outcomes.now }
+    ensures { slice_get outcomes.now index ≡ Some result }
 {
-    outcomes[place]
+    outcomes[index]
 }
 
 fn put_line<A: Allocator + Copy>(text: &mut Vec<u8, A>, outcome: &Outcome) -> Result<(), AllocError>
@@ -52,7 +51,6 @@ fn put_line<A: Allocator + Copy>(text: &mut Vec<u8, A>, outcome: &Outcome) -> Re
     text.extend_from_slice(b"\n")
 }
 
-// Appends the outcome of an event.
 fn put_outcome<A: Allocator + Copy>(
     text: &mut Vec<u8, A>,
     outcome: &Outcome,
@@ -89,8 +87,8 @@ fn put_taken<A: Allocator + Copy>(
     put_count(text, b" wants=", wants)
 }
 
-// Appends the number of refs that moved, the number of refs that already had their ids, and the
-// number of refs whose update was not a fast-forward.
+// Appends three numbers: the refs that moved, the refs that already had their ids, and the refs
+// whose update was not a fast-forward.
 fn put_settled<A: Allocator + Copy>(
     text: &mut Vec<u8, A>,
     moved: usize,
@@ -105,7 +103,6 @@ fn put_settled<A: Allocator + Copy>(
     put_count(text, b" notforward=", not_forward)
 }
 
-// Appends a word and a number.
 fn put_count<A: Allocator + Copy, I: Integer>(
     text: &mut Vec<u8, A>,
     word: &[u8],
@@ -118,7 +115,6 @@ fn put_count<A: Allocator + Copy, I: Integer>(
     text.extend_from_slice(digits.format(number).as_bytes())
 }
 
-// Appends a line for each ref.
 fn put_refs<A: Allocator + Copy>(
     text: &mut Vec<u8, A>,
     refs: &[(RefName<A>, Oid)],

@@ -55,7 +55,7 @@ module _ {C A : Type 0} where
       (turn connection.conversation ≡ Done)
       ⊎ ((turn connection.conversation ≡ Listens) × ((why : Stop) × (connection.stopped ≡ Some why)))
 
-  -- which end of the connection has the turn
+  -- the turn of the connection: the turn of its conversation, or `Done` if it listens but no more packets arrive
   abbrev pub IsTurn : (C → Turn) → Connection C A → Turn → Type 0
   IsTurn turn connection Listens = (turn connection.conversation ≡ Listens) × (connection.stopped ≡ None)
   IsTurn turn connection Speaks = turn connection.conversation ≡ Speaks
@@ -125,7 +125,7 @@ module _ {C A : Type 0} where
     pub last : SendsSaid holds mid new (record { old = between; new = written.new })
     pub passed : HasPassed before.said between written passed_on
 
--- after `Ok` the sink has not failed, after `Io` it has failed, and after `Memory` it has failed exactly if it had
+-- the sink has not failed after `Ok`, and has failed after `Io`; after `Memory` the sink has failed exactly when it had
 -- failed before the call
 abbrev pub LeavesSink : Result Unit TalkFault → Bool → Bool → Type 0
 LeavesSink (Ok done) was_down is_down = is_down ≡ false

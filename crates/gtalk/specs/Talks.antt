@@ -27,7 +27,7 @@ stop_talk talk why = record { heard = talk.heard; stopped = Some why; said = tal
 abbrev pub talk_with_reply : Talk → List Packet → Talk
 talk_with_reply talk more = record { heard = talk.heard; stopped = talk.stopped; said = talk.said ++ more }
 
--- these bytes encode packets that the conversation may queue next
+-- the bytes encode packets that the conversation may queue after the history `talk`
 pub record Says (Holds : Talk → Type 0) (talk : Talk) (bytes : Bytes) : Type 0 where
   pub more : List Packet
   pub spelt : bytes ≡ canonical_all more

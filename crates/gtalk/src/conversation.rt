@@ -8,7 +8,7 @@ use crate::outgoing::Outgoing;
 use gpkt::{Packet, PacketFault};
 use std::alloc::Allocator;
 
-/// Which end has the turn.
+/// The turn of a conversation: receiving, queueing packets to send, or done.
 #[derive(Clone, Copy, Debug, PartialEq, Eq)]
 pub enum Turn {
     /// The peer's turn: the conversation receives a packet, or is notified that no more packets
@@ -34,21 +34,22 @@ pub enum Stop {
 
 /// One end of a conversation: a value that receives packets and queues packets to send.
 ///
-/// A conversation does no I/O and does not store its history. `holds` describes the packets
-/// received and queued so far. `left` decreases with each call, so that every conversation ends.
+/// A conversation does no I/O and does not store its history. The relation `holds` describes the
+/// packets received and queued so far. The bound `left` decreases with each call, so every
+/// conversation ends.
 pub trait Conversation {
     ghost use Rattle.gtalk.specs.declared.conversation.Turn.{Turn};
 
-    // Which end has the turn.
+    // The turn of the conversation.
     ghost turn: { Self → Turn };
 
-    // The histories of received and queued packets that may lead to this state.
+    // Whether a history of received and queued packets may lead to this state.
     ghost holds: { Self → Talk → Type 0 };
 
-    // A bound on the remaining turns and steps.
+    // The maximum numbers of remaining turns, and of remaining steps in the current turn.
     ghost left: { Self → Left };
 
-    /// Returns which end has the turn.
+    /// Returns the turn of the conversation.
     fn turn(&self) -> Turn
         ensures { result ≡ turn self.now };
 
@@ -59,14 +60,14 @@ pub trait Conversation {
             → holds self.new (talk_after talk (packet_of line.entry)) }
         ensures nearer { (talk : Talk) → holds self.old talk → IsNearer turn left self.old self.new };
 
-    /// Notifies the conversation that no more packets arrive, and why.
+    /// Notifies the conversation that no more packets arrive, for the reason `why`.
     fn stop(&mut self, why: Stop)
         requires { turn self.old ≡ Turn.Listens }
         ensures stopped { (talk : Talk) → holds self.old talk → holds self.new (stop_talk talk why) }
         ensures nearer { (talk : Talk) → holds self.old talk → IsNearer turn left self.old self.new };
 
-    /// Adds the next packets to an empty send queue. One call may add any number of packets that
-    /// fit, even zero.
+    /// Adds the next packets to an empty send queue. A call may add any number of packets for which
+    /// the queue has room, even zero.
     fn say<A: Allocator + Copy>(&mut self, out: &mut Outgoing<A>)
         requires turn { turn self.old ≡ Turn.Speaks }
         requires empty { out.old ≡ [] }

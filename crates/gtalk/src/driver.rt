@@ -1,4 +1,4 @@
-//! Driving a connection over a blocking source and a blocking sink.
+//! Running a connection over a blocking source and a blocking sink.
 
 ghost use Rattle.std.specs.Prelude.{◌≡◌, ◌<◌, ◌≤◌, [], Ok, is_err, None, IfOk, IsSome, OnErr, OnOk, length, take};
 ghost use Rattle.std.specs.Io.KnownBytes.{Consumes, IsAtEnd, Keeps};
@@ -18,8 +18,8 @@ use std::alloc::Allocator;
 // The maximum number of bytes of one read.
 const PIECE: usize = 4_096;
 
-/// Drives a conversation to its end. Queued packets are flushed before the next read, and the
-/// conversation receives all bytes that were read.
+/// Runs a conversation to its end. Queued packets are flushed before the next read, and the
+/// connection receives all bytes that were read.
 ///
 /// Fails if the sink fails, or if there is no memory for the packets to send. If the source ends or
 /// fails, the conversation is notified, and the call does not fail.
@@ -93,7 +93,7 @@ fn speak<C: Conversation, A: Allocator + Copy, W: Sink>(
     }
 }
 
-// Calls the conversation once to queue packets, and sends them.
+// Makes the conversation queue packets once, and sends the queued packets.
 fn say_some<C: Conversation, A: Allocator + Copy, W: Sink>(
     connection: &mut Connection<C, A>,
     sink: &mut W,
@@ -207,7 +207,8 @@ fn listen<C: Conversation, A: Allocator + Copy, S: Source>(
     }
 }
 
-// Reads once, and never beyond the end of the current packet.
+// Reads once, at most up to the end of the current packet. The connection receives the bytes, the
+// end of the input, or the failure of the source.
 #[tactic(auto, using(crate::proofs::Partials::lacks_fewer))]
 fn hear_some<C: Conversation, A: Allocator + Copy, S: Source>(
     connection: &mut Connection<C, A>,

@@ -59,7 +59,7 @@ ServesNobody {A} file output fault =
     ⊎ ((server : Server A) × NamesServer file server × Announces {A = A} output (Err fault))
 
 module _ {A : Type 0} (file path : Bytes) (ends : Ends) (connections : ℕ) (output : Output) where
-  -- the port is shown, and the repository of the file is served on this number of connections
+  -- the port is shown, and the repository that the file describes is served on this number of connections
   pub record IsServedToAll (errors : Output) (outcome : ProgramOutcome A) : Type 0 where
     pub server : Server A
     pub names : NamesServer file server
@@ -135,7 +135,7 @@ module _ {A : Type 0} (specs : List Refspec) (limit : ℕ) (ends : Ends) (hello 
       pub kept : IsKept stored
       pub unreported : IsUnwritten report
 
-    -- a fetch over a socket into the repository of the file
+    -- a fetch over a socket into the repository that the file describes
     pub record IsFetchedRemote (outcome : ProgramOutcome A) : Type 0 where
       pub old : Bytes
       pub held : Holds stored.old old
@@ -178,7 +178,8 @@ module _ {A : Type 0} (old : RepoState A) (specs : List Refspec) (new : RepoStat
   FetchesInPair (Err _) = ⊥
 
 module _ {A : Type 0} (client : Bytes) (specs : List Refspec) where
-  -- the fetch into the repository of the client's file succeeded, and its report was written or could not be written
+  -- the fetch into the repository that the client's file describes succeeded, and its report was written or could not
+  -- be written
   pub record IsMet (output : Output) (outcome : ProgramOutcome A) : Type 0 where
     pub repo : RepoState A
     pub names : NamesClient client repo

@@ -24,8 +24,7 @@ use std::alloc::Allocator;
 use std::io::{BufReader, Read, Write};
 use std::net::{Net, OpenListener, OpenStream, SocketAddr, TcpListener, TcpStream};
 
-// The input of the client. If the client reads more after it has read all bytes that the server
-// flushed, the server runs first.
+// The input of the client. If the client reads and no unread bytes are left, the server runs first.
 #[derive(Drop)]
 struct ClientInput<'a, N, F, W, A: Allocator + Copy> {
     server: &'a Server<A>,
@@ -112,8 +111,8 @@ impl<N: Source, F: Source, W: Sink, A: Allocator + Copy> Source for ClientInput<
         if self.far_sink.has_failed() {
             return self.fail();
         }
-        let room = buf.len().min(self.bytes_left());
-        match self.near.read(&mut buf[..room]) {
+        let max = buf.len().min(self.bytes_left());
+        match self.near.read(&mut buf[..max]) {
             Ok(count) => {
                 self.read = self.read.saturating_add(count);
                 Ok(count)
@@ -125,21 +124,25 @@ impl<N: Source, F: Source, W: Sink, A: Allocator + Copy> Source for ClientInput<
 
 // Acts as the server: reads the client's first line, and writes the advertisement or the reason to
 // refuse the line.
-fn greet<A: Allocator + Copy, F: Source, W: Sink>(server: &Server<A>, far: &mut F, sink: &mut W) {
-    match hear(far, server.graph().allocator()) {
+fn greet<A: Allocator + Copy, S: Source, W: Sink>(
+    server: &Server<A>,
+    source: &mut S,
+    sink: &mut W,
+) {
+    match hear(source, server.graph().allocator()) {
         Ok(_hello) => advertise(server, sink),
         Err(fault) => refuse(&fault, sink),
     }
 }
 
-// Writes only the advertisement, as to a client that sends no request.
+// Writes only the advertisement: the server reads an empty source, and so finds no request.
 fn advertise<A: Allocator + Copy, W: Sink>(server: &Server<A>, sink: &mut W) {
     let mut nothing = SliceSource::new(b"");
     let mut packer = OnePack::new(&PlainPack);
     let _served = serve(server, &mut packer, Ends::Plain, &mut nothing, sink);
 }
 
-// Writes the error line of a refusal, and flushes it. Allocates no memory.
+// Writes and flushes the error packet of a refusal. Allocates no memory.
 fn refuse<W: Sink>(fault: &ServeFault, sink: &mut W) {
     let mut text = [0; MAX_ERR_TEXT];
     let len = err_text(fault, &mut text);
@@ -156,24 +159,25 @@ struct Joined<S> {
     far: S,
 }
 
-// The maximum number of connections to accept. One of them must be the client's own connection, and
-// the others come from other processes.
-const MAX_STRANGERS: usize = 16;
+// The maximum number of connections to accept until the client's own connection arrives. Other
+// processes may also connect to the listener.
+const MAX_ACCEPTS: usize = 16;
 
-// The address at which client and server connect, with any free port. `HOST` and `PATH` are the
-// host and the path in the first line of the client.
-const MEETING: &str = "127.0.0.1:0";
+// The address at which the server listens, with any free port. `HOST` and `PATH` are the host and
+// the path in the first line of the client.
+const LOCAL_ADDRESS: &str = "127.0.0.1:0";
 
 const HOST: &[u8] = b"127.0.0.1";
 
 const PATH: &[u8] = b"/";
 
 fn connect<N: Net>(net: &N) -> Option<Joined<N::Stream>> {
-    let listener = TcpListener::bind(net, MEETING).ok()?;
+    let listener = TcpListener::bind(net, LOCAL_ADDRESS).ok()?;
     join(net, &listener)
 }
 
-// Opens a connection to the listener, and accepts this connection as the server.
+// Opens a connection to the listener, and accepts this connection as the server. Returns `None` if
+// the connection can't be opened or accepted.
 fn join<N: Net>(net: &N, listener: &N::Listener) -> Option<Joined<N::Stream>> {
     let address = listener.local_addr().ok()?;
     let near = TcpStream::connect(net, address).ok()?;
@@ -181,9 +185,10 @@ fn join<N: Net>(net: &N, listener: &N::Listener) -> Option<Joined<N::Stream>> {
     Some(Joined { near, far })
 }
 
-// Accepts connections until the connection of this client arrives.
+// Accepts connections until the connection of this client arrives. Returns `None` if it does not
+// arrive within `MAX_ACCEPTS` connections, or if a connection can't be accepted.
 fn accept_from<L: OpenListener>(listener: &L, client: SocketAddr) -> Option<L::Stream> {
-    for _ in 0..MAX_STRANGERS {
+    for _ in 0..MAX_ACCEPTS {
         let (stream, peer) = listener.accept().ok()?;
         if peer == client {
             return Some(stream);
@@ -192,8 +197,8 @@ fn accept_from<L: OpenListener>(listener: &L, client: SocketAddr) -> Option<L::S
     None
 }
 
-/// Fetches with the refspecs from the server into the repository, over a connection inside this
-/// process and with plain packs.
+/// Fetches from the server into the repository, over a connection inside this process and with
+/// plain packs. The refspecs select the refs.
 ///
 /// Fails with `PairLimit` if a message would have more than [`MAX_MESSAGE`](crate::MAX_MESSAGE)
 /// bytes. In that case no byte of the message is written, and client and server stop. Fails with

@@ -96,14 +96,14 @@ where
         listening.now.connections result }
     ensures loans { E.loans errors.new ≡ E.loans errors.old }
 {
-    let mut can_tell = true;
+    let mut can_print = true;
     for _number in 0..listening.connections {
         let Ok((stream, _)) = listening.listener.accept() else {
             return Err(ProgramFault::Socket);
         };
         let timer = Turns::from_accept(listening.clock);
         let outcome = serve_stream(export, packer, stream, timer);
-        can_tell = tell(outcome, can_tell, errors);
+        can_print = tell(outcome, can_print, errors);
     }
     Ok(())
 }
@@ -112,16 +112,16 @@ where
 // whether the error sink still works.
 fn tell<A: Allocator + Copy, E: Sink>(
     outcome: Result<(), ProgramFault<A>>,
-    can_tell: bool,
+    can_print: bool,
     errors: &mut E,
 ) -> bool
-    ensures tells { Tells outcome can_tell result
+    ensures tells { Tells outcome can_print result
         (output_of E.contents E.passed_on E.is_down errors.old errors.new) }
     ensures loans { E.loans errors.new ≡ E.loans errors.old }
 {
     match outcome {
-        Err(fault) if can_tell => print_fault(&fault, errors).is_ok(),
-        _ => can_tell,
+        Err(fault) if can_print => print_fault(&fault, errors).is_ok(),
+        _ => can_print,
     }
 }
 

@@ -42,7 +42,7 @@ enum Turn {
     Given(TimeLeft),
     // A request that the server awaits. The time for the request starts at the next read.
     Awaited,
-    // No message: the time is over, or the clock failed.
+    // No message. The time is over, or the clock failed.
     Over,
 }
 

@@ -44,9 +44,10 @@ pub record AreOffers {A : Type 0} (g : List (Entry A)) (tips commons sent : List
   pub front : List Id
   pub back : List Id
   pub underway :
-      IsUnderway g tips front back offers.tour.walk.marks.items offers.tour.walk.met.items offers.tour.walk.lost
-      offers.tour.walk.parents offers.tour.at
+      IsUnderway g tips front back offers.tour.walk.marks.items offers.tour.walk.met.items offers.tour.walk.missing
+      offers.tour.walk.parent_count offers.tour.at
   pub told : All (λ a. ¬ (MayBeOffered g commons sent a)) front
   pub known : AreReached g commons offers.known.items
-  pub heard : offers.heard ≡ length commons
-  pub met : HasMet g (new_ids [] sent) offers.sent.marks.items offers.sent.met.items offers.sent.lost offers.sent.parents
+  pub heard : offers.marked_commons ≡ length commons
+  pub met : HasMet g (new_ids [] sent) offers.sent.marks.items offers.sent.met.items offers.sent.missing
+      offers.sent.parent_count

@@ -34,7 +34,7 @@ pub fn missing<A: Allocator + Copy>(
     ensures sure { IsOrdered graph.now.entries → IsTrue (is_ok result) }
     ensures fault { IfErr result (λ fault. fault ≡ Memory) }
 {
-    // Laws.
+    // The proof uses these laws.
     gdag::laws::ordered_is_closed::<A>();
     gdag::laws::closed_is_connected::<A>();
     if graph.is_ordered() {
@@ -78,7 +78,7 @@ pub fn missing_known<A: Allocator + Copy>(
     let walk = walk_past(graph, known.as_slice(), ids)?;
     let count = Count {
         ids: walk.met.len() as u64,
-        parents: walk.parents,
+        parents: walk.parent_count,
     };
-    Ok((walk.lost, count))
+    Ok((walk.missing, count))
 }

@@ -92,32 +92,32 @@ fn all_reach<A: Allocator + Copy>(
     Ok(true)
 }
 
-/// Returns the state of a walk that has met exactly the given ids. Fails only if out of memory.
+/// Returns the state of a walk that starts at exactly the given ids, and that has not visited any
+/// id. Fails only if out of memory.
 pub fn met_of<A: Allocator + Copy>(graph: &Graph<A>, ids: &[Oid]) -> Result<Walk<A>, AllocError>
     ensures { IfOk result (λ walk. HasMet graph.now.entries (new_ids [] ids.now)
-        walk.marks.items walk.met.items walk.lost walk.parents) }
+        walk.marks.items walk.met.items walk.missing walk.parent_count) }
 {
     let mut walk = Walk::new(graph)?;
     walk.meet_all(graph, &[], ids)?;
     Ok(walk)
 }
 
-// Returns the ids at the given positions.
+// Returns the ids at these positions.
 fn ids_at<A: Allocator + Copy>(
     graph: &Graph<A>,
-    numbers: &[usize],
+    positions: &[usize],
 ) -> Result<Vec<Oid, A>, AllocError>
-    requires { All (λ position. position < length graph.now.entries) numbers.now }
-    ensures { IfOk result (λ ids. ids.items ≡ ids_at graph.now.entries numbers.now) }
+    requires { All (λ position. position < length graph.now.entries) positions.now }
+    ensures { IfOk result (λ ids. ids.items ≡ ids_at graph.now.entries positions.now) }
 {
     let mut ids = Vec::new(graph.allocator());
-    for position in numbers {
+    for position in positions {
         ids.push(*graph.id_at(*position))?;
     }
     Ok(ids)
 }
 
-// Returns whether the graph lacks the id.
 fn is_absent<A: Allocator + Copy>(graph: &Graph<A>, id: &Oid) -> bool
     ensures { result ≡ not (is_some (node_at graph.now.entries id.now)) }
 {

@@ -37,8 +37,8 @@ impl<A: Allocator + Copy> ConnectedMarks<A> {
         }
     }
 
-    /// Returns whether the id at the position is marked. A position after the end is unmarked. The
-    /// call does not allocate.
+    /// Returns whether the id at the position is marked. A position after the end of the marks is
+    /// unmarked. The call does not allocate.
     pub fn is_marked(&self, position: usize) -> bool
         ensures { result ≡ slice_index_or self.now position false }
     {
@@ -92,7 +92,7 @@ pub fn either<A: Allocator + Copy>(
     Ok(marks)
 }
 
-/// Returns whether a position is marked. A position after the end is unmarked.
+/// Returns whether a position is marked. A position after the end of the marks is unmarked.
 pub fn is_marked(marks: &[bool], position: usize) -> bool
     ensures { result ≡ slice_index_or marks.now position false }
 {

@@ -40,7 +40,8 @@ pub fn haves<A: Allocator + Copy>(
     Ok(ids)
 }
 
-/// A resumable walk from a list of tips, with the number of positions that the walk has visited.
+/// A walk from a list of tips that can be resumed, with the number of positions that the walk has
+/// visited.
 #[derive(Drop)]
 pub(crate) struct Tour<A: Allocator + Copy> {
     pub(crate) walk: Walk<A>,
@@ -54,9 +55,9 @@ pub struct Offers<A: Allocator + Copy = Global> {
     tour: Tour<A>,
     // Marks at the positions of all ids that a common id reaches.
     known: Vec<bool, A>,
-    // The number of common ids that are already marked.
-    heard: usize,
-    // The ids that were already offered, as the state of a walk.
+    // The number of common ids whose ancestors are marked in `known`.
+    marked_commons: usize,
+    // The state of a walk that has met exactly the ids that were already offered.
     sent: Walk<A>,
 }
 
@@ -75,7 +76,7 @@ impl<A: Allocator + Copy> Offers<A> {
         Ok(Offers {
             tour: Tour { walk, at: 0 },
             known: Vec::new(graph.allocator()),
-            heard: 0,
+            marked_commons: 0,
             sent,
         })
     }
@@ -84,7 +85,7 @@ impl<A: Allocator + Copy> Offers<A> {
     /// batches count as sent. The list `commons` must begin with the `commons` of the previous
     /// call, and the graph must be unchanged.
     ///
-    /// Fails only with `Memory`, and then the `Offers` can't be used further.
+    /// Fails only with `Memory`, and then the `Offers` cannot be used any more.
     pub fn next(
         &mut self,
         graph: &Graph<A>,
@@ -100,7 +101,7 @@ impl<A: Allocator + Copy> Offers<A> {
             × AreOffers graph.now.entries tips commons.now (sent ++ ids.items) self.new) }
         ensures fault { IfErr result (λ fault. fault ≡ Memory) }
     {
-        // Laws.
+        // The proof uses these laws.
         graph.laws();
         self.hear(graph, commons)?;
         let known = self.known.as_slice();
@@ -110,7 +111,8 @@ impl<A: Allocator + Copy> Offers<A> {
         Ok(ids)
     }
 
-    // Marks every id that the common ids reach. The first `heard` common ids are already marked.
+    // Marks every id that the common ids reach. The ancestors of the first `marked_commons` common
+    // ids are already marked.
     fn hear(&mut self, graph: &Graph<A>, commons: &[Oid]) -> Result<(), AllocError>
         requires { (tips first rest sent : List Id) × (commons.now ≡ first ++ rest)
             × AreOffers graph.now.entries tips first sent self.old }
@@ -118,14 +120,18 @@ impl<A: Allocator + Copy> Offers<A> {
             → AreOffers graph.now.entries tips first sent self.old
             → AreOffers graph.now.entries tips commons.now sent self.new) }
     {
-        // Laws.
+        // The proof uses this law.
         stops_at_marks::<A>();
-        if self.heard >= commons.len() {
+        if self.marked_commons >= commons.len() {
             return Ok(());
         }
-        let walk = walk_past(graph, self.known.as_slice(), &commons[self.heard..])?;
+        let walk = walk_past(
+            graph,
+            self.known.as_slice(),
+            &commons[self.marked_commons..],
+        )?;
         self.known = either(walk.marks, self.known.as_slice())?;
-        self.heard = commons.len();
+        self.marked_commons = commons.len();
         Ok(())
     }
 }
@@ -138,7 +144,8 @@ fn is_untold(known: &[bool], sent: &[bool], position: usize) -> bool
     !is_marked(known, position) && !is_marked(sent, position)
 }
 
-// Resumes the tour, and returns its next `n` ids that are marked neither as known nor as sent.
+// Resumes the tour, and returns at most `n` further ids that are marked neither as known nor as
+// sent.
 fn first_untold<A: Allocator + Copy>(
     graph: &Graph<A>,
     tour: &mut Tour<A>,
@@ -148,16 +155,16 @@ fn first_untold<A: Allocator + Copy>(
 ) -> Result<Vec<Oid, A>, AllocError>
     requires { (tips front back : List Id)
         × IsUnderway graph.now.entries tips front back tour.old.walk.marks.items
-        tour.old.walk.met.items tour.old.walk.lost tour.old.walk.parents tour.old.at }
+        tour.old.walk.met.items tour.old.walk.missing tour.old.walk.parent_count tour.old.at }
     ensures { IfOk result (λ list. (tips front back commons others : List Id)
         → IsUnderway graph.now.entries tips front back tour.old.walk.marks.items
-        tour.old.walk.met.items tour.old.walk.lost tour.old.walk.parents tour.old.at
+        tour.old.walk.met.items tour.old.walk.missing tour.old.walk.parent_count tour.old.at
         → AreReached graph.now.entries commons known.now
         → HasMarks graph.now.entries others sent.now
         → All (λ a. ¬ (MayBeOffered graph.now.entries commons others a)) front
         → GoesOn graph.now.entries tips commons others n list.items tour.new) }
 {
-    // Laws.
+    // The proof uses these laws.
     levels_are_distances::<A>();
     graph.laws();
     let mut list = Vec::new(graph.allocator());

@@ -1,7 +1,7 @@
-//! Passes over a graph in which each object was inserted after all its parents. A pass traverses
-//! the insertion order once, in either direction: up to later objects, or down to earlier objects.
-//! The pass down ends as soon as no unvisited position is open, so it need not visit the whole
-//! history.
+//! Passes over a graph in which each object was inserted after all its parents. The pass up visits
+//! objects in insertion order, and the pass down visits objects in reverse insertion order. A pass
+//! visits each object at most once. The pass down ends as soon as it has found all objects to send,
+//! so it need not visit the whole history.
 
 mod down;
 mod marks;

@@ -36,14 +36,14 @@ pub fn send_list<A: Allocator + Copy>(
         IsGraph (record { format = graph.now.format; entries = list.items })) }
     ensures fault { IfErr result (λ fault. fault ≡ Memory) }
 {
-    // Laws.
+    // The proof uses this law.
     sent_are_entries::<A>();
     Ok(list_to_send(graph, wants, commons, &[])?)
 }
 
 /// Returns the entries to send with `include-tag` (gitprotocol-v2(5), "fetch"), in insertion order.
-/// The list has the entries of `send_list`, and each tag in the chains of tags from the refs to
-/// commits of `send_list`.
+/// The list has the entries of `send_list`, and each tag in a chain of tags from a ref to a commit
+/// of `send_list`.
 ///
 /// Fails only with `Memory`.
 pub fn send_list_tags<A: Allocator + Copy>(
@@ -58,7 +58,7 @@ pub fn send_list_tags<A: Allocator + Copy>(
         IsGraph (record { format = graph.now.format; entries = list.items })) }
     ensures fault { IfErr result (λ fault. fault ≡ Memory) }
 {
-    // Laws.
+    // The proof uses this law.
     sent_are_entries::<A>();
     let tips = refs.ids(graph.allocator())?;
     Ok(list_to_send(graph, wants, commons, tips.as_slice())?)
@@ -66,7 +66,7 @@ pub fn send_list_tags<A: Allocator + Copy>(
 
 // Returns the list to send, with the tags in the chains of tags from tips to commits of the list.
 // If each object of the graph comes after its parents, the function makes one pass over the graph.
-// Otherwise it walks from the wants.
+// Otherwise the function walks from the wants.
 fn list_to_send<A: Allocator + Copy>(
     graph: &Graph<A>,
     wants: &[Oid],
@@ -101,7 +101,7 @@ fn walked_list<A: Allocator + Copy>(
 }
 
 // Returns the marks `new`, with additional marks for the tags in the chains of tags from tips to
-// marked commits.
+// commits that `new` marks. Marks are indexed by position.
 fn with_tags<A: Allocator + Copy>(
     graph: &Graph<A>,
     new: &[bool],
@@ -119,7 +119,8 @@ fn with_tags<A: Allocator + Copy>(
     Ok(marks)
 }
 
-// Returns whether a chain of tags leads from the id to a marked commit.
+// Returns whether the id is a marked commit, or a chain of tags leads from the id to a marked
+// commit.
 fn leads_to_marked<A: Allocator + Copy>(graph: &Graph<A>, marks: &[bool], id: &Oid) -> bool
     ensures { IsTrue result ↔ LeadsToMarked graph.now.entries marks.now id.now }
 {
@@ -132,27 +133,27 @@ fn leads_to_marked<A: Allocator + Copy>(graph: &Graph<A>, marks: &[bool], id: &O
     is_marked(marks, position)
 }
 
-// The position of a tag, and the id of the tag's object.
+// The position of a tag, and the id of the object that the tag names.
 #[derive(Clone, Copy)]
 struct Tag {
     position: usize,
-    named: Oid,
+    target: Oid,
 }
 
 // Returns the tag with this id, or `None` if the graph has no such tag.
 fn tag_at<A: Allocator + Copy>(graph: &Graph<A>, id: &Oid) -> Option<Tag>
     ensures found { IfSome result (λ tag.
         (position_of graph.now.entries id.now ≡ Some tag.position)
-        × IsTagOf graph.now.entries id.now tag.named) }
+        × IsTagOf graph.now.entries id.now tag.target) }
     ensures only { (b : Id) → IsTagOf graph.now.entries id.now b → IsSome result }
 {
     let node = graph.node(id)?;
     if node.kind == Kind::Commit {
         return None;
     }
-    let named = *node.parents.as_slice().first()?;
+    let target = *node.parents.as_slice().first()?;
     let position = graph.position(id)?;
-    Some(Tag { position, named })
+    Some(Tag { position, target })
 }
 
 // Marks the tags in the chain of tags that begins at the id and leads to a commit.
@@ -171,7 +172,7 @@ fn mark_chain<A: Allocator + Copy>(graph: &Graph<A>, marks: &mut Vec<bool, A>, i
             return;
         };
         marks[tag.position] = true;
-        at = tag.named;
+        at = tag.target;
     }
 }
 

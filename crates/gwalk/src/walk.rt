@@ -13,7 +13,9 @@ use gdag::Graph;
 use gname::Oid;
 use std::alloc::{AllocError, Allocator};
 
-/// The state of a walk. A walk visits each id of the graph at most once.
+/// The state of a walk. The walk meets the starting ids, and then the parents of each id that it
+/// visits. The walk visits each id of the graph at most once. A walk can be limited by marks of
+/// known ids: it does not continue to the parents of a known id.
 #[derive(Drop)]
 pub struct Walk<A: Allocator + Copy> {
     /// Marks at the positions of all ids of the graph that the walk has met.
@@ -21,10 +23,10 @@ pub struct Walk<A: Allocator + Copy> {
     /// The positions of the ids that the walk has met, level by level.
     pub met: Vec<usize, A>,
     /// An id that the walk has met and that is not in the graph, if there is such an id.
-    pub lost: Option<Oid>,
+    pub missing: Option<Oid>,
     /// The total number of parents of all nodes that the walk has met, except nodes that are marked
     /// as known.
-    pub parents: u64,
+    pub parent_count: u64,
 }
 
 /// Returns the parents of the node at a position, or an empty slice if the position is marked as
@@ -50,44 +52,44 @@ impl<A: Allocator + Copy> Walk<A> {
     pub fn new(graph: &Graph<A>) -> Result<Walk<A>, AllocError>
         ensures graph { IsGraph graph.now }
         ensures met { IfOk result (λ walk. (known : List Bool) →
-            HasMet (stop_at known graph.now.entries) [] walk.marks.items walk.met.items walk.lost
-            walk.parents) }
+            HasMet (stop_at known graph.now.entries) [] walk.marks.items walk.met.items walk.missing
+            walk.parent_count) }
     {
         let alloc = graph.allocator();
         let marks = vec![in alloc; false; graph.len()]?;
         Ok(Walk {
             marks,
             met: Vec::new(alloc),
-            lost: None,
-            parents: 0,
+            missing: None,
+            parent_count: 0,
         })
     }
 
-    /// Records that the walk meets an id. Fails only if out of memory, and then the walk can't be
-    /// used further.
+    /// Adds an id to the ids that the walk has met. Fails only if out of memory, and then the walk
+    /// cannot be used any more.
     pub fn meet(&mut self, graph: &Graph<A>, known: &[bool], id: &Oid) -> Result<(), AllocError>
         requires graph { IsGraph graph.now }
         requires has { (ids : List Id) × HasMet (stop_at known.now graph.now.entries) ids
-            self.old.marks.items self.old.met.items self.old.lost self.old.parents }
+            self.old.marks.items self.old.met.items self.old.missing self.old.parent_count }
         ensures { OnOk result ((ids : List Id) →
             HasMet (stop_at known.now graph.now.entries) ids
-            self.old.marks.items self.old.met.items self.old.lost self.old.parents →
+            self.old.marks.items self.old.met.items self.old.missing self.old.parent_count →
             HasMet (stop_at known.now graph.now.entries) (ids ++ new_ids ids (id.now ∷ []))
-            self.new.marks.items self.new.met.items self.new.lost self.new.parents) }
+            self.new.marks.items self.new.met.items self.new.missing self.new.parent_count) }
     {
         let Some(position) = graph.position(id) else {
-            self.lost = Some(*id);
+            self.missing = Some(*id);
             return Ok(());
         };
         if !self.marks[position] {
             self.met.push(position)?;
             self.marks[position] = true;
-            self.parents += parents_past(graph, known, position).len() as u64;
+            self.parent_count += parents_past(graph, known, position).len() as u64;
         }
         Ok(())
     }
 
-    /// Records that the walk meets the ids, in order. Fails as `meet` does.
+    /// Adds ids, in order, to the ids that the walk has met. Fails as `meet` does.
     pub fn meet_all(
         &mut self,
         graph: &Graph<A>,
@@ -96,12 +98,12 @@ impl<A: Allocator + Copy> Walk<A> {
     ) -> Result<(), AllocError>
         requires graph { IsGraph graph.now }
         requires has { (before : List Id) × HasMet (stop_at known.now graph.now.entries) before
-            self.old.marks.items self.old.met.items self.old.lost self.old.parents }
+            self.old.marks.items self.old.met.items self.old.missing self.old.parent_count }
         ensures { OnOk result ((before : List Id) →
             HasMet (stop_at known.now graph.now.entries) before
-            self.old.marks.items self.old.met.items self.old.lost self.old.parents →
+            self.old.marks.items self.old.met.items self.old.missing self.old.parent_count →
             HasMet (stop_at known.now graph.now.entries) (before ++ new_ids before ids.now)
-            self.new.marks.items self.new.met.items self.new.lost self.new.parents) }
+            self.new.marks.items self.new.met.items self.new.missing self.new.parent_count) }
     {
         for id in ids {
             self.meet(graph, known, id)?;
@@ -110,8 +112,8 @@ impl<A: Allocator + Copy> Walk<A> {
     }
 }
 
-/// Walks from the ids to all ids that they reach, without continuing past ids marked as known.
-/// Fails only if out of memory.
+/// Returns the final state of a walk from the starting ids to all ids that they reach. The walk
+/// does not continue past ids marked as known. Fails only if out of memory.
 pub fn walk_past<A: Allocator + Copy>(
     graph: &Graph<A>,
     known: &[bool],
@@ -119,7 +121,7 @@ pub fn walk_past<A: Allocator + Copy>(
 ) -> Result<Walk<A>, AllocError>
     ensures graph { IsGraph graph.now }
     ensures walk { IfOk result (λ walk. IsWalk (stop_at known.now graph.now.entries) starts.now
-        walk.marks.items walk.met.items walk.lost walk.parents) }
+        walk.marks.items walk.met.items walk.missing walk.parent_count) }
 {
     let mut walk = Walk::new(graph)?;
     walk.meet_all(graph, known, starts)?;
@@ -132,14 +134,15 @@ pub fn walk_past<A: Allocator + Copy>(
     Ok(walk)
 }
 
-/// Walks from the ids to all ids that they reach. Fails only if out of memory.
+/// Returns the final state of a walk from the starting ids to all ids that they reach. Fails only
+/// if out of memory.
 pub fn walk_from<A: Allocator + Copy>(
     graph: &Graph<A>,
     starts: &[Oid],
 ) -> Result<Walk<A>, AllocError>
     ensures graph { IsGraph graph.now }
     ensures walk { IfOk result (λ walk. IsWalk graph.now.entries starts.now
-        walk.marks.items walk.met.items walk.lost walk.parents) }
+        walk.marks.items walk.met.items walk.missing walk.parent_count) }
 {
     walk_past(graph, &[], starts)
 }

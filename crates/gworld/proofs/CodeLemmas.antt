@@ -9,7 +9,7 @@ use Rattle.grequest.specs.Asked.{Asked}
 use Rattle.gsession.specs.Requesting.{Requests, is_due}
 use Rattle.gscenario.specs.declared.event.Event.TheVariants as event
 use Rattle.gworld.specs.Runs.{NeedsMemory}
-use Rattle.gworld.specs.declared.incoming.Due.TheVariants.{Refs, Objects}
+use Rattle.gworld.specs.declared.incoming.AwaitedReply.TheVariants.{Refs, Objects}
 use Rattle.gsession.specs.Sessions.{SessionState, LeavesReplies}
 use Rattle.gsession.specs.SettlingRefs.{SettlesSession}
 use Rattle.gsession.specs.declared.fault.ClientFault.{ClientFault}

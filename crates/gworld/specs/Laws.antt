@@ -17,7 +17,7 @@ use Rattle.gscenario.specs.declared.event.Event.TheVariants as event
 use Rattle.gworld.specs.declared.outcome.Outcome.{Outcome}
 use Rattle.gworld.specs.declared.outcome.Outcome.TheVariants as outcomes
 
--- each step from a sound world leads to a sound world and keeps its promises, if both ends are connected before and
+-- each step from a sound world leads to a sound world and keeps its promises, if `AreEndsConnected` holds before and
 -- after the step
 abbrev pub StepsKeep : {A : Type 0} → PackTools A → Type 0
 StepsKeep {A} tools =
@@ -32,8 +32,7 @@ pub record AreListed {A : Type 0} (w : WorldState A) : Type 0 where
   pub client : IsRefs w.repo.refs
   pub session : IfSome w.session IsSession
 
--- each step leaves both ends connected, if both ends were connected before, and if afterwards the refs are sorted and
--- the session is valid
+-- each step preserves `AreEndsConnected`, if afterwards the refs are sorted and the session is valid
 abbrev pub EndsStayConnected : {A : Type 0} → PackTools A → Type 0
 EndsStayConnected {A} tools =
     (w new : WorldState A) (event : Event A) (outcome : Outcome) → AreEndsConnected w → AreListed new
@@ -45,7 +44,7 @@ pub record StepsListed {A : Type 0} (tools : PackTools A) (w : WorldState A) (ev
   pub step : Step tools w event outcome new
   pub listed : AreListed new
 
--- each run from a sound world with connected ends keeps its promises, and leads to a sound world with connected ends
+-- each run from a sound world that satisfies `AreEndsConnected` keeps its promises, and leads to another such world
 abbrev pub RunsKeepPromises : {A : Type 0} → PackTools A → Type 0
 RunsKeepPromises {A} tools =
     (w new : WorldState A) (events : List (Event A)) (outcomes : List Outcome) → AreEndsConnected w → IsSound tools w

@@ -1,4 +1,4 @@
-//! The reasons why a world can't be made, and why a run stops.
+//! The reasons why a world can't be made, and why a run of events stops.
 
 ghost use Rattle.std.specs.Prelude.{◌≡◌, Some};
 ghost use Rattle.gworld.specs.Faults.{run_fault_row, run_fault_text, world_fault_row, world_fault_text};
@@ -10,24 +10,25 @@ use std::alloc::{Allocator, Global};
 use std::error::Error;
 use std::fmt;
 
-/// The fault of an event that would give the same id different objects at the server and at the
-/// client.
+/// The number of the fault for an event that adds an object, if the other end holds a different
+/// object under the same id.
 pub(crate) const DISAGREE: u32 = 90;
 
-/// The fault of an event with an invalid index of a sent request or of a kept reply.
-pub(crate) const NO_SUCH: u32 = 93;
+/// The number of the fault for an event whose index is outside the list of sent requests or the
+/// list of kept replies.
+pub(crate) const NO_SUCH_INDEX: u32 = 93;
 
-/// The fault of an event that needs the client's session in a certain stage: there is no session,
-/// or it is in another stage.
+/// The number of the fault for an event that needs a session, if there is no session or the session
+/// is at the wrong stage.
 pub(crate) const NO_OPEN_REQUEST: u32 = 83;
 
-/// The reason why a server and a repository can't form a world.
+/// The reason why a server and a client's repository can't form a world.
 #[derive(Clone, Copy, Debug, PartialEq, Eq, Drop)]
 pub enum WorldFault {
     /// Fault 97: server and client have different object formats.
     TwoFormats,
-    /// Fault 90: server and client hold different objects under `id`. It is the first such id, in
-    /// the order of the server's objects.
+    /// Fault 90: server and client hold different objects under `id`. The fault gives the first
+    /// such id, in the order of the server's objects.
     Disagree { id: Oid },
 }
 
@@ -75,8 +76,8 @@ impl Error for WorldFault {}
 /// The reason why a run stopped before its last event.
 #[derive(Debug, Drop)]
 pub enum RunFault<A: Allocator + Copy = Global> {
-    /// Fault 91: there is not enough memory for a list of the world or for a buffer. `outcomes` has
-    /// the outcomes of the completed events. The next event has not begun.
+    /// Fault 91: there is not enough memory for one of the world's lists or for a buffer.
+    /// `outcomes` has the outcomes of the completed events. The next event has not begun.
     Memory { outcomes: Vec<Outcome, A> },
 }
 

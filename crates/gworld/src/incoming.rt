@@ -1,4 +1,5 @@
-//! Bytes that arrive as the reply to the open request.
+//! Bytes that arrive as the reply to the open request. The open request is the request whose reply
+//! the session awaits.
 
 ghost use Rattle.std.specs.Prelude.{◌≡◌, IsOkUnless, IsSome, MatchResult, alloc_error, take, Some};
 ghost use Rattle.gworld.specs.steps.Bringing.{IsAwaited, TakesIfOpen, objects_outcome, refs_outcome};
@@ -16,7 +17,7 @@ use std::alloc::{AllocError, Allocator};
 
 /// The kind of reply that a session awaits.
 #[derive(Clone, Copy, Drop)]
-pub(crate) enum Due {
+pub(crate) enum AwaitedReply {
     /// No reply.
     Nothing,
     /// The reply to a request for refs.
@@ -26,18 +27,18 @@ pub(crate) enum Due {
 }
 
 // Returns the kind of reply that the session awaits.
-fn due_of<A: Allocator + Copy>(session: &Session<A>) -> Due
+fn awaited_reply<A: Allocator + Copy>(session: &Session<A>) -> AwaitedReply
     ensures { IsAwaited session.now.pending result }
 {
     match session.open_request() {
-        Some(Request::Ls(_)) => Due::Refs,
-        Some(Request::Fetch(_)) => Due::Objects,
-        Some(Request::Empty) | None => Due::Nothing,
+        Some(Request::Ls(_)) => AwaitedReply::Refs,
+        Some(Request::Fetch(_)) => AwaitedReply::Objects,
+        Some(Request::Empty) | None => AwaitedReply::Nothing,
     }
 }
 
-/// Passes the bytes to the session as its awaited reply. Returns `None` if the session awaits no
-/// reply.
+/// Passes the bytes to the session as the reply to its open request. Returns `None` if the session
+/// awaits no reply.
 pub(crate) fn take_bytes<A: Allocator + Copy, K: Indexer<A>>(
     session: &mut Session<A>,
     repo: &mut Repo<A>,
@@ -49,13 +50,13 @@ pub(crate) fn take_bytes<A: Allocator + Copy, K: Indexer<A>>(
         session.old.pending session.old repo.old bytes.now took session.new repo.new)
         (λ _. (session.new ≡ session.old) × (repo.new ≡ repo.old) × IsSome session.old.pending) }
 {
-    match due_of(session) {
-        Due::Nothing => Ok(None),
-        Due::Refs => {
+    match awaited_reply(session) {
+        AwaitedReply::Nothing => Ok(None),
+        AwaitedReply::Refs => {
             let outcome = take_refs(session, repo, bytes)?;
             Ok(Some(outcome))
         }
-        Due::Objects => {
+        AwaitedReply::Objects => {
             let outcome = take_objects(session, repo, bytes, indexer)?;
             Ok(Some(outcome))
         }
@@ -91,7 +92,7 @@ fn refs_outcome<A: Allocator + Copy>(taking: Result<LsTaken<A>, ClientFault<A>>)
     }
 }
 
-/// Returns the outcome of a fault.
+/// Returns the outcome of an event that fails with this fault.
 pub(crate) fn outcome_of_fault<A: Allocator + Copy>(fault: ClientFault<A>) -> Outcome
     ensures { result ≡ outcome.Fault (code_of fault) }
 {
@@ -127,7 +128,7 @@ fn objects_outcome<A: Allocator + Copy>(taking: Result<Taken, ClientFault<A>>) -
     }
 }
 
-// Returns a buffer for packets.
+// Returns an empty buffer for packets. Fails only if out of memory.
 fn line_buffer<A: Allocator + Copy>(alloc: A) -> Result<PacketBuffer<A>, AllocError>
     ensures { IsOkUnless result alloc_error }
 {

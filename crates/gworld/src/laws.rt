@@ -1,4 +1,6 @@
-//! Laws of worlds. Each function does nothing, and its contract states a proved property.
+//! Laws of worlds. Each function does nothing, and its contract states a proved property. A run is
+//! a list of events and their outcomes, and a step is the effect of one event on a world. A world
+//! is sound if it satisfies the invariants of `IsSound` (`specs/Sound.antt`).
 
 ghost use Rattle.std.specs.Prelude.{◌≡◌, false};
 ghost use Rattle.gworld.specs.Fetching.{FetchesComplete, OnlyLimitsRefuse};
@@ -28,9 +30,10 @@ use gsession::laws::{
 };
 use std::alloc::Allocator;
 
-/// Proves that each step from a sound world leads to a sound world, and keeps its promises. The
-/// premise is that both ends are connected before and after the step. [`ends_stay_connected`]
-/// proves that a step keeps both ends connected, if refs are sorted and the session is valid.
+/// Proves that each step from a sound world (`IsSound`) leads to a sound world, and keeps its
+/// promises (`Promises`). The premise is that `AreEndsConnected` holds before and after the step.
+/// [`ends_stay_connected`] proves that a step preserves `AreEndsConnected`, if refs are sorted and
+/// the session is valid.
 pub fn steps_keep<A: Allocator + Copy, K: Packer<A> + Indexer<A>>()
     ensures { (k : K) → StepsKeep (tools_of (K.packs k) (K.pack_fails k) (K.indexes k)
         (K.index_fails k)) }
@@ -84,7 +87,7 @@ pub fn faithful_lose_nothing<A: Allocator + Copy, K: Faithful<A>>(tools: &K)
     tools.loses_nothing();
 }
 
-/// Proves that the events and their outcomes form a run (`Run`) if each step keeps its promises.
+/// Proves that events and their outcomes form a run (`Run`) if each step keeps its promises.
 pub fn promises_are_runs<A: Allocator + Copy, K: Packer<A> + Indexer<A>>()
     ensures { (k : K) → PromisesAreRuns (tools_of (K.packs k) (K.pack_fails k) (K.indexes k)
         (K.index_fails k)) }
@@ -97,16 +100,16 @@ pub fn refs_stay_connected<A: Allocator + Copy, K: Packer<A> + Indexer<A>>()
         (K.index_fails k)) }
 {}
 
-/// Proves that a client's session whose tips reach N ids has made at most N + 1 requests for
-/// objects after any run, if this bound held before the run. The tips are the ids of the client's
-/// refs when the session began.
+/// Proves that a run preserves this bound: if the session's tips reach N ids, the session has made
+/// at most N + 1 requests for objects. The tips are the ids of the client's refs when the session
+/// began.
 pub fn requests_stay_few<A: Allocator + Copy, K: Packer<A> + Indexer<A>>()
     ensures { (k : K) → RequestsStayFew (tools_of (K.packs k) (K.pack_fails k) (K.indexes k)
         (K.index_fails k)) }
 {}
 
-/// Proves that both ends hold each common id after any run without forged bytes, if both ends held
-/// each common id before the run and no bytes had been forged.
+/// Proves that both ends hold each common id after a run, if both ends held each common id before
+/// the run. The other premise is that no bytes were forged before or during the run.
 pub fn commons_stay_shared<A: Allocator + Copy, K: Packer<A> + Indexer<A>>()
     ensures { (k : K) → CommonsStayShared (tools_of (K.packs k) (K.pack_fails k) (K.indexes k)
         (K.index_fails k)) }
@@ -128,7 +131,7 @@ pub fn refs_are_always_connected<A: Allocator + Copy, K: Packer<A> + Indexer<A>>
         (K.index_fails k)) }
 {}
 
-/// Proves that over any run the graphs of both ends only grow: no object is lost or changed.
+/// Proves that a run only adds objects to the graphs of both ends: no object is lost or changed.
 pub fn graphs_only_grow<A: Allocator + Copy, K: Packer<A> + Indexer<A>>()
     ensures { (k : K) → GraphsOnlyGrow (tools_of (K.packs k) (K.pack_fails k) (K.indexes k)
         (K.index_fails k)) }
@@ -169,10 +172,9 @@ pub fn honest_runs_keep_all<A: Allocator + Copy, K: Faithful<A>>(tools: &K)
     faithful_lose_nothing::<A, K>(tools);
 }
 
-/// Proves that each step leaves both ends connected, if both ends were connected before. The ends
-/// are connected if no object of the server is missing, and each ref of the client is connected.
-/// The other premise is that after the step refs are sorted and the session is valid. This premise
-/// does not follow from the definition of a step.
+/// Proves that each step preserves `AreEndsConnected`: no object of the server is missing, and each
+/// ref of the client is connected. The premise is that after the step refs are sorted and the
+/// session is valid. This premise does not follow from the definition of a step.
 pub fn ends_stay_connected<A: Allocator + Copy, K: Packer<A> + Indexer<A>>()
     ensures { (k : K) → EndsStayConnected (tools_of (K.packs k) (K.pack_fails k) (K.indexes k)
         (K.index_fails k)) }
@@ -186,8 +188,9 @@ pub fn ends_stay_connected<A: Allocator + Copy, K: Packer<A> + Indexer<A>>()
     setting_stays_connected::<A>();
 }
 
-/// Proves that a new world is sound. Each run from a sound world with connected ends keeps its
-/// promises, and leads to a sound world with connected ends.
+/// Proves that a new world is sound. Each run from a sound world that satisfies `AreEndsConnected`
+/// keeps its promises, and the last world of the run is also sound and satisfies
+/// `AreEndsConnected`.
 pub fn runs_keep_promises<A: Allocator + Copy, K: Packer<A> + Indexer<A>>()
     ensures begins { (k : K) → NewWorldsAreSound (tools_of (K.packs k) (K.pack_fails k) (K.indexes k)
         (K.index_fails k)) }
@@ -199,9 +202,9 @@ pub fn runs_keep_promises<A: Allocator + Copy, K: Packer<A> + Indexer<A>>()
 }
 
 /// Proves that a new session whose tips reach N ids can settle after at most N + 2 rounds. The
-/// premises are that no bytes were forged, and that the packer and the indexer are faithful. In a
-/// round the reply arrives complete, and no event fails. After these rounds the event `Settle`
-/// makes every allowed update of refs, unless there would be too many refs or the client is out of
+/// premises are that no bytes were forged, that the packer and the indexer are faithful, that each
+/// reply of these rounds arrives complete, and that no event fails. The event `Settle` then makes
+/// every allowed update of refs, unless there would be too many refs or the client is out of
 /// memory.
 pub fn fetches_complete<A: Allocator + Copy, K: Packer<A> + Indexer<A>>()
     ensures { (k : K) → FetchesComplete (tools_of (K.packs k) (K.pack_fails k) (K.indexes k)

@@ -6,33 +6,34 @@
 //!
 //! # Proved
 //!
-//! - [`World::new`] returns a world of exactly the given server, client repository, packer and
+//! - [`World::new`] returns a world with exactly the given server, client repository, packer and
 //!   indexer. A new world has no session, no messages and no forged bytes. `World::new` fails with
 //!   `TwoFormats` exactly when the two repositories have different object formats. Otherwise
 //!   `World::new` fails with `Disagree` exactly when both repositories hold different objects under
 //!   the same id. The fault gives the first such id, in the order of the server's objects.
 //! - [`World::run`] executes the events in order, and returns the outcome of each event. `Step`
-//!   (specs/Events.antt) defines the effect and the outcome of an event. If the world's own lists
-//!   or buffers can't grow, the run stops before an event, and returns the earlier outcomes. The
-//!   run stops only before an event that needs memory (`NeedsMemory`, specs/Runs.antt). An event
-//!   that fails at once with fault 83 (`NoOpenRequest`), 90 (`Disagree`) or 93 (no such index)
-//!   needs no memory.
+//!   (specs/Events.antt) defines the effect and the outcome of an event. If there is no memory for
+//!   the world's own lists or buffers, the run stops before an event, and returns the earlier
+//!   outcomes. The run stops only before an event that needs memory (`NeedsMemory`,
+//!   specs/Runs.antt). An event that fails at once with fault 83 (`NoOpenRequest`), 90 (`Disagree`)
+//!   or 93 (no such index) needs no memory.
 //! - **Each ref of the client is connected, for any outcomes, any forged bytes, and any packer and
-//!   indexer.** The session always makes at most N + 1 requests for objects, where N is the number
-//!   of ids that its tips reach. If no bytes were forged, server and client hold each common id.
+//!   indexer.** A ref is connected if the client holds its whole history. The session makes at most
+//!   N + 1 requests for objects, if the client's refs reached N ids when the session began. If no
+//!   bytes were forged, server and client hold each have that the server acknowledged.
 //! - The following promises hold if no bytes were forged, and if the packer and the indexer are
 //!   faithful. A faithful indexer reads back exactly the objects that the packer packed. After the
 //!   client accepts a pack, the wants of the pack's request are connected, even if the pack answers
 //!   an older request. The client accepts a complete reply to the open fetch request, unless the
 //!   reply exceeds a limit or the client is out of memory. The server serves each sent request,
-//!   unless the pack is too large or the server is out of memory. A session settles if it accepted
-//!   the pack of a complete reply to its request. Settling makes every allowed update of refs,
-//!   unless there would be too many refs or the client is out of memory. `Promises`
+//!   unless the pack is too large or the server is out of memory. A session can settle (`Settle`)
+//!   once it has accepted the pack of a complete reply to its request. Settling makes every allowed
+//!   update of refs, unless there would be too many refs or the client is out of memory. `Promises`
 //!   (specs/Promises.antt) has a definition for each promise. A reply to an older request ends the
 //!   session, or adds only the objects of that request.
 //! - Even after forged bytes, the client accepts a complete reply to the open ls-refs request.
 //!   There are three exceptions: an invalid name of a local ref, too many wants, and lack of
-//!   memory. A session without wants settles.
+//!   memory. A session without wants can settle too.
 //! - **At all times** ([`laws::fronts_are_runs`], [`laws::refs_are_always_connected`]): a prefix of
 //!   a run is a run, and the client's refs are connected in each world of a run.
 //! - **Nothing is lost** ([`laws::graphs_only_grow`], [`laws::others_leave_refs`],
@@ -41,12 +42,13 @@
 //!   changes neither end.
 //! - **Honest runs** ([`laws::honest_runs_keep_all`]): each step keeps all promises if no event
 //!   forges bytes and the packer and the indexer are faithful.
-//! - **A fetch completes** ([`laws::fetches_complete`]): a session whose tips reach N ids makes at
-//!   most N + 2 requests, and can then settle. Settling makes every allowed update of refs, unless
-//!   there would be too many refs or the client is out of memory. This law has the premises of the
-//!   promises above. It also assumes that each reply arrives complete, and that no event fails. An
-//!   event of a fetch fails only because of a limit, for lack of memory, or because the name of a
-//!   local ref would be invalid ([`laws::only_limits_refuse`]).
+//! - **A fetch completes** ([`laws::fetches_complete`]): a session makes at most N + 2 requests,
+//!   and can then settle. N is the number of ids that the client's refs reached when the session
+//!   began. Settling makes every allowed update of refs, unless there would be too many refs or the
+//!   client is out of memory. This law has the premises of the promises above. The law also assumes
+//!   that each reply arrives complete, and that no event fails. An event of a fetch fails only
+//!   because of a limit, for lack of memory, or because the name of a local ref would be invalid
+//!   ([`laws::only_limits_refuse`]).
 //! - The promises follow from the definition of a step ([`laws::runs_keep_promises`]). The only
 //!   premise about the worlds of a run is an invariant of their types: refs are sorted by name, and
 //!   sessions are valid.
@@ -59,19 +61,18 @@
 //!
 //! # What the contracts do not rule out
 //!
-//! No contract rules out that a run stops with `Memory` although memory is available, before its
-//! first event or before any event that needs memory. Nor do the contracts rule out that an event
-//! that allocates reports out of memory although memory is available. The contracts do not state
-//! which end's allocator the lists of requests and replies use. They limit neither the time of a
-//! call nor the memory that it takes. No contract rules out that formatting a fault returns
-//! `fmt::Error` for no reason.
+//! A run may stop with `Memory` although memory is available, before its first event or before any
+//! event that needs memory. An event that allocates may report out of memory although memory is
+//! available. The lists of requests and replies may use the allocator of either end. The contracts
+//! limit neither the time of a call nor the memory that a call takes. Formatting a fault may return
+//! `fmt::Error` even if every write succeeds.
 //!
 //! # Dependencies
 //!
 //! The crate uses `gscenario` for events, `gsession` and `gclientrepo` for the client, and `gserve`
-//! and `ganswer` for the server. The crate uses `gmsg` and the crates below `gmsg` for messages,
-//! `gpkt` for packets, and `ggraph` and `gdag` for graphs. The crate uses `gobject` for objects,
-//! packers and indexers, `grefs` for refspecs and refs, and `gname` for ids and ref names.
+//! and `ganswer` for the server. The crate uses `gmsg` and its dependencies for messages, `gpkt`
+//! for packets, and `ggraph` and `gdag` for graphs. The crate uses `gobject` for objects, packers
+//! and indexers, `grefs` for refspecs and refs, and `gname` for ids and ref names.
 #![tactic(auto)]
 
 mod fault;

@@ -37,7 +37,8 @@ impl<K: Packer<A> + Indexer<A> + Drop, A: Allocator + Copy> Model for World<K, A
 }
 
 impl<K: Packer<A> + Indexer<A> + Drop, A: Allocator + Copy> World<K, A> {
-    /// Makes a world of this server, this client's repository, and this packer and indexer.
+    /// Makes a world from a server, a client's repository, and tools that implement a packer and an
+    /// indexer.
     ///
     /// A new world has no session, no messages and no forged bytes. Fails with `TwoFormats` if the
     /// two repositories have different object formats. Otherwise fails with `Disagree` if both
@@ -78,9 +79,9 @@ impl<K: Packer<A> + Indexer<A> + Drop, A: Allocator + Copy> World<K, A> {
     ///   the packer fails. Fault 74 occurs only after forged bytes. The world is unchanged.
     /// - `Deliver`: 93 (no such index) if no kept reply has this index. The other faults are the
     ///   same as for `Forge`.
-    /// - `Forge`: 83 (`NoOpenRequest`) if no request is open. Otherwise the fault of reading or
-    ///   accepting the reply, which ends the session and leaves the refs unchanged. In all cases
-    ///   the flag `forged` of the world is set.
+    /// - `Forge`: 83 (`NoOpenRequest`) if no request is open. Otherwise the fault with which the
+    ///   client rejects the reply. This fault ends the session and leaves the refs unchanged. In
+    ///   all cases the world counts as a world with forged bytes.
     /// - `StrangeRequest`: 28 (`NoBuffer`), 53 (`Memory`), 64 (`Memory`) or 65 (`Pack`) if the
     ///   server ran out of memory. The world is unchanged.
     /// - `Settle`: 83 (`NoOpenRequest`) if there is no session, or the session cannot settle yet.
@@ -94,12 +95,12 @@ impl<K: Packer<A> + Indexer<A> + Drop, A: Allocator + Copy> World<K, A> {
     ///   (`NotHeld`) if the id is not connected. Otherwise both fail with 69 (`Refs`) or 64
     ///   (`Memory`). The world is unchanged.
     ///
-    /// If there is not enough memory for a list of the world or for a buffer, the run stops with
-    /// `Memory`. The fault `Memory` contains the outcomes of the completed events. The completed
-    /// events keep their effects, and the next event has not begun. The run stops only before an
-    /// event that needs memory. An event that would fail at once with fault 83, 90 or 93 needs no
-    /// memory. The list of outcomes is allocated before the first event. If that allocation fails,
-    /// the run executes no event.
+    /// If there is not enough memory for one of the world's lists or for a buffer, the run stops
+    /// with `Memory`. The fault `Memory` contains the outcomes of the completed events. The
+    /// completed events keep their effects, and the next event has not begun. The run stops only
+    /// before an event that needs memory. An event that would fail at once with fault 83, 90 or 93
+    /// needs no memory. The list of outcomes is allocated before the first event. If that
+    /// allocation fails, the run executes no event.
     ///
     /// `Promises` (specs/Promises.antt) defines the promises of each step. After any run each ref
     /// of the client is connected.
@@ -117,7 +118,7 @@ impl<K: Packer<A> + Indexer<A> + Drop, A: Allocator + Copy> World<K, A> {
             self.old.world events.now (outcomes_before fault) self.new.world) }
     {
         let result = self.parts.run_events(events, &self.tools);
-        // Laws.
+        // Laws that the proof uses.
         self.parts.laws();
         result
     }

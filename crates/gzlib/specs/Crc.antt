@@ -1,4 +1,4 @@
--- CRC-32 (RFC 1952, section 8): a register of 32 bits, shifted towards its lowest bit.
+-- CRC-32 (RFC 1952, section 8), computed in a register of 32 bits that is shifted right.
 use Rattle.std.specs.Prelude.{◌≡◌, ℕ, zero, suc, ◌/◌, ◌%◌, ◌==◌, List, [], ◌∷◌, bit_xor}
 use Rattle.std.specs.Prelude.{if◌then◌else◌}
 use Rattle.std.specs.Int.{w32, bit_not}
@@ -8,7 +8,7 @@ use Rattle.gzlib.specs.declared.crc.Crc32.{Crc32}
 abbrev pub shift_out : ℕ → ℕ
 shift_out register = if register % 2 == 1 then bit_xor (register / 2) 0xEDB8_8320 else register / 2
 
--- the register after a shift by this number of bits
+-- the register after this number of shifts by one bit
 abbrev pub shift_bits : ℕ → ℕ → ℕ
 shift_bits zero register = register
 shift_bits (suc bits) register = shift_bits bits (shift_out register)

@@ -6,7 +6,7 @@ ghost use Rattle.gzlib.specs.Adler.{adler32, HasAdlerOf};
 // The largest prime below 65,536.
 const BASE: u64 = 65_521;
 
-// The maximum number of bytes that are added before the sums are reduced modulo the prime.
+// The maximum number of bytes that are added before the sums are reduced modulo `BASE`.
 const PART: usize = 5_552;
 
 /// The running Adler-32 of bytes that arrive in pieces: call `new`, `update` for each piece, and

@@ -41,8 +41,8 @@ impl Crc32 {
     }
 }
 
-// Returns the register after eight more bytes. The first four of these bytes are combined with the
-// register.
+// Returns the register after eight more bytes. The first four bytes are combined with the register
+// before the tables are used.
 fn next_eight(register: u32, bytes: &[u8; 8]) -> u32
     ensures { result ≡ register_after register bytes.now }
 {

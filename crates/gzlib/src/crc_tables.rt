@@ -1,7 +1,5 @@
-//! Tables of the CRC-32 register after 1 to 8 zero bytes, if the register starts at the value of a
-//! single byte.
-//!
-//! Each table has 256 rows, one for each value of the byte.
+//! Tables of the CRC-32 register after 1 to 8 zero bytes. The register starts with the value of a
+//! single byte, and each table has an entry for each of the 256 values.
 
 ghost use Rattle.std.specs.Prelude.{◌≡◌};
 ghost use Rattle.gzlib.specs.steps.CrcTables.{after_bytes};

@@ -5,9 +5,9 @@
 //!
 //! - [`crc32_of`] and [`Crc32`] return the CRC-32 of the bytes. [`adler32_of`] and [`Adler32`]
 //!   return the Adler-32 of the bytes. Both checksums can be computed from pieces of the bytes.
-//! - [`Inflater::inflate`] appends at most `most` bytes. The last four bytes of the stream are
-//!   the Adler-32 of the inflated bytes. The stream does not extend past the end of the input. On
-//!   failure `body` is unchanged. [`Inflater::inflate_front`] appends at most `count` bytes.
+//! - [`Inflater::inflate`] appends at most `most` bytes. The last four bytes of the stream are the
+//!   Adler-32 of the inflated bytes. The stream ends within the input. On failure `body` is
+//!   unchanged. [`Inflater::inflate_front`] appends at most `count` bytes.
 //! - [`put_stored`] appends exactly the zlib stream that `specs/Stored.antt` defines.
 //! - [`Deflater::deflate`] appends a header, unspecified bytes as the blocks, and the Adler-32 of
 //!   the input. On failure `out` is unchanged.
@@ -20,8 +20,8 @@
 //! - Only tests check that inflating a deflated stream returns the original bytes. `gitcases`
 //!   inflates deflated streams with this crate, and `examples/with-git.sh` inflates them with Git.
 //! - In manual tests, this crate and zlib accepted the same altered streams. Both accept a header
-//!   with any window up to 32 KiB. Both accept an incomplete code only if it has a single symbol,
-//!   with a code of one bit. Both accept an empty distance code.
+//!   with any window size up to 32 KiB. Both accept an incomplete prefix code only if it has a
+//!   single code of one bit. Both also accept a distance code without symbols.
 //!
 //! # What the contracts do not rule out
 //!

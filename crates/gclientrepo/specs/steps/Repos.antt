@@ -6,7 +6,7 @@ use Rattle.gobject.specs.declared.node.Entry.{Entry}
 use Rattle.gdag.specs.Reach.{IsConnected}
 use Rattle.grefs.specs.RefLists.{RefList}
 
--- the ids before the position are connected, and the id at the position is not
+-- the ids before the position are connected, and the id at the position is not connected
 pub record IsFirstLost {A : Type 0} (g : List (Entry A)) (ids : List Id) (place : ℕ) : Type 0 where
   pub inside : place < length ids
   pub held : All (IsConnected g) (take place ids)

@@ -138,7 +138,7 @@ verdict_of step.Whole = Whole
 -- ---- the sink
 
 module _ {S : Type 0} (taken : S → Bytes → Type 0) where
-  -- the sink accepts these bytes after its previous bytes
+  -- the sink accepts these bytes after any bytes that it had accepted before
   abbrev pub TakesMore : S → S → Bytes → Type 0
   TakesMore old new more = (before : Bytes) → taken old before → taken new (before ++ more)
 
@@ -153,8 +153,8 @@ module _ {S : Type 0} (taken : S → Bytes → Type 0) where
       TakesOr verdict brings ((kept ≡ wanted) × TakesMore old new more) (TakesNone old new) result
 
 module _ {S : Type 0} (taken : S → Bytes → Type 0) (same : S → S → Type 0) where
-  -- The state after the packets so far: the stored values, and the sink, which has accepted the pack's data after its
-  -- previous bytes. The sink is still the same sink, at the same address.
+  -- The state after the packets so far: the stored values, and the sink, which has accepted the pack's data after any
+  -- bytes that it had accepted before. The sink is still the same sink, at the same address.
   pub record Holds (had : Bytes → Type 0) (starts : S → Type 0) (seat : ℕ) (asked reading : Reading) (kept : Kept)
       (sink : S) (name : ℕ) (packets : List Packet) : Type 0 where
     pub kind : reading ≡ asked

@@ -35,13 +35,13 @@ pub(crate) fn take_id(format: Format, text: &[u8]) -> Option<(Oid, &[u8])>
 }
 
 // Returns the id of this format at the beginning of the text, with its digits and the text after
-// it. Returns `None` if the text does not begin with such an id.
+// the digits. Returns `None` if the text does not begin with such an id.
 fn front_id(format: Format, text: &[u8]) -> Option<FrontId<'_>>
     ensures { MatchOption result (BeginsWithNoId format text.now) (λ found.
         (text.now ≡ id_text found.id ++ found.rest.now) × (found.digits.now ≡ id_text found.id)
         × IsIdOf format found.id) }
 {
-    // Laws.
+    // The proof uses these laws.
     text_laws();
     let length = format.id_text_length();
     if text.len() < length {
@@ -67,8 +67,8 @@ fn is_lower(digits: &[u8]) -> bool
     digits.iter().all(|digit| !digit.is_ascii_uppercase())
 }
 
-/// Parses a space and an id of this format at the beginning of the text, and returns the id.
-/// Returns `None` for any other text.
+/// Parses a space and an id of this format at the beginning of the text. Returns the id, its digits
+/// and the text after the digits, or `None` for any other text.
 pub(crate) fn take_spaced(format: Format, text: &[u8]) -> Option<FrontId<'_>>
     ensures { MatchOption result (BeginsWithNoSpacedId format text.now) (λ found.
         (text.now ≡ codes " " ++ (id_text found.id ++ found.rest.now))
@@ -79,8 +79,8 @@ pub(crate) fn take_spaced(format: Format, text: &[u8]) -> Option<FrontId<'_>>
 }
 
 // Parses a space and a parent's id at the beginning of the text. Returns the id and the text after
-// it, or `None` for any other text. The function tries the recent ids first, because most parents
-// are on one of the previous two lines.
+// the id, or `None` for any other text. The function tries the recent ids first, because most
+// parents are on one of the previous two lines.
 fn take_parent<'t>(format: Format, recent: &Recent<'_>, text: &'t [u8]) -> Option<(Oid, &'t [u8])>
     ensures { MatchOption result (BeginsWithNoSpacedId format text.now) (λ pair.
         (text.now ≡ codes " " ++ (id_text pair.0 ++ pair.1.now)) × IsIdOf format pair.0) }
@@ -94,8 +94,8 @@ fn take_parent<'t>(format: Format, recent: &Recent<'_>, text: &'t [u8]) -> Optio
     take_id(format, text)
 }
 
-/// The data shared by all lines of a text: an array for a node's parents, the expected number of
-/// nodes, and the recent ids.
+/// The data that the reading of all lines shares: an array for a node's parents, the expected
+/// number of nodes, and the ids of the last two nodes.
 #[derive(Drop)]
 pub(crate) struct Room<'a> {
     ids: [Oid; MAX_PARENTS],
@@ -138,7 +138,7 @@ fn read_parents(
         (text.now ≡ ids_text (take count ids.new)) × All (IsIdOf format) (take count ids.new)
         × (count ≤ max_parents)) }
 {
-    // Laws.
+    // The proof uses these laws.
     text_laws();
     let mut rest = text;
     let mut count = 0;
@@ -156,8 +156,8 @@ fn read_parents(
     Some(count)
 }
 
-/// Returns the name if it is a valid ref name below `refs/`, otherwise `None`. Fails only if memory
-/// runs out for a valid name.
+/// Returns the ref name with these bytes, or `None` if the bytes are not a ref name below `refs/`.
+/// Fails only if memory runs out for a valid name.
 pub(crate) fn name_of<A: Allocator + Copy>(
     alloc: A,
     text: &[u8],
@@ -166,7 +166,7 @@ pub(crate) fn name_of<A: Allocator + Copy>(
         (λ found. MatchOption found (¬ (IsBelowRefs text.now))
         (λ name. (name ≡ text.now) × IsBelowRefs text.now)) (λ _. IsBelowRefs text.now) }
 {
-    // Laws.
+    // The proof uses these laws.
     text_laws();
     if !text.starts_with(b"refs/") {
         return Ok(None);

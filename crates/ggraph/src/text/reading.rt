@@ -19,22 +19,22 @@ use gobject::{Entry, Kind, MAX_PARENTS, Node, Parents};
 use grefs::{Head, MAX_REFS, Refs};
 use std::alloc::Allocator;
 
-/// The stage of reading: the kinds of lines that are allowed next.
+/// The stage of reading a text, which determines the kinds of lines that are allowed next.
 #[derive(Clone, Copy, Debug, PartialEq, Eq)]
 pub(crate) enum TextStage {
-    /// The first line, which names the object format.
+    /// Only the first line is allowed, which names the object format.
     First,
-    /// The line of a node, of a ref or of HEAD.
+    /// The line of a node, of a ref or of HEAD is allowed.
     Nodes,
-    /// The line of a ref or of HEAD.
+    /// The line of a ref or of HEAD is allowed.
     Refs,
-    /// The last line, `end`.
+    /// Only the last line is allowed, which is `end`.
     Last,
-    /// No further line, because the text is complete.
+    /// No further line is allowed, because the text is complete.
     Done,
 }
 
-/// The contents of the lines read so far.
+/// The state of reading a text: the stage, and the contents of the lines read so far.
 #[derive(Drop)]
 pub(crate) struct Reading<A: Allocator + Copy> {
     pub stage: TextStage,
@@ -115,7 +115,6 @@ impl<A: Allocator + Copy> Reading<A> {
         Ok(())
     }
 
-    // Reads the line of a node.
     fn take_node<'a>(
         &mut self,
         room: &mut Room<'a>,
@@ -129,7 +128,7 @@ impl<A: Allocator + Copy> Reading<A> {
         ensures refused { IfErr result
             (RefusesLine order self.old (letter line.entry.kind ∷ line.entry.ids.now) number) }
     {
-        // Laws.
+        // The proof uses these laws.
         text_laws();
         let format = self.graph.format();
         let Some(first) = take_spaced(format, line.ids) else {
@@ -150,13 +149,13 @@ impl<A: Allocator + Copy> Reading<A> {
 
     // Reads the line of a ref or of HEAD.
     fn take_ref(&mut self, line: &[u8], number: usize) -> Result<(), LoadFault>
-        requires due { RefMayCome self.old.stage }
+        requires stage { RefMayCome self.old.stage }
         requires no_node { self.old.stage ≡ TextStage.Nodes → IsNoNode line.now }
         ensures ok { ((order : Order) → OnOk result (ComesNext order self.old line.now self.new)) }
         ensures refused { ((order : Order)
             → IfErr result (RefusesLine order self.old line.now number)) }
     {
-        // Laws.
+        // The proof uses these laws.
         text_laws();
         let Some(text) = line.strip_prefix(b"r ") else {
             return self.take_head(line, number);
@@ -171,7 +170,7 @@ impl<A: Allocator + Copy> Reading<A> {
     }
 
     fn take_head(&mut self, line: &[u8], number: usize) -> Result<(), LoadFault>
-        requires due { RefMayCome self.old.stage }
+        requires stage { RefMayCome self.old.stage }
         requires no_node { self.old.stage ≡ TextStage.Nodes → IsNoNode line.now }
         requires no_ref { IsNoRef line.now }
         ensures ok { ((order : Order) → OnOk result (ComesNext order self.old line.now self.new)) }
@@ -189,7 +188,7 @@ impl<A: Allocator + Copy> Reading<A> {
     }
 }
 
-// The node of a line, with its parents borrowed from the shared buffers.
+// The node of a line, with its parents borrowed from a `Room`.
 #[derive(Clone, Copy)]
 struct NewNode<'a> {
     kind: Kind,

@@ -65,7 +65,8 @@ impl<'a> Recent<'a> {
     }
 }
 
-// Returns the text after `digits`, if the text begins with them and they are not empty.
+// Returns the text after `digits`, if the text begins with `digits` and `digits` is not empty.
+// Returns `None` otherwise.
 fn after<'t>(digits: &[u8], text: &'t [u8]) -> Option<&'t [u8]>
     ensures { IfSome result (λ rest. (digits.now ≢ []) × (text.now ≡ digits.now ++ rest.now)) }
 {

@@ -10,7 +10,7 @@ pub record IsGraph (count : ℕ) (files : List GraphFile) : Type 0 where
   pub closed : AreClosed (graph_commits files)
   pub formed : All IsGraphFile files
 
--- the commit at this position of the chain has this index in the file
+-- the commit at this position in the chain is the commit at index `place` in `file`
 pub record IsIn (files : List GraphFile) (position : ℕ) (file : GraphFile) (place : ℕ) : Type 0 where
   pub inside : place < length (file_commits file)
   pub same : (c : Commit) → slice_index_or (graph_commits files) position c ≡ slice_index_or (file_commits file) place c

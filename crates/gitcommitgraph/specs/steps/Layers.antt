@@ -14,7 +14,7 @@ part bytes span = slice_range bytes span.start span.end
 abbrev pub table : ℕ → List ℕ → Span → List (List ℕ)
 table n bytes span = pieces n (part bytes span)
 
--- the file with these bytes, whose chunks are at these locations
+-- the contents of a file with these bytes and with chunks at these locations
 abbrev pub file_at : List ℕ → Places → GraphFile
 file_at bytes places = record {
   bases = table 20 bytes places.bases;
@@ -70,7 +70,7 @@ pub record AreWithin (bytes : List ℕ) (places : Places) : Type 0 where
   pub edges : IsWithin bytes places.edges
   pub bases : IsWithin bytes places.bases
 
--- the text has the frame of a file, and its chunks are at these locations
+-- the text has the header, table of contents and trailer of a file, and its chunks are at these locations
 pub record IsCut (bytes : List ℕ) (places : Places) : Type 0 where
   pub bases_count : ℕ
   pub chunks : List Chunk

@@ -1,4 +1,4 @@
--- Reading the table of contents.
+-- The rows of the table of contents.
 use Rattle.std.specs.Prelude.{◌≡◌, ◌≢◌, ℕ, ◌+◌, ◌*◌, ◌/◌, ◌-◌, ◌<◌, ◌≤◌, List, AllPairs, length, take, drop, slice_index_or, slice_range}
 use Rattle.std.specs.List.{AllAdjacentBelow}
 use Rattle.std.specs.Int.{w64, from_be_bytes}
@@ -25,7 +25,7 @@ IsRising rows = AllAdjacentBelow (λ one other. row_offset one ≤ row_offset ot
 abbrev pub AreDistinct : List (List ℕ) → Type 0
 AreDistinct rows = AllPairs (λ one other. row_name one ≢ row_name other) rows
 
--- the rows for contiguous chunks from `start` to `end`: a row for each chunk, and a last row for the end
+-- the rows for contiguous chunks from `start` to `end`: a row for each chunk, and a last row with the offset `end`
 pub record AreRows (start end : ℕ) (rows : List (List ℕ)) : Type 0 where
   pub first : (d : List ℕ) → row_offset (slice_index_or rows 0 d) ≡ start
   pub rising : IsRising rows

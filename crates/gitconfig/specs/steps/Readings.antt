@@ -1,4 +1,4 @@
--- Reading a configuration item by item.
+-- The state of reading a configuration.
 use Rattle.std.specs.Prelude.{◌≡◌, ◌≢◌, ◌⊎◌, ℕ, Bool, false, List, [], ◌∷◌, ◌++◌, All, length, map}
 use Rattle.gitconfig.specs.Values.{is_marked}
 use Rattle.gitconfig.specs.declared.pieces.Piece.{Piece}
@@ -18,7 +18,7 @@ HasRead old item new =
     (map setting_of new.settings.items ≡ map setting_of old.settings.items ++ settings_of old.section.items (item ∷ []))
     × (new.section.items ≡ section_after old.section.items item)
 
--- the value after the call is the value before the call, extended by a piece
+-- the new partly read value is the old value, extended by a piece
 abbrev pub Pushes : {A : Type 0} → Piece → ValueText A → ValueText A → Type 0
 Pushes (Byte b) old new = (new.bytes.items ≡ old.bytes.items ++ b ∷ []) × (new.kept ≡ length new.bytes.items)
 Pushes (Blank b) old new = (new.kept ≡ old.kept) × (((old.bytes.items ≡ []) × (new.bytes.items ≡ []))
@@ -26,7 +26,7 @@ Pushes (Blank b) old new = (new.kept ≡ old.kept) × (((old.bytes.items ≡ [])
 Pushes Quote old new = (new.kept ≡ old.kept) × (new.bytes.items ≡ old.bytes.items)
 Pushes Continuation old new = (new.kept ≡ old.kept) × (new.bytes.items ≡ old.bytes.items)
 
--- The value read so far: its bytes without the leading blanks, and the number of bytes before the trailing blanks.
+-- A partly read value has the bytes without the leading blanks, and the number of bytes before the trailing blanks.
 pub record IsValueSoFar {A : Type 0} (bytes : List (ℕ × Bool)) (value : ValueText A) : Type 0 where
   pub before : List (ℕ × Bool)
   pub kept : List (ℕ × Bool)

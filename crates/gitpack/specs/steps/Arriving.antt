@@ -1,4 +1,4 @@
--- A pack that arrives: what is kept of the received bytes.
+-- The state of a pack that arrives: its received bytes, its header and its hash.
 use Rattle.std.specs.Prelude.{◌≡◌, ⊤, ℕ, ◌-◌, ◌≤◌, List, [], ◌++◌, length, take}
 use Rattle.sha1.specs.Sha1.{Holds}
 use Rattle.sha1.specs.declared.Sha1.{Sha1}
@@ -10,19 +10,20 @@ use Rattle.gitpack.specs.declared.frame.PackHead.TheVariants.{Unread, Count, Wro
 abbrev pub BeginsWithCount : ℕ → List ℕ → Type 0
 BeginsWithCount count bytes = (rest : List ℕ) × (bytes ≡ pack_header count ++ rest)
 
--- if the entry count is known, the bytes begin with a pack header that contains it
+-- if the header state contains an entry count, the bytes begin with a pack header that contains this count
 abbrev pub IsHeadOf : PackHead → List ℕ → Type 0
 IsHeadOf Unread bytes = ⊤
 IsHeadOf (Count count) bytes = BeginsWithCount count bytes
 IsHeadOf Wrong bytes = ⊤
 
--- Once the header is complete, what is known about it stays the same. Before, it is read from these bytes.
+-- The new state of the header. A complete header does not change, and an unread header is read from these bytes.
 abbrev pub HeadAfter : PackHead → List ℕ → PackHead → Type 0
 HeadAfter Unread bytes head = IsHeadOf head bytes
 HeadAfter (Count count) bytes head = head ≡ Count count
 HeadAfter Wrong bytes head = head ≡ Wrong
 
--- The released bytes and the bytes after them begin with the header. An incomplete header is not released.
+-- If the header is read, the released bytes and the bytes after them begin with this header. An unread header is not
+-- released.
 abbrev pub KeepsHead : PackHead → List ℕ → List ℕ → Type 0
 KeepsHead Unread released body = released ≡ []
 KeepsHead (Count count) released body = BeginsWithCount count (released ++ body)

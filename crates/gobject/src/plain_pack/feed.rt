@@ -1,4 +1,4 @@
-//! Reading of a plain pack in pieces.
+//! Reading a plain pack in pieces.
 
 ghost use Rattle.std.specs.Prelude.{[], ◌++◌, ◌∷◌, ℕ, List, MatchResult};
 ghost use Rattle.gobject.specs.PlainPackText.{IsPack, IndexRefuses};
@@ -14,8 +14,8 @@ use gname::laws::id_texts_are_digits;
 use std::alloc::Allocator;
 use std::mem;
 
-/// The state of reading a plain pack in pieces: the entries so far, and the bytes of an unfinished
-/// part.
+/// The state of reading a plain pack in pieces: the entries so far, and the bytes of a part that
+/// has not ended. A part is the text before a space or line feed.
 #[derive(Drop)]
 pub struct PlainFeed<A: Allocator + Copy> {
     lines: Lines<A>,
@@ -40,7 +40,7 @@ impl<A: Allocator + Copy> PlainFeed<A> {
         requires { IsPart text.now }
         ensures { Feeds self.old self.new result text.now }
     {
-        // Laws.
+        // The proof uses this law.
         id_texts_are_digits();
         match self.part.try_extend_from_slice(text) {
             Ok(()) => Ok(()),
@@ -48,7 +48,7 @@ impl<A: Allocator + Copy> PlainFeed<A> {
         }
     }
 
-    /// Reads the part that consists of the stored bytes and `text`. The separator ends this part.
+    /// Reads the part that consists of the stored bytes and `text`, and ends with the separator.
     fn end_part(&mut self, text: &[u8], separator: Separator) -> Result<(), IndexFault>
         requires { IsPart text.now }
         ensures { Feeds self.old self.new result (text.now ++ separator_byte separator ∷ []) }

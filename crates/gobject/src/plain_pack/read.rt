@@ -1,4 +1,4 @@
-//! Reading of a plain pack, part by part.
+//! Reading a plain pack, part by part. A part is the text before a space or line feed.
 
 ghost use Rattle.std.specs.Prelude.{◌≡◌, [], ℕ, ◌+◌, List, length, decimal, MatchOption, IfOk, OnErr, IsTrue, ◌↔◌};
 ghost use Rattle.gname.specs.Ids.{IsIdText};
@@ -15,7 +15,7 @@ use memchr::memchr2;
 use std::alloc::{AllocError, Allocator};
 use std::mem;
 
-/// The byte that ends a part.
+/// The byte that ends a part: a space or a line feed.
 #[derive(Clone, Copy)]
 pub enum Separator {
     Space,
@@ -31,7 +31,7 @@ pub enum Next<A: Allocator + Copy> {
     Word,
     /// The id of an entry of this kind.
     Id(Kind),
-    /// Another parent of this entry.
+    /// One more parent of this entry.
     Parent(Entry<A>),
     /// The number of entries, in the last line.
     Count,
@@ -71,7 +71,7 @@ fn format_of(part: &[u8]) -> Format
 fn id_of(part: &[u8]) -> Option<Oid>
     ensures { MatchOption result (NoId part.now) (IsIdText part.now) }
 {
-    // Laws.
+    // The proof uses these laws.
     id_texts_are_digits();
     ids_have_one_format();
     match Oid::from_hex_in(format_of(part), part) {
@@ -135,7 +135,7 @@ fn new_entry<A: Allocator + Copy>(alloc: A, kind: Kind, id: Oid) -> Entry<A>
     }
 }
 
-/// Returns the entry with one more parent.
+/// Returns the entry with one more parent. Fails only if out of memory.
 fn push_parent<A: Allocator + Copy>(mut entry: Entry<A>, id: Oid) -> Result<Entry<A>, AllocError>
     ensures { IfOk result (λ longer. longer ≡ with_parent entry id) }
 {
@@ -143,8 +143,8 @@ fn push_parent<A: Allocator + Copy>(mut entry: Entry<A>, id: Oid) -> Result<Entr
     Ok(entry)
 }
 
-/// Returns the part that is expected after an id of an entry: another parent if a space ends the
-/// id, or the first word of the next line if a line feed ends the id.
+/// Returns the part that is expected after an id in the line of an entry. A space after the id
+/// announces another parent. A line feed completes the entry, which is added to `entries`.
 fn after_id<A: Allocator + Copy>(
     entries: &mut Vec<Entry<A>, A>,
     entry: Entry<A>,
@@ -248,7 +248,7 @@ impl<A: Allocator + Copy> Lines<A> {
     pub fn take_part(&mut self, part: &[u8], separator: Separator) -> Result<(), IndexFault>
         ensures { Reads self.old self.new result part.now separator }
     {
-        // Laws.
+        // The proof uses this law.
         id_texts_are_digits();
         let fault = self.bad_line();
         let next = mem::replace(&mut self.next, Next::Nothing);
@@ -274,7 +274,7 @@ impl<A: Allocator + Copy> Lines<A> {
     pub fn finish(self, part: &[u8]) -> Result<Vec<Entry<A>, A>, IndexFault>
         ensures { Finishes self result part.now }
     {
-        // Laws.
+        // The proof uses this law.
         id_texts_are_digits();
         if !self.has_ended(part) {
             return Err(self.bad_line());

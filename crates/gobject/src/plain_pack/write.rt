@@ -1,4 +1,4 @@
-//! Writing of a plain pack. The length of the pack is computed before memory is allocated.
+//! Writing a plain pack. The length of the pack is computed before memory is allocated.
 
 ghost use Rattle.std.specs.Prelude.{◌≡◌, ◌≤◌, ◌++◌, ◌∷◌, [], length, IsTrue, ◌↔◌, OnOk, MatchResult, IfOk};
 ghost use Rattle.gname.specs.Limits.{max_pack};
@@ -17,7 +17,7 @@ use std::alloc::{AllocError, Allocator};
 fn room_after_id(room: usize, id: &Oid) -> Option<usize>
     ensures { Leaves room result (length (ids_text (id.now ∷ []))) }
 {
-    // Laws.
+    // The proof uses these laws.
     ids_have_texts();
     id.laws();
     room.checked_sub(id.format().id_text_length() + 1)
@@ -57,7 +57,7 @@ fn room_after_nodes<A: Allocator + Copy>(room: usize, entries: &[Entry<A>]) -> O
     Some(left)
 }
 
-/// Returns whether the pack of some entries has at most `MAX_PACK` bytes.
+/// Returns whether the plain pack of the entries has at most `MAX_PACK` bytes.
 #[tactic(auto, using(crate::proofs::PlainPackWriting::length_pack))]
 fn fits<A: Allocator + Copy>(entries: &[Entry<A>]) -> bool
     ensures { IsTrue result ↔ (length (pack_text entries.now) ≤ max_pack) }
@@ -70,7 +70,7 @@ fn fits<A: Allocator + Copy>(entries: &[Entry<A>]) -> bool
     }
 }
 
-/// Appends the lines of some entries to the text.
+/// Appends the lines of the entries to the text.
 #[tactic(auto, using(crate::proofs::PlainPackWriting::pieces_more))]
 fn put_nodes<A: Allocator + Copy>(
     text: &mut Vec<u8, A>,
@@ -107,8 +107,8 @@ fn put_pack<A: Allocator + Copy>(alloc: A, entries: &[Entry<A>]) -> Result<Vec<u
     Ok(text)
 }
 
-/// Returns the plain pack of some entries. Fails with `TooLarge`, before it allocates, if the pack
-/// has more than `MAX_PACK` bytes. Otherwise fails only with `Memory`.
+/// Returns the plain pack of the entries. Fails with `TooLarge` before allocating if the pack has
+/// more than `MAX_PACK` bytes. Otherwise fails only with `Memory`.
 pub fn write<A: Allocator + Copy>(alloc: A, entries: &[Entry<A>]) -> Result<Vec<u8, A>, PackFault>
     ensures packed { MatchResult result (λ pack. pack.items ≡ pack_text entries.now)
         (PackRefuses (pack_text entries.now)) }

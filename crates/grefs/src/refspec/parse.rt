@@ -1,4 +1,4 @@
-//! Parsing of a refspec.
+//! Parsing a refspec.
 
 ghost use Rattle.std.specs.Prelude.{◌≡◌, ◌<◌, IfSome, false, length, position, true};
 ghost use Rattle.grefs.specs.Refspecs.{IsSpec, Reads};
@@ -14,7 +14,7 @@ use std::alloc::Allocator;
 pub(crate) fn read_spec<A: Allocator + Copy>(alloc: A, text: &[u8]) -> Result<Spec<A>, SpecFault>
     ensures { Reads (IsSpec text.now) result }
 {
-    // Laws.
+    // The proof uses this law.
     names_are_clean();
     match text.strip_prefix(b"+") {
         Some(rest) => read_rest(alloc, true, rest),
@@ -26,7 +26,7 @@ pub(crate) fn read_spec<A: Allocator + Copy>(alloc: A, text: &[u8]) -> Result<Sp
 fn read_rest<A: Allocator + Copy>(alloc: A, forced: bool, text: &[u8]) -> Result<Spec<A>, SpecFault>
     ensures { Reads (IsRest forced text.now) result }
 {
-    // Laws.
+    // The proof uses this law.
     names_are_clean();
     match first_colon(text) {
         Some(at) => read_sides(alloc, forced, &text[..at], &text[at + 1..]),
@@ -34,7 +34,7 @@ fn read_rest<A: Allocator + Copy>(alloc: A, forced: bool, text: &[u8]) -> Result
     }
 }
 
-// Returns the position of the first `:`.
+// Returns the position of the first `:`, or `None` if the text has no `:`.
 fn first_colon(text: &[u8]) -> Option<usize>
     ensures place { result ≡ position is_colon text.now }
     ensures within { IfSome result (λ at. at < length text.now) }
@@ -42,8 +42,7 @@ fn first_colon(text: &[u8]) -> Option<usize>
     text.iter().position(|byte| *byte == b':')
 }
 
-// Parses the source and the destination. The source and the destination form a pattern if both end
-// in `*`.
+// Parses the source and the destination. If both end in `*`, both are patterns.
 fn read_sides<A: Allocator + Copy>(
     alloc: A,
     forced: bool,
@@ -52,7 +51,7 @@ fn read_sides<A: Allocator + Copy>(
 ) -> Result<Spec<A>, SpecFault>
     ensures { Reads (HasTexts forced source.now destination.now) result }
 {
-    // Laws.
+    // The proof uses this law.
     names_are_clean();
     match source.strip_suffix(b"*") {
         Some(stem) => match destination.strip_suffix(b"*") {
@@ -63,7 +62,8 @@ fn read_sides<A: Allocator + Copy>(
     }
 }
 
-// Returns the refspec whose source and destination are ref names.
+// Returns the refspec with this source and this destination. Fails with `BadSpec` unless both are
+// ref names and the destination is below `refs/`.
 fn names<A: Allocator + Copy>(
     alloc: A,
     forced: bool,
@@ -78,7 +78,8 @@ fn names<A: Allocator + Copy>(
     Err(SpecFault::BadSpec)
 }
 
-// Returns the refspec with this source and this destination, which are patterns without their `*`.
+// Returns the pattern refspec with this source and this destination, both given without their `*`.
+// Fails with `BadSpec` unless both may precede a `*`.
 fn patterns<A: Allocator + Copy>(
     alloc: A,
     forced: bool,

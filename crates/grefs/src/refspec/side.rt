@@ -28,7 +28,7 @@ pub(crate) fn is_below_refs(text: &[u8]) -> bool
 pub(crate) fn is_stem(text: &[u8]) -> bool
     ensures { IsTrue result ↔ IsStem text.now }
 {
-    // Laws.
+    // The proof uses this law.
     names_are_clean();
     match join(text, b"x") {
         Some(name) => text.ends_with(b"/") && is_below_refs(name.as_slice()),
@@ -53,10 +53,10 @@ pub(crate) fn join(front: &[u8], back: &[u8]) -> Option<ArrayVec<u8, MAX_NAME>>
 }
 
 /// Returns whether `front` followed by `back` is a ref name.
-pub(crate) fn are_name(front: &[u8], back: &[u8]) -> bool
+pub(crate) fn is_joined_name(front: &[u8], back: &[u8]) -> bool
     ensures { IsTrue result ↔ IsRefName (front.now ++ back.now) }
 {
-    // Laws.
+    // The proof uses this law.
     names_are_clean();
     match join(front, back) {
         Some(text) => is_name(text.as_slice()),

@@ -1,4 +1,4 @@
-//! Refspecs, and their mapping of ref names.
+//! A refspec, and the ref names that it matches.
 
 ghost use Rattle.std.specs.Prelude.{◌≡◌, ◌↔◌, IfOk, IfSome, IsTrue, MatchResult, true};
 ghost use Rattle.gname.specs.Names.{IsRefName, head_name};
@@ -8,7 +8,7 @@ ghost use Rattle.grefs.specs.Refspecs.{AreSides, FindsDestination, IsRefspec, Is
 
 use crate::refspec::fault::SpecFault;
 use crate::refspec::parse::read_spec;
-use crate::refspec::side::{are_name, name_of};
+use crate::refspec::side::{is_joined_name, name_of};
 use gname::laws::names_are_clean;
 use gname::{HEAD, NameFault, Prefix, RefName};
 use std::alloc::{AllocError, Allocator, Global};
@@ -36,9 +36,10 @@ impl<A: Allocator + Copy> Model for Spec<A> {
 }
 
 impl<A: Allocator + Copy> Spec<A> {
-    /// Reads a refspec: an optional `+`, a source, a `:` and a destination. Without `*`, the source
-    /// is a ref name, and the destination is a ref name below `refs/`. In a pattern the source and
-    /// the destination end in `/*`, and are ref names below `refs/` if `x` replaces the `*`.
+    /// Parses a refspec: an optional `+`, a source, a `:` and a destination. Without `*`, the
+    /// source is a ref name, and the destination is a ref name below `refs/`. In a pattern the
+    /// source and the destination end in `/*`, and are ref names below `refs/` if `x` replaces the
+    /// `*`.
     ///
     /// Fails with `BadSpec` if the text is not a refspec. Fails with `Memory` only if the text is a
     /// refspec.
@@ -136,17 +137,17 @@ impl<A: Allocator + Copy> Spec<A> {
         ensures { IsTrue result ↔ (matches self.now name.now ≡ true
             → IsRefName (destination_of self.now name.now)) }
     {
-        // Laws.
+        // The proof uses this law.
         names_are_clean();
         if !self.matches(name) {
             return true;
         }
         let rest = &name.as_bytes()[self.source.as_bytes().len()..];
-        are_name(self.destination.as_bytes(), rest)
+        is_joined_name(self.destination.as_bytes(), rest)
     }
 
-    /// Returns the destination of a name, which is below `refs/`. In a pattern, the part of the
-    /// name that the source's `*` matched replaces the destination's `*`. Returns `None` if the
+    /// Returns the destination of a name, which is below `refs/`. For a pattern, the part of the
+    /// name that the source's `*` matches replaces the destination's `*`. Returns `None` if the
     /// source does not match the name.
     ///
     /// Fails with the first fault of the destination if the destination is not a valid ref name.
@@ -159,7 +160,7 @@ impl<A: Allocator + Copy> Spec<A> {
         ensures finds { FindsDestination self.now name.now result }
         ensures below { IfOk result (λ found. IfSome found IsBelowRefs) }
     {
-        // Laws.
+        // The proof uses this law.
         names_are_clean();
         if !self.matches(name) {
             return Ok(None);

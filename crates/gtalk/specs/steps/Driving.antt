@@ -26,7 +26,7 @@ calls_left Speaks steps = steps + 1
 calls_left Listens steps = 0
 calls_left Done steps = 0
 
--- the number 1 while more packets may arrive, and 0 once no more packets arrive
+-- 1 while more packets may arrive, and 0 once no more packets arrive
 abbrev pub count_unstopped : Option Stop → ℕ
 count_unstopped None = 1
 count_unstopped (Some why) = 0
@@ -55,7 +55,7 @@ IsFewer left old new =
     ((left new.conversation).turns < (left old.conversation).turns)
     ⊎ (((left new.conversation).turns ≤ (left old.conversation).turns) × ((why : Stop) × (new.stopped ≡ Some why)))
 
--- after `Io` the sink has failed; after any other result it has failed exactly if it had failed before the calls
+-- after `Io` the sink has failed; after any other result it has failed exactly when it had failed before the calls
 abbrev pub IsDownBy : Result Unit TalkFault → Bool → Bool → Type 0
 IsDownBy (Ok done) was_down is_down = is_down ≡ was_down
 IsDownBy (Err Io) was_down is_down = is_down ≡ true

@@ -12,13 +12,14 @@ abbrev pub HasMarks : {A : Type 0} → List (Entry A) → List Id → List Bool 
 HasMarks g ids marks =
     (a : Id) (position : ℕ) → position_of g a ≡ Some position → (slice_index_or marks position false ≡ true) ↔ Contains ids a
 
--- `list` is the offer, and the tour can be resumed: after the ids of `list` are sent, no visited id may be offered any
--- more
+-- `list` is the offer, and the tour can be resumed: after the ids of `list` are sent, none of the visited ids may be
+-- offered
 pub record GoesOn {A : Type 0} (g : List (Entry A)) (tips commons sent : List Id) (n : ℕ) (list : List Id)
     (tour : Tour A) : Type 0 where
   pub offer : IsOffer g tips commons sent n list
   pub front : List Id
   pub back : List Id
   pub underway :
-      IsUnderway g tips front back tour.walk.marks.items tour.walk.met.items tour.walk.lost tour.walk.parents tour.at
+      IsUnderway g tips front back tour.walk.marks.items tour.walk.met.items tour.walk.missing
+      tour.walk.parent_count tour.at
   pub told : All (λ a. ¬ (MayBeOffered g commons (sent ++ list) a)) front

@@ -1,5 +1,5 @@
 //! The pass down the insertion order, from later to earlier objects. The pass starts at the last
-//! want or common id, and ends when no unvisited position is open.
+//! want or common id, and ends when no unvisited object is marked as wanted and not as known.
 
 ghost use Rattle.std.specs.Prelude.{◌≡◌, ◌≤◌, ◌<◌, ◌+◌, ℕ, List, IfErr, IfOk, ◌||◌, length, slice_set, true};
 ghost use Rattle.gname.specs.Ids.{Id};
@@ -45,16 +45,16 @@ pub(crate) fn pass_down<A: Allocator + Copy>(
     Ok(pass)
 }
 
-// The state of a pass down the positions.
+// The state of a pass down.
 #[derive(Drop)]
 pub(crate) struct Pass<A: Allocator + Copy> {
     // For each position, whether a want was found to reach the object at the position.
     wanted: Vec<bool, A>,
     // For each position, whether a common id was found to reach the object at the position.
     known: Vec<bool, A>,
-    // The end of the unvisited positions: all positions below `next` are still unvisited.
+    // The number of unvisited positions: the positions below `next` are unvisited.
     pub(crate) next: usize,
-    // The number of unvisited positions that are marked as wanted and not as known.
+    // The number of open unvisited positions.
     pending: usize,
 }
 
@@ -66,7 +66,7 @@ impl<A: Allocator + Copy> Pass<A> {
         is_marked(self.wanted.as_slice(), position) && !is_marked(self.known.as_slice(), position)
     }
 
-    // Returns the number of positions that can have marks.
+    // Returns the number of positions that have marks. All later positions are unmarked.
     pub(crate) fn end(&self) -> usize
         ensures { result ≡ length self.now.wanted.items }
     {

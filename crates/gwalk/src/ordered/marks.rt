@@ -1,4 +1,4 @@
-//! Helpers for marks by position, and for the positions of ids.
+//! Functions for marks, which are indexed by position, and for the positions of ids.
 
 ghost use Rattle.std.specs.Prelude.{◌≡◌, ◌≤◌, ◌<◌, ℕ, IfErr, IfOk, false, length, replicate, slice_set, true};
 ghost use Rattle.gwalk.specs.steps.Passes.{IsInOrder, IsPositionOf, MarksAll, is_marked};
@@ -15,7 +15,7 @@ pub(crate) fn is_marked(marks: &[bool], position: usize) -> bool
     marks.get(position).copied().unwrap_or(false)
 }
 
-// Returns marks for the positions below `end`, none of which is marked.
+// Returns marks for the positions below `end`, all unmarked.
 pub(crate) fn no_marks<A: Allocator + Copy>(
     alloc: A,
     end: usize,
@@ -47,7 +47,8 @@ fn mark<A: Allocator + Copy>(marks: &mut Vec<bool, A>, position: usize)
     }
 }
 
-// Returns the highest position of the ids plus one, or 0 if the graph contains none of the ids.
+// Returns one more than the highest position of the ids, or 0 if the graph contains none of the
+// ids.
 pub(crate) fn end_of<A: Allocator + Copy>(graph: &Graph<A>, ids: &[Oid]) -> usize
     requires { IsInOrder graph.now.entries }
     ensures below { (p : ℕ) → IsPositionOf graph.now.entries ids.now p → p < result }

@@ -20,7 +20,7 @@ use std::alloc::Allocator;
 ///
 /// Each object of the graph must have been inserted after its parents (`Graph::is_ordered`). The
 /// call searches for new objects in reverse insertion order, from the last want or common id. The
-/// search stops when every unvisited object that it has reached from a want was also reached from a
+/// search stops as soon as every unvisited object reached from a want was also reached from a
 /// common id.
 ///
 /// Fails only with `Memory`. The graph's allocator allocates the list, and at most three bytes for

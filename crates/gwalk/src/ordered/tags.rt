@@ -1,4 +1,5 @@
-//! The tags to send: the tags in the chains from tips to new commits.
+//! The tags to send: the tags in the chains from tips to new commits. After the pass down, a commit
+//! is new if its position is open: marked as wanted and not as known.
 
 ghost use Rattle.std.specs.Prelude.{◌≡◌, ◌⊎◌, ◌≤◌, ◌<◌, ℕ, IfErr, IfOk, MatchOption, length, true};
 ghost use Rattle.gwalk.specs.steps.Passes.{IsCommitAt, IsInOrder, IsOnChain, IsPeeledAt, IsPositionOf, IsTagAt, MarksChain, MarksTags, is_open};
@@ -11,7 +12,8 @@ use gname::Oid;
 use gobject::Kind;
 use std::alloc::Allocator;
 
-// Returns marks at the positions of the tags in the chains from tips to open commits.
+// Returns, for each position, whether it has a tag to send: a tag on the chain from a tip to a
+// commit whose position is open.
 pub(crate) fn tags_of<A: Allocator + Copy>(
     graph: &Graph<A>,
     pass: &Pass<A>,

@@ -66,8 +66,8 @@ pub fn reaches<A: Allocator + Copy>(graph: &Graph<A>, a: &Oid, b: &Oid) -> Resul
     Ok(is_good(graph, a, &[*b], good.as_slice()))
 }
 
-// Returns whether the id reaches one of the goals. `good` marks the positions of objects that reach
-// a goal.
+// Returns whether the id reaches one of the goals. `good` must mark the positions of exactly the
+// objects that reach a goal.
 fn is_good<A: Allocator + Copy>(graph: &Graph<A>, id: &Oid, goals: &[Oid], good: &[bool]) -> bool
     requires order { IsInOrder graph.now.entries }
     requires good { MarksReaching graph.now.entries goals.now (length good.now) good.now }

@@ -22,11 +22,11 @@ use Rattle.gworld.specs.Worlds.{Kept, PackTools, WorldState, reply_bytes}
 use Rattle.gscenario.specs.declared.event.Event.{Event}
 use Rattle.gworld.specs.declared.outcome.Outcome.{Outcome}
 use Rattle.gworld.specs.declared.outcome.Outcome.TheVariants as outcomes
-use Rattle.gworld.specs.declared.incoming.Due.{Due}
-use Rattle.gworld.specs.declared.incoming.Due.TheVariants.{Nothing, Refs, Objects}
+use Rattle.gworld.specs.declared.incoming.AwaitedReply.{AwaitedReply}
+use Rattle.gworld.specs.declared.incoming.AwaitedReply.TheVariants.{Nothing, Refs, Objects}
 
 -- the kind of reply that answers the open request, or `Nothing` if no request is open
-abbrev pub IsAwaited : Option Asked → Due → Type 0
+abbrev pub IsAwaited : Option Asked → AwaitedReply → Type 0
 IsAwaited None Nothing = ⊤
 IsAwaited (Some (Ls asked)) Refs = ⊤
 IsAwaited (Some (Fetches asked)) Objects = ⊤

@@ -7,7 +7,7 @@ ghost use Rattle.gworld.specs.Events.{Delivers, Forges, waiting_session};
 ghost use Rattle.gworld.specs.Worlds.{reply_bytes};
 
 use super::{KeptReply, Parts, kept_at};
-use crate::fault::{NO_OPEN_REQUEST, NO_SUCH};
+use crate::fault::{NO_OPEN_REQUEST, NO_SUCH_INDEX};
 use crate::incoming::{front, take_bytes};
 use crate::outcome::Outcome;
 use gclientrepo::Repo;
@@ -60,14 +60,22 @@ impl<A: Allocator + Copy> Parts<A> {
             × IsSome (slice_get self.old.kept number) × IsSome (waiting_session self.old.session)) }
     {
         match kept_at(&self.kept, number) {
-            None => Ok(Outcome::Fault { code: NO_SUCH }),
+            None => Ok(Outcome::Fault {
+                code: NO_SUCH_INDEX,
+            }),
             Some(kept) => match &mut self.session {
                 None => Ok(Outcome::Fault {
                     code: NO_OPEN_REQUEST,
                 }),
                 Some(session) => {
-                    let coming = Delivery { kept, count };
-                    bring(coming, session, &mut self.repo, &mut self.answered, indexer)
+                    let delivery = Delivery { kept, count };
+                    bring(
+                        delivery,
+                        session,
+                        &mut self.repo,
+                        &mut self.answered,
+                        indexer,
+                    )
                 }
             },
         }
@@ -117,7 +125,7 @@ struct Delivery<'a, A: Allocator + Copy> {
 
 // Delivers a kept reply to the session, and updates the flag `answered`.
 fn bring<A: Allocator + Copy, K: Indexer<A>>(
-    coming: Delivery<'_, A>,
+    delivery: Delivery<'_, A>,
     session: &mut Session<A>,
     repo: &mut Repo<A>,
     mark: &mut bool,
@@ -125,7 +133,7 @@ fn bring<A: Allocator + Copy, K: Indexer<A>>(
 ) -> Result<Outcome, AllocError>
     ensures { MatchResult result
         (λ outcome. BringsTo (K.indexes indexer.now) (K.index_fails indexer.now)
-        coming.entry.kept.now coming.entry.count
+        delivery.entry.kept.now delivery.entry.count
         session.old.pending session.old repo.old mark.old outcome session.new repo.new mark.new)
         (λ _. (session.new ≡ session.old) × (repo.new ≡ repo.old) × (mark.new ≡ mark.old)
         × IsSome session.old.pending) }
@@ -135,26 +143,27 @@ fn bring<A: Allocator + Copy, K: Indexer<A>>(
             code: NO_OPEN_REQUEST,
         });
     }
-    let bytes = coming.kept.bytes(repo.graph().allocator())?;
-    let same = coming.kept.answers_open(session);
-    let all = bytes.len() <= coming.count;
+    let bytes = delivery.kept.bytes(repo.graph().allocator())?;
+    let matches_open = delivery.kept.answers_open(session);
+    let is_complete = bytes.len() <= delivery.count;
     match take_bytes(
         session,
         repo,
-        front(bytes.as_slice(), coming.count),
+        front(bytes.as_slice(), delivery.count),
         indexer,
     )? {
         Some(outcome) => {
-            *mark = same && all && is_pack_taken(outcome);
+            *mark = matches_open && is_complete && is_pack_taken(outcome);
             Ok(outcome)
         }
+        // The session awaits no reply, because its open request is empty.
         None => Ok(Outcome::Fault {
             code: NO_OPEN_REQUEST,
         }),
     }
 }
 
-// Returns whether the outcome is an accepted pack.
+// Returns whether the outcome reports an accepted pack.
 fn is_pack_taken(outcome: Outcome) -> bool
     ensures { IsTrue result ↔ IsPackTaken outcome }
 {

@@ -56,8 +56,8 @@ impl<A: Allocator + Copy> Parts<A> {
         }
     }
 
-    /// Executes one event. If the world is sound before the event, it is sound afterwards, and the
-    /// step keeps its promises.
+    /// Executes one event. Requires a sound world. The world is sound afterwards, and the step
+    /// keeps its promises.
     pub(crate) fn step<K: Packer<A> + Indexer<A>>(
         &mut self,
         event: &Event<A>,
@@ -74,11 +74,11 @@ impl<A: Allocator + Copy> Parts<A> {
             self.old event.now outcome self.new)
             (λ _. (self.new ≡ self.old) × NeedsMemory self.old event.now) }
     {
-        // Laws.
+        // Laws that the proof uses.
         steps_keep::<A, K>();
         self.laws();
         let outcome = self.happen(event, tools)?;
-        // Laws.
+        // Laws that the proof uses.
         self.laws();
         Ok(outcome)
     }
@@ -146,13 +146,13 @@ impl<A: Allocator + Copy> Parts<A> {
             (K.indexes tools.now) (K.index_fails tools.now)))
             self.old events.now (outcomes_before fault) self.new) }
     {
-        let mut told = outcomes;
+        let mut results = outcomes;
         for event in events {
             match self.step(event, tools) {
-                Ok(outcome) => told.push_reserved(outcome),
-                Err(_) => return Err(RunFault::Memory { outcomes: told }),
+                Ok(outcome) => results.push_reserved(outcome),
+                Err(_) => return Err(RunFault::Memory { outcomes: results }),
             }
         }
-        Ok(told)
+        Ok(results)
     }
 }

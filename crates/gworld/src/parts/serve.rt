@@ -9,7 +9,7 @@ ghost use Rattle.gworld.specs.Events.{HearsStranger, ServesRequest, TalksTo, str
 ghost use Rattle.gworld.specs.declared.outcome.Outcome.TheVariants as outcome;
 
 use super::{KeptReply, Parts, sent_at};
-use crate::fault::NO_SUCH;
+use crate::fault::NO_SUCH_INDEX;
 use crate::outcome::Outcome;
 use ganswer::{OnePack, Reply, ServeFault, Server};
 use ggrammar::Ends;
@@ -48,7 +48,9 @@ impl<A: Allocator + Copy> Parts<A> {
     {
         let alloc = self.repo.graph().allocator();
         match sent_at(&self.sent, number) {
-            None => Ok(Outcome::Fault { code: NO_SUCH }),
+            None => Ok(Outcome::Fault {
+                code: NO_SUCH_INDEX,
+            }),
             Some(sent) => match self.server.answer(&sent.request, &mut OnePack::new(packer)) {
                 Ok(reply) => keep(alloc, &mut self.kept, &sent.request, reply),
                 Err(fault) => Ok(refuse_request(fault)),
@@ -94,7 +96,7 @@ fn talk<A: Allocator + Copy, K: Packer<A>>(
         (K.pack_fails packer.now)
         bytes.now) }
 {
-    // Laws.
+    // Laws that the proof uses.
     serving_is_talking::<A, K>();
     let mut source = SliceSource::new(bytes);
     let mut sink = VecSink::new(alloc);

@@ -9,8 +9,8 @@ use Rattle.gclient.proofs.StepLemmas.{err_of}
 use Rattle.gclient.proofs.TalkLemmas.{closed, not_closed, same_tips}
 use Rattle.gclient.proofs.conversation.converse.Goals as goal
 
-pub returns-in_err-unborn-clause-fetches : goal.returns-in_err-unborn-clause-fetches
-returns-in_err-unborn-clause-fetches g c =
+pub returns-in_err-unborn_target-clause-fetches : goal.returns-in_err-unborn_target-clause-fetches
+returns-in_err-unborn_target-clause-fetches g c =
     let indexes = g.K.Indexer.indexes c.args.indexer.now in
     let fails = g.K.Indexer.index_fails c.args.indexer.now in
     let start = start_with c.args.session.now c.args.repo.now in
@@ -19,8 +19,8 @@ returns-in_err-unborn-clause-fetches g c =
     c.talk.new.writer.sink in
     subst (λ (r : Result (Fetched g.row.A.Denot) (FetchFault g.row.A.Denot)). FetchesOver indexes fails start input
     output c.talk.new.repo r)
-    (sym (err_of c.in_err-unborn.field-0.0 c.from_residual.result c.from_residual.ensures.1))
-    c.in_err-unborn.ensures.talks
+    (sym (err_of c.in_err-unborn_target.field-0.0 c.from_residual.result c.from_residual.ensures.1))
+    c.in_err-unborn_target.ensures.talks
 
 pub returns-in_err-settled-clause-fetches : goal.returns-in_err-settled-clause-fetches
 returns-in_err-settled-clause-fetches g c =
@@ -36,18 +36,18 @@ returns-in_err-settled-clause-fetches g c =
     c.from_residual-in_err-settled.ensures.1))
     (not_closed indexes fails start g.S.Source.remaining g.S.Source.is_down g.W.Sink.contents g.W.Sink.passed_on
     g.W.Sink.is_down
-    _ _ _ _ _ (client_of c.talk.new.session c.talk.new.repo c.in_ok-unborn.unborn) c.close.new.repo
+    _ _ _ _ _ (client_of c.talk.new.session c.talk.new.repo c.in_ok-unborn_target.unborn_target) c.close.new.repo
     c.in_err-settled.field-0.0
-    c.in_ok-unborn.ensures.talks c.in_ok-unborn.ensures.settles_next c.in_err-settled.ensures.closes)
+    c.in_ok-unborn_target.ensures.talks c.in_ok-unborn_target.ensures.settles_next c.in_err-settled.ensures.closes)
 
 pub returns-clause-fetches : goal.returns-clause-fetches
 returns-clause-fetches g c =
     let start = start_with c.args.session.now c.args.repo.now in
     closed (g.K.Indexer.indexes c.args.indexer.now) (g.K.Indexer.index_fails c.args.indexer.now) start
     g.S.Source.remaining g.S.Source.is_down g.W.Sink.contents g.W.Sink.passed_on g.W.Sink.is_down
-    _ _ _ _ _ (client_of c.talk.new.session c.talk.new.repo c.in_ok-unborn.unborn) c.close.new.repo
+    _ _ _ _ _ (client_of c.talk.new.session c.talk.new.repo c.in_ok-unborn_target.unborn_target) c.close.new.repo
     c.in_ok-settled.settled _
-    c.in_ok-unborn.ensures.talks c.in_ok-unborn.ensures.settles_next c.in_ok-settled.ensures.closes refl
+    c.in_ok-unborn_target.ensures.talks c.in_ok-unborn_target.ensures.settles_next c.in_ok-settled.ensures.closes refl
     c.rounds-requests.ensures.rounds refl
 
 pub returns-clause-bound : goal.returns-clause-bound
@@ -58,9 +58,9 @@ returns-clause-bound g c = λ held parents counts.
     let input = input_of g.S.Source.remaining g.S.Source.is_down c.args.reader.now.source c.talk.new.reader.source in
     let tips = same_tips (g.K.Indexer.indexes c.args.indexer.now) (g.K.Indexer.index_fails c.args.indexer.now) start
     g.S.Source.remaining g.S.Source.is_down g.W.Sink.contents g.W.Sink.passed_on g.W.Sink.is_down
-    input c.in_ok-unborn.ensures.talks.talk (client_of session c.talk.new.repo c.in_ok-unborn.unborn) IsLeft
-    c.in_ok-unborn.ensures.talks.converses in
+    input c.in_ok-unborn_target.ensures.talks.talk (client_of session c.talk.new.repo c.in_ok-unborn_target.unborn_target) IsLeft
+    c.in_ok-unborn_target.ensures.talks.converses in
     let few : session.rounds ≤ held + 1 =
-    c.rounds_are_few.ensures entries session held parents c.rounds-requests.ensures.session c.in_ok-unborn.ensures.began
+    c.rounds_are_few.ensures entries session held parents c.rounds-requests.ensures.session c.in_ok-unborn_target.ensures.began
     (subst (λ (ids : List (List ℕ)). CountsReached entries ids held parents) (sym tips) counts) in
     omega (arith, few, c.rounds-requests.ensures.rounds)

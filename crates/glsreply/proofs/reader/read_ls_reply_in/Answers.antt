@@ -9,18 +9,18 @@ use Rattle.glsreply.proofs.reader.read_ls_reply_in.Goals as goal
 pub finish-requires : goal.finish-requires
 finish-requires g c = (
   c.args.format,
-  formed_is c.args.format c.args.ends c.new-reply.result c.read_message.new.message (change_of g.S.Source.remaining c.args.reader.now.source c.read_message.new.reader.source)
-      c.new-reply.ensures.format c.new-reply.ensures.ends c.texts_have_one_reading.ensures c.in-Ok.ensures.read,
+  formed_is c.args.format c.args.ends c.new-message.result c.read_message.new.message (change_of g.S.Source.remaining c.args.reader.now.source c.read_message.new.reader.source)
+      c.new-message.ensures.format c.new-message.ensures.ends c.texts_have_one_reading.ensures c.in-Ok.ensures.read,
 )
 
 pub returns-in-Ok-clause-read : goal.returns-in-Ok-clause-read
 returns-in-Ok-clause-read g c =
     subst (ReadsMessage (judge c.args.format c.args.ends) (Says c.args.format c.args.ends) (change_of g.S.Source.remaining c.args.reader.now.source c.read_message.new.reader.source)) (sym c.finish.ensures)
-    (read_is c.args.format c.args.ends c.new-reply.result c.read_message.new.message (change_of g.S.Source.remaining c.args.reader.now.source c.read_message.new.reader.source)
-    c.new-reply.ensures.format c.new-reply.ensures.ends c.in-Ok.ensures.read)
+    (read_is c.args.format c.args.ends c.new-message.result c.read_message.new.message (change_of g.S.Source.remaining c.args.reader.now.source c.read_message.new.reader.source)
+    c.new-message.ensures.format c.new-message.ensures.ends c.in-Ok.ensures.read)
 
 pub returns-in-Ok-clause-formed : goal.returns-in-Ok-clause-formed
 returns-in-Ok-clause-formed g c =
     subst (IsLsReplyIn c.args.format) (sym c.finish.ensures)
-    (formed_is c.args.format c.args.ends c.new-reply.result c.read_message.new.message (change_of g.S.Source.remaining c.args.reader.now.source c.read_message.new.reader.source)
-    c.new-reply.ensures.format c.new-reply.ensures.ends c.texts_have_one_reading.ensures c.in-Ok.ensures.read)
+    (formed_is c.args.format c.args.ends c.new-message.result c.read_message.new.message (change_of g.S.Source.remaining c.args.reader.now.source c.read_message.new.reader.source)
+    c.new-message.ensures.format c.new-message.ensures.ends c.texts_have_one_reading.ensures c.in-Ok.ensures.read)

@@ -5,12 +5,12 @@ use Rattle.grequest.specs.steps.Flags.{table_in}
 use Rattle.grequest.proofs.FlagLemmas.{agree_same}
 use Rattle.grequest.proofs.flag.are_same_flags.Goals as goal
 
-pub returns-then-ones-number : goal.returns-then-ones-number
-returns-then-ones-number g c =
-    agree_same (flag_at g.F.Flag.number c.args.ones.now) (flag_at g.F.Flag.number c.args.others.now) (table_in c.args.table.now) false
+pub returns-then-left-number : goal.returns-then-left-number
+returns-then-left-number g c =
+    agree_same (flag_at g.F.Flag.number c.args.left.now) (flag_at g.F.Flag.number c.args.right.now) (table_in c.args.table.now) false
     (grind (arith, common_steps))
 
 pub returns : goal.returns
 returns g c =
-    agree_same (flag_at g.F.Flag.number c.args.ones.now) (flag_at g.F.Flag.number c.args.others.now) (table_in c.args.table.now) true
+    agree_same (flag_at g.F.Flag.number c.args.left.now) (flag_at g.F.Flag.number c.args.right.now) (table_in c.args.table.now) true
     (grind (arith, common_steps))

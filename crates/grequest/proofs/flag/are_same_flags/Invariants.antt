@@ -7,5 +7,5 @@ use Rattle.grequest.proofs.flag.are_same_flags.Given as goal
 
 abbrev pub invariant-loop-flag : goal.invariant-loop-flag
 invariant-loop-flag g l =
-    agree (flag_at g.F.Flag.number l.ones) (flag_at g.F.Flag.number l.others) (table_in l.table)
-    ≡ agree (flag_at g.F.Flag.number l.ones) (flag_at g.F.Flag.number l.others) (table_in (drop l.flag-index l.table))
+    agree (flag_at g.F.Flag.number l.left) (flag_at g.F.Flag.number l.right) (table_in l.table)
+    ≡ agree (flag_at g.F.Flag.number l.left) (flag_at g.F.Flag.number l.right) (table_in (drop l.flag-index l.table))

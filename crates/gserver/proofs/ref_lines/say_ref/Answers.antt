@@ -9,7 +9,7 @@ use Rattle.gserver.proofs.ref_lines.say_ref.Goals as goal
 pub line-line-requires : goal.line-line-requires
 line-line-requires g c =
     let lookup = c.in-Some.ensures.lookup in
-    c.peeled_at-known.ensures c.in-Some.found.now
+    c.peeled_at-peeled.ensures c.in-Some.found.now
     (ref_found c.args.server.now.refs c.as_slice.result.now c.args.at c.in-Some.found.now (c.as_slice.ensures.refs ∙ c.refs.ensures.refs)
     lookup.3.0 (lookup.3.1 c.in-Some.found.now))
 

@@ -22,8 +22,8 @@ returns-then-len-n g c =
     let is = now.3 commons all.0 others all.1 are marks (none_told h commons all.0 others all.1 front0 told) in
     record {
       offer = offers_enough h tips all.0 others commons all.1 c.args.n now.0 now.1 c.loop-at.list.items
-          c.loop-at.tour.walk.marks.items c.loop-at.tour.walk.met.items c.loop-at.tour.walk.lost
-          c.loop-at.tour.walk.parents c.loop-at.at now.2 is law (omega arith);
+          c.loop-at.tour.walk.marks.items c.loop-at.tour.walk.met.items c.loop-at.tour.walk.missing
+          c.loop-at.tour.walk.parent_count c.loop-at.at now.2 is law (omega arith);
       front = now.0;
       back = now.1;
       underway = now.2;
@@ -72,11 +72,11 @@ loop-at-preserved g c =
       λ tips front0 back0 begun.
           let now = c.loop-at.invariant.1 tips front0 back0 begun in
           let n = next h tips now.0 now.1 c.loop-at.tour.walk.marks.items c.loop-at.tour.walk.met.items
-          c.loop-at.tour.walk.lost c.loop-at.tour.walk.parents c.loop-at.at now.2 position (omega arith)
+          c.loop-at.tour.walk.missing c.loop-at.tour.walk.parent_count c.loop-at.at now.2 position (omega arith)
           c.index-position.ensures in
           let lent = lent_parents h n.id position c.parents.result.now n.position c.parents.ensures in
           let under = goes h tips now.0 now.1 c.loop-at.tour.walk.marks.items c.loop-at.tour.walk.met.items
-          c.loop-at.tour.walk.lost c.loop-at.tour.walk.parents c.loop-at.at now.2 position n c.parents.result.now lent
+          c.loop-at.tour.walk.missing c.loop-at.tour.walk.parent_count c.loop-at.at now.2 position n c.parents.result.now lent
           _ _ _ _ (c.in_ok-meet_all.ensures (now.0 ++ now.1) (now.2).has_met) in
           let front = now.0 ++ (n.mid ++ n.id ∷ []) in
           let back = n.rest ++ new_ids (now.0 ++ now.1) c.parents.result.now in (
@@ -115,8 +115,8 @@ returns g c =
     let is = now.3 commons all.0 others all.1 are marks (none_told h commons all.0 others all.1 front0 told) in
     record {
       offer = offers_all h tips all.0 others commons all.1 c.args.n now.0 now.1 c.loop-at.list.items
-          c.loop-at.tour.walk.marks.items c.loop-at.tour.walk.met.items c.loop-at.tour.walk.lost
-          c.loop-at.tour.walk.parents c.loop-at.at now.2 is (omega arith) c.loop-at.invariant.0;
+          c.loop-at.tour.walk.marks.items c.loop-at.tour.walk.met.items c.loop-at.tour.walk.missing
+          c.loop-at.tour.walk.parent_count c.loop-at.at now.2 is (omega arith) c.loop-at.invariant.0;
       front = now.0;
       back = now.1;
       underway = now.2;

@@ -15,7 +15,7 @@ returns-in_default-clause-each g c =
 
 pub loop-step-preserved : goal.loop-step-preserved
 loop-step-preserved g c =
-    passes_tag c.args.graph.now.entries c.args.id.now c.args.marks.now.items c.loop-step.marks.items c.loop-step._step c.loop-step.at c.loop-step.invariant c.in-Some.tag.position c.in-Some.tag.named c.in-Some.ensures.found.0 c.in-Some.ensures.found.1
+    passes_tag c.args.graph.now.entries c.args.id.now c.args.marks.now.items c.loop-step.marks.items c.loop-step._step c.loop-step.at c.loop-step.invariant c.in-Some.tag.position c.in-Some.tag.target c.in-Some.ensures.found.0 c.in-Some.ensures.found.1
 
 pub returns-clause-each : goal.returns-clause-each
 returns-clause-each g c =

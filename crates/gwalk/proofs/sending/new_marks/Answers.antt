@@ -30,7 +30,7 @@ loop-position-preserved g c =
 
 pub returns-clause-marks : goal.returns-clause-marks
 returns-clause-marks g c =
-    let w = marks_reached c.args.graph.now.entries c.args.wants.now c.in_ok-wanted.wanted.marks.items c.in_ok-wanted.wanted.met.items c.in_ok-wanted.wanted.lost c.in_ok-wanted.wanted.parents c.in_ok-wanted.ensures.graph.differ c.in_ok-wanted.ensures.walk in
-    let k = marks_reached c.args.graph.now.entries c.args.commons.now c.in_ok-known.known.marks.items c.in_ok-known.known.met.items c.in_ok-known.known.lost c.in_ok-known.known.parents c.in_ok-known.ensures.graph.differ c.in_ok-known.ensures.walk in
+    let w = marks_reached c.args.graph.now.entries c.args.wants.now c.in_ok-wanted.wanted.marks.items c.in_ok-wanted.wanted.met.items c.in_ok-wanted.wanted.missing c.in_ok-wanted.wanted.parent_count c.in_ok-wanted.ensures.graph.differ c.in_ok-wanted.ensures.walk in
+    let k = marks_reached c.args.graph.now.entries c.args.commons.now c.in_ok-known.known.marks.items c.in_ok-known.known.met.items c.in_ok-known.known.missing c.in_ok-known.known.parent_count c.in_ok-known.ensures.graph.differ c.in_ok-known.ensures.walk in
     let ends = join_ends less _ _ _ _ c.loop-position.invariant less_none (omega arith) in
     less_ends c.args.graph.now.entries c.args.wants.now c.args.commons.now _ _ _ w k (omega arith) ends

@@ -12,7 +12,7 @@ add_ref_line-requires-clause-next g c =
     let ref : List ℕ × List ℕ = c.index-refs-place.result in
     let long = ap length c.requires.refs in
     let inside : k < length server.refs = omega (arith, long, c.loop-place-test.true) in
-    ref_next server c.args.asked.now.asked k ref c.loop-place.reply inside (c.index-refs-place.is ∙ ap (λ (refs : RefList). get_or refs k ref) c.requires.refs) c.loop-place.invariant
+    ref_next server c.args.request.now.asked k ref c.loop-place.reply inside (c.index-refs-place.is ∙ ap (λ (refs : RefList). get_or refs k ref) c.requires.refs) c.loop-place.invariant
 
 pub add_ref_line-requires-clause-known : goal.add_ref_line-requires-clause-known
 add_ref_line-requires-clause-known g c =
@@ -26,5 +26,5 @@ loop-place-preserved g c =
     let ref : List ℕ × List ℕ = c.index-refs-place.result in
     let long = ap length c.requires.refs in
     let inside : k < length server.refs = omega (arith, long, c.loop-place-test.true) in
-    refs_more server c.args.asked.now.asked k ref c.add_ref_line.new.reply inside (c.index-refs-place.is ∙ ap (λ (refs : RefList). get_or refs k ref) c.requires.refs)
+    refs_more server c.args.request.now.asked k ref c.add_ref_line.new.reply inside (c.index-refs-place.is ∙ ap (λ (refs : RefList). get_or refs k ref) c.requires.refs)
     (c.in_ok-add_ref_line.ensures.added (head_ref (head_id server.head server.refs) ++ take k server.refs) c.loop-place.invariant)

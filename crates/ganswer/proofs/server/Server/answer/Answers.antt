@@ -4,4 +4,4 @@ use Rattle.ganswer.proofs.server.Server.answer.Goals as goal
 
 pub returns-in_ok-reply-in-Fetch-clause-format : goal.returns-in_ok-reply-in-Fetch-clause-format
 returns-in_ok-reply-in-Fetch-clause-format g c =
-    (c.in-Fetch.asked.limits, ap (λ request. limits_of request) c.in-Fetch.is, c.in_ok-reply-in-Fetch.ensures.format)
+    (c.in-Fetch.fetch.limits, ap (λ request. limits_of request) c.in-Fetch.is, c.in_ok-reply-in-Fetch.ensures.format)

@@ -14,8 +14,8 @@ made limits format ids (Err fault) fits is = absurd (none-some fault.why (sym fi
 
 pub unwrap-requires : goal.unwrap-requires
 unwrap-requires g c =
-    let haves = c.args.asked.now.asked.haves in
-    let limits = c.args.asked.now.limits in
+    let haves = c.args.request.now.asked.haves in
+    let limits = c.args.request.now.limits in
     let fits = commons_fit c.positions_are_nodes.ensures limits c.args.self.now.graph c.graph.ensures.server.graph haves c.laws.ensures.few_haves in
     let format = rw c.graph.ensures.graph at c.format.ensures in
     made c.limits.result c.format.result c.in_ok-ids.ids.items c.from_ids_within-made.result

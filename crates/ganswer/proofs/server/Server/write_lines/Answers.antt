@@ -9,7 +9,7 @@ returns-in_err-write_head g c =
     λ lines shows.
     let law = c.writes_packets.ensures in
     let server = c.args.self.now in
-    let parts = split server c.args.asked.now.asked (head_ref (head_id server.head server.refs)) server.refs lines shows in
+    let parts = split server c.args.request.now.asked (head_ref (head_id server.head server.refs)) server.refs lines shows in
     let all = lines_and_ending c.args.ends lines in
     law.fails _ _ _ all all (map ref_packet parts.first) (lines_and_ending c.args.ends parts.second) _ _ (law.starts _ all)
     (two_parts c.args.ends lines parts.first parts.second parts.parts) (c.in_err-write_head.ensures parts.first parts.left) c.from_residual.ensures.1
@@ -19,7 +19,7 @@ returns-in_err-write_refs g c =
     λ lines shows.
     let law = c.writes_packets.ensures in
     let server = c.args.self.now in
-    let parts = split server c.args.asked.now.asked (head_ref (head_id server.head server.refs)) server.refs lines shows in
+    let parts = split server c.args.request.now.asked (head_ref (head_id server.head server.refs)) server.refs lines shows in
     let all = lines_and_ending c.args.ends lines in
     let after = law.after_part _ _ _ all all (map ref_packet parts.first) (lines_and_ending c.args.ends parts.second) (law.starts _ all)
     (two_parts c.args.ends lines parts.first parts.second parts.parts) (c.in_ok-write_head.ensures parts.first parts.left) in
@@ -31,7 +31,7 @@ returns g c =
     λ lines shows.
     let law = c.writes_packets.ensures in
     let server = c.args.self.now in
-    let parts = split server c.args.asked.now.asked (head_ref (head_id server.head server.refs)) server.refs lines shows in
+    let parts = split server c.args.request.now.asked (head_ref (head_id server.head server.refs)) server.refs lines shows in
     let all = lines_and_ending c.args.ends lines in
     let after = law.after_part _ _ _ all all (map ref_packet parts.first) (lines_and_ending c.args.ends parts.second) (law.starts _ all)
     (two_parts c.args.ends lines parts.first parts.second parts.parts) (c.in_ok-write_head.ensures parts.first parts.left) in

@@ -26,7 +26,7 @@ returns-in_err-write_line g c =
     let law = c.writes_packets.ensures in
     let now = c.loop-place.invariant lines shows in
     let line = line_list (option_copied c.as_ref.result) in
-    let next = next_line c.args.self.now c.args.asked.now.asked c.peels_to_one.ensures c.as_slice-reference-items.result.now (c.as_slice-reference-items.ensures.refs ∙ c.refs.ensures.refs) c.loop-place.place
+    let next = next_line c.args.self.now c.args.request.now.asked c.peels_to_one.ensures c.as_slice-reference-items.result.now (c.as_slice-reference-items.ensures.refs ∙ c.refs.ensures.refs) c.loop-place.place
     c.reference-item.result now.0 c.loop-place-test.true c.reference-item.is now.1 line (line_list c.line-line.result) (ap line_list c.as_ref.ensures.value) c.line-line.ensures in
     law.part _ _ _ (map ref_packet lines)
     (law.fails _ _ _ (map ref_packet lines) (map ref_packet now.0) (map ref_packet line) (map ref_packet next.0) _ _ now.2 next.1 c.in_err-write_line.ensures c.from_residual.ensures.1)
@@ -37,7 +37,7 @@ loop-place-preserved g c =
     let law = c.writes_packets.ensures in
     let now = c.loop-place.invariant lines shows in
     let line = line_list (option_copied c.as_ref.result) in
-    let next = next_line c.args.self.now c.args.asked.now.asked c.peels_to_one.ensures c.as_slice-reference-items.result.now (c.as_slice-reference-items.ensures.refs ∙ c.refs.ensures.refs) c.loop-place.place
+    let next = next_line c.args.self.now c.args.request.now.asked c.peels_to_one.ensures c.as_slice-reference-items.result.now (c.as_slice-reference-items.ensures.refs ∙ c.refs.ensures.refs) c.loop-place.place
     c.reference-item.result now.0 c.loop-place-test.true c.reference-item.is now.1 line (line_list c.line-line.result) (ap line_list c.as_ref.ensures.value) c.line-line.ensures in (
       next.0,
       next.2,
@@ -52,6 +52,6 @@ returns g c =
     let items = c.as_slice-reference-items.ensures.refs ∙ c.refs.ensures.refs in
     let now = c.loop-place.invariant lines shows in
     let past : length server.refs ≤ place = subst (λ (r : RefList). length r ≤ place) items c.loop-place-test.false in
-    let none = subst (λ (r : RefList). ShowsLines server c.args.asked.now.asked r now.0) (drop_all place server.refs past) now.1 in
-    let same = one_list server c.args.asked.now.asked c.peels_to_one.ensures [] now.0 [] none (shows_none server c.args.asked.now.asked) in
+    let none = subst (λ (r : RefList). ShowsLines server c.args.request.now.asked r now.0) (drop_all place server.refs past) now.1 in
+    let same = one_list server c.args.request.now.asked c.peels_to_one.ensures [] now.0 [] none (shows_none server c.args.request.now.asked) in
     subst (λ (l : List RefLine). IsWriting g.W.Sink.contents g.W.Sink.passed_on g.W.Sink.is_down g.W.Sink.loans c.args.writer.now c.loop-place.writer (map ref_packet lines) (map ref_packet l)) same now.2

@@ -8,8 +8,8 @@ use Rattle.gfetchreply.proofs.reading.ReplyReaderMessage.accept_packet.Goals as 
 
 pub returns-clause-takes : goal.returns-clause-takes
 returns-clause-takes g c = λ front opened held.
-    let Taken = Holds g.T.PackSink.taken g.T.PackSink.same g.L.Lent.had g.L.Lent.starts g.L.Lent.seat g.L.Lent.asked in
-    let Left = Leaves g.T.PackSink.taken g.T.PackSink.same g.L.Lent.had g.L.Lent.starts g.L.Lent.seat g.L.Lent.asked in
+    let Taken = Holds g.T.PackSink.taken g.T.PackSink.same g.L.Lent.accepted_before g.L.Lent.state_before g.L.Lent.address g.L.Lent.reading in
+    let Left = Leaves g.T.PackSink.taken g.T.PackSink.same g.L.Lent.accepted_before g.L.Lent.state_before g.L.Lent.address g.L.Lent.reading in
     let new = c.take_packet.new.self in
     let packet = packet_of c.args.line in
     let asked = reading_in c.args.self.now.reading in

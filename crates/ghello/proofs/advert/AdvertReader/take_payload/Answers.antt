@@ -5,7 +5,7 @@ use Rattle.ghello.proofs.advert.AdvertReader.take_payload.Goals as goal
 
 pub returns-in-Some : goal.returns-in-Some
 returns-in-Some g c =
-    rw c.new.ensures (error_is_taken _ _ c.args.payload.now c.in-Some.said.now c.args.self.now.has_version (sym c.in-Some.ensures))
+    rw c.new.ensures (error_is_taken _ _ c.args.payload.now c.in-Some.error.now c.args.self.now.has_version (sym c.in-Some.ensures))
 
 pub returns-then-self : goal.returns-then-self
 returns-then-self g c =

@@ -1,5 +1,5 @@
 use Rattle.std.proofs.Common.{◌≡◌, ◌-◌, ◌++◌, length, take, subst}
-use Rattle.gitpack.proofs.ArrivingLemmas.{arrived}
+use Rattle.gitpack.proofs.ArrivingLemmas.{complete_pack_is_framed}
 use Rattle.gitpack.specs.Packs.{IsFramed}
 use Rattle.gitpack.specs.steps.Arriving.{IsArriving}
 use Rattle.gitpack.proofs.frame.PackBytes.finish.Goals as goal
@@ -14,4 +14,4 @@ returns-clause-frame g c =
     let ends : window ≡ take (length window - 20) window ++ sum = subst (λ l. l ≡ take (length l - 20) l ++ sum) c.as_slice.ensures.value parts.1 in
     let was = subst (λ h. IsArriving given c.self.inside.first window h hasher) c.in-Count.is c.self.invariant in
     subst (IsFramed c.in-Count.count c.in-Some.trailer) c.self.view_is
-    (arrived given window c.self.inside.first c.in-Count.count hasher sum c.in-Some.trailer was c.finalize-sum.ensures parts.0 ends)
+    (complete_pack_is_framed given window c.self.inside.first c.in-Count.count hasher sum c.in-Some.trailer was c.finalize-sum.ensures parts.0 ends)

@@ -20,16 +20,16 @@ pub returns : goal.returns
 returns g c = λ tips first rest sent parts begun.
     let h = c.args.graph.now.entries in
     let known = c.args.self.now.known.items in
-    let more : drop c.args.self.now.heard c.args.commons.now ≡ rest =
-    ap (drop c.args.self.now.heard) parts ∙ drop_at first rest c.args.self.now.heard (sym begun.heard) in
+    let more : drop c.args.self.now.marked_commons c.args.commons.now ≡ rest =
+    ap (drop c.args.self.now.marked_commons) parts ∙ drop_at first rest c.args.self.now.marked_commons (sym begun.heard) in
     let walk = c.in_ok-walk.walk in
-    let walked : IsWalk (stop_at known h) rest walk.marks.items walk.met.items walk.lost walk.parents =
-    let count : ℕ = length c.args.commons.now - c.args.self.now.heard in
+    let walked : IsWalk (stop_at known h) rest walk.marks.items walk.met.items walk.missing walk.parent_count =
+    let count : ℕ = length c.args.commons.now - c.args.self.now.marked_commons in
     let long = length-append first rest in
     let all = ap length parts in
     let heard = begun.heard in
     let whole : take count rest ≡ rest = take_all count rest (omega arith) in
-    subst (λ (l : List (List ℕ)). IsWalk (stop_at known h) l walk.marks.items walk.met.items walk.lost walk.parents) whole
+    subst (λ (l : List (List ℕ)). IsWalk (stop_at known h) l walk.marks.items walk.met.items walk.missing walk.parent_count) whole
     (rw (c.as_slice.ensures.value, more) at c.in_ok-walk.ensures.walk) in
     let marks = c.in_ok-self.field-0.items in
     let joined : (p : ℕ) → get_or marks p false ≡ (get_or walk.marks.items p false || get_or known p false) =
@@ -42,7 +42,7 @@ returns g c = λ tips first rest sent parts begun.
           (told_more h first known begun.known sent rest begun.front begun.told);
       known = subst (λ (l : List (List ℕ)). AreReached h l marks) (sym parts)
           (more_reached h first known begun.known c.stops_at_marks.ensures rest walk.marks.items marks walk.met.items
-          walk.lost walk.parents walked joined);
+          walk.missing walk.parent_count walked joined);
       heard = refl;
       met = begun.met;
     }

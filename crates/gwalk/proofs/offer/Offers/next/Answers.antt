@@ -27,10 +27,10 @@ returns-clause-answer g c = λ tips first rest sent parts begun.
     subst (λ (l : List Bool). AreReached h c.args.commons.now l) (sym c.as_slice-known.ensures.value) heard.known in
     let marks : HasMarks h sent c.as_slice-sent.result.now =
     subst (λ (l : List Bool). HasMarks h sent l) (sym c.as_slice-sent.ensures.value)
-    (sent_marks h sent now.sent.marks.items now.sent.met.items now.sent.lost now.sent.parents heard.met) in
+    (sent_marks h sent now.sent.marks.items now.sent.met.items now.sent.missing now.sent.parent_count heard.met) in
     let goes = c.in_ok-ids.ensures tips heard.front heard.back c.args.commons.now sent heard.underway known marks heard.told in
     let met = c.meet_all.new.self in
-    let meets : HasMet h (new_ids [] sent ++ new_ids (new_ids [] sent) ids) met.marks.items met.met.items met.lost met.parents =
+    let meets : HasMet h (new_ids [] sent ++ new_ids (new_ids [] sent) ids) met.marks.items met.met.items met.missing met.parent_count =
     rw c.as_slice.ensures.value at (c.in_ok-meet_all.ensures (new_ids [] sent) heard.met) in (
       goes.offer,
       record {
@@ -40,7 +40,7 @@ returns-clause-answer g c = λ tips first rest sent parts begun.
         told = goes.told;
         known = heard.known;
         heard = heard.heard;
-        met = subst (λ (l : List (List ℕ)). HasMet h l met.marks.items met.met.items met.lost met.parents)
+        met = subst (λ (l : List (List ℕ)). HasMet h l met.marks.items met.met.items met.missing met.parent_count)
             (sym (new_ids-append [] sent ids)) meets;
       },
     )

@@ -32,7 +32,7 @@ overflow_add-self g c =
     let read = sym (get_or_read c.args.self.now.marks.items c.in-Some.position c.index.result.now inside c.index.ensures false) ∙ c.if-not-index.true in
     let few = c.requires.graph.few in
     let long = stop_length c.args.known.now c.args.graph.now.entries in
-    let fits = counts_fit (stop_at c.args.known.now c.args.graph.now.entries) c.args.self.now.marks.items c.args.self.now.parents c.in-Some.position c.parents_past.result.now c.requires.has.1.parents_are inside read c.parents_past.ensures (omega (arith, few, long)) (stop_narrow c.args.known.now c.args.graph.now.entries c.requires.graph.shaped) in
+    let fits = counts_fit (stop_at c.args.known.now c.args.graph.now.entries) c.args.self.now.marks.items c.args.self.now.parent_count c.in-Some.position c.parents_past.result.now c.requires.has.1.parents_are inside read c.parents_past.ensures (omega (arith, few, long)) (stop_narrow c.args.known.now c.args.graph.now.entries c.requires.graph.shaped) in
     omega (arith, fits)
 
 pub returns-in_ok-push : goal.returns-in_ok-push

@@ -6,4 +6,4 @@ use Rattle.gwalk.proofs.walk.Walk.meet_all.Given as goal
 
 abbrev pub invariant-loop-id : goal.invariant-loop-id
 invariant-loop-id g l =
-    (before : List (List ℕ)) → HasMet (stop_at l.known l.graph.entries) before l.initial.self.marks.items l.initial.self.met.items l.initial.self.lost l.initial.self.parents → HasMet (stop_at l.known l.graph.entries) (before ++ new_ids before (take l.id-index l.ids)) l.self.marks.items l.self.met.items l.self.lost l.self.parents
+    (before : List (List ℕ)) → HasMet (stop_at l.known l.graph.entries) before l.initial.self.marks.items l.initial.self.met.items l.initial.self.missing l.initial.self.parent_count → HasMet (stop_at l.known l.graph.entries) (before ++ new_ids before (take l.id-index l.ids)) l.self.marks.items l.self.met.items l.self.missing l.self.parent_count

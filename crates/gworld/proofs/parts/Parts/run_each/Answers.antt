@@ -28,10 +28,10 @@ returns-in-Err-clause-runs g c =
     (g.K.Indexer.indexes c.args.tools.now) (g.K.Indexer.index_fails c.args.tools.now) in
     let inside : c.loop-event.event-index < length c.args.events.now = search rules in
     subst (λ (v : WorldState g.row.A.Denot). RunsFront (Promises tools) c.args.self.now c.args.events.now
-    c.loop-event.told.items v)
+    c.loop-event.results.items v)
     (sym c.in-Err.ensures.0)
     (front_runs tools c.args.events.now c.loop-event.event-index c.event-item.result
-    c.loop-event.told.items inside c.event-item.is c.loop-event.invariant.0 c.in-Err.ensures.1)
+    c.loop-event.results.items inside c.event-item.is c.loop-event.invariant.0 c.in-Err.ensures.1)
 
 pub loop-event-preserved : goal.loop-event-preserved
 loop-event-preserved g c =
@@ -41,7 +41,7 @@ loop-event-preserved g c =
     let outcome = c.in-Ok.outcome in (
       goes_on_soundly tools
           (take c.loop-event.event-index c.args.events.now)
-          (take (c.loop-event.event-index + 1) c.args.events.now) c.event-item.result c.loop-event.told.items
+          (take (c.loop-event.event-index + 1) c.args.events.now) c.event-item.result c.loop-event.results.items
           c.push_reserved.new.self.items outcome
           c.loop-event.invariant.0 c.in-Ok.ensures
           (take_one c.args.events.now c.loop-event.event-index c.event-item.result inside c.event-item.is)

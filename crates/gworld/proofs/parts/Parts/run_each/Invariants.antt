@@ -9,5 +9,5 @@ abbrev pub invariant-loop-event : goal.invariant-loop-event
 invariant-loop-event g l =
     RunsSoundly (tools_of (g.K.Packer.packs l.tools) (g.K.Packer.pack_fails l.tools) (g.K.Indexer.indexes l.tools)
     (g.K.Indexer.index_fails l.tools))
-    l.fn.self (take l.event-index l.events) l.told.items l.self
-    × (vec_len l.told ≡ l.event-index) × (length l.events ≤ vec_capacity l.told)
+    l.fn.self (take l.event-index l.events) l.results.items l.self
+    × (vec_len l.results ≡ l.event-index) × (length l.events ≤ vec_capacity l.results)
