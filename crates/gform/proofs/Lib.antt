@@ -1,0 +1,17 @@
+pub mod ReadingLemmas
+pub mod TableLemmas
+pub mod OpenLemmas
+pub mod EndingLemmas
+pub mod ReasonLemmas
+pub mod MissingLemmas
+pub mod WrittenLemmas
+pub mod ApartLemmas
+pub mod CommandLemmas
+pub mod RequestLemmas
+pub mod FitLemmas
+pub mod ComingLemmas
+pub mod FieldLemmas
+pub mod NumberLemmas
+pub mod SameLemmas
+pub mod ItemLemmas
+pub mod GrammarLemmas

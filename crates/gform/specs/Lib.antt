@@ -1,0 +1,13 @@
+pub mod Limits
+pub mod Rows
+pub mod Kept
+pub mod Sections
+pub mod Reading
+pub mod Request
+pub mod Views
+pub mod RequestIsSound
+pub mod Writing
+pub mod Apart
+pub mod RequestWriting
+pub mod steps
+pub mod Grammar

@@ -1,0 +1,62 @@
+-- The table of requests (gitprotocol-v2(5), "Command Request", "ls-refs", "fetch").
+use Rattle.std.specs.Prelude.{ℕ, List, [], ◌∷◌, codes, Some, None}
+use denote.Enum.Declared.{tag_of}
+use Rattle.gform.specs.declared.form.Form.TheVariants.{Flag, Ids, Prefixes, Word, FormatName, Goes, Bad}
+use Rattle.gform.specs.declared.limits.Limit.TheVariants as limit
+use Rattle.gform.specs.declared.section.End.TheVariants as end
+use Rattle.gform.specs.declared.section.Other.TheVariants as other
+use Rattle.gform.specs.declared.request.RequestField.{RequestField}
+use Rattle.gform.specs.declared.request.RequestField.TheVariants.{LsRefs, Fetch, Agent, ObjectFormat, Peel}
+use Rattle.gform.specs.declared.request.RequestField.TheVariants.{Symrefs, Unborn, RefPrefix, ThinPack}
+use Rattle.gform.specs.declared.request.RequestField.TheVariants.{NoProgress, IncludeTag, OfsDelta, Want, Have}
+use Rattle.gform.specs.declared.request.RequestField.TheVariants.{Done}
+use Rattle.gform.specs.contracts.request.RequestField.{the_type as the_fields}
+use Rattle.gform.specs.Rows.{Row}
+use Rattle.gform.specs.Sections.{Section}
+
+-- the number of a field, as `as` gives it
+abbrev pub field_number : RequestField → ℕ
+field_number = tag_of the_fields
+
+abbrev pub commands : List Row
+commands =
+    (codes "command=ls-refs", Goes 1, field_number LsRefs)
+    ∷ (codes "command=fetch", Goes 3, field_number Fetch)
+    ∷ []
+
+abbrev pub capabilities : List Row
+capabilities =
+    (codes "agent", Bad, field_number Agent)
+    ∷ (codes "agent=", Word, field_number Agent)
+    ∷ (codes "object-format", Bad, field_number ObjectFormat)
+    ∷ (codes "object-format=", FormatName, field_number ObjectFormat)
+    ∷ []
+
+abbrev pub ls_refs_arguments : List Row
+ls_refs_arguments =
+    (codes "peel", Flag, field_number Peel)
+    ∷ (codes "symrefs", Flag, field_number Symrefs)
+    ∷ (codes "unborn", Flag, field_number Unborn)
+    ∷ (codes "ref-prefix ", Prefixes limit.Prefixes, field_number RefPrefix)
+    ∷ []
+
+abbrev pub fetch_arguments : List Row
+fetch_arguments =
+    (codes "thin-pack", Flag, field_number ThinPack)
+    ∷ (codes "no-progress", Flag, field_number NoProgress)
+    ∷ (codes "include-tag", Flag, field_number IncludeTag)
+    ∷ (codes "ofs-delta", Flag, field_number OfsDelta)
+    ∷ (codes "want ", Ids limit.Wants, field_number Want)
+    ∷ (codes "have ", Ids limit.Haves, field_number Have)
+    ∷ (codes "done", Flag, field_number Done)
+    ∷ []
+
+-- the command, its capabilities and its arguments
+abbrev pub request : List Section
+request =
+    record { rows = commands; other = other.Command; flush = end.Whole; delim = end.Never; needs = None }
+    ∷ record { rows = capabilities; other = other.Capability; flush = end.Whole; delim = end.Goes 2; needs = Some (field_number ObjectFormat) }
+    ∷ record { rows = ls_refs_arguments; other = other.Argument; flush = end.Whole; delim = end.Never; needs = None }
+    ∷ record { rows = capabilities; other = other.Capability; flush = end.Whole; delim = end.Goes 4; needs = Some (field_number ObjectFormat) }
+    ∷ record { rows = fetch_arguments; other = other.Argument; flush = end.Whole; delim = end.Never; needs = None }
+    ∷ []

@@ -1,0 +1,254 @@
+//! Reading a message by its table.
+
+ghost use Rattle.std.specs.Prelude.{◌≡◌, ◌<◌, ◌&&◌, map, option_map, false, Some, slice_get};
+ghost use Rattle.gpkt.specs.Packets.{packet_of};
+ghost use Rattle.ggrammar.specs.MessageReading.{TakesAs};
+ghost use Rattle.gform.specs.Rows.{find_row, is_once, takes_memory, value_brings, value_of};
+ghost use Rattle.gform.specs.Reading.{after, at_end, at_kept, at_row, at_text, brings_at, brings_in, found_brings, has_room, in_section, is_kept_at, is_named, outcome_at, start, verdict_of};
+ghost use Rattle.gform.specs.Sections.{other_why};
+ghost use Rattle.gform.specs.Views.{found_in, section_in, value_in};
+
+use crate::fields::Fields;
+use crate::form::Form;
+use crate::found::{Found, find_row};
+use crate::limits::Limits;
+use crate::section::{End, Other, Section};
+use crate::table::Table;
+use crate::value::{Value, value_of};
+use ggrammar::laws::grammars_are_exact;
+use ggrammar::{Message, PeerText, Step, Why, after_word, capability_of, is_key, peer_error};
+use gname::Format;
+use gpkt::{Packet, text_of};
+use std::alloc::Allocator;
+use std::marker::{Model, PhantomData};
+
+/// The most texts that are counted together.
+const MAX_TEXTS: u32 = 4_294_967_295;
+
+/// A message that is being read.
+#[derive(Drop)]
+pub struct TableReader<T: Table, A: Allocator + Copy> {
+    format: Format,
+    limits: Limits,
+    place: usize,
+    count: u32,
+    fields: Fields<A>,
+    table: PhantomData<T>,
+}
+
+impl<T: Table, A: Allocator + Copy> Model for TableReader<T, A> {
+    ghost use Rattle.gform.specs.Reading.{Reading};
+
+    ghost Value = { Reading };
+
+    ghost view = { λ r. record {
+      given = record { format = r.format; limits = r.limits };
+      state = record { place = r.place; count = r.count; fields = r.fields };
+    } };
+}
+
+impl<T: Table, A: Allocator + Copy> TableReader<T, A> {
+    ghost use Rattle.gform.specs.Reading.{Reading};
+
+    /// A message without packets.
+    pub fn new(alloc: A, format: Format, limits: Limits) -> TableReader<T, A>
+        ensures { result ≡ record {
+          given = record { format = format; limits = limits };
+          state = start;
+        } }
+    {
+        TableReader {
+            format,
+            limits,
+            place: 0,
+            count: 0,
+            fields: Fields::new(alloc),
+            table: PhantomData,
+        }
+    }
+
+    /// Its fields, once the last packet is taken.
+    pub fn finish(self) -> Fields<A>
+        ensures { result ≡ self.state.fields }
+    {
+        let TableReader { fields, .. } = self;
+        fields
+    }
+
+    #[tactic(auto, unfolding(crate::specs::Reading::outcome_at, crate::specs::Reading::brings_at))]
+    fn take_packet(&mut self, packet: Packet<'_>) -> Result<Step, Why>
+        ensures takes { let outcome = outcome_at T.sections self.old.given self.old.state
+            (packet_of packet.entry) in
+            TakesAs (verdict_of outcome) (brings_at T.sections self.old.given self.old.state
+            (packet_of packet.entry)) (self.new.state ≡ after outcome self.old.state) result }
+        ensures given { self.new.given ≡ self.old.given }
+    {
+        match section_at(T::sections(), self.place) {
+            Some(section) => self.take_in(section, packet),
+            None => Err(Why::UnexpectedFrame),
+        }
+    }
+
+    fn take_in(&mut self, section: &Section<T>, packet: Packet<'_>) -> Result<Step, Why>
+        ensures takes { let outcome = in_section self.old.given self.old.state
+            (packet_of packet.entry) (section_in T.number section.now) in
+            TakesAs (verdict_of outcome) (brings_in self.old.given (packet_of packet.entry)
+            (Some (section_in T.number section.now))) (self.new.state ≡ after outcome self.old.state)
+            result }
+        ensures given { self.new.given ≡ self.old.given }
+    {
+        match packet {
+            Packet::Data(payload) => match peer_error(payload) {
+                Some(said) => Err(Why::RemoteErr(PeerText::new(said))),
+                None => self.take_text(section, text_of(payload)),
+            },
+            Packet::Flush => self.take_end(section, section.flush),
+            Packet::Delim => self.take_end(section, section.delim),
+            Packet::ResponseEnd => Err(Why::UnexpectedFrame),
+        }
+    }
+
+    // Takes a packet without a text.
+    fn take_end(&mut self, section: &Section<T>, end: End) -> Result<Step, Why>
+        ensures takes { let outcome = at_end self.old.given (section_in T.number section.now)
+            self.old.state end in
+            TakesAs (verdict_of outcome) false (self.new.state ≡ after outcome self.old.state)
+            result }
+        ensures given { self.new.given ≡ self.old.given }
+    {
+        match end {
+            End::Never => Err(Why::UnexpectedFrame),
+            _ if !self.is_named(section.needs) => Err(Why::Format),
+            End::Whole => Ok(Step::Whole),
+            End::Goes(next) => {
+                self.place = next;
+                Ok(Step::Open)
+            }
+        }
+    }
+
+    // Whether the object format was named, where it must be.
+    fn is_named(&self, needs: Option<T>) -> bool
+        ensures { result ≡ is_named self.now.given.format self.now.state
+            (option_map T.number needs) }
+    {
+        match (self.format, needs) {
+            (Format::Sha256, Some(field)) => self.fields.is_kept(field.number()),
+            _ => true,
+        }
+    }
+
+    fn take_text(&mut self, section: &Section<T>, text: &[u8]) -> Result<Step, Why>
+        ensures takes { let outcome = at_text self.old.given (section_in T.number section.now)
+            self.old.state text.now in
+            TakesAs (verdict_of outcome) (found_brings self.old.given (find_row (section_in T.number section.now).rows
+            text.now)) (self.new.state ≡ after outcome self.old.state) result }
+        ensures given { self.new.given ≡ self.old.given }
+    {
+        match find_row(section.rows, text) {
+            Some(found) => self.take_row(&found),
+            None => Err(other_why(section.other, text)),
+        }
+    }
+
+    // Takes a text that has a row.
+    fn take_row(&mut self, found: &Found<'_>) -> Result<Step, Why>
+        ensures takes { let outcome = at_row self.old.given self.old.state
+            (found_in found.now).0 found.now.rest.now in
+            TakesAs (verdict_of outcome) (value_brings (value_of self.old.given.format
+            found.now.form found.now.rest.now))
+            (self.new.state ≡ after outcome self.old.state) result }
+        ensures given { self.new.given ≡ self.old.given }
+    {
+        if self.has_come(found.form, found.field) {
+            return Err(Why::BadText);
+        }
+        match value_of(self.format, found.form, found.rest) {
+            Ok(value) => self.take_value(found.form, found.field, &value),
+            Err(why) => Err(why),
+        }
+    }
+
+    // Whether a text came already that comes once.
+    fn has_come(&self, form: Form, field: usize) -> bool
+        ensures { result ≡ (is_once form && is_kept_at (slice_get self.now.state.fields field)) }
+    {
+        form.is_once() && self.fields.is_kept(field)
+    }
+
+    // Keeps a value of a text in its field.
+    fn take_value(&mut self, form: Form, field: usize, value: &Value<'_>) -> Result<Step, Why>
+        ensures takes { let outcome = at_kept self.old.given self.old.state form field
+            (value_in value.now) (slice_get self.old.state.fields field) in
+            TakesAs (verdict_of outcome) (takes_memory (value_in value.now))
+            (self.new.state ≡ after outcome self.old.state) result }
+        ensures given { self.new.given ≡ self.old.given }
+    {
+        let Some(kept) = self.fields.count(field) else {
+            return Err(Why::Limit);
+        };
+        if !has_room(form, self.count, kept, form.limit_in(&self.limits)) {
+            return Err(Why::Limit);
+        }
+        if self.fields.keep(field, value).is_err() {
+            return Err(Why::Memory);
+        }
+        self.count = form.count_after(self.count);
+        self.place = form.place_after(self.place);
+        Ok(Step::Open)
+    }
+}
+
+// Whether a text is taken after so many that were counted, where its field keeps so many of so many.
+fn has_room(form: Form, count: u32, kept: usize, limit: usize) -> bool
+    ensures { result ≡ has_room form count kept limit }
+{
+    (!form.is_counted() || count < MAX_TEXTS) && (!form.is_listed() || kept < limit)
+}
+
+// The section at a place.
+fn section_at<T: Table>(sections: &[Section<T>], place: usize) -> Option<&Section<T>>
+    ensures { option_map (λ section. section_in T.number section.now) result
+        ≡ slice_get (map (section_in T.number) sections.now) place }
+{
+    if place < sections.len() {
+        Some(&sections[place])
+    } else {
+        None
+    }
+}
+
+// Why a text without a row is refused.
+fn other_why(other: Other, text: &[u8]) -> Why
+    ensures { result ≡ other_why other text.now }
+{
+    match other {
+        Other::Argument => Why::UnknownArgument,
+        Other::Capability if capability_of(text).is_some() => Why::UnknownCapability,
+        Other::Command => match after_word(b"command=", text) {
+            Some(key) if is_key(key) => Why::UnknownCommand,
+            _ => Why::BadText,
+        },
+        Other::Capability => Why::BadText,
+    }
+}
+
+impl<T: Table, A: Allocator + Copy> Message for TableReader<T, A> {
+    ghost use Rattle.gform.specs.Reading.{HoldsPackets, LeavesNothing, brings, judge};
+
+    ghost judge = { λ reading. judge T.sections reading.given };
+
+    ghost brings = { λ reading. brings T.sections reading.given };
+
+    ghost holds = { HoldsPackets T.sections };
+
+    ghost left = { LeavesNothing };
+
+    fn accept_packet(&mut self, line: Packet<'_>) -> Result<Step, Why> {
+        self.take_packet(line)
+    }
+
+    fn laws() {
+        grammars_are_exact();
+    }
+}
