@@ -15,7 +15,8 @@ use Rattle.gform.specs.declared.form.Form.TheVariants as form
 use Rattle.gform.specs.declared.section.End.{End}
 use Rattle.gform.specs.declared.section.End.TheVariants as end
 use Rattle.gform.specs.Kept.{Kept, Nothing, count_in, is_kept}
-use Rattle.gform.specs.Rows.{Row, Value, Found, find_row, value_of, is_once, is_counted, limit_in, max_texts, one_if, place_after, stays}
+use Rattle.gform.specs.Limits.{max_lines}
+use Rattle.gform.specs.Rows.{Row, Value, Found, find_row, value_of, is_once, is_counted, one_if, place_after, stays}
 use Rattle.gform.specs.Sections.{Section, can_need, naming, form_at, is_whole_end, is_sound_delim, rows_of}
 use Rattle.gform.specs.Reading.{Given, State, Outcome, Goes, Ends, Stops, at_named, at_text, at_found, at_value, at_kept, has_room, with_row, is_kept_at, is_named, in_section, in_section_if_any, no_fields, unless_peer, start, outcome_at, verdict_of, after, next, run, judge_from, Says}
 use Rattle.gform.specs.Grammar.{Item, IsText, AreTexts, IsSection, IsNamedIn, IsFrom, ends, goes_by_delim, goes_by_text, IsAllowed, AreFew, IsMessage, collected, values_at}
@@ -113,11 +114,11 @@ module _ (sections : List Section) (given : Given) (sound : IsSoundTable section
       abbrev own_values : List Value
       own_values = values_at row.2 before
 
-      few_more : has_room row.1 state.count (count_in kept) (limit_in given.limits row.1) ≡ true → (is_once row.1 && is_kept kept) ≡ false
+      few_more : has_room given.limits row.1 state.count (count_in kept) ≡ true → (is_once row.1 && is_kept kept) ≡ false
           → AreFew sections given before → AreFew sections given (before ++ one_item ∷ [])
       few_more room first few = record {
         fields = λ field f is. by field f is (nat_eq row.2 field) refl;
-        texts = (let m = texts_more row.1 state.count (count_in kept) (limit_in given.limits row.1) room (let e = h.count in let t = few.texts in omega (arith, e, t)) in
+        texts = (let m = texts_more given.limits row.1 state.count (count_in kept) room (let e = h.count in let t = few.texts in omega (arith, e, t)) in
             let e = h.count in let a = count_append before (one_item ∷ []) in omega (arith, m, e, a));
       }
         where
@@ -234,7 +235,7 @@ module _ (sections : List Section) (given : Given) (sound : IsSoundTable section
   kept_ends : (state : State) (f : Form) (field : ℕ) (value : Value) (found : Option Kept) → at_kept given state f field value found ≡ Ends → ⊥
   kept_ends state f field value None e = cc
   kept_ends state f field value (Some kept) e =
-      no_end (has_room f state.count (count_in kept) (limit_in given.limits f)) (Goes (with_row state f field kept value)) (Stops why.Limit) (λ x. cc) (λ x. cc) e
+      no_end (has_room given.limits f state.count (count_in kept)) (Goes (with_row state f field kept value)) (Stops why.Limit) (λ x. cc) (λ x. cc) e
 
   value_ends : (state : State) (f : Form) (field : ℕ) (result : Result Value Why) → at_value given state f field result ≡ Ends → ⊥
   value_ends state f field (Err w) e = cc
@@ -384,7 +385,7 @@ module _ (sections : List Section) (given : Given) (sound : IsSoundTable section
       let own : kept ≡ keep_all Nothing values = h.kept row.2 kept there in
       let counts : count_in kept ≤ length values =
       subst (λ (k : Kept). count_in k ≤ length values) (sym own) (let c = keep_count Nothing values in omega (arith, c)) in
-      let texts : state.count + one_if (is_counted row.1) ≤ max_texts =
+      let texts : state.count + one_if (is_counted row.1) ≤ max_lines given.limits =
       (let e = h.count in let a = count_append before (item ∷ rest) in let m = few.texts in omega (arith, e, a, m)) in
       let room = room_for given.limits row.1 kept state.count (length values) (length (values_at row.2 (before ++ item ∷ rest)))
       (few.fields row.2 row.1 formed.0) (one_value_more before rest item) texts counts (λ none. ap is_kept own ∙ none_kept values none) in

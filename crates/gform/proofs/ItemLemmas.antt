@@ -10,13 +10,13 @@ use Rattle.gname.specs.Names.{prefix_fault}
 use Rattle.gname.specs.declared.formats.Format.{Format}
 use Rattle.ggrammar.specs.Ids.{id_of_text}
 use Rattle.ggrammar.specs.declared.fault.Why.TheVariants as why
-use Rattle.gform.specs.Limits.{limit_of}
+use Rattle.gform.specs.Limits.{limit_of, max_lines}
 use Rattle.gform.specs.declared.form.Form.{Form}
 use Rattle.gform.specs.declared.form.Form.TheVariants as form
 use Rattle.gform.specs.declared.limits.Limit.{Limit}
 use Rattle.gform.specs.declared.limits.Limit.TheVariants as limit
-use Rattle.gform.specs.declared.limits.Limits.{Limits}
-use Rattle.gform.specs.Rows.{Row, Found, Value, Mark, AnId, APrefix, ANumber, AWord, find_row, found_or, id_or_bad, is_bad, is_counted, is_listed, is_once, limit_in, max_texts, one_if, value_of, value_text}
+use Rattle.ggrammar.specs.declared.limits.Limits.{Limits}
+use Rattle.gform.specs.Rows.{Row, Found, Value, Mark, AnId, APrefix, ANumber, AWord, find_row, found_or, id_or_bad, is_bad, is_counted, is_listed, is_once, one_if, value_of, value_text}
 use Rattle.gform.specs.Kept.{Kept, Nothing, Ids, Prefixes, count_in, is_kept, with_value}
 use Rattle.gform.specs.Sections.{form_at, have_forms, is_form, max_fields, same_form, same_limit}
 use Rattle.gform.specs.Reading.{State, has_room, no_fields, with_row}
@@ -285,14 +285,14 @@ module _ (all : List Row) (state : State) (before : List Item) (row : Row) (valu
 -- ---- how many values are allowed
 
 -- one value more is, where there was room for it
-pub allowed_more : (limits : Limits) (f : Form) (kept : Kept) (count n : ℕ) → has_room f count (count_in kept) (limit_in limits f) ≡ true
+pub allowed_more : (limits : Limits) (f : Form) (kept : Kept) (count n : ℕ) → has_room limits f count (count_in kept) ≡ true
     → (is_once f && is_kept kept) ≡ false → (is_listed f ≡ true → count_in kept ≡ n) → (is_kept kept ≡ false → n ≡ 0) → IsAllowed limits f (n + 1)
 allowed_more limits form.Flag kept count n room first listed empty = tt
 allowed_more limits (form.Ids list) kept count n room first listed empty =
-    let less = ltb-true (count_in kept) (limit_of limits list) (and_parts (nat_lt count max_texts) (nat_lt (count_in kept) (limit_of limits list)) room).1 in
+    let less = ltb-true (count_in kept) (limit_of limits list) (and_parts (nat_lt count (max_lines limits)) (nat_lt (count_in kept) (limit_of limits list)) room).1 in
     let e = listed refl in omega (arith, less, e)
 allowed_more limits (form.Prefixes list) kept count n room first listed empty =
-    let less = ltb-true (count_in kept) (limit_of limits list) (and_parts (nat_lt count max_texts) (nat_lt (count_in kept) (limit_of limits list)) room).1 in
+    let less = ltb-true (count_in kept) (limit_of limits list) (and_parts (nat_lt count (max_lines limits)) (nat_lt (count_in kept) (limit_of limits list)) room).1 in
     let e = listed refl in omega (arith, less, e)
 allowed_more limits form.Number kept count n room first listed empty = let e = empty first in omega (arith, e)
 allowed_more limits form.Word kept count n room first listed empty = let e = empty first in omega (arith, e)
@@ -300,27 +300,27 @@ allowed_more limits form.FormatName kept count n room first listed empty = let e
 allowed_more limits (form.Goes place) kept count n room first listed empty = tt
 allowed_more limits form.Bad kept count n room first listed empty = tt
 
-pub texts_more : (f : Form) (count kept limit : ℕ) → has_room f count kept limit ≡ true → count ≤ max_texts → count + one_if (is_counted f) ≤ max_texts
-texts_more form.Flag count kept limit room few = let less = ltb-true count max_texts (and_parts (nat_lt count max_texts) true room).0 in omega (arith, less)
-texts_more (form.Ids list) count kept limit room few = let less = ltb-true count max_texts (and_parts (nat_lt count max_texts) (nat_lt kept limit) room).0 in omega (arith, less)
-texts_more (form.Prefixes list) count kept limit room few = let less = ltb-true count max_texts (and_parts (nat_lt count max_texts) (nat_lt kept limit) room).0 in omega (arith, less)
-texts_more form.Number count kept limit room few = omega (arith, few)
-texts_more form.Word count kept limit room few = omega (arith, few)
-texts_more form.FormatName count kept limit room few = omega (arith, few)
-texts_more (form.Goes place) count kept limit room few = omega (arith, few)
-texts_more form.Bad count kept limit room few = omega (arith, few)
+pub texts_more : (limits : Limits) (f : Form) (count kept : ℕ) → has_room limits f count kept ≡ true → count ≤ max_lines limits → count + one_if (is_counted f) ≤ max_lines limits
+texts_more limits form.Flag count kept room few = let less = ltb-true count (max_lines limits) (and_parts (nat_lt count (max_lines limits)) true room).0 in omega (arith, less)
+texts_more limits (form.Ids list) count kept room few = let less = ltb-true count (max_lines limits) (and_parts (nat_lt count (max_lines limits)) (nat_lt kept (limit_of limits list)) room).0 in omega (arith, less)
+texts_more limits (form.Prefixes list) count kept room few = let less = ltb-true count (max_lines limits) (and_parts (nat_lt count (max_lines limits)) (nat_lt kept (limit_of limits list)) room).0 in omega (arith, less)
+texts_more limits form.Number count kept room few = omega (arith, few)
+texts_more limits form.Word count kept room few = omega (arith, few)
+texts_more limits form.FormatName count kept room few = omega (arith, few)
+texts_more limits (form.Goes place) count kept room few = omega (arith, few)
+texts_more limits form.Bad count kept room few = omega (arith, few)
 
 -- there is room for a value of so many that are allowed
 abbrev pub HasRoomFor : Limits → Form → Kept → ℕ → Type 0
-HasRoomFor limits f kept count = (has_room f count (count_in kept) (limit_in limits f) ≡ true) × ((is_once f && is_kept kept) ≡ false)
+HasRoomFor limits f kept count = (has_room limits f count (count_in kept) ≡ true) × ((is_once f && is_kept kept) ≡ false)
 
-pub room_for : (limits : Limits) (f : Form) (kept : Kept) (count n m : ℕ) → IsAllowed limits f m → n + 1 ≤ m → count + one_if (is_counted f) ≤ max_texts
+pub room_for : (limits : Limits) (f : Form) (kept : Kept) (count n m : ℕ) → IsAllowed limits f m → n + 1 ≤ m → count + one_if (is_counted f) ≤ max_lines limits
     → count_in kept ≤ n → (n ≡ 0 → is_kept kept ≡ false) → HasRoomFor limits f kept count
-room_for limits form.Flag kept count n m allowed more few counts empty = (ap (λ (b : Bool). b && true) (lt-ltb count max_texts (omega (arith, few))), refl)
+room_for limits form.Flag kept count n m allowed more few counts empty = (ap (λ (b : Bool). b && true) (lt-ltb count (max_lines limits) (omega (arith, few))), refl)
 room_for limits (form.Ids list) kept count n m allowed more few counts empty =
-    (both (lt-ltb count max_texts (omega (arith, few))) (lt-ltb (count_in kept) (limit_of limits list) (omega (arith, allowed, more, counts))), refl)
+    (both (lt-ltb count (max_lines limits) (omega (arith, few))) (lt-ltb (count_in kept) (limit_of limits list) (omega (arith, allowed, more, counts))), refl)
 room_for limits (form.Prefixes list) kept count n m allowed more few counts empty =
-    (both (lt-ltb count max_texts (omega (arith, few))) (lt-ltb (count_in kept) (limit_of limits list) (omega (arith, allowed, more, counts))), refl)
+    (both (lt-ltb count (max_lines limits) (omega (arith, few))) (lt-ltb (count_in kept) (limit_of limits list) (omega (arith, allowed, more, counts))), refl)
 room_for limits form.Number kept count n m allowed more few counts empty = (refl, empty (omega (arith, allowed, more)))
 room_for limits form.Word kept count n m allowed more few counts empty = (refl, empty (omega (arith, allowed, more)))
 room_for limits form.FormatName kept count n m allowed more few counts empty = (refl, empty (omega (arith, allowed, more)))

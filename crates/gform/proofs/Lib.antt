@@ -1,3 +1,4 @@
+pub mod LimitLemmas
 pub mod ReadingLemmas
 pub mod TableLemmas
 pub mod OpenLemmas

@@ -1,22 +1,25 @@
 -- Open lists of packets: what holds of the state that they come to, so that each can be ended and none is too long.
 use Rattle.std.proofs.Common.{◌≡◌, ℕ, suc, ◌+◌, ◌<◌, ◌≤◌, ◌^◌, Bool, true, false, cond, ◌&&◌, List, [], ◌∷◌, length, Option, Some, None, Result, Ok, Err, refl, sym, ap, subst, ◌∙◌, arith}
 use Rattle.std.specs.Prelude.{slice_get, slice_set, nat_lt}
-use Rattle.std.proofs.lemmas.Bool.{and_parts, ltb-true}
+use Rattle.std.proofs.lemmas.Bool.{and_parts}
 use Rattle.std.proofs.lemmas.List.{length-set}
 use Rattle.gpkt.specs.Packets.{Bytes, Packet, Data, Flush, Delim, ResponseEnd, text}
 use Rattle.gname.specs.declared.formats.Format.{Format}
 use Rattle.ggrammar.specs.Grammar.{Open, Whole, IsOpen}
 use Rattle.ggrammar.specs.PeerErrors.{peer_error}
 use Rattle.ggrammar.specs.declared.fault.Why.{Why}
+use Rattle.ggrammar.specs.declared.limits.Limits.{Limits}
 use Rattle.ggrammar.specs.declared.fault.Why.TheVariants as why
 use Rattle.gform.specs.declared.form.Form.{Form}
 use Rattle.gform.specs.declared.form.Form.TheVariants as form
 use Rattle.gform.specs.declared.section.End.{End}
 use Rattle.gform.specs.declared.section.End.TheVariants as end
-use Rattle.gform.specs.Rows.{limit_in, Found, find_row, Value, Mark, AnId, APrefix, ANumber, AWord, value_of, is_once, one_if, max_texts}
+use Rattle.gform.specs.Limits.{most_lines}
+use Rattle.gform.specs.Rows.{Found, find_row, Value, Mark, AnId, APrefix, ANumber, AWord, value_of, is_once, one_if}
 use Rattle.gform.specs.Kept.{Kept, is_kept, count_in, with_value}
 use Rattle.gform.specs.Sections.{Section, is_sound_form, is_sound_delim, is_whole_end}
 use Rattle.gform.specs.Reading.{Given, State, Outcome, Goes, Ends, Stops, has_room, with_row, at_kept, at_value, at_found, at_text, at_named, is_kept_at, in_section, in_section_if_any, unless_peer, start, outcome_at, verdict_of, after, next, run, judge_from, judge}
+use Rattle.gform.proofs.LimitLemmas.{below_most}
 use Rattle.gform.proofs.TableLemmas.{IsSoundTable, sound_found, goes_forward, filled, one_if_few, filled_few, filled-set}
 
 -- ---- a text that goes on
@@ -30,7 +33,7 @@ pub record GoesBy (given : Given) (section : Section) (state : State) (text : By
   pub value : Value
   pub has : value_of given.format (found.0).1 found.1 ≡ Ok value
   pub first : (is_once (found.0).1 && is_kept kept) ≡ false
-  pub room : has_room (found.0).1 state.count (count_in kept) (limit_in given.limits (found.0).1) ≡ true
+  pub room : has_room given.limits (found.0).1 state.count (count_in kept) ≡ true
   pub becomes : new ≡ with_row state (found.0).1 (found.0).2 kept value
 
 abbrev pub GoesTo : Outcome → State → Type 0
@@ -43,9 +46,9 @@ module _ (given : Given) (section : Section) (state : State) (line : Bytes) (new
       → GoesTo (at_kept given state (found.0).1 (found.0).2 value there) new → GoesBy given section state line new
   goes_kept found value None is_found there has first goes = cc
   goes_kept found value (Some kept) is_found there has first goes =
-      by_room (has_room (found.0).1 state.count (count_in kept) (limit_in given.limits (found.0).1)) refl goes
+      by_room (has_room given.limits (found.0).1 state.count (count_in kept)) refl goes
     where
-      by_room : (room : Bool) → has_room (found.0).1 state.count (count_in kept) (limit_in given.limits (found.0).1) ≡ room
+      by_room : (room : Bool) → has_room given.limits (found.0).1 state.count (count_in kept) ≡ room
           → GoesTo (cond room (Goes (with_row state (found.0).1 (found.0).2 kept value)) (Stops why.Limit)) new → GoesBy given section state line new
       by_room true is goes = record {
         found = found;
@@ -85,10 +88,11 @@ module _ (given : Given) (section : Section) (state : State) (line : Bytes) (new
 
 -- ---- what holds of the state after so many packets
 
+
 pub record IsReached (sections : List Section) (n : ℕ) (state : State) : Type 0 where
   pub place : state.place < length sections
   pub long : length state.fields ≡ 24
-  pub few : state.count ≤ max_texts
+  pub few : state.count ≤ most_lines
   pub packets : n ≤ state.count + filled state.fields + state.place
 
 module _ (sections : List Section) (n : ℕ) (state : State) (h : IsReached sections n state) where
@@ -100,7 +104,7 @@ module _ (sections : List Section) (n : ℕ) (state : State) (h : IsReached sect
     long_still = length-set state.fields field (with_value value kept) ∙ h.long
 
     -- a text that is counted
-    counted : state.count < max_texts → (place : ℕ) → place ≡ state.place
+    counted : state.count < most_lines → (place : ℕ) → place ≡ state.place
         → IsReached sections (suc n) (record { place = place; count = state.count + 1; fields = slice_set state.fields field (with_value value kept) })
     counted lt place same =
         let f = fills in let k = one_if_few (is_kept kept) in let p = h.packets in let w = h.place in
@@ -122,18 +126,18 @@ module _ (sections : List Section) (n : ℕ) (state : State) (h : IsReached sect
         let a = g.0 in let b = g.1 in
         record { place = b; long = long_still; few = omega (arith, w); packets = omega (arith, f, k, p, a) }
 
-    gains : (f : Form) (limit : ℕ) → (is_once f && is_kept kept) ≡ false
-        → has_room f state.count (count_in kept) limit ≡ true
+    gains : (limits : Limits) (f : Form) → (is_once f && is_kept kept) ≡ false
+        → has_room limits f state.count (count_in kept) ≡ true
         → is_sound_form (length sections) state.place f ≡ true → (f ≡ form.Bad → ⊥)
         → IsReached sections (suc n) (with_row state f field kept value)
-    gains form.Flag limit first room sound usual = counted (ltb-true state.count max_texts (and_parts _ _ room).0) state.place refl
-    gains (form.Ids list) limit first room sound usual = counted (ltb-true state.count max_texts (and_parts _ _ room).0) state.place refl
-    gains (form.Prefixes list) limit first room sound usual = counted (ltb-true state.count max_texts (and_parts _ _ room).0) state.place refl
-    gains form.Number limit first room sound usual = once first
-    gains form.Word limit first room sound usual = once first
-    gains form.FormatName limit first room sound usual = once first
-    gains (form.Goes to) limit first room sound usual = goes to sound
-    gains form.Bad limit first room sound usual = absurd (usual refl)
+    gains limits form.Flag first room sound usual = counted (below_most limits state.count (and_parts _ _ room).0) state.place refl
+    gains limits (form.Ids list) first room sound usual = counted (below_most limits state.count (and_parts _ _ room).0) state.place refl
+    gains limits (form.Prefixes list) first room sound usual = counted (below_most limits state.count (and_parts _ _ room).0) state.place refl
+    gains limits form.Number first room sound usual = once first
+    gains limits form.Word first room sound usual = once first
+    gains limits form.FormatName first room sound usual = once first
+    gains limits (form.Goes to) first room sound usual = goes to sound
+    gains limits form.Bad first room sound usual = absurd (usual refl)
 
   -- a delimiter
   delimits : (to : ℕ) → (nat_lt state.place to && nat_lt to (length sections)) ≡ true → IsReached sections (suc n) (record state { place = to })
@@ -159,7 +163,7 @@ module _ (sections : List Section) (given : Given) (sound : IsSoundTable section
   text_reaches section line is by =
       let s = sound.each state.place section is in
       subst (IsReached sections (suc n)) (sym by.becomes)
-      (gains sections n state h (by.found.0).2 by.kept by.value by.is_there (keeps_some by.value by.kept) (by.found.0).1 (limit_in given.limits (by.found.0).1)
+      (gains sections n state h (by.found.0).2 by.kept by.value by.is_there (keeps_some by.value by.kept) given.limits (by.found.0).1
       by.first by.room (sound_found (length sections) state.place section.rows line by.found s.rows by.is_found)
       (not_bad given.format (by.found.0).1 by.found.1 by.value by.has))
 

@@ -20,7 +20,7 @@ use Rattle.ggrammar.specs.declared.message.Step.{Step}
 use Rattle.ggrammar.specs.declared.message.Step.TheVariants as step
 use Rattle.gform.specs.declared.form.Form.{Form}
 use Rattle.gform.specs.declared.form.Form.TheVariants as form
-use Rattle.gform.specs.Rows.{limit_in, Value, value_of, id_or_bad, number_or_bad, number_of, place_after, one_if, is_counted}
+use Rattle.gform.specs.Rows.{Value, value_of, id_or_bad, number_or_bad, number_of, place_after, one_if, is_counted}
 use Rattle.gform.specs.Sections.{Section}
 use Rattle.gform.specs.Reading.{Given, State, Outcome, Goes, Stops, has_room, with_row, at_kept, start, outcome_at, verdict_of, brings_at, after, next, run, judge, brings, Reading, HoldsPackets, LeavesNothing}
 
@@ -120,7 +120,7 @@ same_state one other place count fields =
 
 -- a value that has room goes on with the message
 pub kept_goes : (given : Given) (state new : State) (form : Form) (field n : ℕ) (value : Value)
-    → option_map count_in (slice_get state.fields field) ≡ Some n → has_room form state.count n (limit_in given.limits form) ≡ true
+    → option_map count_in (slice_get state.fields field) ≡ Some n → has_room given.limits form state.count n ≡ true
     → new.place ≡ place_after form state.place → new.count ≡ state.count + one_if (is_counted form)
     → new.fields ≡ slice_set state.fields field (with_value value (slice_index_or state.fields field Nothing))
     → (verdict_of (at_kept given state form field value (slice_get state.fields field)) ≡ Open)
@@ -130,8 +130,8 @@ kept_goes given state new form field n value counted room place count fields =
     let kept = slice_index_or state.fields field Nothing in
     let found : at_kept given state form field value (slice_get state.fields field) ≡ at_kept given state form field value (Some kept) =
     ap (at_kept given state form field value) k.2 in
-    let roomy : has_room form state.count (count_in kept) (limit_in given.limits form) ≡ true =
-    ap (λ (m : ℕ). has_room form state.count m (limit_in given.limits form)) k.1 ∙ room in
+    let roomy : has_room given.limits form state.count (count_in kept) ≡ true =
+    ap (λ (m : ℕ). has_room given.limits form state.count m) k.1 ∙ room in
     let goes : at_kept given state form field value (slice_get state.fields field) ≡ Goes (with_row state form field kept value) =
     found ∙ ap (λ (b : Bool). cond b (Goes (with_row state form field kept value)) (Stops why.Limit)) roomy in
     (ap verdict_of goes, same_state new (with_row state form field kept value) place count fields ∙ sym (ap (λ (o : Outcome). after o state) goes))

@@ -11,7 +11,7 @@ use Rattle.gform.specs.declared.section.End.{End}
 use Rattle.gform.specs.declared.section.End.TheVariants as end
 use Rattle.gform.specs.declared.section.Other.{Other}
 use Rattle.gform.specs.declared.section.Other.TheVariants as other
-use Rattle.gform.specs.Rows.{limit_in, Found, find_row, Value, value_of, is_once}
+use Rattle.gform.specs.Rows.{Found, find_row, Value, value_of, is_once}
 use Rattle.gform.specs.Kept.{Kept, count_in}
 use Rattle.gform.specs.Sections.{Section, other_why, if_key}
 use Rattle.gform.specs.Reading.{Given, State, Outcome, has_room, at_kept, at_value, at_found, at_named, is_named, is_kept_at, in_section, in_section_if_any, unless_peer, start, outcome_at, verdict_of, run, judge}
@@ -40,7 +40,7 @@ other_packet other.Command text = key (after_word _ text)
 module _ (given : Given) (state : State) where
   kept : (f : Form) (field : ℕ) (value : Value) (found : Option Kept) → IsFor (at_kept given state f field value found)
   kept f field value None = tt
-  kept f field value (Some k) = either (has_room f state.count (count_in k) (limit_in given.limits f)) _ _ tt tt
+  kept f field value (Some k) = either (has_room given.limits f state.count (count_in k)) _ _ tt tt
 
   value : (f : Form) (field : ℕ) (result : Result Value Why) → AreOfPacket result → IsFor (at_value given state f field result)
   value f field (Err why) h = h

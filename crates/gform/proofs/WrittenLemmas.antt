@@ -21,7 +21,8 @@ use Rattle.ggrammar.specs.declared.fault.Why.TheVariants as why
 use Rattle.ggrammar.proofs.IdLemmas.{is_spelt, id_spells}
 use Rattle.gform.specs.declared.form.Form.{Form}
 use Rattle.gform.specs.declared.form.Form.TheVariants as form
-use Rattle.gform.specs.Rows.{limit_in, Row, find_row, Value, Mark, AnId, APrefix, ANumber, AWord, value_of, id_or_bad, number_or_bad, is_once, is_listed, is_counted, is_alone, one_if, place_after, max_texts}
+use Rattle.gform.specs.Limits.{max_lines}
+use Rattle.gform.specs.Rows.{limit_in, Row, find_row, Value, Mark, AnId, APrefix, ANumber, AWord, value_of, id_or_bad, number_or_bad, is_once, is_listed, is_counted, is_alone, one_if, place_after}
 use Rattle.gform.specs.Kept.{Kept, Nothing, Marked, Ids, Prefixes, Number, Word, is_kept, ids_in, prefixes_in, count_in, with_value}
 use Rattle.gform.specs.Sections.{Section}
 use Rattle.gform.specs.Reading.{Given, State, Outcome, Goes, Ends, Stops, has_room, with_row, at_kept, at_value, at_found, at_text, is_kept_at, in_section_if_any, unless_peer, outcome_at, verdict_of, after, next, run, judge_from}
@@ -156,15 +157,15 @@ module _ (sections : List Section) (given : Given) where
 
 -- ---- a text of a row
 
-room_by : (counted listed : Bool) (count kept limit : ℕ) → (counted ≡ true → count < max_texts) → (listed ≡ true → kept < limit)
-    → ((not counted || nat_lt count max_texts) && (not listed || nat_lt kept limit)) ≡ true
-room_by true true count kept limit h k = both (lt-ltb count max_texts (h refl)) (lt-ltb kept limit (k refl))
+room_by : (counted listed : Bool) (count most kept limit : ℕ) → (counted ≡ true → count < most) → (listed ≡ true → kept < limit)
+    → ((not counted || nat_lt count most) && (not listed || nat_lt kept limit)) ≡ true
+room_by true true count most kept limit h k = both (lt-ltb count most (h refl)) (lt-ltb kept limit (k refl))
   where
     both : {x y : Bool} → x ≡ true → y ≡ true → (x && y) ≡ true
     both h k = cc (h, k)
-room_by true false count kept limit h k = ap (λ (b : Bool). b && true) (lt-ltb count max_texts (h refl))
-room_by false true count kept limit h k = lt-ltb kept limit (k refl)
-room_by false false count kept limit h k = refl
+room_by true false count most kept limit h k = ap (λ (b : Bool). b && true) (lt-ltb count most (h refl))
+room_by false true count most kept limit h k = lt-ltb kept limit (k refl)
+room_by false false count most kept limit h k = refl
 
 -- a row whose texts are found, and stay in the section
 pub record IsPrinted (rows : List Row) (row : Row) : Type 0 where
@@ -187,7 +188,7 @@ module _
   where
     pub text_goes : (state : State) (value : Value) (kept : Kept) → slice_get sections state.place ≡ Some section → IsValueOf given.format row.1 value
         → slice_get state.fields row.2 ≡ Some kept → (is_once row.1 && is_kept kept) ≡ false
-        → has_room row.1 state.count (count_in kept) (limit_in given.limits row.1) ≡ true
+        → has_room given.limits row.1 state.count (count_in kept) ≡ true
         → outcome_at sections given state (value_packet given.format row value) ≡ Goes (with_row state row.1 row.2 kept value)
     unfolding outcome_at
     text_goes state value kept is valued there first room =
@@ -209,9 +210,9 @@ times_more : (b : Bool) (count n : ℕ) → (count + one_if b) + times b n ≡ c
 times_more true count n = omega arith
 times_more false count n = omega arith
 
-one_of_times : (b : Bool) (count n : ℕ) → count + times b (suc n) ≤ max_texts → b ≡ true → count < max_texts
-one_of_times true count n h e = omega (arith, h)
-one_of_times false count n h e = cc
+one_of_times : (b : Bool) (count most n : ℕ) → count + times b (suc n) ≤ most → b ≡ true → count < most
+one_of_times true count most n h e = omega (arith, h)
+one_of_times false count most n h e = cc
 
 set_set : {X : Type 0} (xs : List X) (i : ℕ) (a b : X) → slice_set (slice_set xs i a) i b ≡ slice_set xs i b
 set_set [] i a b = refl
@@ -244,7 +245,7 @@ with_values state row kept values = record {
 
 -- there is room for so many values
 pub record HasRoom (given : Given) (row : Row) (state : State) (kept : Kept) (n : ℕ) : Type 0 where
-  pub counted : state.count + times (is_counted row.1) n ≤ max_texts
+  pub counted : state.count + times (is_counted row.1) n ≤ max_lines given.limits
   pub listed : is_listed row.1 ≡ true → count_in kept + n ≤ limit_in given.limits row.1
   pub once : is_once row.1 ≡ true → one_if (is_kept kept) + n ≤ 1
 
@@ -288,8 +289,8 @@ module _
         let counted : mid.count + times (is_counted row.1) n ≡ state.count + times (is_counted row.1) (suc n) = times_more (is_counted row.1) state.count n in
         let goes = text_goes one texts line_text sections given section row printed state value kept is valued.0 there
         (first_once (is_once row.1) (is_kept kept) n room.once)
-        (room_by (is_counted row.1) (is_listed row.1) state.count (count_in kept) (limit_in given.limits row.1)
-        (one_of_times (is_counted row.1) state.count n room.counted)
+        (room_by (is_counted row.1) (is_listed row.1) state.count (max_lines given.limits) (count_in kept) (limit_in given.limits row.1)
+        (one_of_times (is_counted row.1) state.count (max_lines given.limits) n room.counted)
         (λ e. let l = room.listed e in omega (arith, l))) in
         let more = follow_values values mid kept_now (ap (slice_get sections) place ∙ is) valued.1 (get_set state.fields row.2 kept kept_now there)
         (record {
@@ -376,7 +377,7 @@ module _
     filled_state state rows = record { place = state.place; count = state.count + counted_in rows said; fields = fill state.fields rows said }
 
     pub follow_rows : (rows : List Row) (state : State) → slice_get sections state.place ≡ Some section → ArePrinted section.rows rows → AreKept given rows said
-        → AreEmpty state.fields rows → AreApart said rows → state.count + counted_in rows said ≤ max_texts
+        → AreEmpty state.fields rows → AreApart said rows → state.count + counted_in rows said ≤ max_lines given.limits
         → Follows sections given state (rows_packets given.format rows said) (filled_state state rows)
     follow_rows [] state is printed kept empty apart few =
         let zero_more : state.count ≡ state.count + 0 = omega arith in

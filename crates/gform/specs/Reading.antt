@@ -1,4 +1,4 @@
--- What reading a table comes to: each packet takes the state on, ends the message, or is refused for a reason.
+-- Reading a message by its table: each packet leads to the next state, ends the message, or is rejected for a reason.
 use Rattle.std.specs.Prelude.{◌≡◌, ℕ, ◌+◌, Bool, true, false, ◌&&◌, ◌||◌, not, List, [], ◌∷◌, if◌then◌else◌}
 use Rattle.std.specs.Prelude.{Option, Some, None, Result, Ok, Err}
 use Rattle.std.specs.Prelude.{nat_lt, slice_get, slice_set}
@@ -9,22 +9,23 @@ use Rattle.ggrammar.specs.Faults.{kept_text}
 use Rattle.ggrammar.specs.Grammar.{Verdict, Open, Whole, Refused, IsWhole}
 use Rattle.ggrammar.specs.PeerErrors.{peer_error}
 use Rattle.ggrammar.specs.declared.fault.Why.{Why}
+use Rattle.ggrammar.specs.declared.limits.Limits.{Limits}
 use Rattle.ggrammar.specs.declared.fault.Why.TheVariants as why
 use Rattle.gform.specs.declared.form.Form.{Form}
-use Rattle.gform.specs.declared.limits.Limits.{Limits}
 use Rattle.gform.specs.declared.section.End.{End}
+use Rattle.gform.specs.Limits.{max_lines}
 use Rattle.gform.specs.declared.section.End.TheVariants as end
 use Rattle.gform.specs.Rows.{Row, Value, Found, find_row, value_of, is_once, is_listed, is_counted}
-use Rattle.gform.specs.Rows.{value_brings, place_after, limit_in, max_texts, one_if}
+use Rattle.gform.specs.Rows.{value_brings, place_after, limit_in, one_if}
 use Rattle.gform.specs.Kept.{Kept, Nothing, is_kept, count_in, with_value}
 use Rattle.gform.specs.Sections.{Section, other_why}
 
--- what a table is read with: the format of ids, and how many values each field keeps
+-- the parameters of reading: the format of ids, and the limits
 pub record Given : Type 0 where
   pub format : Format
   pub limits : Limits
 
--- the section that a message has come to, how many texts were counted, and what its fields keep
+-- the state of reading: the index of the section, the number of lines, and the contents of the fields
 pub record State : Type 0 where
   pub place : ℕ
   pub count : ℕ
@@ -50,12 +51,13 @@ pub data Outcome : Type 0 where
 
 -- ---- a text
 
--- A text of this form is taken after so many that were counted, and where its field keeps so many of so many.
-abbrev pub has_room : Form → ℕ → ℕ → ℕ → Bool
-has_room form count kept limit =
-    (not (is_counted form) || nat_lt count max_texts) && (not (is_listed form) || nat_lt kept limit)
+-- whether there is room for a text of this form after `count` lines, if its field has `kept` values
+abbrev pub has_room : Limits → Form → ℕ → ℕ → Bool
+has_room limits form count kept =
+    (not (is_counted form) || nat_lt count (max_lines limits))
+    && (not (is_listed form) || nat_lt kept (limit_in limits form))
 
--- with a value more in a field that keeps this
+-- the state after a text of this form, whose value is added to the contents `kept` of the field
 abbrev pub with_row : State → Form → ℕ → Kept → Value → State
 with_row state form field kept value = record {
   place = place_after form state.place;
@@ -63,18 +65,18 @@ with_row state form field kept value = record {
   fields = slice_set state.fields field (with_value value kept);
 }
 
--- a field that is not there has no room
+-- a field that does not exist has no room
 abbrev pub at_kept : Given → State → Form → ℕ → Value → Option Kept → Outcome
 at_kept given state form field value None = Stops why.Limit
 at_kept given state form field value (Some kept) =
-    if has_room form state.count (count_in kept) (limit_in given.limits form) then Goes (with_row state form field kept value)
+    if has_room given.limits form state.count (count_in kept) then Goes (with_row state form field kept value)
     else Stops why.Limit
 
 abbrev pub at_value : Given → State → Form → ℕ → Result Value Why → Outcome
 at_value given state form field (Err why) = Stops why
 at_value given state form field (Ok value) = at_kept given state form field value (slice_get state.fields field)
 
--- what comes once is judged for that first
+-- a repeated text is rejected as such, even if its value is malformed
 abbrev pub at_row : Given → State → Row → Bytes → Outcome
 at_row given state row rest =
     if is_once row.1 && is_kept_at (slice_get state.fields row.2) then Stops why.BadText
@@ -106,7 +108,8 @@ abbrev pub at_end : Given → Section → State → End → Outcome
 at_end given section state end = at_named state (is_named given.format state section.needs) end
 
 abbrev pub in_section : Given → State → Packet → Section → Outcome
-in_section given state (Data payload) section = unless_peer (peer_error payload) (at_text given section state (text payload))
+in_section given state (Data payload) section =
+    unless_peer (peer_error payload) (at_text given section state (text payload))
 in_section given state Flush section = at_end given section state section.flush
 in_section given state Delim section = at_end given section state section.delim
 in_section given state ResponseEnd section = Stops why.UnexpectedFrame
@@ -119,7 +122,7 @@ unfoldable pub outcome_at : List Section → Given → State → Packet → Outc
 outcome_at sections given state packet =
     in_section_if_any given state packet (slice_get sections state.place)
 
--- ---- what it brings to keep
+-- ---- packets whose contents are stored in memory
 
 abbrev pub found_brings : Given → Option Found → Bool
 found_brings given None = false
@@ -139,7 +142,7 @@ verdict_of (Goes state) = Open
 verdict_of Ends = Whole
 verdict_of (Stops why) = Refused why
 
--- the state after a packet
+-- the state after a packet with this outcome
 abbrev pub after : Outcome → State → State
 after (Goes next) state = next
 after _ state = state
@@ -155,21 +158,21 @@ module _ (sections : List Section) (given : Given) where
   abbrev pub judge_from : State → List Packet → Packet → Verdict
   judge_from state lines packet = verdict_of (outcome_at sections given (run state lines) packet)
 
-  -- the judge of a table
+  -- the verdict on a packet, given the packets before it
   abbrev pub judge : List Packet → Packet → Verdict
   judge lines packet = judge_from start lines packet
 
   abbrev pub brings : List Packet → Packet → Bool
   brings lines packet = brings_at sections given (run start lines) packet
 
-  -- the packets are a message, and its fields keep this
+  -- the packets are a message with these fields
   pub record Says (lines : List Packet) (said : List Kept) : Type 0 where
     pub whole : IsWhole judge lines
     pub says : said ≡ (run start lines).fields
 
 -- ---- a reader
 
--- a message that is being read
+-- a message that is being read: the parameters and the state
 pub record Reading : Type 0 where
   pub given : Given
   pub state : State

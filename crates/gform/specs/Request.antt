@@ -14,7 +14,7 @@ use Rattle.gform.specs.contracts.request.RequestField.{the_type as the_fields}
 use Rattle.gform.specs.Rows.{Row}
 use Rattle.gform.specs.Sections.{Section}
 
--- the number of a field, as `as` gives it
+-- the discriminant of a field
 abbrev pub field_number : RequestField → ℕ
 field_number = tag_of the_fields
 
@@ -51,12 +51,26 @@ fetch_arguments =
     ∷ (codes "done", Flag, field_number Done)
     ∷ []
 
--- the command, its capabilities and its arguments
+-- the section of the capabilities of a command, whose arguments are in the section with this index
+abbrev pub with_capabilities : ℕ → Section
+with_capabilities arguments = record {
+  rows = capabilities;
+  other = other.Capability;
+  flush = end.Whole;
+  delim = end.Goes arguments;
+  needs = Some (field_number ObjectFormat);
+}
+
+-- the section of the arguments of a command
+abbrev pub with_arguments : List Row → Section
+with_arguments rows = record { rows = rows; other = other.Argument; flush = end.Whole; delim = end.Never; needs = None }
+
+-- the sections: the command, the capabilities and arguments of ls-refs, the capabilities and arguments of fetch
 abbrev pub request : List Section
 request =
     record { rows = commands; other = other.Command; flush = end.Whole; delim = end.Never; needs = None }
-    ∷ record { rows = capabilities; other = other.Capability; flush = end.Whole; delim = end.Goes 2; needs = Some (field_number ObjectFormat) }
-    ∷ record { rows = ls_refs_arguments; other = other.Argument; flush = end.Whole; delim = end.Never; needs = None }
-    ∷ record { rows = capabilities; other = other.Capability; flush = end.Whole; delim = end.Goes 4; needs = Some (field_number ObjectFormat) }
-    ∷ record { rows = fetch_arguments; other = other.Argument; flush = end.Whole; delim = end.Never; needs = None }
+    ∷ with_capabilities 2
+    ∷ with_arguments ls_refs_arguments
+    ∷ with_capabilities 4
+    ∷ with_arguments fetch_arguments
     ∷ []

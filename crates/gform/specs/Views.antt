@@ -1,4 +1,4 @@
--- Rows, sections and values, wherever their bytes lie in memory.
+-- Rows, sections and values, independent of where their bytes are in memory.
 use Rattle.std.specs.Prelude.{ℕ, List, [], ◌∷◌, map, if◌then◌else◌, Option, Some, None, option_map, Result, Ok, Err}
 use Rattle.std.specs.Borrow.{Bor}
 use Rattle.gform.specs.declared.form.Form.{Form}
@@ -45,25 +45,25 @@ abbrev pub value_result : Result LentValue Why → Result Value Why
 value_result (Ok value) = Ok (value_in value)
 value_result (Err why) = Err why
 
--- what a column keeps
+-- the contents of a column
 abbrev pub column_in : {A : Type 0} → KeptIn A → Kept
 column_in kept.Nothing = Nothing
 column_in (kept.Ids ids) = Ids ids.items
 column_in (kept.Prefixes prefixes) = Prefixes prefixes.items
 column_in (kept.Word word) = Word word.items
 
--- what a field keeps without a column
+-- the contents of a field that needs no memory
 abbrev pub plain_in : Plain → Kept
 plain_in plain.Nothing = Nothing
 plain_in plain.Marked = Marked
 plain_in (plain.Number number) = Number number
 
--- what a field keeps
+-- the contents of a field: those of its column, if the column exists and has any
 abbrev pub over : Plain → Option Kept → Kept
 over plain None = plain_in plain
 over plain (Some column) = if is_kept column then column else plain_in plain
 
--- what fields keep
+-- the contents of all fields
 abbrev pub kept_by : List Plain → List Kept → List Kept
 kept_by [] columns = []
 kept_by (plain ∷ plains) [] = plain_in plain ∷ kept_by plains []

@@ -1,4 +1,4 @@
--- What is written of the fields of a message: each section's rows in their order, a text for each value.
+-- The packets that are written for the fields of a message: a text for each value, in the order of the rows.
 use Rattle.std.specs.Prelude.{◌≤◌, ◌<◌, ◌+◌, ◌^◌, ℕ, Bool, true, false, List, [], ◌∷◌, ◌++◌, map, length}
 use Rattle.std.specs.Prelude.{IsTrue, slice_index_or, slice_set}
 use Rattle.std.specs.Fmt.{decimal}
@@ -15,14 +15,14 @@ use Rattle.gform.specs.Rows.{Row, Value, Mark, AnId, APrefix, ANumber, AWord, is
 use Rattle.gform.specs.Kept.{Kept, Nothing, Marked, Ids, Prefixes, Number, Word}
 use Rattle.gform.specs.Reading.{Given}
 
--- ---- the printer
+-- ---- the texts
 
--- what is written after a row's word where nothing but its coming is kept
+-- the text after a row's word, if the field only records that the text occurred
 abbrev pub mark_print : Format → Form → Bytes
 mark_print format form.FormatName = format_name format
 mark_print format _ = []
 
--- what is written of a value after a row's word
+-- the text of a value, which follows the row's word
 abbrev pub value_print : Format → Form → Value → Bytes
 value_print format form Mark = mark_print format form
 value_print format form (AnId id) = id_text id
@@ -30,7 +30,7 @@ value_print format form (APrefix bytes) = bytes
 value_print format form (ANumber number) = decimal number
 value_print format form (AWord bytes) = bytes
 
--- the values that a field keeps
+-- the values in a field
 abbrev pub values_in : Kept → List Value
 values_in Nothing = []
 values_in Marked = Mark ∷ []
@@ -42,27 +42,27 @@ values_in (Word bytes) = AWord bytes ∷ []
 abbrev pub kept_at : List Kept → ℕ → Kept
 kept_at said field = slice_index_or said field Nothing
 
--- the packet of a value of a row
+-- the packet with a value of a row
 abbrev pub value_packet : Format → Row → Value → Packet
 value_packet format row value = text_packet (row.0 ++ value_print format row.1 value)
 
 abbrev pub row_packets : Format → Row → Kept → List Packet
 row_packets format row kept = map (value_packet format row) (values_in kept)
 
--- the packets of a section's rows, in their order
+-- the packets for the rows of a section
 abbrev pub rows_packets : Format → List Row → List Kept → List Packet
 rows_packets format [] said = []
 rows_packets format (row ∷ rows) said = row_packets format row (kept_at said row.2) ++ rows_packets format rows said
 
--- a command, its capabilities, a delimiter, its arguments and a flush
+-- the packets of a command: its name, its capabilities, a delimiter, its arguments and a flush
 abbrev pub command_packets : Format → Row → List Row → List Row → List Kept → List Packet
 command_packets format command caps arguments said =
     (value_packet format command Mark ∷ (rows_packets format caps said ++ Delim ∷ rows_packets format arguments said))
     ++ Flush ∷ []
 
--- ---- the validity
+-- ---- fields that can be written
 
--- a value that a text of this form can bring
+-- a text of this form can encode the value
 abbrev pub IsValueOf : Format → Form → Value → Type 0
 IsValueOf format form.Flag Mark = Unit {0}
 IsValueOf format (form.Goes next) Mark = Unit {0}
@@ -81,23 +81,23 @@ abbrev pub most_of : Bool → ℕ → ℕ
 most_of true limit = limit
 most_of false limit = 1
 
--- how many values the field of a row keeps at most
+-- the maximum number of values in the field of a row
 abbrev pub most : Given → Row → ℕ
 most given row = most_of (is_listed row.1) (limit_in given.limits row.1)
 
--- an empty list is nothing
+-- a field with an empty list has no contents, so it is `Nothing`
 abbrev pub IsFull : Kept → Type 0
 IsFull (Ids []) = ⊥
 IsFull (Prefixes []) = ⊥
 IsFull kept = Unit {0}
 
--- what the field of a row can keep
+-- the texts of the row can encode the contents of its field
 pub record IsRowKept (given : Given) (row : Row) (kept : Kept) : Type 0 where
   pub values : AllValues given.format row.1 (values_in kept)
   pub few : length (values_in kept) ≤ most given row
   pub full : IsFull kept
 
--- what the fields of rows can keep
+-- the texts of the rows can encode the contents of their fields
 abbrev pub AreKept : Given → List Row → List Kept → Type 0
 AreKept given [] said = Unit {0}
 AreKept given (row ∷ rows) said = IsRowKept given row (kept_at said row.2) × AreKept given rows said
@@ -106,17 +106,17 @@ abbrev pub times : Bool → ℕ → ℕ
 times true n = n
 times false n = 0
 
--- how many of their texts are counted
+-- the number of lines that are written for these rows
 abbrev pub counted_in : List Row → List Kept → ℕ
 counted_in [] said = 0
 counted_in (row ∷ rows) said = times (is_counted row.1) (length (values_in (kept_at said row.2))) + counted_in rows said
 
--- fields with what the fields of rows keep
+-- the fields, with the contents of the rows' fields replaced by those in `said`
 abbrev pub fill : List Kept → List Row → List Kept → List Kept
 fill fields [] said = fields
 fill fields (row ∷ rows) said = fill (slice_set fields row.2 (kept_at said row.2)) rows said
 
--- a text that a field keeps fits a packet
+-- a word in the field fits into a packet
 abbrev pub IsShort : Kept → Type 0
 IsShort (Word bytes) = length bytes ≤ 1000
 IsShort _ = Unit {0}

@@ -1,4 +1,4 @@
-//! Values that a field keeps in memory.
+//! Fields whose values are in memory.
 
 ghost use Rattle.std.specs.Prelude.{◌≡◌, ◌≤◌, ℕ, length, OnOk, true};
 ghost use Rattle.gname.specs.declared.formats.Format.{Format};
@@ -18,7 +18,7 @@ use gpkt::{PacketWriter, Sink, WriteFault};
 use std::alloc::{AllocError, Allocator};
 use std::marker::Model;
 
-/// The values of a field that take memory.
+/// The contents of a field whose values are in memory.
 #[derive(Drop)]
 pub(crate) enum KeptIn<A: Allocator + Copy> {
     Nothing,
@@ -27,7 +27,7 @@ pub(crate) enum KeptIn<A: Allocator + Copy> {
     Word(Vec<u8, A>),
 }
 
-/// A field whose values take memory.
+/// A field whose values are in memory.
 #[derive(Drop)]
 pub(crate) struct Column<A: Allocator + Copy> {
     kept: KeptIn<A>,
@@ -43,7 +43,7 @@ impl<A: Allocator + Copy> Model for Column<A> {
 }
 
 impl<A: Allocator + Copy> Column<A> {
-    /// A field that keeps nothing.
+    /// Returns a field without contents.
     pub(crate) fn new() -> Column<A>
         ensures { result ≡ Nothing }
     {
@@ -52,14 +52,14 @@ impl<A: Allocator + Copy> Column<A> {
         }
     }
 
-    /// Whether it keeps something.
+    /// Returns whether the field has contents.
     pub(crate) fn is_kept(&self) -> bool
         ensures { result ≡ is_kept self.now }
     {
         !matches!(self.kept, KeptIn::Nothing)
     }
 
-    /// The ids that it keeps.
+    /// Returns the ids in the field.
     pub(crate) fn ids(&self) -> &[Oid]
         ensures { result.now ≡ ids_in self.now }
     {
@@ -69,7 +69,7 @@ impl<A: Allocator + Copy> Column<A> {
         }
     }
 
-    /// The prefixes that it keeps.
+    /// Returns the prefixes in the field.
     pub(crate) fn prefixes(&self) -> &[Prefix<A>]
         ensures { result.now ≡ prefixes_in self.now }
     {
@@ -79,7 +79,7 @@ impl<A: Allocator + Copy> Column<A> {
         }
     }
 
-    /// The text that it keeps.
+    /// Returns the word in the field, if any.
     pub(crate) fn word(&self) -> Option<&[u8]>
         ensures { option_copied result ≡ word_in self.now }
     {
@@ -89,7 +89,7 @@ impl<A: Allocator + Copy> Column<A> {
         }
     }
 
-    /// How many values it keeps, of those that have a limit.
+    /// Returns the number of ids or prefixes in the field.
     pub(crate) fn count(&self) -> usize
         ensures { result ≡ count_in self.now }
     {
@@ -100,7 +100,7 @@ impl<A: Allocator + Copy> Column<A> {
         }
     }
 
-    /// Writes the packets of a row that this is the field of.
+    /// Writes the packets of a row with this word, whose field this is.
     pub(crate) fn write<W: Sink>(
         &self,
         word: &[u8],
@@ -122,7 +122,7 @@ impl<A: Allocator + Copy> Column<A> {
         }
     }
 
-    /// Keeps a value more that takes memory. It fails only out of memory.
+    /// Adds a value that is stored in memory. Fails only if memory runs out.
     pub(crate) fn keep(&mut self, alloc: A, value: &Value<'_>) -> Result<(), AllocError>
         requires { takes_memory (value_in value.now) ≡ true }
         ensures { OnOk result (self.new ≡ with_value (value_in value.now) self.old) }

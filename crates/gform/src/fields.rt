@@ -1,4 +1,4 @@
-//! The fields of a message: what it keeps of the values that its texts bring.
+//! The fields of a message, which store the values of its texts.
 
 ghost use Rattle.std.specs.Prelude.{◌≡◌, ◌≤◌, ◌<◌, ℕ, List, length, OnOk, OnErr, true, option_map, slice_get, slice_set};
 ghost use Rattle.std.specs.Option.{option_copied};
@@ -23,7 +23,7 @@ use itoa::Buffer;
 use std::alloc::{AllocError, Allocator, Global};
 use std::marker::Model;
 
-/// A value that a field keeps without memory.
+/// The contents of a field that needs no memory.
 #[derive(Clone, Copy, Debug, PartialEq, Eq)]
 pub(crate) enum Plain {
     Nothing,
@@ -39,7 +39,7 @@ impl Plain {
     }
 }
 
-/// The fields of a message, by their numbers. They take memory only for ids, prefixes and words.
+/// The fields of a message, by their numbers. Only ids, prefixes and words are stored in memory.
 #[derive(Drop)]
 pub struct Fields<A: Allocator + Copy = Global> {
     plain: [Plain; MAX_FIELDS],
@@ -57,7 +57,7 @@ impl<A: Allocator + Copy> Model for Fields<A> {
 }
 
 impl<A: Allocator + Copy> Fields<A> {
-    /// Fields that keep nothing. They take no memory yet.
+    /// Returns fields without contents. Allocates nothing.
     pub fn new(alloc: A) -> Fields<A>
         ensures { result ≡ no_fields }
     {
@@ -67,21 +67,21 @@ impl<A: Allocator + Copy> Fields<A> {
         }
     }
 
-    /// Whether a field keeps something.
+    /// Returns whether a field has contents.
     pub fn is_kept(&self, field: usize) -> bool
         ensures { result ≡ is_kept_at (slice_get self.now field) }
     {
         is_kept_in(&self.plain, &self.columns, field)
     }
 
-    /// How many values a field keeps, of those that have a limit. `None` where there is no such field.
+    /// Returns the number of ids or prefixes in a field, or `None` if the field does not exist.
     pub(crate) fn count(&self, field: usize) -> Option<usize>
         ensures { result ≡ option_map count_in (slice_get self.now field) }
     {
         count_of(&self.plain, &self.columns, field)
     }
 
-    /// The ids that a field keeps.
+    /// Returns the ids in a field.
     pub fn ids(&self, field: usize) -> &[Oid]
         ensures { result.now ≡ ids_in (kept_at self.now field) }
     {
@@ -91,7 +91,7 @@ impl<A: Allocator + Copy> Fields<A> {
         }
     }
 
-    /// The prefixes that a field keeps.
+    /// Returns the prefixes in a field.
     pub fn prefixes(&self, field: usize) -> &[Prefix<A>]
         ensures { result.now ≡ prefixes_in (kept_at self.now field) }
     {
@@ -101,7 +101,7 @@ impl<A: Allocator + Copy> Fields<A> {
         }
     }
 
-    /// The text that a field keeps.
+    /// Returns the word in a field, if any.
     pub fn word(&self, field: usize) -> Option<&[u8]>
         ensures { option_copied result ≡ word_in (kept_at self.now field) }
     {
@@ -111,7 +111,7 @@ impl<A: Allocator + Copy> Fields<A> {
         }
     }
 
-    /// Keeps a value more in a field. It fails only out of memory, for an id, a prefix or a word.
+    /// Adds a value to a field. Fails only if memory runs out for an id, a prefix or a word.
     pub fn keep(&mut self, field: usize, value: &Value<'_>) -> Result<(), AllocError>
         ensures kept { OnOk result (self.new
             ≡ slice_set self.old field (with_value (value_in value.now) (kept_at self.old field))) }
@@ -240,7 +240,8 @@ fn word_of<A: Allocator + Copy>(columns: &[Column<A>], field: usize) -> Option<&
     }
 }
 
-// Makes columns up to that of a field. They keep nothing, so the fields keep what they kept.
+// Appends columns without contents until the field has a column. The contents of all fields stay
+// the same.
 fn make_room<A: Allocator + Copy>(
     columns: &mut Vec<Column<A>, A>,
     field: usize,
@@ -255,7 +256,7 @@ fn make_room<A: Allocator + Copy>(
     Ok(())
 }
 
-// Keeps a value more in a column.
+// Adds a value to the column of a field.
 fn keep_at<A: Allocator + Copy>(
     columns: &mut Vec<Column<A>, A>,
     field: usize,
@@ -270,7 +271,7 @@ fn keep_at<A: Allocator + Copy>(
     columns[field].keep(alloc, value)
 }
 
-// Empties a column.
+// Clears the column of a field, if it exists.
 fn clear<A: Allocator + Copy>(columns: &mut Vec<Column<A>, A>, field: usize)
     ensures { columns.new.items ≡ slice_set columns.old.items field Nothing }
 {

@@ -1,72 +1,75 @@
-//! Forms: what follows the word of a text, and how often such texts come.
+//! The forms of the texts of a message.
 
 ghost use Rattle.std.specs.Prelude.{◌≡◌, ◌<◌, ◌+◌, true};
-ghost use Rattle.gform.specs.Rows.{is_once, is_listed, is_counted, limit_in, place_after, max_texts, one_if};
+ghost use Rattle.gform.specs.Limits.{most_lines};
+ghost use Rattle.gform.specs.Rows.{is_counted, is_listed, is_once, limit_in, one_if, place_after};
 
-use crate::limits::{Limit, Limits};
+use crate::limits::Limit;
+use ggrammar::Limits;
 
-/// What follows a row's word, how often such texts may come, and what they do to the message.
+/// The form of a text: the value after the text's word, how often the text may occur, and the
+/// section after the text.
 #[derive(Clone, Copy, Debug, PartialEq, Eq)]
 pub enum Form {
-    /// Nothing follows; the field is set. It may repeat.
+    /// No value. The text sets its field and may be repeated.
     Flag,
-    /// An object id, added to those of the field, up to a limit.
+    /// An object id, which is appended to the ids of the field, up to a limit.
     Ids(Limit),
-    /// A prefix of ref names, added to those of the field, up to a limit.
+    /// A prefix of ref names, which is appended to the prefixes of the field, up to a limit.
     Prefixes(Limit),
-    /// A number of 1 to 18 decimal digits, which comes once.
+    /// A number of 1 to 18 decimal digits. The text must not be repeated.
     Number,
-    /// A value of 1 to 1,000 bytes without a space, which comes once.
+    /// A value of 1 to 1,000 bytes from `!` to `~`. The text must not be repeated.
     Word,
-    /// The name of the repository's object format, which comes once.
+    /// The name of the repository's object format. The text must not be repeated.
     FormatName,
-    /// Nothing follows; the message goes on in this section.
+    /// No value. The section with this index follows the text.
     Goes(usize),
-    /// Nothing follows, and the text is refused as a bad one.
+    /// No value. The text is rejected with the reason `BadText`.
     Bad,
 }
 
 impl Form {
-    /// Whether such a text comes once.
+    /// Returns whether a text of this form must not be repeated.
     pub(crate) fn is_once(self) -> bool
         ensures { result ≡ is_once self }
     {
         matches!(self, Form::Number | Form::Word | Form::FormatName)
     }
 
-    /// Whether its field keeps a list.
+    /// Returns whether a field of this form is a list with a limit.
     pub(crate) fn is_listed(self) -> bool
         ensures { result ≡ is_listed self }
     {
         matches!(self, Form::Ids(_) | Form::Prefixes(_))
     }
 
-    /// How many values such a list keeps at most.
-    pub(crate) fn limit_in(self, limits: &Limits) -> usize
-        ensures { result ≡ limit_in limits.now self }
+    /// Returns the maximum length of a list of this form, or 0 if a field of this form is no list.
+    pub(crate) fn limit_in(self, limits: Limits) -> usize
+        ensures { result ≡ limit_in limits self }
     {
         match self {
-            Form::Ids(limit) | Form::Prefixes(limit) => limits.of(limit),
+            Form::Ids(limit) | Form::Prefixes(limit) => limit.of(limits),
             _ => 0,
         }
     }
 
-    /// Whether such texts are counted together.
+    /// Returns whether a text of this form counts as a line.
     pub(crate) fn is_counted(self) -> bool
         ensures { result ≡ is_counted self }
     {
         matches!(self, Form::Flag | Form::Ids(_) | Form::Prefixes(_))
     }
 
-    /// How many texts were counted after such a text.
-    pub(crate) fn count_after(self, count: u32) -> u32
-        requires { is_counted self ≡ true → count < max_texts }
+    /// Returns the number of lines after a text of this form, given the number before the text.
+    pub(crate) fn count_after(self, count: usize) -> usize
+        requires { is_counted self ≡ true → count < most_lines }
         ensures { result ≡ count + one_if (is_counted self) }
     {
         if self.is_counted() { count + 1 } else { count }
     }
 
-    /// The section after such a text.
+    /// Returns the index of the section after a text of this form in the section `place`.
     pub(crate) fn place_after(self, place: usize) -> usize
         ensures { result ≡ place_after self place }
     {

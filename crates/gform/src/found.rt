@@ -1,4 +1,4 @@
-//! The row that a text has.
+//! Finding the row of a text.
 
 ghost use Rattle.std.specs.Prelude.{◌≡◌, option_map};
 ghost use Rattle.std.specs.Option.{option_copied};
@@ -10,7 +10,7 @@ use crate::section::Row;
 use crate::table::Table;
 use ggrammar::after_word;
 
-/// The row that a text has, with what follows its word.
+/// The row of a text, and the rest of the text after the row's word.
 #[derive(Clone, Copy)]
 pub(crate) struct Found<'a> {
     pub(crate) word: &'static str,
@@ -19,7 +19,7 @@ pub(crate) struct Found<'a> {
     pub(crate) rest: &'a [u8],
 }
 
-// What follows the word of a row in a text. `None` where the text has not this row.
+// Returns the rest of a text after the word of the row, if the text has this row.
 fn value_text<'a, F: Table>(row: &Row<F>, text: &'a [u8]) -> Option<&'a [u8]>
     ensures { option_copied result ≡ value_text (row_in F.number row.now) text.now }
 {
@@ -36,7 +36,7 @@ fn value_text<'a, F: Table>(row: &Row<F>, text: &'a [u8]) -> Option<&'a [u8]>
     }
 }
 
-/// The first row that a text has.
+/// Returns the first row of a text, if any.
 pub(crate) fn find_row<'a, F: Table>(rows: &[Row<F>], text: &'a [u8]) -> Option<Found<'a>>
     ensures { option_map found_in result ≡ find_row (rows_in F.number rows.now) text.now }
 {

@@ -1,4 +1,5 @@
-//! The laws of every table: functions without effect, whose contracts they are.
+//! Laws about the messages of tables. Each function does nothing at run time, and its contract
+//! states the law. The laws hold for each sound table, each object format and all limits.
 
 ghost use Rattle.ggrammar.specs.Grammar.{HasEndings, IsPrefixFree, RefusesFirstMisfits};
 ghost use Rattle.ggrammar.specs.Kinds.{AsInManual, CanonicalSays, OneMeaning, ReadsBackIfAny, ReadsExactlyIfAny, SaysWhole};
@@ -16,19 +17,21 @@ use gname::laws::{ids_have_one_format, ids_have_texts, prefixes_are_clean};
 use gpkt::laws::text_reads_back;
 use std::marker::PhantomData;
 
-/// A message says one thing, and each complete list of packets says something.
+/// Proves that a list of packets encodes the fields of at most one message, and that each complete
+/// list encodes fields.
 pub fn one_meaning<T: Table>()
     ensures one { (given : Given) → OneMeaning (Says T.sections given) }
     ensures whole { (given : Given) → SaysWhole (judge T.sections given) (Says T.sections given) }
 {}
 
-/// The messages that are read are those of the manual's words, and say the same (`specs/Grammar.antt`).
+/// Proves that a list of packets is read as a message exactly if the grammar of the table allows
+/// the list, and that the fields are those that the grammar states (`specs/Grammar.antt`).
 pub fn manual<T: Table>()
     ensures { (given : Given) → AsInManual (Says T.sections given)
         (IsMessage T.sections given) }
 {}
 
-/// No message begins another, neither its packets nor its bytes.
+/// Proves that no message is a prefix of another, as packets or as bytes.
 pub fn prefix_free<T: Table>()
     ensures packets { (given : Given) → IsPrefixFree (judge T.sections given) }
     ensures spellings { (given : Given) → SpellingsPrefixFree (judge T.sections given) }
@@ -37,7 +40,8 @@ pub fn prefix_free<T: Table>()
     messages_are_read();
 }
 
-/// Each beginning of a message can be ended, and a packet that is refused is the first that does not fit.
+/// Proves that the packets accepted so far can always be completed to a message, and that a
+/// rejected packet is the first that fits no message.
 pub fn endings<T: Table>()
     ensures each { (given : Given) → HasEndings (judge T.sections given) }
     ensures first { (given : Given) → RefusesFirstMisfits (judge T.sections given) }
@@ -45,8 +49,8 @@ pub fn endings<T: Table>()
     grammars_are_exact();
 }
 
-/// A packet is refused for its own sake alone. All bytes begin with a message, or are refused for a reason in
-/// them.
+/// Proves that a packet is rejected only because of its content. Every byte sequence begins with a
+/// message, or is rejected because of its content.
 pub fn every_input<T: Table>()
     ensures packets { (given : Given) → RefusesPackets (judge T.sections given) }
     ensures bytes { (given : Given)
@@ -56,8 +60,8 @@ pub fn every_input<T: Table>()
     messages_are_read();
 }
 
-/// A message is read exactly where the bytes begin with packets that say it: these are taken, and nothing
-/// after them.
+/// Proves that a message is read exactly if the input begins with packets that encode the message.
+/// Nothing after these packets is read.
 pub fn reads_exactly<T: Table>()
     ensures { (given : Given) → ReadsExactlyIfAny (judge T.sections given)
         (brings T.sections given) (Says T.sections given) }
@@ -66,7 +70,8 @@ pub fn reads_exactly<T: Table>()
     kinds_are_read::<Tables<T>>();
 }
 
-/// The packets that are written of a request say it, and each payload fits a packet.
+/// Proves that the packets written for a request encode the request, and that each payload fits
+/// into a packet.
 pub fn canonical_says()
     ensures { (given : Given) → CanonicalSays (Says request given) (IsValue given)
         (IsCanonical given) }
@@ -77,19 +82,20 @@ pub fn canonical_says()
     text_reads_back();
 }
 
-/// A request that is written reads back, whatever follows.
+/// Proves that reading a written request returns the same fields, even if other bytes follow.
 pub fn reads_back()
     ensures { (given : Given) → ReadsBackIfAny (judge request given) (brings request given)
         (Says request given) (IsValue given) (IsCanonical given) }
 {
     one_meaning::<RequestField>();
     canonical_says();
-    kinds_are_read::<RequestKind>();
+    kinds_are_read::<Requests>();
 }
 
-struct RequestKind;
+// Requests, as a kind of message.
+struct Requests;
 
-impl MessageKind for RequestKind {
+impl MessageKind for Requests {
     ghost use Rattle.std.specs.Prelude.{List};
     ghost use Rattle.gform.specs.Kept.{Kept};
     ghost use Rattle.gform.specs.Reading.{Given, Says, brings, judge};
@@ -111,7 +117,7 @@ impl MessageKind for RequestKind {
     ghost is_canonical = { IsCanonical };
 }
 
-// The messages of a table, as a kind.
+// The messages of a table, as a kind of message.
 struct Tables<T: Table> {
     table: PhantomData<T>,
 }

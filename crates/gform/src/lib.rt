@@ -1,48 +1,56 @@
-//! Tables of messages: a message of Git's protocol version 2 is a list of rows, and one engine reads and writes
-//! every table.
+//! Reading and writing messages of Git's protocol version 2 by tables.
 //!
-//! A row is a text of a message: its word, the form of what follows, and the field that keeps it. A section is a list
-//! of rows. It also says what a flush and a delimiter do, and why other texts are refused. A kind of message is an
-//! enum of its fields with such a table ([`Table`]). The object format and the [`Limits`] are values, which a program
-//! chooses.
+//! The table of a kind of message is a list of sections, and a section is a list of rows. A row
+//! describes a kind of text: its word, the form of the value after the word, and the field for the
+//! value. A section also states the effects of a flush and of a delimiter, and the reason to reject
+//! a text that has no row. A kind of message is an enum of its fields that implements [`Table`].
 //!
-//! # Proved, for every sound table, every format and all limits
+//! # Proved for each sound table, each object format and all limits
 //!
-//! - [`read_table`] reads a message exactly to its end, in whatever pieces its bytes come, and answers what its
-//!   fields keep. It answers `None` if the input ends before the first packet. It refuses every other input at the
-//!   first packet that does not fit. The reason is that of `judge` in `specs/Reading.antt`: first the peer's error,
-//!   then a text without a row, a second text of what comes once, a wrong form, a limit. Out of memory comes only at
-//!   an id, a prefix or a word.
-//! - [`laws::manual`]: the messages that are read are those of the manual's words (`specs/Grammar.antt`). They are
-//!   sections, one after the other. A section is texts of its rows in any order, then its end.
-//! - The other [`laws`]: a message says one thing. Neither its packets nor its bytes begin another. Each beginning of
-//!   one can be ended, and a packet that is refused is the first that does not fit. A message is read exactly if the
-//!   bytes begin with one, and all bytes begin with one or are refused for a reason in them.
-//! - [`Fields`] keeps values by the numbers of fields, and takes memory only for ids, prefixes and words.
-//! - [`write_rows`] and [`write_command`] write the packets that fields have (`specs/Writing.antt`). If the sink
-//!   fails, they write a beginning of these.
-//! - `is_sound` in `specs/Sections.antt` computes whether a table is sound. Its texts and delimiters go forward, a
-//!   flush ends each section, what a section needs can be brought, and each field has one form.
+//! - [`read_table`] reads a message exactly to its end, however its bytes are split into pieces,
+//!   and returns its fields. It returns `None` if the input ends before the first packet. Any other
+//!   input is rejected at the first packet that does not fit, with the reason that the table gives
+//!   (`judge` in `specs/Reading.antt`). An error packet from the peer takes precedence over a text
+//!   without a row. Then come a forbidden repetition, a malformed value and an exceeded limit, in
+//!   this order. Out of memory is reported only at an id, a prefix or a word.
+//! - [`laws::manual`] states that a list of packets is read as a message exactly if the grammar of
+//!   the table allows the list (`specs/Grammar.antt`). In this grammar a message is a sequence of
+//!   sections. A section consists of texts of its rows in any order, and of the packet that ends
+//!   the section.
+//! - By the other [`laws`], a list of packets encodes at most one message, and no message is a
+//!   prefix of another, as packets or as bytes. The packets accepted so far can always be completed
+//!   to a message, and a rejected packet is the first that fits no message. A message is read
+//!   exactly if the input begins with packets that encode it. Every byte sequence begins with a
+//!   message or is rejected because of its content.
+//! - [`Fields`] stores the values of a message by the numbers of the fields. Only ids, prefixes and
+//!   words are stored in memory.
+//! - [`write_rows`] and [`write_command`] write the packets for the fields (`specs/Writing.antt`),
+//!   or a prefix of these packets if the sink fails.
+//! - `is_sound` in `specs/Sections.antt` computes whether a table is sound: its texts and
+//!   delimiters lead only to later sections, a flush in any section ends the message, each needed
+//!   field can be set, and each field has one form.
 //!
-//! # Proved of requests, the first table
+//! # Proved for requests, the first table
 //!
-//! [`write_fields`] writes the request that fields have. Its packets say what the fields keep, each payload fits a
-//! packet, and the request reads back, whatever follows. A number below 10^18 reads back from its digits.
+//! [`write_fields`] writes the request with given fields. The packets encode these fields, each
+//! payload fits into a packet, and reading the packets returns the same fields, even if other bytes
+//! follow. A number below 10^18 is read back from its digits.
 //!
 //! # Only tested
 //!
-//! Nothing yet: no program uses the crate.
+//! Nothing, because no program uses this crate yet.
 //!
 //! # What the contracts do not rule out
 //!
-//! A call that keeps something may report out of memory, whatever there is. It may take as long as it likes, and more
-//! memory than it needs. If a sink fails, a shorter beginning may be written. If the bytes of a source are not known,
-//! nothing is said of the packets that were read. The contracts say what a device has done all the same.
+//! No contract rules out that a call that stores a value reports out of memory at any time. No
+//! contract bounds the time or the memory of a call. If a sink fails, the contracts do not state
+//! how long the written prefix is. If the bytes of a source are unknown, the contracts do not state
+//! which packets are read. The contracts still state whether the source or the sink has failed.
 //!
-//! # Stands on
+//! # Dependencies
 //!
-//! `ggrammar` for the reader and the laws that all messages share, `gpkt` for packets, `gname` for ids and prefixes,
-//! `itoa` for the digits of numbers.
+//! `ggrammar` defines the reader, the laws that all messages share, and the limits. `gpkt` defines
+//! packets, `gname` defines ids and prefixes, and `itoa` writes the digits of numbers.
 #![tactic(auto)]
 
 mod column;
@@ -61,10 +69,10 @@ mod write;
 
 pub use crate::fields::Fields;
 pub use crate::form::Form;
-pub use crate::limits::{Limit, Limits};
+pub use crate::limits::Limit;
 pub use crate::read::read_table;
 pub use crate::reader::TableReader;
-pub use crate::request::{REQUEST_LIMITS, RequestField, RequestKind, kind_of, write_fields};
+pub use crate::request::{RequestField, RequestKind, kind_of, write_fields};
 pub use crate::section::{End, Other, Row, Section};
 pub use crate::table::{MAX_FIELDS, Table};
 pub use crate::value::Value;

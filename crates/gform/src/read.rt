@@ -7,22 +7,24 @@ ghost use Rattle.ggrammar.specs.MessageReading.{LeavesReader};
 ghost use Rattle.gform.specs.Reading.{Given, Says, brings, judge};
 
 use crate::fields::Fields;
-use crate::limits::Limits;
 use crate::reader::TableReader;
 use crate::table::Table;
-use ggrammar::{MessageFault, Why, read_message};
+use ggrammar::{Limits, MessageFault, Why, read_message};
 use gname::Format;
 use gpkt::{PacketReader, Source};
 use std::alloc::Allocator;
 
-/// Reads a message of a table to its end, and nothing after it. `None` where the input ends before the first
-/// packet. After a message the line reader has not failed, and the next one can be read.
+/// Reads a message of the table `T` to its end, and nothing after it. `format` is the format of the
+/// ids. Returns `None` if the input ends before the first packet. If the call returns a message,
+/// the reader has not failed and can read the next message.
 ///
-/// The fault has the position of the first packet that does not fit, counted from 0, and why. A fault of the line
-/// reader comes first ([`Why::Line`]). Then comes the end of the input ([`Why::Ended`], after the first packet
-/// alone), and then a refusal of the table. [`Why::Memory`] comes only at an id, a prefix or a word. All that was
-/// read, a refused packet too, is taken from the source. The line reader has then failed exactly where it refused the packet itself;
-/// one that had failed before is refused at once, at packet 0.
+/// A fault contains the reason, and the position of the first packet that does not fit, counted
+/// from zero. A fault of the packet reader ([`Why::Line`]) takes precedence. The end of the input
+/// after the first packet ([`Why::Ended`]) comes second, and a fault of the table third. The fault
+/// [`Why::Memory`] is reported only at an id, a prefix or a word. All packets that were read, even
+/// a rejected packet, are consumed from the source. After a fault, the packet reader has failed
+/// exactly if the fault is [`Why::Line`]. If the reader had failed before the call, the call fails
+/// at once, and the fault reports packet position 0.
 pub fn read_table<T: Table, S: Source, A: Allocator + Copy, B: Allocator + Copy>(
     reader: &mut PacketReader<S, A>,
     format: Format,
@@ -44,7 +46,7 @@ pub fn read_table<T: Table, S: Source, A: Allocator + Copy, B: Allocator + Copy>
     }
 }
 
-// Whether the input ended before the first packet.
+// Returns whether the input ended before the first packet.
 fn is_missing(fault: &MessageFault) -> bool
     ensures { IsTrue result ↔ ((fault.now.frame ≡ 0) × (fault.now.why ≡ Why.Ended)) }
 {

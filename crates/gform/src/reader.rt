@@ -1,9 +1,10 @@
-//! Reading a message by its table.
+//! The state of reading a message by its table.
 
-ghost use Rattle.std.specs.Prelude.{◌≡◌, ◌<◌, ◌&&◌, map, option_map, false, Some, slice_get};
+ghost use Rattle.std.specs.Prelude.{◌≡◌, ◌<◌, ◌&&◌, map, option_map, false, true, Some, slice_get};
 ghost use Rattle.gpkt.specs.Packets.{packet_of};
 ghost use Rattle.ggrammar.specs.MessageReading.{TakesAs};
-ghost use Rattle.gform.specs.Rows.{find_row, is_once, takes_memory, value_brings, value_of};
+ghost use Rattle.gform.specs.Limits.{most_lines};
+ghost use Rattle.gform.specs.Rows.{find_row, is_counted, is_once, takes_memory, value_brings, value_of};
 ghost use Rattle.gform.specs.Reading.{after, at_end, at_kept, at_row, at_text, brings_at, brings_in, found_brings, has_room, in_section, is_kept_at, is_named, outcome_at, start, verdict_of};
 ghost use Rattle.gform.specs.Sections.{other_why};
 ghost use Rattle.gform.specs.Views.{found_in, section_in, value_in};
@@ -11,27 +12,26 @@ ghost use Rattle.gform.specs.Views.{found_in, section_in, value_in};
 use crate::fields::Fields;
 use crate::form::Form;
 use crate::found::{Found, find_row};
-use crate::limits::Limits;
+use crate::limits::max_lines;
 use crate::section::{End, Other, Section};
 use crate::table::Table;
 use crate::value::{Value, value_of};
 use ggrammar::laws::grammars_are_exact;
-use ggrammar::{Message, PeerText, Step, Why, after_word, capability_of, is_key, peer_error};
+use ggrammar::{Limits, Message, PeerText, Step, Why, after_word, capability_of, is_key, peer_error};
 use gname::Format;
 use gpkt::{Packet, text_of};
 use std::alloc::Allocator;
 use std::marker::{Model, PhantomData};
-
-/// The most texts that are counted together.
-const MAX_TEXTS: u32 = 4_294_967_295;
 
 /// A message that is being read.
 #[derive(Drop)]
 pub struct TableReader<T: Table, A: Allocator + Copy> {
     format: Format,
     limits: Limits,
+    // The index of the section.
     place: usize,
-    count: u32,
+    // The number of lines.
+    count: usize,
     fields: Fields<A>,
     table: PhantomData<T>,
 }
@@ -50,7 +50,7 @@ impl<T: Table, A: Allocator + Copy> Model for TableReader<T, A> {
 impl<T: Table, A: Allocator + Copy> TableReader<T, A> {
     ghost use Rattle.gform.specs.Reading.{Reading};
 
-    /// A message without packets.
+    /// Returns a reader that has not read any packet yet.
     pub fn new(alloc: A, format: Format, limits: Limits) -> TableReader<T, A>
         ensures { result ≡ record {
           given = record { format = format; limits = limits };
@@ -67,7 +67,7 @@ impl<T: Table, A: Allocator + Copy> TableReader<T, A> {
         }
     }
 
-    /// Its fields, once the last packet is taken.
+    /// Returns the fields of the message that the accepted packets encode.
     pub fn finish(self) -> Fields<A>
         ensures { result ≡ self.state.fields }
     {
@@ -108,7 +108,7 @@ impl<T: Table, A: Allocator + Copy> TableReader<T, A> {
         }
     }
 
-    // Takes a packet without a text.
+    // Accepts a flush or a delimiter with this effect.
     fn take_end(&mut self, section: &Section<T>, end: End) -> Result<Step, Why>
         ensures takes { let outcome = at_end self.old.given (section_in T.number section.now)
             self.old.state end in
@@ -127,7 +127,7 @@ impl<T: Table, A: Allocator + Copy> TableReader<T, A> {
         }
     }
 
-    // Whether the object format was named, where it must be.
+    // Returns whether the message has named the object format, or need not name it.
     fn is_named(&self, needs: Option<T>) -> bool
         ensures { result ≡ is_named self.now.given.format self.now.state
             (option_map T.number needs) }
@@ -151,7 +151,7 @@ impl<T: Table, A: Allocator + Copy> TableReader<T, A> {
         }
     }
 
-    // Takes a text that has a row.
+    // Accepts a text that has a row.
     fn take_row(&mut self, found: &Found<'_>) -> Result<Step, Why>
         ensures takes { let outcome = at_row self.old.given self.old.state
             (found_in found.now).0 found.now.rest.now in
@@ -169,14 +169,14 @@ impl<T: Table, A: Allocator + Copy> TableReader<T, A> {
         }
     }
 
-    // Whether a text came already that comes once.
+    // Returns whether a text of this form and field is a forbidden repetition.
     fn has_come(&self, form: Form, field: usize) -> bool
         ensures { result ≡ (is_once form && is_kept_at (slice_get self.now.state.fields field)) }
     {
         form.is_once() && self.fields.is_kept(field)
     }
 
-    // Keeps a value of a text in its field.
+    // Adds the value of a text to its field.
     fn take_value(&mut self, form: Form, field: usize, value: &Value<'_>) -> Result<Step, Why>
         ensures takes { let outcome = at_kept self.old.given self.old.state form field
             (value_in value.now) (slice_get self.old.state.fields field) in
@@ -187,7 +187,7 @@ impl<T: Table, A: Allocator + Copy> TableReader<T, A> {
         let Some(kept) = self.fields.count(field) else {
             return Err(Why::Limit);
         };
-        if !has_room(form, self.count, kept, form.limit_in(&self.limits)) {
+        if !has_room(self.limits, form, self.count, kept) {
             return Err(Why::Limit);
         }
         if self.fields.keep(field, value).is_err() {
@@ -199,14 +199,17 @@ impl<T: Table, A: Allocator + Copy> TableReader<T, A> {
     }
 }
 
-// Whether a text is taken after so many that were counted, where its field keeps so many of so many.
-fn has_room(form: Form, count: u32, kept: usize, limit: usize) -> bool
-    ensures { result ≡ has_room form count kept limit }
+// Returns whether there is room for a text of this form after `count` lines, if its field has
+// `kept` values.
+fn has_room(limits: Limits, form: Form, count: usize, kept: usize) -> bool
+    ensures room { result ≡ has_room limits form count kept }
+    ensures few { result ≡ true → is_counted form ≡ true → count < most_lines }
 {
-    (!form.is_counted() || count < MAX_TEXTS) && (!form.is_listed() || kept < limit)
+    (!form.is_counted() || count < max_lines(limits))
+        && (!form.is_listed() || kept < form.limit_in(limits))
 }
 
-// The section at a place.
+// Returns the section with the index `place`, if it exists.
 fn section_at<T: Table>(sections: &[Section<T>], place: usize) -> Option<&Section<T>>
     ensures { option_map (λ section. section_in T.number section.now) result
         ≡ slice_get (map (section_in T.number) sections.now) place }
@@ -218,7 +221,7 @@ fn section_at<T: Table>(sections: &[Section<T>], place: usize) -> Option<&Sectio
     }
 }
 
-// Why a text without a row is refused.
+// Returns the reason to reject a text that has no row.
 fn other_why(other: Other, text: &[u8]) -> Why
     ensures { result ≡ other_why other text.now }
 {

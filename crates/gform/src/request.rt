@@ -7,7 +7,7 @@ ghost use Rattle.gform.specs.Writing.{IsShort, kept_at};
 
 use crate::fields::Fields;
 use crate::form::Form;
-use crate::limits::{Limit, Limits};
+use crate::limits::Limit;
 use crate::section::{End, Other, Row, Section};
 use crate::table::Table;
 use crate::write::{Command, write_command};
@@ -16,7 +16,7 @@ use gname::Format;
 use gpkt::{PacketWriter, Sink, WriteFault};
 use std::alloc::Allocator;
 
-/// The fields of a request.
+/// A field of a request.
 #[derive(Clone, Copy, Debug, PartialEq, Eq)]
 pub enum RequestField {
     LsRefs,
@@ -36,23 +36,16 @@ pub enum RequestField {
     Done,
 }
 
-/// What a request is.
+/// The kind of a request.
 #[derive(Clone, Copy, Debug, PartialEq, Eq)]
 pub enum RequestKind {
-    /// No command: a lone flush, which ends the conversation.
+    /// A flush without a command, which ends the conversation.
     Empty,
-    /// Asks for refs.
+    /// A request for refs.
     LsRefs,
-    /// Asks for objects.
+    /// A request for objects.
     Fetch,
 }
-
-/// How much of a request is taken unless a program chooses other limits.
-pub const REQUEST_LIMITS: Limits = Limits {
-    prefixes: 64,
-    wants: 1_024,
-    haves: 4_096,
-};
 
 const COMMANDS: &[Row<RequestField>] = &[
     ("command=ls-refs", Form::Goes(1), RequestField::LsRefs),
@@ -160,7 +153,7 @@ impl Table for RequestField {
     }
 }
 
-/// The kind of request that has these fields.
+/// Returns the kind of a request with these fields.
 pub fn kind_of<A: Allocator + Copy>(fields: &Fields<A>) -> RequestKind
     ensures { result ≡ kind_of fields.now }
 {
@@ -173,10 +166,9 @@ pub fn kind_of<A: Allocator + Copy>(fields: &Fields<A>) -> RequestKind
     }
 }
 
-/// Writes a request with these fields: its command, a capability and an argument for each value, in the order of
-/// the table, and the flush that ends it.
-///
-/// A beginning of the request may be written if the call fails.
+/// Writes a request with these fields: the command, a capability or an argument for each value, in
+/// the order of the table, and the flush that ends the request. If the call fails, it may have
+/// written a prefix of the request.
 pub fn write_fields<A: Allocator + Copy, W: Sink>(
     format: Format,
     fields: &Fields<A>,

@@ -1,42 +1,43 @@
-//! Sections: rows, and what ends them.
+//! The sections of a message.
 
 use crate::form::Form;
 
-/// The effect of a packet without a text in a section.
+/// The effect of a flush or a delimiter in a section.
 #[derive(Clone, Copy, Debug, PartialEq, Eq)]
 pub enum End {
-    /// It ends the message.
+    /// The packet ends the message.
     Whole,
-    /// The message goes on in this section.
+    /// The section with this index follows the packet.
     Goes(usize),
-    /// It is refused.
+    /// The packet is rejected.
     Never,
 }
 
-/// Why a text that has no row is refused.
+/// The reason to reject a text that has no row.
 #[derive(Clone, Copy, Debug, PartialEq, Eq)]
 pub enum Other {
-    /// As an unknown argument.
+    /// The reason is `UnknownArgument`.
     Argument,
-    /// As an unknown capability where it is a capability, as a bad text where it is none.
+    /// The reason is `UnknownCapability` for a capability, and `BadText` for other texts.
     Capability,
-    /// As an unknown command where it is `command=` and a key, as a bad text where it is not.
+    /// The reason is `UnknownCommand` for `command=` followed by a key, and `BadText` for other
+    /// texts.
     Command,
 }
 
-/// A row: its word, the form of what follows, and the field that keeps it.
+/// A kind of text: its word, its form, and the field for its value.
 pub type Row<F> = (&'static str, Form, F);
 
 /// A section of a message.
 pub struct Section<F: 'static> {
-    /// Its texts, in the order in which they are written.
+    /// The rows of the section, in the order in which their texts are written.
     pub rows: &'static [Row<F>],
-    /// Why another text is refused.
+    /// The reason to reject a text that has no row.
     pub other: Other,
     /// The effect of a flush.
     pub flush: End,
     /// The effect of a delimiter.
     pub delim: End,
-    /// The field that must be kept before the section ends, where the format is not SHA-1.
+    /// The field that must be set before the section ends, if the object format is not SHA-1.
     pub needs: Option<F>,
 }

@@ -1,4 +1,4 @@
-//! Values that texts bring.
+//! The values in the texts of a message.
 
 ghost use Rattle.std.specs.Prelude.{◌≡◌, ◌≤◌, length, is_none, position};
 ghost use Rattle.gname.specs.Names.{prefix_fault, is_bad_byte};
@@ -9,18 +9,22 @@ use crate::form::Form;
 use ggrammar::{Why, id_of_text, is_value, is_word_value};
 use gname::{Format, MAX_NAME, Oid};
 
-/// A value, lent from its text.
+/// A value, borrowed from its text.
 #[derive(Clone, Copy, Debug, PartialEq, Eq)]
 pub enum Value<'a> {
-    /// That the text came.
+    /// The text occurred, and has no value that a field stores.
     Mark,
     AnId(Oid),
+    /// A well-formed prefix of ref names.
     APrefix(&'a [u8]),
+    /// A number below 10^18.
     ANumber(u64),
+    /// A value of 1 to 1,000 bytes from `!` to `~`.
     AWord(&'a [u8]),
 }
 
-/// The value that a text has in a form, or why it has none.
+/// Returns the value of this form that the rest of a text encodes. Fails with the reason to reject
+/// the text.
 pub(crate) fn value_of(format: Format, form: Form, rest: &[u8]) -> Result<Value<'_>, Why>
     ensures { value_result result ≡ value_of format form rest.now }
 {
@@ -45,7 +49,7 @@ pub(crate) fn value_of(format: Format, form: Form, rest: &[u8]) -> Result<Value<
     }
 }
 
-// Whether a text is a prefix of ref names.
+// Returns whether a text is a well-formed prefix of ref names.
 #[tactic(auto, unfolding(gname::specs::Names::prefix_fault, gname::specs::Names::too_long, gname::specs::Names::bad_byte))]
 fn is_prefix(text: &[u8]) -> bool
     ensures { result ≡ is_none (prefix_fault text.now) }
@@ -59,7 +63,7 @@ fn first_bad_byte(text: &[u8]) -> Option<usize>
     text.iter().position(|byte| is_bad_byte(*byte))
 }
 
-// Whether no ref name has a byte.
+// Returns whether the byte must not occur in a ref name.
 #[tactic(auto, unfolding(gname::specs::Names::is_bad_byte))]
 fn is_bad_byte(byte: u8) -> bool
     ensures { result ≡ is_bad_byte byte }
@@ -67,7 +71,7 @@ fn is_bad_byte(byte: u8) -> bool
     byte < 32 || byte == 127 || b" ~^:?*[\\".contains(&byte)
 }
 
-/// The number that 1 to 18 decimal digits spell.
+// Returns the number that 1 to 18 decimal digits encode, if the text consists of these.
 #[tactic(auto, unfolding(crate::specs::Rows::number_of))]
 fn number_of(text: &[u8]) -> Option<u64>
     ensures { result ≡ number_of text.now }

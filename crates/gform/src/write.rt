@@ -1,4 +1,4 @@
-//! Writing the rows of a section.
+//! Writing the texts of a section.
 
 ghost use Rattle.std.specs.Prelude.{◌≡◌, ◌≤◌, ◌++◌, ◌∷◌, [], IsTrue, length, map, ℕ};
 ghost use Rattle.gform.specs.Apart.{are_short};
@@ -19,14 +19,17 @@ use gname::{Format, MAX_ID_TEXT, Oid, Prefix};
 use gpkt::{PacketWriter, Sink, WriteFault};
 use std::alloc::Allocator;
 
-/// A command, with the rows of its capabilities and of its arguments.
+/// The texts of a command.
 pub struct Command<F: 'static> {
+    /// The row of the command's name.
     pub row: Row<F>,
+    /// The rows of the command's capabilities.
     pub capabilities: &'static [Row<F>],
+    /// The rows of the command's arguments.
     pub arguments: &'static [Row<F>],
 }
 
-/// What is written after a row's word where nothing but its coming is kept.
+/// Returns the text after a row's word, if the field only records that the text occurred.
 pub(crate) fn mark_print(format: Format, form: Form) -> &'static str
     ensures { result.now ≡ mark_print format form }
 {
@@ -36,7 +39,7 @@ pub(crate) fn mark_print(format: Format, form: Form) -> &'static str
     }
 }
 
-/// Writes a text packet of a word and what follows it.
+/// Writes a text packet with a word followed by `rest`.
 pub(crate) fn write_text<W: Sink>(
     word: &[u8],
     rest: &[u8],
@@ -52,7 +55,7 @@ pub(crate) fn write_text<W: Sink>(
     writer.text2(word, rest)
 }
 
-/// Writes a packet for each id, after a word.
+/// Writes a packet for each id: the word followed by the id.
 pub(crate) fn write_ids<W: Sink>(
     word: &[u8],
     ids: &[Oid],
@@ -80,7 +83,7 @@ fn write_id<W: Sink>(word: &[u8], id: &Oid, writer: &mut PacketWriter<W>) -> Res
     write_text(word, &text[..len], writer)
 }
 
-/// Writes a packet for each prefix, after a word.
+/// Writes a packet for each prefix: the word followed by the prefix.
 pub(crate) fn write_prefixes<A: Allocator + Copy, W: Sink>(
     word: &[u8],
     prefixes: &[Prefix<A>],
@@ -98,7 +101,8 @@ pub(crate) fn write_prefixes<A: Allocator + Copy, W: Sink>(
     Ok(())
 }
 
-/// Writes the packets of the rows of a section.
+/// Writes the packets for the rows of a section. If the call fails, it may have written a prefix of
+/// the packets.
 pub fn write_rows<T: Table, A: Allocator + Copy, W: Sink>(
     rows: &[Row<T>],
     format: Format,
@@ -118,7 +122,8 @@ pub fn write_rows<T: Table, A: Allocator + Copy, W: Sink>(
     Ok(())
 }
 
-/// Writes a command, its capabilities, a delimiter, its arguments and a flush.
+/// Writes the name of a command, its capabilities, a delimiter, its arguments and a flush. If the
+/// call fails, it may have written a prefix of the packets.
 pub fn write_command<T: Table, A: Allocator + Copy, W: Sink>(
     command: &Command<T>,
     format: Format,

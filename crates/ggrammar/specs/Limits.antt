@@ -3,4 +3,4 @@ use Rattle.ggrammar.specs.declared.limits.Limits.{Limits}
 
 -- the default limits
 abbrev pub profile : Limits
-profile = record { prefixes = 64; wants = 1024; haves = 4096 }
+profile = record { prefixes = 64; wants = 1024; haves = 4096; lines = 4294967295 }

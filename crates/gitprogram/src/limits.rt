@@ -14,6 +14,7 @@ pub(crate) const LIMITS: Limits = Limits {
     prefixes: 1_024,
     wants: 65_537,
     haves: 65_536,
+    lines: 4_294_967_295,
 };
 
 // The maximum number of connections with the limits `LIMITS`.

@@ -17,6 +17,7 @@ use Rattle.ggrammar.specs.Kinds.{CanonicalSays}
 use Rattle.ggrammar.specs.declared.limits.Limits.{Limits}
 use Rattle.ggrammar.specs.Texts.{text_packet}
 use Rattle.grequest.proofs.AskedLemmas.{same_asked, same_ls}
+use Rattle.grequest.proofs.LimitLemmas.{least_fit}
 use Rattle.grequest.proofs.Sections.{at_most_one}
 use Rattle.grequest.specs.declared.command.Command.{Command}
 use Rattle.grequest.specs.declared.command.Command.TheVariants.{LsRefs, Fetch}
@@ -56,7 +57,7 @@ command_parts format command agent packets texts e =
     ∙ ap (λ (xs : List Packet). Data (line_of (codes "command=" ++ command_name command)) ∷ xs) (sym (append_assoc (map Data words) (Delim ∷ map Data (map line_of texts)) (Flush ∷ [])))
 
 command_request : (limits : Limits) (format : Format) (command : Command) (agent : Option (List ℕ)) (packets : List Packet) (texts : List (List ℕ)) (asked : Asked) → packets ≡ map text_packet texts
-    → Capable format agent → All (IsArgument format command) texts → AreFew limits format command texts → length texts ≤ max_arguments
+    → Capable format agent → All (IsArgument format command) texts → AreFew limits format command texts → length texts ≤ max_arguments limits
     → asked ≡ asked_by_command format command (capability_words format agent) texts → IsCommandRequest limits format (command_packets format command agent packets) asked
 command_request limits format command agent packets texts asked e able are few room asks =
     let words = capability_words format agent in
@@ -107,7 +108,7 @@ ls_request limits format asked h =
     let able = capable format asked.agent h.agent in
     command_request limits format LsRefs asked.agent (ls_argument_packets asked) (ls_texts asked) (Ls asked) (ls_lines asked) able says.are
     (omega (arith, ap length says.prefixes, h.few))
-    (omega (arith, ls_count limits asked h.few))
+    (omega (arith, ls_count limits asked h.few, least_fit limits))
     (ap Ls (same_ls (sym (ap first_of able.named ∙ first_of_list asked.agent)) (sym says.flags) (sym says.prefixes)))
 
 fetch_request : AreSpelt → (limits : Limits) (format : Format) (asked : FetchAsked) → IsFetchAsked limits format asked → IsCommandRequest limits format (command_packets format Fetch asked.agent (fetch_argument_packets asked)) (Fetches asked)
@@ -117,7 +118,7 @@ fetch_request spelt limits format asked h =
     let have = haves_said spelt format asked h.haves in
     command_request limits format Fetch asked.agent (fetch_argument_packets asked) (fetch_texts asked) (Fetches asked) (fetch_lines asked) able (are_fetch spelt limits format asked h)
     (omega (arith, ap length want, h.few_wants), omega (arith, ap length have, h.few_haves))
-    (omega (arith, fetch_count limits asked h.few_wants h.few_haves))
+    (omega (arith, fetch_count limits asked h.few_wants h.few_haves, least_fit limits))
     (sym (ap Fetches (same_asked _ _ (ap first_of able.named ∙ first_of_list asked.agent) (want, have) (fetch_flags_said asked))))
 
 canonical_is_request : AreSpelt → (limits : Limits) (format : Format) (asked : Asked) → IsAsked limits format asked → IsRequest limits format (canonical_request format asked) asked

@@ -1,3 +1,4 @@
+pub mod LimitLemmas
 pub mod FlagLemmas
 pub mod AskedLemmas
 pub mod StateLemmas

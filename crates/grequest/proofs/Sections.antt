@@ -150,7 +150,7 @@ one_of (Some x) e = refl
 pub record AreArguments (limits : Limits) (format : Format) (command : Command) (lines : List (List ℕ)) : Type 0 where
   pub are : All (IsArgument format command) lines
   pub few : AreFew limits format command lines
-  pub room : length lines ≤ max_arguments
+  pub room : length lines ≤ max_arguments limits
 
 AreFew-nil : (limits : Limits) (format : Format) (command : Command) → AreFew limits format command []
 AreFew-nil limits format LsRefs = omega arith
@@ -168,42 +168,42 @@ room_for true e = refl
 room_for false e = cc
 
 -- an argument of a kind that has a maximum number
-module _ (test : Bool) (lines before : List (List ℕ)) (limit : ℕ) (why : Why) where
-  few_found : cond test (of_few (length lines) before limit) (Refused why) ≡ Open
-      → (test ≡ true) × (length lines < max_arguments) × (length before < limit)
+module _ (limits : Limits) (test : Bool) (lines before : List (List ℕ)) (limit : ℕ) (why : Why) where
+  few_found : cond test (of_few limits (length lines) before limit) (Refused why) ≡ Open
+      → (test ≡ true) × (length lines < max_arguments limits) × (length before < limit)
   few_found e =
-      let h = if_opens test (of_few (length lines) before limit) why e in
-      let rooms = and_parts (nat_lt (length lines) max_arguments) (nat_lt (length before) limit) (room_left _ h.1) in
-      (h.0, ltb-true (length lines) max_arguments rooms.0, ltb-true (length before) limit rooms.1)
+      let h = if_opens test (of_few limits (length lines) before limit) why e in
+      let rooms = and_parts (nat_lt (length lines) (max_arguments limits)) (nat_lt (length before) limit) (room_left _ h.1) in
+      (h.0, ltb-true (length lines) (max_arguments limits) rooms.0, ltb-true (length before) limit rooms.1)
 
-  few_taken : test ≡ true → length lines < max_arguments → length before < limit
-      → cond test (of_few (length lines) before limit) (Refused why) ≡ Open
+  few_taken : test ≡ true → length lines < max_arguments limits → length before < limit
+      → cond test (of_few limits (length lines) before limit) (Refused why) ≡ Open
   few_taken h room few =
-      opens_if test (of_few (length lines) before limit) why h
-      (room_for _ (and_from _ _ (lt-ltb (length lines) max_arguments room) (lt-ltb (length before) limit few)))
+      opens_if test (of_few limits (length lines) before limit) why h
+      (room_for _ (and_from _ _ (lt-ltb (length lines) (max_arguments limits) room) (lt-ltb (length before) limit few)))
 
 -- the facts about an accepted argument: it is well-formed, and there is room for it and for its kind
-record Found (kind : Type 0) (is : Type 0) (lines : List (List ℕ)) : Type 0 where
+record Found (limits : Limits) (kind : Type 0) (is : Type 0) (lines : List (List ℕ)) : Type 0 where
   form : is
-  room : length lines < max_arguments
+  room : length lines < max_arguments limits
   few : kind
 
 ls_found : (limits : Limits) (lines : List (List ℕ)) (form : LsArgument) → length (prefixes lines) ≤ max_prefixes limits
     → judge_ls_argument limits (length lines) (prefixes lines) form ≡ Open
-    → Found (length (prefixes lines) + length (option_to_list (prefix_value form)) ≤ max_prefixes limits) (IsLsArgument form) lines
-ls_found limits lines (KnownLsFlag flag) few e = record { form = tt; room = ltb-true (length lines) max_arguments (room_left _ e); few = omega (arith, few) }
+    → Found limits (length (prefixes lines) + length (option_to_list (prefix_value form)) ≤ max_prefixes limits) (IsLsArgument form) lines
+ls_found limits lines (KnownLsFlag flag) few e = record { form = tt; room = ltb-true (length lines) (max_arguments limits) (room_left _ e); few = omega (arith, few) }
 ls_found limits lines (RefPrefix prefix) few e =
-    let h = few_found (is_none (prefix_fault prefix)) lines (prefixes lines) (max_prefixes limits) BadName e in
+    let h = few_found limits (is_none (prefix_fault prefix)) lines (prefixes lines) (max_prefixes limits) BadName e in
     record { form = is_none-None (prefix_fault prefix) h.0; room = h.1; few = omega (arith, h.2) }
 ls_found limits lines UnknownLsArgument few e = absurd cc
 
 ls_taken : (limits : Limits) (lines : List (List ℕ)) (form : LsArgument) → IsLsArgument form
-    → length lines < max_arguments
+    → length lines < max_arguments limits
     → length (prefixes lines) + length (option_to_list (prefix_value form)) ≤ max_prefixes limits
     → judge_ls_argument limits (length lines) (prefixes lines) form ≡ Open
-ls_taken limits lines (KnownLsFlag flag) h room few = room_for (nat_lt (length lines) max_arguments) (lt-ltb (length lines) max_arguments room)
+ls_taken limits lines (KnownLsFlag flag) h room few = room_for (nat_lt (length lines) (max_arguments limits)) (lt-ltb (length lines) (max_arguments limits) room)
 ls_taken limits lines (RefPrefix prefix) h room few =
-    few_taken (is_none (prefix_fault prefix)) lines (prefixes lines) (max_prefixes limits) BadName (ap is_none h) room (omega (arith, few))
+    few_taken limits (is_none (prefix_fault prefix)) lines (prefixes lines) (max_prefixes limits) BadName (ap is_none h) room (omega (arith, few))
 ls_taken limits lines UnknownLsArgument h room few = absurd h
 
 -- after this argument, the numbers of wants and haves are within their limits
@@ -214,26 +214,26 @@ FewIds limits format lines form =
 
 fetch_found : (limits : Limits) (format : Format) (lines : List (List ℕ)) (form : FetchArgument) → length (wants format lines) ≤ max_wants limits → length (haves format lines) ≤ max_haves limits
     → judge_fetch_argument limits format (length lines) (wants format lines) (haves format lines) form ≡ Open
-    → Found (FewIds limits format lines form) (IsFetchArgument format form) lines
-fetch_found limits format lines (KnownFetchFlag flag) few many e = record { form = tt; room = ltb-true (length lines) max_arguments (room_left _ e); few = (omega (arith, few), omega (arith, many)) }
+    → Found limits (FewIds limits format lines form) (IsFetchArgument format form) lines
+fetch_found limits format lines (KnownFetchFlag flag) few many e = record { form = tt; room = ltb-true (length lines) (max_arguments limits) (room_left _ e); few = (omega (arith, few), omega (arith, many)) }
 fetch_found limits format lines (Want id) few many e =
-    let h = few_found (is_some (id_of_text format id)) lines (wants format lines) (max_wants limits) BadId e in
+    let h = few_found limits (is_some (id_of_text format id)) lines (wants format lines) (max_wants limits) BadId e in
     let one = at_most_one (id_of_text format id) in
     record { form = h.0; room = h.1; few = (omega (arith, one, h.2), omega (arith, many)) }
 fetch_found limits format lines (Have id) few many e =
-    let h = few_found (is_some (id_of_text format id)) lines (haves format lines) (max_haves limits) BadId e in
+    let h = few_found limits (is_some (id_of_text format id)) lines (haves format lines) (max_haves limits) BadId e in
     let one = at_most_one (id_of_text format id) in
     record { form = h.0; room = h.1; few = (omega (arith, few), omega (arith, one, h.2)) }
 fetch_found limits format lines UnknownFetchArgument few many e = absurd cc
 
-fetch_taken : (limits : Limits) (format : Format) (lines : List (List ℕ)) (form : FetchArgument) → IsFetchArgument format form → length lines < max_arguments → FewIds limits format lines form
+fetch_taken : (limits : Limits) (format : Format) (lines : List (List ℕ)) (form : FetchArgument) → IsFetchArgument format form → length lines < max_arguments limits → FewIds limits format lines form
     → judge_fetch_argument limits format (length lines) (wants format lines) (haves format lines) form ≡ Open
-fetch_taken limits format lines (KnownFetchFlag flag) h room few = room_for (nat_lt (length lines) max_arguments) (lt-ltb (length lines) max_arguments room)
+fetch_taken limits format lines (KnownFetchFlag flag) h room few = room_for (nat_lt (length lines) (max_arguments limits)) (lt-ltb (length lines) (max_arguments limits) room)
 fetch_taken limits format lines (Want id) h room few =
-    few_taken (is_some (id_of_text format id)) lines (wants format lines) (max_wants limits) BadId h room
+    few_taken limits (is_some (id_of_text format id)) lines (wants format lines) (max_wants limits) BadId h room
     (omega (arith, few.0, one_of (id_of_text format id) h))
 fetch_taken limits format lines (Have id) h room few =
-    few_taken (is_some (id_of_text format id)) lines (haves format lines) (max_haves limits) BadId h room
+    few_taken limits (is_some (id_of_text format id)) lines (haves format lines) (max_haves limits) BadId h room
     (omega (arith, few.1, one_of (id_of_text format id) h))
 fetch_taken limits format lines UnknownFetchArgument h room few = absurd h
 
@@ -263,7 +263,7 @@ AreArguments-parts limits format LsRefs capabilities lines line h =
     let parts = All-parts (IsArgument format LsRefs) lines line h.are in
     let count = count_push ls_argument prefix_value lines line _ refl in
     let few = h.few in
-    let room : length lines < max_arguments = omega (arith, length_push lines line, h.room) in (
+    let room : length lines < max_arguments limits = omega (arith, length_push lines line, h.room) in (
       record { are = parts.0; few = omega (arith, count, few); room = omega (arith, room) },
       ls_taken limits lines (ls_argument line) parts.1 room (omega (arith, count, few)),
     )
@@ -272,7 +272,7 @@ AreArguments-parts limits format Fetch capabilities lines line h =
     let want = count_push fetch_argument (want_value format) lines line _ refl in
     let have = count_push fetch_argument (have_value format) lines line _ refl in
     let few = h.few in
-    let room : length lines < max_arguments = omega (arith, length_push lines line, h.room) in (
+    let room : length lines < max_arguments limits = omega (arith, length_push lines line, h.room) in (
       record { are = parts.0; few = (omega (arith, want, few.0), omega (arith, have, few.1)); room = omega (arith, room) },
       fetch_taken limits format lines (fetch_argument line) parts.1 room (omega (arith, want, few.0), omega (arith, have, few.1)),
     )

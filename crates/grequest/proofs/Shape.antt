@@ -270,7 +270,7 @@ arguing-is_open laws limits format command first capabilities arguments is are n
 
 -- an open request has at most a command, two capabilities, a delimiter, and the maximum number of arguments
 bounded : (limits : Limits) (format : Format) (front : List Packet) → Shape limits format front
-    → length front ≤ max_arguments + 4
+    → length front ≤ max_arguments limits + 4
 bounded limits format front (inl e) = let none : length front ≡ 0 = ap length e in omega arith
 bounded limits format front (inr (inl h)) =
     let long : length front ≡ suc (length h.capabilities) = ap length h.parts ∙ ap suc (length-map h.capabilities Data) in
@@ -282,6 +282,6 @@ bounded limits format front (inr (inr h)) =
     let few = h.are_arguments.room in
     omega (arith, few_capabilities format (map text h.capabilities) h.are_capabilities, length-map h.capabilities text, length-map h.arguments text)
 
-pub open_is_bounded : ((j : Judge) → LawsOf j) → (limits : Limits) (format : Format) (front : List Packet) → IsOpen (judge limits format) front → length front ≤ max_arguments + 4
+pub open_is_bounded : ((j : Judge) → LawsOf j) → (limits : Limits) (format : Format) (front : List Packet) → IsOpen (judge limits format) front → length front ≤ max_arguments limits + 4
 open_is_bounded laws limits format front opened =
     bounded limits format front (shape_of_open laws limits format front opened)

@@ -64,25 +64,25 @@ of_capability format state (ObjectFormat value) =
     (by_test (is_word (format_name format) value) Open (Refused WrongFormat) tt tt) tt
 of_capability format state _ = tt
 
-of_few_fits : (test : Bool) (arguments : ℕ) (before : List (List ℕ)) (limit : ℕ) (verdict : Verdict) → IsForText verdict
-    → IsForText (cond test (of_few arguments before limit) verdict)
-of_few_fits test arguments before limit verdict h =
-    by_test test (of_few arguments before limit) verdict (by_room (has_room arguments && nat_lt (length before) limit)) h
+of_few_fits : (limits : Limits) (test : Bool) (arguments : ℕ) (before : List (List ℕ)) (limit : ℕ) (verdict : Verdict) → IsForText verdict
+    → IsForText (cond test (of_few limits arguments before limit) verdict)
+of_few_fits limits test arguments before limit verdict h =
+    by_test test (of_few limits arguments before limit) verdict (by_room (has_room limits arguments && nat_lt (length before) limit)) h
 
 of_ls_argument : (limits : Limits) (arguments : ℕ) (prefixes : List (List ℕ)) (argument : LsArgument) → IsForText (judge_ls_argument limits arguments prefixes argument)
-of_ls_argument limits arguments prefixes (KnownLsFlag flag) = by_room (has_room arguments)
+of_ls_argument limits arguments prefixes (KnownLsFlag flag) = by_room (has_room limits arguments)
 of_ls_argument limits arguments prefixes (RefPrefix prefix) =
-    of_few_fits (is_none (prefix_fault prefix)) arguments prefixes (max_prefixes limits) (Refused BadName) tt
+    of_few_fits limits (is_none (prefix_fault prefix)) arguments prefixes (max_prefixes limits) (Refused BadName) tt
 of_ls_argument limits arguments prefixes UnknownLsArgument = tt
 
 of_fetch_argument : (limits : Limits) (format : Format) (arguments : ℕ) (wants haves : List (List ℕ))
     (argument : FetchArgument)
     → IsForText (judge_fetch_argument limits format arguments wants haves argument)
-of_fetch_argument limits format arguments wants haves (KnownFetchFlag flag) = by_room (has_room arguments)
+of_fetch_argument limits format arguments wants haves (KnownFetchFlag flag) = by_room (has_room limits arguments)
 of_fetch_argument limits format arguments wants haves (Want id) =
-    of_few_fits (is_some (id_of_text format id)) arguments wants (max_wants limits) (Refused BadId) tt
+    of_few_fits limits (is_some (id_of_text format id)) arguments wants (max_wants limits) (Refused BadId) tt
 of_fetch_argument limits format arguments wants haves (Have id) =
-    of_few_fits (is_some (id_of_text format id)) arguments haves (max_haves limits) (Refused BadId) tt
+    of_few_fits limits (is_some (id_of_text format id)) arguments haves (max_haves limits) (Refused BadId) tt
 of_fetch_argument limits format arguments wants haves UnknownFetchArgument = tt
 
 pub of_text : (limits : Limits) (format : Format) (place : RequestPlace) (state : State) (line : List ℕ) → IsForText (judge_text limits format place state line)

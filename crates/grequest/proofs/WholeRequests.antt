@@ -18,8 +18,11 @@ use Rattle.grequest.specs.Requests.{State, state_of, judge_capability, judge_at,
 use Rattle.grequest.specs.steps.RequestState.{with_capability, with_packet}
 use Rattle.grequest.proofs.StateLemmas.{state_at, state_of-open, state_of-whole}
 use Rattle.grequest.proofs.Verdicts.{at_one, open-text, judge-flush, named-taken, unless-named, names_format, ends-flush}
+use Rattle.grequest.proofs.LimitLemmas.{max_fits}
 use Rattle.grequest.proofs.Shape.{IsListed, Shape, shape_of_open, listed_state, argued_state, open_is_bounded, listing}
+use Rattle.grequest.proofs.LimitLemmas.{max_fits}
 use Rattle.grequest.proofs.Shape.{arguing, IsArgued, state_of-listing, state_of-arguing, listing-is_open}
+use Rattle.grequest.proofs.LimitLemmas.{max_fits}
 use Rattle.grequest.proofs.Shape.{arguing-is_open}
 use Rattle.std.proofs.lemmas.List.{length-map}
 use Rattle.grequest.specs.Asked.{Asked}
@@ -98,7 +101,7 @@ HasEndings-judge laws limits format front opened = ends_by_shape laws limits for
 -- ---- the number of packets
 
 pub open_is_short : ((j : Judge) → LawsOf j) → (limits : Limits) (format : Format) (front : List Packet) → IsOpen (judge limits format) front → length front < 2 ^ 60
-open_is_short laws limits format front opened = omega (arith, open_is_bounded laws limits format front opened)
+open_is_short laws limits format front opened = omega (arith, open_is_bounded laws limits format front opened, max_fits limits)
 
 -- ---- the flush at the end
 

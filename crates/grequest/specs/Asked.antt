@@ -1,5 +1,5 @@
 -- The contents of requests (gitprotocol-v2(5), "Command Request", "ls-refs", "fetch").
-use Rattle.std.specs.Prelude.{ℕ, Bool, ◌==◌, ◌||◌, List, length, min, Option}
+use Rattle.std.specs.Prelude.{ℕ, ◌+◌, Bool, ◌==◌, ◌||◌, List, length, max, min, Option}
 use denote.Enum.Bare.{sameb}
 use denote.Enum.Declared.{tag_of}
 use Rattle.gname.specs.Ids.{Id}
@@ -69,10 +69,6 @@ is_direct asked = fetch_has asked Done || length asked.haves == 0
 
 -- ---- limits
 
--- the maximum number of arguments of a request
-abbrev pub max_arguments : ℕ
-max_arguments = 4294967295
-
 -- the maximum length of each list of a request, even with higher limits, so that all values fit into one request
 abbrev pub max_listed : ℕ
 max_listed = 1073741824
@@ -86,3 +82,15 @@ max_wants limits = min limits.wants max_listed
 
 abbrev pub max_haves : Limits → ℕ
 max_haves limits = min limits.haves max_listed
+
+-- the maximum number of arguments of a request, even with a higher limit
+abbrev pub most_arguments : ℕ
+most_arguments = 4294967295
+
+-- the number of arguments that always have room: a value of each kind up to its limit, and 32 flags
+abbrev pub least_arguments : Limits → ℕ
+least_arguments limits = max_prefixes limits + max_wants limits + max_haves limits + 32
+
+-- the maximum number of arguments of a request with these limits
+abbrev pub max_arguments : Limits → ℕ
+max_arguments limits = min (max limits.lines (least_arguments limits)) most_arguments

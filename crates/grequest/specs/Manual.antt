@@ -77,7 +77,7 @@ pub record IsCommandRequest (limits : Limits) (format : Format) (lines : List Pa
   pub one_agent : length (agents (map text capabilities)) ≤ 1
   pub one_format : NamesFormat format (map text capabilities)
   pub few : AreFew limits format command (map text arguments)
-  pub few_arguments : length arguments ≤ max_arguments
+  pub few_arguments : length arguments ≤ max_arguments limits
   pub asks : asked ≡ asked_by_command format command (map text capabilities) (map text arguments)
 
 -- the packets encode a request with these contents

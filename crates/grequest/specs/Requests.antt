@@ -75,30 +75,30 @@ judge_capability format state (ObjectFormat value) =
 judge_capability format state UnknownCapability = Refused why.UnknownCapability
 judge_capability format state BadCapability = Refused why.BadText
 
--- whether a request with this number of arguments has room for another argument
-abbrev pub has_room : ℕ → Bool
-has_room arguments = nat_lt arguments max_arguments
+-- whether a request with these limits and this number of arguments has room for another argument
+abbrev pub has_room : Limits → ℕ → Bool
+has_room limits arguments = nat_lt arguments (max_arguments limits)
 
--- the verdict on a well-formed argument, given the number of earlier arguments, the earlier values of the same kind,
--- and their maximum number
-abbrev pub of_few : ℕ → List (List ℕ) → ℕ → Verdict
-of_few arguments before limit = if_room (has_room arguments && nat_lt (length before) limit)
+-- the verdict on a well-formed argument, given the limits, the number of earlier arguments, the earlier values of the
+-- same kind, and their maximum number
+abbrev pub of_few : Limits → ℕ → List (List ℕ) → ℕ → Verdict
+of_few limits arguments before limit = if_room (has_room limits arguments && nat_lt (length before) limit)
 
 -- the verdict on an argument of ls-refs, given the number of arguments and the prefixes before it
 abbrev pub judge_ls_argument : Limits → ℕ → List Bytes → LsArgument → Verdict
 judge_ls_argument limits arguments prefixes (RefPrefix prefix) =
-    if is_none (prefix_fault prefix) then of_few arguments prefixes (max_prefixes limits) else Refused why.BadName
+    if is_none (prefix_fault prefix) then of_few limits arguments prefixes (max_prefixes limits) else Refused why.BadName
 judge_ls_argument limits arguments prefixes UnknownLsArgument = Refused why.UnknownArgument
-judge_ls_argument limits arguments prefixes _ = if_room (has_room arguments)
+judge_ls_argument limits arguments prefixes _ = if_room (has_room limits arguments)
 
 -- the verdict on an argument of fetch, given the number of arguments and the wants and haves before it
 abbrev pub judge_fetch_argument : Limits → Format → ℕ → List Id → List Id → FetchArgument → Verdict
 judge_fetch_argument limits format arguments wants haves (Want id) =
-    if is_some (id_of_text format id) then of_few arguments wants (max_wants limits) else Refused why.BadId
+    if is_some (id_of_text format id) then of_few limits arguments wants (max_wants limits) else Refused why.BadId
 judge_fetch_argument limits format arguments wants haves (Have id) =
-    if is_some (id_of_text format id) then of_few arguments haves (max_haves limits) else Refused why.BadId
+    if is_some (id_of_text format id) then of_few limits arguments haves (max_haves limits) else Refused why.BadId
 judge_fetch_argument limits format arguments wants haves UnknownFetchArgument = Refused why.UnknownArgument
-judge_fetch_argument limits format arguments wants haves _ = if_room (has_room arguments)
+judge_fetch_argument limits format arguments wants haves _ = if_room (has_room limits arguments)
 
 abbrev pub judge_argument : Limits → Format → Command → State → Bytes → Verdict
 judge_argument limits format LsRefs state line =

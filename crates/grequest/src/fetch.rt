@@ -11,7 +11,7 @@ ghost use Rattle.ggrammar.specs.MessageReading.{AddsAs};
 ghost use Rattle.grequest.specs.declared.flag.FetchFlag.TheVariants.{Done};
 ghost use Rattle.grequest.specs.Flags.{flags_at};
 ghost use Rattle.grequest.specs.Arguments.{Have, Want, fetch_argument, fetch_flags};
-ghost use Rattle.grequest.specs.Asked.{Fetches, fetch_has, fetch_number, fetch_with, is_direct, max_wants, max_haves, max_arguments};
+ghost use Rattle.grequest.specs.Asked.{Fetches, fetch_has, fetch_number, fetch_with, is_direct, max_wants, max_haves, most_arguments};
 ghost use Rattle.grequest.specs.steps.Building.{HaveSameIds, IsWithin, KeepsAs};
 ghost use Rattle.grequest.specs.Building.{no_fetch};
 ghost use Rattle.grequest.specs.Requests.{fetch_argument_brings, has_room, judge_fetch_argument};
@@ -20,10 +20,9 @@ ghost use Rattle.grequest.specs.WellFormed.{IsFetchAsked};
 
 use crate::flag::{FETCH_FLAGS, FetchFlag, Flag, MAX_FLAGS, are_same_flags};
 use crate::kept::NotKept;
-use crate::limits::{max_haves, max_wants};
+use crate::limits::{has_room, max_haves, max_wants};
 use crate::line::{FetchArgument, fetch_argument};
 use crate::parts::{are_same_ids, copy_agent, is_same_agent};
-use crate::reading::MAX_ARGUMENTS;
 use ggrammar::{Limits, MessageFault, Why, id_of_text, is_word_value};
 use gname::laws::texts_have_one_reading;
 use gname::{Format, Oid};
@@ -298,7 +297,7 @@ impl<A: Allocator + Copy> FetchRequest<A> {
     }
 
     // Adds the argument that `text` encodes to a request with `arguments` earlier arguments.
-    pub(crate) fn take_argument(&mut self, arguments: u32, text: &[u8]) -> Result<(), Why>
+    pub(crate) fn take_argument(&mut self, arguments: usize, text: &[u8]) -> Result<(), Why>
         ensures adds { AddsAs (judge_fetch_argument self.old.limits self.old.format arguments
             self.old.asked.wants self.old.asked.haves (fetch_argument text.now))
             (fetch_argument_brings (fetch_argument text.now))
@@ -306,7 +305,7 @@ impl<A: Allocator + Copy> FetchRequest<A> {
               asked = with_fetch_argument self.old.format
                   self.old.asked (fetch_argument text.now);
             }) result }
-        ensures room { OnOk result (arguments < max_arguments) }
+        ensures room { OnOk result (arguments < most_arguments) }
         ensures format { self.new.format ≡ self.old.format }
         ensures limits { self.new.limits ≡ self.old.limits }
     {
@@ -314,7 +313,7 @@ impl<A: Allocator + Copy> FetchRequest<A> {
             FetchArgument::Want(id) => self.take_want(arguments, id),
             FetchArgument::Have(id) => self.take_have(arguments, id),
             FetchArgument::Unknown => Err(Why::UnknownArgument),
-            FetchArgument::Flag(_) if arguments >= MAX_ARGUMENTS => Err(Why::Limit),
+            FetchArgument::Flag(_) if !has_room(self.limits, arguments) => Err(Why::Limit),
             FetchArgument::Flag(flag) => {
                 self.set(flag, true);
                 Ok(())
@@ -322,36 +321,36 @@ impl<A: Allocator + Copy> FetchRequest<A> {
         }
     }
 
-    fn take_want(&mut self, arguments: u32, text: &[u8]) -> Result<(), Why>
+    fn take_want(&mut self, arguments: usize, text: &[u8]) -> Result<(), Why>
         ensures adds { AddsAs (judge_fetch_argument self.old.limits self.old.format arguments
             self.old.asked.wants self.old.asked.haves (Want text.now)) true
             (self.new ≡ record self.old {
               asked = with_fetch_argument self.old.format
                   self.old.asked (Want text.now);
             }) result }
-        ensures room { OnOk result (arguments < max_arguments) }
+        ensures room { OnOk result (arguments < most_arguments) }
         ensures format { self.new.format ≡ self.old.format }
         ensures limits { self.new.limits ≡ self.old.limits }
     {
-        let has_room = has_room(arguments, self.wants.len(), max_wants(self.limits));
+        let has_room = has_room_for(self.limits, arguments, self.wants.len(), max_wants(self.limits));
         let Some(id) = id_in(self.format, text) else {
             return Err(Why::BadId);
         };
         keep_id(self.format, &mut self.wants, has_room, id).map_err(|reason| reason.why(Why::BadId))
     }
 
-    fn take_have(&mut self, arguments: u32, text: &[u8]) -> Result<(), Why>
+    fn take_have(&mut self, arguments: usize, text: &[u8]) -> Result<(), Why>
         ensures adds { AddsAs (judge_fetch_argument self.old.limits self.old.format arguments
             self.old.asked.wants self.old.asked.haves (Have text.now)) true
             (self.new ≡ record self.old {
               asked = with_fetch_argument self.old.format
                   self.old.asked (Have text.now);
             }) result }
-        ensures room { OnOk result (arguments < max_arguments) }
+        ensures room { OnOk result (arguments < most_arguments) }
         ensures format { self.new.format ≡ self.old.format }
         ensures limits { self.new.limits ≡ self.old.limits }
     {
-        let has_room = has_room(arguments, self.haves.len(), max_haves(self.limits));
+        let has_room = has_room_for(self.limits, arguments, self.haves.len(), max_haves(self.limits));
         let Some(id) = id_in(self.format, text) else {
             return Err(Why::BadId);
         };
@@ -359,13 +358,14 @@ impl<A: Allocator + Copy> FetchRequest<A> {
     }
 }
 
-// Returns whether a request with `arguments` arguments has room for another argument, and a list
-// with `len` values has room for another value.
-fn has_room(arguments: u32, len: usize, limit: usize) -> bool
-    ensures room { result ≡ (has_room arguments && nat_lt len limit) }
+// Returns whether a request with these limits and `arguments` arguments has room for another
+// argument, and a list with `len` values has room for another value.
+fn has_room_for(limits: Limits, arguments: usize, len: usize, limit: usize) -> bool
+    ensures room { result ≡ (has_room limits arguments && nat_lt len limit) }
     ensures few { result ≡ true → len < limit }
+    ensures few_arguments { result ≡ true → arguments < most_arguments }
 {
-    arguments < MAX_ARGUMENTS && len < limit
+    has_room(limits, arguments) && len < limit
 }
 
 // Appends the id if it has this format and `has_room` is true.

@@ -13,8 +13,8 @@
 //! - A request to a SHA-256 repository must name the object format, and its ids have this format.
 //! - Every [`LsRefsRequest`] and every [`FetchRequest`] is well-formed and within its limits. `new`
 //!   gives the default limits of 64 prefixes, 1,024 wants and 4,096 haves. `within` takes other
-//!   limits. A limit above 2^30 counts as 2^30, so that all values fit into one request. A call
-//!   with a malformed value fails with `BadText`. Otherwise a call that would exceed a limit
+//!   limits. A limit on these values above 2^30 counts as 2^30, and the limit on arguments leaves
+//!   room for all values that the other limits allow. A call with a malformed value fails with `BadText`. Otherwise a call that would exceed a limit
 //!   fails with `Limit`, and a call that runs out of memory fails with `Memory`. Each fault reports
 //!   packet position 0, and the request is unchanged.
 //! - [`FetchRequest::is_direct`] returns whether the request has `done` or no haves. The reply to
@@ -69,7 +69,9 @@ mod write;
 
 pub use crate::fetch::FetchRequest;
 pub use crate::flag::{FetchFlag, LsRefsFlag};
-pub use crate::limits::{MAX_HAVES, MAX_PREFIXES, MAX_WANTS, max_haves, max_prefixes, max_wants};
+pub use crate::limits::{
+    MAX_HAVES, MAX_PREFIXES, MAX_WANTS, max_arguments, max_haves, max_prefixes, max_wants,
+};
 pub use crate::ls_refs::LsRefsRequest;
 pub use crate::read::{read_request, read_request_in, read_request_within};
 pub use crate::reading::RequestReader;

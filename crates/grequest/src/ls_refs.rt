@@ -9,7 +9,7 @@ ghost use Rattle.ggrammar.specs.Limits.{profile};
 ghost use Rattle.ggrammar.specs.MessageReading.{AddsAs};
 ghost use Rattle.grequest.specs.Flags.{flags_at};
 ghost use Rattle.grequest.specs.Arguments.{RefPrefix, ls_argument, ls_flags};
-ghost use Rattle.grequest.specs.Asked.{Ls, ls_has, ls_number, ls_with, max_prefixes, max_arguments};
+ghost use Rattle.grequest.specs.Asked.{Ls, ls_has, ls_number, ls_with, max_prefixes, most_arguments};
 ghost use Rattle.grequest.specs.steps.Building.{IsWithin, KeepsAs};
 ghost use Rattle.grequest.specs.Building.{no_ls_refs};
 ghost use Rattle.grequest.specs.Requests.{judge_ls_argument, ls_argument_brings};
@@ -18,10 +18,9 @@ ghost use Rattle.grequest.specs.WellFormed.{IsLsRefsAsked};
 
 use crate::flag::{Flag, LS_REFS_FLAGS, LsRefsFlag, MAX_FLAGS, are_same_flags};
 use crate::kept::NotKept;
-use crate::limits::max_prefixes;
+use crate::limits::{has_room, max_prefixes};
 use crate::line::{LsArgument, ls_argument};
 use crate::parts::{are_same_prefixes, copy_agent, copy_prefixes, is_same_agent};
-use crate::reading::MAX_ARGUMENTS;
 use ggrammar::{Limits, MessageFault, Why, is_word_value};
 use gname::laws::rules_never_report_memory;
 use gname::{NameFault, Prefix};
@@ -251,17 +250,17 @@ impl<A: Allocator + Copy> LsRefsRequest<A> {
     }
 
     // Adds the argument that `text` encodes to a request with `arguments` earlier arguments.
-    pub(crate) fn take_argument(&mut self, arguments: u32, text: &[u8]) -> Result<(), Why>
+    pub(crate) fn take_argument(&mut self, arguments: usize, text: &[u8]) -> Result<(), Why>
         ensures adds { AddsAs (judge_ls_argument self.old.limits arguments self.old.asked.prefixes
             (ls_argument text.now)) (ls_argument_brings (ls_argument text.now))
             (self.new ≡ record self.old {
               asked = with_ls_argument self.old.asked (ls_argument text.now);
             }) result }
-        ensures room { OnOk result (arguments < max_arguments) }
+        ensures room { OnOk result (arguments < most_arguments) }
         ensures limits { self.new.limits ≡ self.old.limits }
     {
         match ls_argument(text) {
-            LsArgument::Flag(_) if arguments >= MAX_ARGUMENTS => Err(Why::Limit),
+            LsArgument::Flag(_) if !has_room(self.limits, arguments) => Err(Why::Limit),
             LsArgument::Flag(flag) => {
                 self.set(flag, true);
                 Ok(())
@@ -271,16 +270,17 @@ impl<A: Allocator + Copy> LsRefsRequest<A> {
         }
     }
 
-    fn take_prefix(&mut self, arguments: u32, prefix: &[u8]) -> Result<(), Why>
+    fn take_prefix(&mut self, arguments: usize, prefix: &[u8]) -> Result<(), Why>
         ensures adds { AddsAs (judge_ls_argument self.old.limits arguments self.old.asked.prefixes
             (RefPrefix prefix.now)) true
             (self.new ≡ record self.old {
               asked = with_ls_argument self.old.asked (RefPrefix prefix.now);
             }) result }
-        ensures room { OnOk result (arguments < max_arguments) }
+        ensures room { OnOk result (arguments < most_arguments) }
         ensures limits { self.new.limits ≡ self.old.limits }
     {
-        let has_room = arguments < MAX_ARGUMENTS && self.prefixes.len() < max_prefixes(self.limits);
+        let has_room =
+            has_room(self.limits, arguments) && self.prefixes.len() < max_prefixes(self.limits);
         self.keep_prefix(has_room, prefix)
             .map_err(|reason| reason.why(Why::BadName))
     }

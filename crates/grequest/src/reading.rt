@@ -25,9 +25,6 @@ use gpkt::{Packet, text_of};
 use std::alloc::Allocator;
 use std::marker::Model;
 
-/// The maximum number of arguments of a request.
-pub(crate) const MAX_ARGUMENTS: u32 = 4_294_967_295;
-
 /// A request that is being read.
 #[derive(Drop)]
 pub struct RequestReader<A: Allocator + Copy> {
@@ -38,7 +35,7 @@ pub struct RequestReader<A: Allocator + Copy> {
     // Whether the request has named the object format.
     names_format: bool,
     // The number of arguments read.
-    arguments: u32,
+    arguments: usize,
     request: Request<A>,
 }
 
