@@ -198,7 +198,8 @@ fn check_reach<A: Allocator + Copy>(
     }
 }
 
-// Returns the id to which the only id of the list peels. The result for any other list is `no`.
+// Returns the id to which the id in `ids` peels. If `ids` does not have exactly one id, the result
+// is `no`.
 fn peel_single_id<A: Allocator + Copy>(graph: &Graph<A>, ids: &[Oid]) -> SearchResult<A> {
     match ids {
         [id] => SearchResult::Id(graph.peel(id)),

@@ -213,7 +213,7 @@ impl Sink for Writer {
 // The error or result with which a std reader or writer fails.
 #[derive(Clone, Copy)]
 enum Failure {
-    // Errors after which users of std often retry, or which they mistake for the end of the input.
+    // Errors of kinds that callers often retry, or mistake for the end of the input.
     Interrupted,
     WouldBlock,
     UnexpectedEof,
@@ -222,8 +222,7 @@ enum Failure {
 }
 
 impl Failure {
-    // Returns the failure for these limits. The number of the failing call determines which of the
-    // four failures.
+    // Returns one of the four failures, which the number of the failing call determines.
     fn for_limits(limits: DeviceLimits) -> Failure {
         match limits.failing_call % 4 {
             0 => Failure::WritesZero,

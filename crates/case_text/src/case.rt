@@ -41,8 +41,9 @@ pub struct TranscriptEntry {
 /// A case of a test file.
 #[derive(Drop)]
 pub struct Case<'a> {
-    /// The name of the test file. The case begins in the line with the number `line_number`.
+    /// The name of the test file.
     pub file_name: &'a str,
+    /// The number of the line in which the case begins.
     pub line_number: usize,
     pub name: &'a str,
     /// The command lines, each of which runs one end of the conversation.
@@ -127,7 +128,8 @@ impl<'a> Case<'a> {
         Ok(true)
     }
 
-    // Reads a line about a launch of the program.
+    // Reads a line about a launch of the program. Returns `false` if the line is not about the
+    // launch, or if the case has no launch.
     fn read_launch_line(&mut self, keyword: &str, value: &'a str) -> Result<bool, Trouble> {
         let entry_count = self.transcript.len();
         match &mut self.launch {
@@ -137,10 +139,12 @@ impl<'a> Case<'a> {
     }
 }
 
-/// The expected result of one call, which runs on a text or on ids of a graph.
+/// The expected result of one function call, whose argument is a text or ids of a graph.
 #[derive(Drop)]
 pub struct Fact<'a> {
+    /// The name of the test file.
     pub file_name: &'a str,
+    /// The number of the fact's line.
     pub line_number: usize,
     pub kind: FactKind,
     /// The first word of the fact's line in the file.
@@ -148,7 +152,8 @@ pub struct Fact<'a> {
     pub format: Format,
     /// The name of the text block that holds the graph.
     pub graph_name: &'a str,
-    /// The expected result of the call. `text` is the argument of the call.
+    /// The expected result of the call.
     pub expected: Vec<u8>,
+    /// The argument of the call.
     pub text: Vec<u8>,
 }

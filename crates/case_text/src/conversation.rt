@@ -33,6 +33,7 @@ pub fn has_replies_without_response_end(case: &Case<'_>, has_hello: bool) -> boo
 /// The position of a packet in the input.
 #[derive(Clone, Copy)]
 pub struct PacketStart {
+    /// The offset in the input at which the packet begins.
     pub start: usize,
     /// The index of the packet in its message.
     pub frame: usize,
@@ -55,9 +56,9 @@ pub struct Conversation {
     frame: usize,
     output_before: usize,
     program: Program,
-    // The packets that end each reply. `adds_response_ends` states whether response-end packets are
-    // added to the replies of the case.
+    // The packets that end each reply.
     reply_ends: Ends,
+    // Whether response-end packets are added to the replies of the case.
     adds_response_ends: bool,
     // Whether the client has sent a request. If so, the server's next message is a reply.
     has_request: bool,
@@ -95,7 +96,8 @@ impl Conversation {
         Ok(conversation)
     }
 
-    /// Returns the packet of the input that begins at or contains `offset`.
+    /// Returns the last packet of the input that begins at or before `offset`, or `None` if there
+    /// is no such packet.
     pub fn packet_at(&self, offset: usize) -> Option<PacketStart> {
         let mut packet = None;
         for packet_start in self.packet_starts.as_slice() {

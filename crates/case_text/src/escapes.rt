@@ -133,7 +133,8 @@ fn add_braced(
     }
 }
 
-// Appends an id, an id of a wrong length, or the text with this name.
+// Appends the bytes that `inside` stands for: an id of one repeated digit, an id whose length is
+// wrong by the number after `+` or `-`, or the text with the name `inside`.
 fn add_id_or_text(
     texts: &[NamedText<'_>],
     inside: &[u8],
@@ -213,7 +214,7 @@ pub fn add_padded_number(
     Ok(())
 }
 
-// Splits the text at the first occurrence of `byte`.
+// Splits the text at the first occurrence of `byte`. Returns `None` if the text lacks `byte`.
 fn split_at_byte(text: &[u8], byte: u8) -> Option<(&[u8], &[u8])> {
     let mut parts = text.splitn(2, |other| *other == byte);
     let before = parts.next()?;

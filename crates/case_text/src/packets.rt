@@ -7,7 +7,7 @@ use std::alloc::Global;
 /// The maximum number of side-band bytes in one packet.
 const MAX_SIDE_BAND_BYTES: usize = 65_515;
 
-/// Returns the speaker and the bytes of a line with this keyword.
+/// Returns the speaker and the bytes of a line with this keyword, or `None` for an unknown keyword.
 pub(crate) fn read_entry(
     alloc: Global,
     keyword: &str,

@@ -7,11 +7,11 @@
 //! | `change 18 2-9 a-f = OUTCOME` | the byte at offset 18 becomes one of the listed bytes |
 //! | `change 18 other = OUTCOME` | the byte at offset 18 becomes any other byte |
 //!
-//! An outcome is `nothing`, `as it stands`, `use NAME` or `TEXT \| FAULT`. `nothing` means no
-//! reply. `as it stands` means the result of the unchanged request. `use NAME` means the messages
-//! of the talk `NAME`. In the last form, `TEXT` is the text of an error to the client, and `FAULT`
-//! is the printed line of the fault. In `TEXT` and `FAULT`, `{}` is replaced by the input bytes at
-//! the line's positions, in lower case.
+//! An outcome is `nothing`, `as it stands`, `use NAME`, or `TEXT` and `FAULT` separated by ` | `.
+//! `nothing` means no reply. `as it stands` means the result of the unchanged request. `use NAME`
+//! means the messages of the talk `NAME`. In the last form, `TEXT` is the text of an error to the
+//! client, and `FAULT` is the printed line of the fault. In `TEXT` and `FAULT`, `{}` is replaced by
+//! the input bytes at the line's positions, in lower case.
 
 use crate::escapes::{hex_value, parse_number};
 use crate::packets::packet;

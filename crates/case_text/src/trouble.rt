@@ -12,9 +12,9 @@ pub enum Trouble {
     OpenBrace,
     /// A line names a text or talk that does not exist.
     UnknownName,
-    /// A line of a row precedes the first row.
+    /// A line that belongs to a case precedes the first case.
     NoCurrentRow,
-    /// A row names no program.
+    /// A case names no program.
     RowWithoutProgram,
     /// The form of a line is unknown.
     UnknownLine,

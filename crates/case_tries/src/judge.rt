@@ -21,10 +21,10 @@ const PACK_FAILED_PACKET: &[u8] = b"0021ERR upload-pack: pack failed\n";
 
 const WRITE_FAULT_LINE: &[u8] = b"gitv2: fault 27 Io\n";
 
-/// The numbers of two out-of-memory faults. `LOAD_MEMORY_FAULT` may occur before a connection is
-/// served, and `PACK_MEMORY_FAULT` while a pack is created.
+/// The number of the out-of-memory fault that may occur before a connection is served.
 const LOAD_MEMORY_FAULT: usize = 64;
 
+/// The number of the out-of-memory fault that may occur while a pack is created.
 const PACK_MEMORY_FAULT: usize = 65;
 
 /// The numbers of the faults that a run may report after a refused allocation.
@@ -343,7 +343,8 @@ pub(crate) fn is_as_table_lists(
     Ok(false)
 }
 
-// Returns the output that is expected before the program reads the request.
+// Returns the output that is expected before the program reads the request, or `None` if the input
+// has no packets.
 fn output_before_request<'b>(row: &'b Row<'_>) -> Option<&'b [u8]> {
     let packet_start = row.conversation.packet_at(0)?;
     row.conversation

@@ -1,7 +1,7 @@
 //! Tests of one row on sources and sinks in memory, with checks of the results.
 //!
 //! A [`Row`] is a program with its input and its expected results. A [`RowTest`] tests the row with
-//! each [`Variation`].
+//! each [`Variation`]:
 //!
 //! - The input is unchanged, and is read at once or in pieces. The row also runs on std readers and
 //!   writers.

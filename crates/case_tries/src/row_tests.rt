@@ -1,5 +1,5 @@
-//! Tests of a row with each `Variation`. Most functions return the number of the first run that
-//! failed.
+//! Tests of a row with each `Variation`. A function with the result `Option<usize>` returns the
+//! number of the first run that failed, or `None` if no run failed.
 
 use crate::judge::{
     ByteChanges, InputStop, Row, is_as_expected, is_as_expected_after_failed_report,
@@ -62,8 +62,9 @@ struct RefusalProgress {
 pub struct RowTest<'a, 'b> {
     alloc: Global,
     row: &'a Row<'b>,
-    // The parameters of the runs.
+    // Whether the runs use std readers and writers.
     uses_std: bool,
+    // The packer or indexer of the runs, or `None` for `PlainPack`.
     pack_tool: Option<PackTool>,
     pub runs: u64,
     /// The printed bytes of the run that failed.
@@ -82,8 +83,8 @@ impl<'a, 'b> RowTest<'a, 'b> {
         }
     }
 
-    /// Tests the row with this variation, and returns the number of the first run that failed.
-    /// Variations that use sockets, launches of the program or late peers are not tested here.
+    /// Tests the row with this variation, and returns the number of the first run that failed, if
+    /// any. Variations that use sockets, launches of the program or late peers are not tested here.
     pub fn test_variation(&mut self, variation: Variation) -> Result<Option<usize>, Trouble> {
         match variation {
             Variation::WholeInput => self.test_whole_input(),
@@ -324,7 +325,7 @@ impl<'a, 'b> RowTest<'a, 'b> {
         fetch_into_row_file(self.alloc, self.row, parameters)
     }
 
-    // Stores the bytes printed by a run that failed.
+    // Stores the bytes printed by a run that failed, and returns the number of the run.
     fn record_wrong_fetch(
         &mut self,
         results: &StoredFetchResults,

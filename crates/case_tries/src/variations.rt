@@ -5,19 +5,25 @@
 pub enum Variation {
     WholeInput,
     InputInPieces,
+    /// The row runs on std readers and writers.
     StdDevices,
     Socket,
     LaunchedProgram,
+    /// The peer sends or accepts bytes late.
     LatePeer,
+    /// The calls to the indexer are checked.
     CheckedIndexer,
     FailingReads,
     FailingWrites,
+    /// A write of the report fails.
     FailingReports,
     FailingStderr,
     TruncatedInput,
     ChangedBytes,
+    /// The request is changed as the row's table lists.
     TableChanges,
     RefusedAllocations,
+    /// An operation on the client's file fails.
     FailingFile,
 }
 

@@ -29,15 +29,21 @@ const REFSPECS: [&str; 6] = [
     "refs/heads/x:refs/heads/x +refs/heads/main:refs/heads/y",
 ];
 
-// A step of a fetch session.
+// A step of a fetch session, which is an event of a scenario.
 #[derive(Clone, Copy)]
 enum SessionStep {
+    // The client begins a session.
     Begin,
+    // The session makes its next request.
     Ask,
+    // The server replies to the request at this index.
     Serve(usize),
+    // The client receives the whole reply at this index.
     Deliver(usize),
-    // The index of a reply, and the number of its bytes to deliver.
+    // The client receives only a part of a reply. The fields are the reply's index and the number
+    // of bytes to deliver.
     DeliverPart(usize, usize),
+    // The session updates the refs.
     Settle,
 }
 
@@ -97,7 +103,7 @@ impl EventGenerator {
         }
     }
 
-    // Appends the next step of the session, or sometimes a forged reply.
+    // Appends the next step of the session. Sometimes appends a forged reply instead.
     fn add_next_step(&mut self, line: &mut String) -> Result<(), AllocError> {
         match self.step {
             SessionStep::Serve(_) if self.dice.is_one_in(3) => self.add_forged_reply(line),
@@ -259,7 +265,8 @@ fn add_object_ids(alloc: Global, text: &[u8], ids: &mut Vec<String>) -> Result<(
     Ok(())
 }
 
-// If the line of a repository's text describes an object, returns the id of that object.
+// Returns the id of the object that a line of a repository's text describes, or `None` if the line
+// describes no object.
 fn object_id(line: &[u8]) -> Option<&str> {
     let line = std::str::from_utf8(line).ok()?;
     let mut words = line.split(' ');

@@ -45,6 +45,7 @@ const MAX_REFUSED_ALLOCATION: usize = 30;
 struct RandomRun<'b> {
     inputs: WorldInputs<'b>,
     seed: usize,
+    // The number of events to run.
     count: usize,
     // Whether an allocation is refused in some events.
     refuses_allocations: bool,
@@ -86,7 +87,8 @@ fn find_failure_with_refusals(
     }
 }
 
-// Runs the events with each faulty packer and indexer.
+// Runs the events with each faulty packer and indexer. Returns a description of the first failure,
+// if any.
 fn find_failure_with_faulty_tools(
     alloc: Global,
     random_run: RandomRun<'_>,
@@ -247,7 +249,8 @@ impl<A: Allocator + Copy> RandomEvents<'_, A> {
     }
 
     // Runs all events a second time, unless allocations are refused. Returns a description of the
-    // failure if the result differs, or if a required kind of outcome never occurred.
+    // failure if the result differs, or if a required kind of outcome never occurred. Returns
+    // `None` otherwise.
     fn check_after_events(
         &self,
         log: &str,
@@ -264,7 +267,8 @@ impl<A: Allocator + Copy> RandomEvents<'_, A> {
         }
     }
 
-    // Runs all events a second time. Returns the result if the result differs from `text`.
+    // Runs all events a second time. Returns the result of the second run if it differs from
+    // `text`, or `None` otherwise.
     fn difference_in_second_run(&self, text: &str, log: &str) -> Result<Option<String>, Trouble> {
         let inputs = WorldInputs {
             server_text: self.random_run.inputs.server_text,
@@ -325,8 +329,8 @@ fn run_events_with_refusal<A: Allocator + Copy>(
     Ok(())
 }
 
-// Returns the first kind of outcome that does not occur in `outcomes`. Rounds of acknowledgments
-// are required only if `requires_rounds` is set.
+// Returns the first kind of outcome that does not occur in `outcomes`, or `None` if all kinds
+// occur. Rounds of acknowledgments are required only if `requires_rounds` is set.
 fn first_missing_kind(outcomes: &[Outcome], requires_rounds: bool) -> Option<&'static str> {
     for kind in OUTCOME_KINDS {
         let is_required = requires_rounds || kind != ROUND;

@@ -1,6 +1,9 @@
 //! Tests of deadlines, on connections with a late peer and a simulated clock.
 //!
-//! The constants of this module repeat the deadlines of `gtcp`.
+//! The constants of this module repeat the deadlines of `gtcp`. A function with the result
+//! `Option<usize>` returns the index of the first late byte in the first failed run. The index is 0
+//! for a failed run with a faulty clock or with two silent clients. The result is `None` if no run
+//! failed.
 
 use crate::connection::{ConnectionRun, Endpoint, run_row_on_connections};
 use crate::late_peer::{ClockBehavior, LateConnection, LateListener, PeerBehavior, SimulatedClock};

@@ -44,11 +44,13 @@ pub struct Peer<'r> {
     conversation: &'r Conversation,
     peer_stream: TcpStream,
     pace: Pace,
-    // The number of bytes that the peer has sent, and the number that the program has read.
+    // The number of bytes that the peer has sent.
     sent_len: Cell<usize>,
+    // The number of bytes that the program has read.
     program_read_len: Cell<usize>,
-    // The number of bytes that the program has written, and the bytes that the peer has read.
+    // The number of bytes that the program has written.
     program_written_len: Cell<usize>,
+    // The bytes that the peer has read.
     received: RefCell<Vec<u8>>,
     // Whether the peer takes no more turns, because it has shut down writing or the stream of the
     // program is nonblocking.

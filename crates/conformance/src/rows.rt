@@ -149,7 +149,8 @@ fn make_row_for_command<'b>(
     })
 }
 
-// Returns the text that the client's file must have after a fetch, if the file changes.
+// Returns the text that the client's file must have after a fetch, or `None` if the file does not
+// change.
 fn expected_new_file<'b>(
     script: &'b Script<'b>,
     case: &Case<'b>,
@@ -229,7 +230,7 @@ fn test_row<R: System>(
     Ok(())
 }
 
-// Tests a row with one variation, and returns the number of the first run that failed.
+// Tests a row with one variation, and returns the number of the first run that failed, if any.
 fn test_variation<R: System>(
     rt: &R,
     run: CaseRun<'_>,

@@ -9,9 +9,9 @@ use gclient::{Repo, Spec, SpecFault};
 use ggraph::{Head, LoadFault, Order, Repository, load};
 use std::alloc::Allocator;
 
-/// Reads each word as a refspec (git-fetch(1), "<refspec>").
+/// Reads each argument as a refspec (git-fetch(1), "<refspec>").
 ///
-/// Fails with `Spec` if a word is not a refspec, or if out of memory.
+/// Fails with `Spec` if an argument is not a refspec, or if out of memory.
 pub fn read_specs<A: Allocator + Copy>(
     alloc: A,
     words: &[String<A>],

@@ -52,10 +52,10 @@
 //!
 //! # Only tested
 //!
-//! The cases of `conformance` test the exact bytes of whole runs. The cases also test that no call
-//! reports out of memory while enough memory is available, and that a source or a sink is not
-//! called again after a failure. The cases let each call read or write only one byte, and make each
-//! call fail in turn.
+//! The cases of `conformance` test the exact bytes of whole runs. The cases also test that no
+//! function reports out of memory while enough memory is available. Each source and sink transfers
+//! one byte per call, or fails at each of its calls in turn. No program may use a source or a sink
+//! again after it has failed.
 //!
 //! # What the contracts do not rule out
 //!

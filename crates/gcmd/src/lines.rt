@@ -99,7 +99,7 @@ fn show_each<A: Allocator + Copy, S: Source, W: Sink>(
     ensures input_loans { S.loans reader.new.source ≡ S.loans reader.old.source }
     ensures output_loans { W.loans output.new ≡ W.loans output.old }
 {
-    // Laws.
+    // Laws that the proof uses.
     laws::reads_join();
     for count in 0..u32::MAX {
         let line = match reader.next() {

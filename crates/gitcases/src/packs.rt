@@ -14,17 +14,19 @@ pub(crate) const HEADER: usize = 12;
 /// The length in bytes of a pack's trailer.
 pub(crate) const TRAILER: usize = 20;
 
-// The type numbers of deltas in a pack.
+// The type number of an offset delta in a pack.
 const OFFSET_DELTA: u8 = 6;
 
+// The type number of a ref delta in a pack.
 const REF_DELTA: u8 = 7;
 
 /// A pack whose entries, header or trailer may be wrong.
 #[derive(Drop)]
 pub(crate) struct Pack<'a> {
     pub(crate) name: &'a str,
-    // The bytes of the entries, and the offset of each entry in the pack.
+    // The bytes of the entries.
     entry_bytes: Vec<u8>,
+    // The offset of each entry in the pack.
     entry_offsets: Vec<usize>,
     magic: Option<Vec<u8>>,
     count: Option<usize>,
@@ -90,7 +92,7 @@ impl<'a> Pack<'a> {
         Ok(deflater.deflate(bytes, &mut self.entry_bytes)?)
     }
 
-    /// Appends an entry with a whole object.
+    /// Appends an entry that holds a whole object, not a delta.
     pub(crate) fn put_whole(
         &mut self,
         deflater: &mut Deflater<Global>,

@@ -16,7 +16,7 @@ const BITS: [u8; 8] = [1, 2, 4, 8, 16, 32, 64, 128];
 // An exclusive upper bound on the number of the refused allocation.
 const MAX_REFUSED: u64 = 100_000;
 
-// An exclusive upper bound on the number of calls before the files are replaced.
+// An exclusive upper bound on the number of file-system calls before the files are replaced.
 const MAX_CALLS: u64 = 60;
 
 /// Tests a row with each `Variation`.
@@ -127,7 +127,7 @@ fn is_allowed_result(inputs: RunInputs<'_, '_>, actual_result: &str) -> bool {
     actual_result.as_bytes() == inputs.check.expected.as_slice()
 }
 
-// Tests a call with each allocation refused in turn.
+// Tests a row with each allocation refused in turn.
 fn test_refused_allocations<R: Files + Print + AllocGlobal>(
     rt: &R,
     inputs: RunInputs<'_, '_>,
@@ -151,8 +151,8 @@ fn test_refused_allocations<R: Files + Print + AllocGlobal>(
     Ok(())
 }
 
-// Tests a call whose files are replaced during the run, once for each number of calls before the
-// replacement.
+// Tests a row whose files are replaced during the run. Each run replaces the files after a
+// different number of file-system calls.
 fn test_replaced_files<R: Files + Print + AllocGlobal>(
     rt: &R,
     inputs: RunInputs<'_, '_>,

@@ -25,8 +25,9 @@ pub(crate) struct Script<'a> {
     pub(crate) rows: Vec<Row<'a>>,
     // The number of times that the next line is repeated.
     repetitions: usize,
-    /// The name of the current file, and the number of its current line.
+    /// The name of the current file.
     pub(crate) file_name: &'a str,
+    /// The number of the current line.
     pub(crate) line_number: usize,
 }
 

@@ -99,7 +99,8 @@ fn open_entries<F: ObjectFiles, A: Allocator + Copy>(
     Ok(Some((number, order)))
 }
 
-// Checks that the header of the pack has version 2 and the object count of the index.
+// Checks that the header of the pack has version 2 and the object count of the index. Fails with
+// `Pack` if not.
 fn check_header<P: OpenPack, A: Allocator + Copy>(
     file: &mut P,
     alloc: A,
@@ -115,7 +116,7 @@ fn check_header<P: OpenPack, A: Allocator + Copy>(
     }
 }
 
-// Checks that the pack ends with the checksum in the index.
+// Checks that the pack ends with the checksum in the index. Fails with `Pack` if not.
 fn check_trailer<P: OpenPack, A: Allocator + Copy>(
     file: &mut P,
     alloc: A,

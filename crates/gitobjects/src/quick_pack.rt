@@ -21,8 +21,8 @@ const MAX_TEXT: usize = 131_072;
 // git-fast-import(1) may put into a chain.
 const MAX_CHAIN: usize = 8_192;
 
-// The number of bytes to read for an entry, and the number of bytes to read if the first bytes do
-// not contain the whole entry.
+// The number of bytes to read in the first attempt to read an entry, and in the second attempt. The
+// second attempt is made if the bytes from the first attempt do not contain the whole entry.
 const FRONTS: [usize; 2] = [4_096, MAX_TEXT];
 
 /// An open pack and its index. Only the needed parts of both are read.
@@ -35,6 +35,7 @@ pub(crate) struct QuickPack<P: OpenPack + Drop, A: Allocator + Copy> {
     end: usize,
 }
 
+// An inflated pack entry: an object, or a delta.
 #[derive(Drop)]
 struct QuickEntry<A: Allocator + Copy> {
     form: EntryForm,

@@ -179,8 +179,8 @@ impl<'f, F: ObjectFiles, A: Allocator + Copy> ObjectStore<'f, F, A> {
         }
     }
 
-    // Returns whether the folder of a loose object with this id existed when it was first looked
-    // up. A folder that cannot be looked up counts as existing.
+    // Returns whether any object folder had the two-digit folder for a loose object with this id
+    // when it was first looked up. A folder that cannot be looked up counts as existing.
     fn has_folder(&self, id: &Oid, folders: &mut LooseFolders) -> Result<bool, StoreFault<A>> {
         if let Some(is_there) = folders.get(id) {
             return Ok(is_there);
@@ -204,7 +204,8 @@ impl<'f, F: ObjectFiles, A: Allocator + Copy> ObjectStore<'f, F, A> {
         Ok(false)
     }
 
-    // Returns the location of the object in the first pack that contains the object.
+    // Returns the location of the object in the first pack that contains the object, or `None` if
+    // no pack contains the object.
     fn find_packed(&self, id: &Oid) -> Option<Found> {
         for pack in 0..self.packs.len() {
             if let Some(place) = self.place_in(pack, id) {
@@ -214,7 +215,8 @@ impl<'f, F: ObjectFiles, A: Allocator + Copy> ObjectStore<'f, F, A> {
         None
     }
 
-    // Returns the position of the object in the index of a pack.
+    // Returns the position of the object in the index of a pack, or `None` if there is no such pack
+    // or the pack has no such object.
     fn place_in(&self, pack: usize, id: &Oid) -> Option<usize> {
         self.packs.get(pack)?.index().find(id)
     }

@@ -105,7 +105,7 @@ impl<P: OpenPack + Drop, A: Allocator + Copy> Window<P, A> {
         self.block_at(pack, first).is_some()
     }
 
-    // Returns the block at this offset of a pack, or `None` if memory does not hold the block.
+    // Returns the block at this offset of a pack, or `None` if the block is not in memory.
     fn block_at(&self, pack: usize, first: usize) -> Option<&[u8]>
         ensures { IfSome result (λ bytes. IsPartOf self.now pack first bytes.now) }
     {

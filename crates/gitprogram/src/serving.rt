@@ -212,7 +212,7 @@ fn check_base<R: Files + AllocGlobal>(rt: &R, base: &str) -> Result<(), Fault> {
     }
 }
 
-// Resolves `address`, a text HOST:PORT, and listens on the first usable result.
+// Resolves `address`, a text HOST:PORT, and listens on the first usable IP address.
 fn listen<R: Net>(rt: &R, address: &str) -> io::Result<TcpListener> {
     let mut last = io::Error::from(ErrorKind::AddrNotAvailable);
     for address in address.to_socket_addrs(rt)? {

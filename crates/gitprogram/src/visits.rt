@@ -113,7 +113,8 @@ fn fault_of<H, K: RecordsFault>(
     Some(Fault::of(alloc, sentence))
 }
 
-// Returns the fault of a refused request, or `None` if no request was refused.
+// Returns the recorded fault of the repository, or otherwise the fault of a refused request.
+// Returns `None` if there is neither.
 fn fault_of_side<H, K: RecordsFault>(
     alloc: Global,
     side: &ServerSide<'_, Global, H, K>,

@@ -9,7 +9,7 @@ use std::alloc::{AllocError, Allocator};
 const MAX_CONFIG: usize = 1_048_576;
 
 // The names of the extensions that do not affect this crate.
-const KNOWN_EXTENSIONS: [&[u8]; 5] = [
+const IGNORED_EXTENSIONS: [&[u8]; 5] = [
     b"noop",
     b"noop-v1",
     b"preciousobjects",
@@ -248,12 +248,12 @@ fn extension_fault<A: Allocator + Copy>(
         b"refstorage" if has_value(setting, b"files") => None,
         b"refstorage" => Some(FormFault::RefStorage),
         b"partialclone" => Some(FormFault::PartialClone),
-        name if !is_version_1 || is_known(name) => None,
+        name if !is_version_1 || is_ignorable(name) => None,
         _ => Some(FormFault::Extension),
     }
 }
 
-// Returns whether the extension with this name does not affect this crate.
-fn is_known(name: &[u8]) -> bool {
-    KNOWN_EXTENSIONS.iter().any(|known| *known == name)
+// Returns whether the extension with this name can be ignored.
+fn is_ignorable(name: &[u8]) -> bool {
+    IGNORED_EXTENSIONS.iter().any(|ignored| *ignored == name)
 }

@@ -6,14 +6,16 @@ use gitpack::DeltaBase;
 use gname::Oid;
 use std::alloc::{AllocError, Allocator};
 
-// The maximum number of objects in the window, and their maximum total size.
+// The maximum number of objects in the window.
 const MAX_BASES: usize = 10;
 
+// The maximum total size of the objects in the window: 32 MiB.
 const MAX_BYTES: usize = 33_554_432;
 
-// The minimum and maximum size of an object in the window: 50 bytes, and 8 MiB.
+// The minimum size of an object in the window, in bytes.
 const MIN_SIZE: usize = 50;
 
+// The maximum size of an object in the window: 8 MiB.
 const MAX_SIZE: usize = 8_388_608;
 
 // The maximum length of a delta chain.

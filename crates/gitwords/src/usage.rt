@@ -14,7 +14,7 @@ pub(crate) struct CommandRow {
 }
 
 // An argument of a command. The first field is the name of the argument, and the last field is its
-// help text. The middle field of an option is the name of its value.
+// help text. The middle field of `Valued` and `Optional` is the name of the option's value.
 #[derive(Clone, Copy)]
 enum Argument {
     // `--NAME`

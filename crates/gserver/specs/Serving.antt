@@ -24,7 +24,7 @@ use Rattle.gserver.specs.Fetching.{SaysFetch}
 use Rattle.gserver.specs.Listings.{SaysLsAnswer}
 use Rattle.gserver.specs.declared.side.ServerSide.{ServerSide}
 
--- the number of requests after which a connection accepts only one more request
+-- the maximum of the count of requests; after this number of requests, a connection accepts only one more
 abbrev pub max_requests : ℕ
 max_requests = 4294967295
 

@@ -30,7 +30,8 @@ use gparts::PartPacker;
 use grequest::{FetchRequest, LsRefsRequest, Request, RequestReader};
 use std::alloc::Allocator;
 
-/// The number of requests after which a connection accepts only one more request.
+/// The maximum of [`ServerSide::requests`]. After this number of requests, a connection accepts
+/// only one more request.
 pub const MAX_REQUESTS: u32 = u32::MAX;
 
 /// The server's end of a connection. The server receives a first line, which names a repository,

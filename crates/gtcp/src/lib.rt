@@ -3,10 +3,10 @@
 //! process.
 //!
 //! The caller provides the network, its streams and the clock. The contracts can't state which
-//! bytes a socket sends or receives. For a call over a socket, the contracts state only that the
-//! call holds the conversation that `gserve` or `gclient` specifies, over some input and some
-//! output (`specs/Sockets.antt`). Inside the crate, the contracts of a conversation over a reader
-//! and a writer state the bytes that were read and written.
+//! bytes a socket sends or receives. The contract of a function that uses a socket states only
+//! this: the function holds the conversation that `gserve` or `gclient` specifies, over some input
+//! and some output (`specs/Sockets.antt`). Inside the crate, the contracts of a conversation over a
+//! reader and a writer state the bytes that were read and written.
 //!
 //! # Proved
 //!

@@ -398,7 +398,8 @@ where
 
 // ---- pairs
 
-/// The parameters of a pair: the server, the text of the client's repository, and the refspecs.
+/// The parameters of a fetch between a client and a server in one process: the server, the text of
+/// the client's repository, and the refspecs.
 #[derive(Drop)]
 pub struct Pair<'a, A: Allocator + Copy> {
     pub server: &'a Server<A>,

@@ -12,8 +12,8 @@ use std::time::Duration;
 /// The capacity in bytes of a write buffer, which collects a message for a single write.
 pub(crate) const MESSAGE_BUFFER: usize = 65_536;
 
-// The maximum number of bytes in one read of input to discard. `MAX_DROPS` limits the number of
-// such reads.
+// The maximum number of bytes in one read that discards input. `MAX_DROPS` is the maximum number of
+// these reads.
 const DROPPED_BYTES: usize = 4_096;
 
 const MAX_DROPS: usize = 1_024;

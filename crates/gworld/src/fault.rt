@@ -17,11 +17,11 @@ pub(crate) const DISAGREE: u32 = 90;
 /// The number of the fault of an event with an invalid index of a sent request or of a kept reply.
 pub(crate) const NO_SUCH_INDEX: u32 = 93;
 
-/// The number of the fault of an event that needs a session in a certain stage. There is no
-/// session, or the session is in another stage.
+/// The number of the fault of an event for which there is no session, or for which the session is
+/// at the wrong stage.
 pub(crate) const NO_OPEN_REQUEST: u32 = 83;
 
-/// The reason why a server and a repository can't form a world.
+/// The reason why a server and a client's repository can't form a world.
 #[derive(Clone, Copy, Debug, PartialEq, Eq, Drop)]
 pub enum WorldFault {
     /// Fault 97: server and client have different object formats.

@@ -156,6 +156,7 @@ fn bring<A: Allocator + Copy, K: Indexer<A>>(
             *mark = same && all && is_pack_taken(outcome);
             Ok(outcome)
         }
+        // Only an empty request awaits no reply.
         None => Ok(Outcome::Fault {
             code: NO_OPEN_REQUEST,
         }),
