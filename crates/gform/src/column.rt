@@ -112,7 +112,7 @@ impl<A: Allocator + Copy> Column<A> {
             → WritesPart W.contents W.passed_on W.is_down W.loans writer.old writer.new result
             (row_packets format (word.now, form, field) self.now) }
     {
-        // Laws.
+        // Laws that the proof uses.
         writes_packets::<W>();
         match &self.kept {
             KeptIn::Nothing => Ok(()),

@@ -159,7 +159,7 @@ impl<A: Allocator + Copy> Fields<A> {
             (row_packets format (row_in T.number row.now)
             (kept_at self.now (T.number row.now.2))) }
     {
-        // Laws.
+        // Laws that the proof uses.
         writes_packets::<W>();
         let (word, form, field) = row;
         let field = field.number();
@@ -300,7 +300,7 @@ fn write_plain<W: Sink>(
         → WritesPart W.contents W.passed_on W.is_down W.loans writer.old writer.new result
         (row_packets format (word.now, form, field) (plain_in plain)) }
 {
-    // Laws.
+    // Laws that the proof uses.
     writes_packets::<W>();
     match plain {
         Plain::Nothing => Ok(()),

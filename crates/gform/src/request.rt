@@ -178,7 +178,7 @@ pub fn write_fields<A: Allocator + Copy, W: Sink>(
     ensures { WritesPackets W.contents W.passed_on W.is_down W.loans writer.old writer.new result
         (request_packets format fields.now) }
 {
-    // Laws.
+    // Laws that the proof uses.
     writes_packets::<W>();
     match kind_of(fields) {
         RequestKind::Empty => writer.flush_pkt(),

@@ -50,7 +50,7 @@ pub(crate) fn write_text<W: Sink>(
     ensures { WritesPackets W.contents W.passed_on W.is_down W.loans writer.old writer.new result
         (text_packet (word.now ++ rest.now) ∷ []) }
 {
-    // Laws.
+    // Laws that the proof uses.
     writes_packets::<W>();
     writer.text2(word, rest)
 }
@@ -65,7 +65,7 @@ pub(crate) fn write_ids<W: Sink>(
     ensures { WritesPart W.contents W.passed_on W.is_down W.loans writer.old writer.new result
         (map (id_packet word.now) ids.now) }
 {
-    // Laws.
+    // Laws that the proof uses.
     writes_packets::<W>();
     for id in ids {
         write_id(word, id, writer)?;
@@ -93,7 +93,7 @@ pub(crate) fn write_prefixes<A: Allocator + Copy, W: Sink>(
     ensures { WritesPart W.contents W.passed_on W.is_down W.loans writer.old writer.new result
         (map (prefix_packet word.now) prefixes.now) }
 {
-    // Laws.
+    // Laws that the proof uses.
     writes_packets::<W>();
     for prefix in prefixes {
         write_text(word, prefix.as_bytes(), writer)?;
@@ -114,7 +114,7 @@ pub fn write_rows<T: Table, A: Allocator + Copy, W: Sink>(
     ensures { WritesPart W.contents W.passed_on W.is_down W.loans writer.old writer.new result
         (rows_packets format (rows_in T.number rows.now) fields.now) }
 {
-    // Laws.
+    // Laws that the proof uses.
     writes_packets::<W>();
     for row in rows {
         fields.write(row, format, writer)?;
@@ -139,7 +139,7 @@ pub fn write_command<T: Table, A: Allocator + Copy, W: Sink>(
         (rows_in T.number command.now.capabilities.now)
         (rows_in T.number command.now.arguments.now) fields.now) }
 {
-    // Laws.
+    // Laws that the proof uses.
     writes_packets::<W>();
     let (word, form, _) = &command.row;
     write_text(
