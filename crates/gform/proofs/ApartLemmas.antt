@@ -71,14 +71,12 @@ unfolding after_word
 after_other word other rest h =
     ap (λ (b : Bool). cond b (let o : Option Bytes = Some (drop (length word) (other ++ rest)) in o) None) (no_start word other rest h)
 
-after_own : (word rest : Bytes) → after_word word (word ++ rest) ≡ Some rest
+pub after_own : (word rest : Bytes) → after_word word (word ++ rest) ≡ Some rest
 unfolding after_word
 after_own word rest =
     ap (λ (b : Bool). cond b (let o : Option Bytes = Some (drop (length word) (word ++ rest)) in o) None) (starts_own word rest)
     ∙ ap Some (drop-append_seam word rest)
 
-if_some : Bytes → Bool → Option Bytes
-if_some rest b = cond b (Some rest) None
 
 -- a text of a later row is none of an earlier
 none_before : (row other : Row) (rest : Bytes) → is_clear row other ≡ true → value_text row (other.0 ++ rest) ≡ None

@@ -4,7 +4,6 @@ pub mod TableLemmas
 pub mod OpenLemmas
 pub mod EndingLemmas
 pub mod ReasonLemmas
-pub mod MissingLemmas
 pub mod WrittenLemmas
 pub mod ApartLemmas
 pub mod CommandLemmas

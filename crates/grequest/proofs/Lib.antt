@@ -12,3 +12,4 @@ pub mod WrittenArguments
 pub mod Canonical
 pub mod ReaderLemmas
 pub mod WriteLemmas
+pub mod TableArguments

@@ -9,6 +9,7 @@ pub mod WellFormed
 pub mod Building
 pub mod RequestReading
 pub mod RequestValues
+pub mod Table
 pub mod steps
 pub use Rattle.ggrammar.specs.Grammar
 pub use Rattle.ggrammar.specs.MessageReading

@@ -66,6 +66,7 @@ mod read;
 mod reading;
 mod request;
 mod section;
+pub mod table;
 mod write;
 
 pub use crate::fetch::FetchRequest;
