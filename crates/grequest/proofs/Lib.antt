@@ -13,3 +13,4 @@ pub mod Canonical
 pub mod ReaderLemmas
 pub mod WriteLemmas
 pub mod TableArguments
+pub mod TableRequests

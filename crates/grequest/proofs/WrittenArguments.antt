@@ -53,7 +53,7 @@ graphic_is_printable byte h =
     let parts = and_parts (nat_le 33 byte) (nat_le byte 126) h in
     and_from (nat_le 32 byte) (nat_le byte 126) (le-leb 32 byte (omega (arith, leb-true 33 byte parts.0))) parts.1
 
-word_value_is_value : (value : List ℕ) → is_word_value value ≡ true → is_value value ≡ true
+pub word_value_is_value : (value : List ℕ) → is_word_value value ≡ true → is_value value ≡ true
 unfolding is_word_value is_value
 word_value_is_value value h =
     let parts = and_parts (has_length value) (list_all is_graphic value) h in

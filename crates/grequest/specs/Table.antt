@@ -1,21 +1,22 @@
 -- The table of requests in `gform`: the fields of a request, and the texts on which the table and the grammar of this
 -- crate give the same verdict.
 use Rattle.std.specs.Prelude.{◌≡◌, ℕ, Bool, true, false, not, ◌==◌, List, [], ◌∷◌, if◌then◌else◌, Option, Some, None}
-use Rattle.gpkt.specs.Packets.{Bytes}
 use Rattle.gname.specs.Ids.{Id}
 use Rattle.gname.specs.declared.formats.Format.{Format}
-use Rattle.ggrammar.specs.Grammar.{Verdict, Open, Whole, Refused}
+use Rattle.gpkt.specs.Packets.{Bytes, Packet}
+use Rattle.ggrammar.specs.Grammar.{Verdict, Open, Whole, Refused, IsOpen}
 use Rattle.ggrammar.specs.declared.limits.Limits.{Limits}
 use Rattle.gform.specs.Kept.{Kept, Nothing, Marked, Ids, Prefixes, Word}
-use Rattle.gform.specs.Reading.{Given, State as TableState, Outcome, Goes, Ends, Stops, at_text}
-use Rattle.gform.specs.Request.{ls_refs_arguments, fetch_arguments, with_arguments}
+use Rattle.gform.specs.Reading.{Given, State as TableState, Outcome, Goes, Ends, Stops, at_text, no_fields, run, start}
+use Rattle.gform.specs.Reading.{judge as table_judge}
+use Rattle.gform.specs.Request.{ls_refs_arguments, fetch_arguments, request, with_arguments}
 use Rattle.gform.specs.Sections.{Section}
 use Rattle.grequest.specs.declared.command.Command.TheVariants.{LsRefs, Fetch}
 use Rattle.grequest.specs.declared.flag.LsRefsFlag.TheVariants as ls
 use Rattle.grequest.specs.declared.flag.FetchFlag.TheVariants as fetch
 use Rattle.grequest.specs.Asked.{Asked, Empty, Ls, Fetches, LsRefsAsked, FetchAsked, ls_has, fetch_has}
 use Rattle.grequest.specs.RequestLines.{RequestPlace, First, InCapabilities, InArguments}
-use Rattle.grequest.specs.Requests.{State, judge_text}
+use Rattle.grequest.specs.Requests.{State, judge, judge_text, state_of}
 use Rattle.grequest.specs.steps.RequestState.{with_text}
 
 -- the parameters of the table for these limits and this object format
@@ -47,21 +48,25 @@ named_if n = mark_if (not (n == 0))
 abbrev pub no_more : List Kept
 no_more = Nothing ∷ Nothing ∷ Nothing ∷ Nothing ∷ Nothing ∷ Nothing ∷ Nothing ∷ Nothing ∷ Nothing ∷ []
 
--- the fields of a request with these contents, which names the object format `formats` times
-abbrev pub fields_of : ℕ → Asked → List Kept
-fields_of formats Empty =
-    Nothing ∷ Nothing ∷ Nothing ∷ Nothing ∷ Nothing ∷ Nothing ∷ Nothing ∷ Nothing
-    ∷ Nothing ∷ Nothing ∷ Nothing ∷ Nothing ∷ Nothing ∷ Nothing ∷ Nothing ∷ no_more
-fields_of formats (Ls asked) =
-    Marked ∷ Nothing ∷ word_kept asked.agent ∷ named_if formats
-    ∷ mark_if (ls_has asked ls.Peel) ∷ mark_if (ls_has asked ls.Symrefs) ∷ mark_if (ls_has asked ls.Unborn)
+-- the fields for the arguments of ls-refs, and those for the arguments of fetch
+abbrev pub ls_fields : LsRefsAsked → List Kept
+ls_fields asked =
+    mark_if (ls_has asked ls.Peel) ∷ mark_if (ls_has asked ls.Symrefs) ∷ mark_if (ls_has asked ls.Unborn)
     ∷ prefixes_kept asked.prefixes
     ∷ Nothing ∷ Nothing ∷ Nothing ∷ Nothing ∷ Nothing ∷ Nothing ∷ Nothing ∷ no_more
-fields_of formats (Fetches asked) =
-    Nothing ∷ Marked ∷ word_kept asked.agent ∷ named_if formats ∷ Nothing ∷ Nothing ∷ Nothing ∷ Nothing
+
+abbrev pub fetch_fields : FetchAsked → List Kept
+fetch_fields asked =
+    Nothing ∷ Nothing ∷ Nothing ∷ Nothing
     ∷ mark_if (fetch_has asked fetch.ThinPack) ∷ mark_if (fetch_has asked fetch.NoProgress)
     ∷ mark_if (fetch_has asked fetch.IncludeTag) ∷ mark_if (fetch_has asked fetch.OfsDelta)
     ∷ ids_kept asked.wants ∷ ids_kept asked.haves ∷ mark_if (fetch_has asked fetch.Done) ∷ no_more
+
+-- the fields of a request with these contents, which names the object format `formats` times
+abbrev pub fields_of : ℕ → Asked → List Kept
+fields_of formats Empty = no_fields
+fields_of formats (Ls asked) = Marked ∷ Nothing ∷ word_kept asked.agent ∷ named_if formats ∷ ls_fields asked
+fields_of formats (Fetches asked) = Nothing ∷ Marked ∷ word_kept asked.agent ∷ named_if formats ∷ fetch_fields asked
 
 -- the index of the section in the table
 abbrev pub section_of : RequestPlace → ℕ
@@ -125,3 +130,15 @@ LsArgumentsAlike = (limits : Limits) (format : Format) (formats arguments : ℕ)
 abbrev pub FetchArgumentsAlike : Type 0
 FetchArgumentsAlike = (limits : Limits) (format : Format) (formats arguments : ℕ) (asked : FetchAsked) (line : Bytes)
     → IsTextAlike limits format (fetch_reading formats arguments asked) fetch_section line
+
+-- ---- requests with the same verdicts
+
+-- after the packets that a request continues after, the table and the grammar give the same verdict on the next packet
+abbrev pub RequestsAlike : Type 0
+RequestsAlike = (limits : Limits) (format : Format) (lines : List Packet) (packet : Packet) → IsOpen (judge limits format) lines
+    → table_judge request (given limits format) lines packet ≡ judge limits format lines packet
+
+-- after these packets, the table and the grammar are in the same state
+abbrev pub StatesAlike : Type 0
+StatesAlike = (limits : Limits) (format : Format) (lines : List Packet) → IsOpen (judge limits format) lines
+    → run request (given limits format) start lines ≡ table_state (state_of format lines)
