@@ -77,7 +77,6 @@ after_own word rest =
     ap (λ (b : Bool). cond b (let o : Option Bytes = Some (drop (length word) (word ++ rest)) in o) None) (starts_own word rest)
     ∙ ap Some (drop-append_seam word rest)
 
-
 -- a text of a later row is none of an earlier
 none_before : (row other : Row) (rest : Bytes) → is_clear row other ≡ true → value_text row (other.0 ++ rest) ≡ None
 none_before row other rest h = by_alone (is_alone row.1) refl (either_is (differ row.0 other.0) _ h)

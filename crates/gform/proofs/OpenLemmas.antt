@@ -88,7 +88,6 @@ module _ (given : Given) (section : Section) (state : State) (line : Bytes) (new
 
 -- ---- what holds of the state after so many packets
 
-
 pub record IsReached (sections : List Section) (n : ℕ) (state : State) : Type 0 where
   pub place : state.place < length sections
   pub long : length state.fields ≡ 24

@@ -17,7 +17,9 @@ use crate::section::{End, Other, Section};
 use crate::table::Table;
 use crate::value::{Value, value_of};
 use ggrammar::laws::grammars_are_exact;
-use ggrammar::{Limits, Message, PeerText, Step, Why, after_word, capability_of, is_key, peer_error};
+use ggrammar::{
+    Limits, Message, PeerText, Step, Why, after_word, capability_of, is_key, peer_error,
+};
 use gname::Format;
 use gpkt::{Packet, text_of};
 use std::alloc::Allocator;

@@ -94,16 +94,16 @@ module _ (limits : Limits) (format : Format) where
   unfolding command_form after_word
   fetch_form = refl
 
+  neither : (line : Bytes) → bytes_eq line (codes "command=ls-refs") ≡ false → bytes_eq line (codes "command=fetch") ≡ false
+      → Stops (if_key (after_word (codes "command=") line)) ≡ command_outcome (command_form line)
+  unfolding command_form
+  neither line e f =
+      unknown_command line (after_word (codes "command=") line) refl (not_same line (codes "command=ls-refs") e)
+      (not_same line (codes "command=fetch") f)
+
   command_alike : (line : Bytes) → at_text (given limits format) command_section (table_state nothing_read) line ≡ command_outcome (command_form line)
   command_alike line = by (bytes_eq line (codes "command=ls-refs")) (bytes_eq line (codes "command=fetch")) refl refl
     where
-      neither : bytes_eq line (codes "command=ls-refs") ≡ false → bytes_eq line (codes "command=fetch") ≡ false
-          → Stops (if_key (after_word (codes "command=") line)) ≡ command_outcome (command_form line)
-      unfolding command_form
-      neither e f =
-          unknown_command line (after_word (codes "command=") line) refl (not_same line (codes "command=ls-refs") e)
-          (not_same line (codes "command=fetch") f)
-
       by : (a b : Bool) → bytes_eq line (codes "command=ls-refs") ≡ a → bytes_eq line (codes "command=fetch") ≡ b
           → at_found (given limits format) command_section (table_state nothing_read) line
           (found_or (codes "command=ls-refs", form.Goes 1, 0) (cond a (Some []) None)
@@ -111,7 +111,7 @@ module _ (limits : Limits) (format : Format) where
           ≡ command_outcome (command_form line)
       by true b e f = sym (ap command_outcome (ap command_form (same line (codes "command=ls-refs") e) ∙ ls_form))
       by false true e f = sym (ap command_outcome (ap command_form (same line (codes "command=fetch") f) ∙ fetch_form))
-      by false false e f = neither e f
+      by false false e f = neither line e f
 
 -- ---- capabilities
 

@@ -332,7 +332,12 @@ impl<A: Allocator + Copy> FetchRequest<A> {
         ensures format { self.new.format ≡ self.old.format }
         ensures limits { self.new.limits ≡ self.old.limits }
     {
-        let has_room = has_room_for(self.limits, arguments, self.wants.len(), max_wants(self.limits));
+        let has_room = has_room_for(
+            self.limits,
+            arguments,
+            self.wants.len(),
+            max_wants(self.limits),
+        );
         let Some(id) = id_in(self.format, text) else {
             return Err(Why::BadId);
         };
@@ -350,7 +355,12 @@ impl<A: Allocator + Copy> FetchRequest<A> {
         ensures format { self.new.format ≡ self.old.format }
         ensures limits { self.new.limits ≡ self.old.limits }
     {
-        let has_room = has_room_for(self.limits, arguments, self.haves.len(), max_haves(self.limits));
+        let has_room = has_room_for(
+            self.limits,
+            arguments,
+            self.haves.len(),
+            max_haves(self.limits),
+        );
         let Some(id) = id_in(self.format, text) else {
             return Err(Why::BadId);
         };

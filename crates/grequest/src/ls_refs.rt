@@ -280,8 +280,8 @@ impl<A: Allocator + Copy> LsRefsRequest<A> {
         ensures room { OnOk result (arguments < most_arguments) }
         ensures limits { self.new.limits ≡ self.old.limits }
     {
-        let has_room =
-            has_room(self.limits, arguments) && self.prefixes.len() < max_prefixes(self.limits);
+        let has_room = has_room(self.limits, arguments)
+            && self.prefixes.len() < max_prefixes(self.limits);
         self.keep_prefix(has_room, prefix)
             .map_err(|reason| reason.why(Why::BadName))
     }
