@@ -144,6 +144,9 @@ other_key : (name line : Bytes) (capability : Capability) → line ≡ capabilit
     → after_word (name ++ codes "=") line ≡ None → is_word name capability.key ≡ false
 other_key name line capability is alone valued = differs capability.key name (λ key. by capability.value refl key)
   where
+    parts : (value : Option Bytes) → capability.value ≡ value → capability.key ≡ name → capability ≡ record { key = name; value = value }
+    parts value e key = λ i. record { key = key i; value = e i }
+
     by : (value : Option Bytes) → capability.value ≡ value → capability.key ≡ name → ⊥
     by None e key =
         not_same line name alone
@@ -153,9 +156,6 @@ other_key name line capability is alone valued = differs capability.key name (λ
         is ∙ (ap (λ (c : Capability). capability_text c) (parts (Some value) e key) ∙ sym (append_assoc name (codes "=") value)) in
         let found : after_word (name ++ codes "=") line ≡ Some value = ap (after_word (name ++ codes "=")) at ∙ after_own (name ++ codes "=") value in
         let no : None ≡ Some value = sym valued ∙ found in cc
-
-    parts : (value : Option Bytes) → capability.value ≡ value → capability.key ≡ name → capability ≡ record { key = name; value = value }
-    parts value e key = λ i. record { key = key i; value = e i }
 
 module _ (limits : Limits) (format : Format) (place next : ℕ) (one two : Kept) (n count : ℕ) (tail : List Kept) where
   -- the state of the table among the capabilities, with this agent, and with or without the name of the object format
