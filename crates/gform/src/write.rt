@@ -5,7 +5,6 @@ ghost use Rattle.gform.specs.Apart.{are_short};
 ghost use Rattle.ggrammar.specs.Capabilities.{max_capability};
 ghost use Rattle.ggrammar.specs.Texts.{text_packet};
 ghost use Rattle.ggrammar.specs.Writing.{WritesPackets, WritesPart};
-ghost use Rattle.gname.specs.Ids.{id_text};
 ghost use Rattle.gform.specs.Writing.{IsShort, command_packets, kept_at, mark_print, rows_packets};
 ghost use Rattle.gform.specs.Views.{row_in, rows_in};
 ghost use Rattle.gform.specs.steps.Writing.{id_packet, prefix_packet};

@@ -1,5 +1,5 @@
 -- The table of `gform` and the grammar of this crate give the same verdict on each argument.
-use Rattle.std.proofs.Common.{◌≡◌, ℕ, ◌+◌, Bool, true, false, cond, ◌&&◌, List, [], ◌∷◌, ◌++◌, length, Option, Some, None, Result, Ok, Err, refl, sym, ap, subst, ◌∙◌, codes}
+use Rattle.std.proofs.Common.{◌≡◌, ℕ, ◌+◌, Bool, true, false, cond, ◌&&◌, List, [], ◌∷◌, ◌++◌, length, Option, Some, None, Ok, Err, refl, ap, ◌∙◌, codes}
 use Rattle.std.specs.Prelude.{is_none, is_some, nat_lt}
 use Rattle.std.specs.Str.{bytes_eq}
 use Rattle.std.specs.Option.{option_to_list}
@@ -8,17 +8,15 @@ use Rattle.gpkt.specs.Packets.{Bytes}
 use Rattle.gname.specs.Ids.{Id}
 use Rattle.gname.specs.Names.{prefix_fault}
 use Rattle.gname.specs.declared.formats.Format.{Format}
-use Rattle.ggrammar.specs.Grammar.{Verdict, Open, Refused, if_room}
+use Rattle.ggrammar.specs.Grammar.{Refused, if_room}
 use Rattle.ggrammar.specs.Ids.{id_of_text}
 use Rattle.ggrammar.specs.PeerErrors.{after_word}
 use Rattle.ggrammar.specs.declared.limits.Limits.{Limits}
 use Rattle.ggrammar.specs.declared.fault.Why.TheVariants as why
 use Rattle.gform.specs.declared.form.Form.TheVariants as form
 use Rattle.gform.specs.declared.limits.Limit.TheVariants as limit
-use Rattle.gform.specs.Reading.{State as TableState, Outcome, Goes, Stops, at_found, at_row, at_text, at_value}
-use Rattle.gform.specs.Request.{ls_refs_arguments, fetch_arguments}
-use Rattle.gform.specs.Rows.{Row, Value, AnId, APrefix, found_or, id_or_bad}
-use Rattle.gform.specs.Sections.{Section}
+use Rattle.gform.specs.Reading.{State as TableState, Goes, Stops, at_found, at_text, at_value}
+use Rattle.gform.specs.Rows.{APrefix, found_or, id_or_bad}
 use Rattle.grequest.specs.declared.command.Command.TheVariants.{LsRefs, Fetch}
 use Rattle.grequest.specs.declared.flag.LsRefsFlag.TheVariants as ls
 use Rattle.grequest.specs.declared.flag.FetchFlag.TheVariants as fetch

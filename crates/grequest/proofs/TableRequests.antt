@@ -1,5 +1,5 @@
 -- The table of requests in `gform` and the grammar of this crate give the same verdict on each packet of a request.
-use Rattle.std.proofs.Common.{◌≡◌, ℕ, ◌+◌, ◌==◌, ◌&&◌, Bool, true, false, cond, not, List, [], ◌∷◌, ◌++◌, length, codes, Option, Some, None, Result, Ok, Err, refl, sym, ap, subst, ◌∙◌, append-nil, append_assoc, arith}
+use Rattle.std.proofs.Common.{◌≡◌, ℕ, ◌+◌, ◌==◌, Bool, true, false, cond, not, List, [], ◌∷◌, ◌++◌, length, codes, Option, Some, None, Ok, Err, refl, sym, ap, subst, ◌∙◌, append-nil, append_assoc, arith}
 use Rattle.std.specs.Prelude.{is_none, is_some}
 use Rattle.std.specs.Str.{bytes_eq}
 use Rattle.std.proofs.lemmas.Bool.{ne_eqb}
@@ -8,7 +8,7 @@ use Rattle.gpkt.specs.Packets.{Bytes, Packet, Data, Flush, Delim, ResponseEnd, t
 use Rattle.gname.specs.Formats.{format_name}
 use Rattle.gname.specs.declared.formats.Format.{Format}
 use Rattle.gname.specs.declared.formats.Format.TheVariants.{Sha1, Sha256}
-use Rattle.ggrammar.specs.Capabilities.{Capability, capability_of, capability_split, capability_text, is_equals_sign, is_key, is_value, is_word_value}
+use Rattle.ggrammar.specs.Capabilities.{Capability, capability_of, capability_text, is_key, is_value, is_word_value}
 use Rattle.ggrammar.specs.Grammar.{Judge, LawsOf, Verdict, Open, Whole, Refused, IsOpen}
 use Rattle.ggrammar.specs.PeerErrors.{after_word, peer_error, unless_error}
 use Rattle.ggrammar.specs.declared.fault.Why.TheVariants as why
@@ -20,9 +20,9 @@ use Rattle.gform.specs.declared.section.End.{End}
 use Rattle.gform.specs.declared.section.End.TheVariants as end
 use Rattle.gform.specs.declared.section.Other.TheVariants as other
 use Rattle.gform.specs.Kept.{Kept, Marked, Nothing, is_kept}
-use Rattle.gform.specs.Reading.{State as TableState, Outcome, Goes, Ends, Stops, after, at_found, at_named, at_row, at_text, at_value, in_section, is_named, judge as table_judge, outcome_at, run, start, unless_peer, verdict_of}
+use Rattle.gform.specs.Reading.{State as TableState, Outcome, Goes, Stops, after, at_found, at_named, at_text, at_value, is_named, judge as table_judge, outcome_at, run, start, unless_peer, verdict_of}
 use Rattle.gform.specs.Request.{capabilities, commands, request, with_capabilities}
-use Rattle.gform.specs.Rows.{AWord, Mark, Value, found_or}
+use Rattle.gform.specs.Rows.{AWord, Mark, found_or}
 use Rattle.gform.specs.Sections.{Section, if_key}
 use Rattle.gform.proofs.ApartLemmas.{after_own}
 use Rattle.gform.proofs.ReadingLemmas.{run-push}
@@ -30,8 +30,8 @@ use Rattle.grequest.specs.declared.command.Command.{Command}
 use Rattle.grequest.specs.declared.command.Command.TheVariants.{LsRefs, Fetch}
 use Rattle.grequest.specs.declared.command.CommandForm.{CommandForm}
 use Rattle.grequest.specs.declared.command.CommandForm.TheVariants.{Known, Unknown as UnknownCommand, Bad as BadCommand}
-use Rattle.grequest.specs.Arguments.{Agent, BadCapability, CapabilityForm, ObjectFormat, UnknownCapability, agent_with, capability_form, capability_with, command_after, command_form, fetch_argument, format_with, is_word, known_capability, ls_argument}
-use Rattle.grequest.specs.Asked.{Asked, Empty, Fetches, FetchAsked, Ls, LsRefsAsked}
+use Rattle.grequest.specs.Arguments.{Agent, BadCapability, CapabilityForm, ObjectFormat, UnknownCapability, agent_with, capability_form, capability_with, command_after, command_form, format_with, is_word}
+use Rattle.grequest.specs.Asked.{Empty}
 use Rattle.grequest.specs.RequestLines.{RequestPlace, First, InArguments, InCapabilities, argument_texts, capability_texts, fetch_asked, formats, ls_refs_asked, place_of}
 use Rattle.grequest.specs.Requests.{State, judge, judge_at, judge_capability, judge_command, once, state_of, unless_unnamed}
 use Rattle.grequest.specs.steps.RequestState.{with_capability, with_command, with_packet}
