@@ -8,8 +8,9 @@
 //! # Proved
 //!
 //! - Messages and answers alternate. Each message is complete according to the grammar of the
-//!   side's current state, and the side answers it in that state. Apart from packets before the
-//!   first message, the side sends only answers (`Answered` in `specs/Dialogues.antt`).
+//!   side's current state, and the side answers it in that state. The message belongs to that state
+//!   of the side (`Side::hears`), for example with the side's parameters. Apart from packets before
+//!   the first message, the side sends only answers (`Answered` in `specs/Dialogues.antt`).
 //! - A dialogue ends with a last answer, with a reply that ends the dialogue early, or with a
 //!   refused message (`HasEnded`). A message is refused at the first packet that its grammar
 //!   rejects, with the position of the packet and the reason. A message is also refused if memory
@@ -29,7 +30,7 @@
 //!
 //! # Dependencies
 //!
-//! `gtalk` defines conversations, `ggrammar` messages, and `gpkt` packets.
+//! `gtalk` defines conversations, `ggrammar` grammars of messages, and `gpkt` packets.
 #![tactic(auto)]
 
 mod dialogue;

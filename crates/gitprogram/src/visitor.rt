@@ -5,7 +5,7 @@ ghost use Rattle.std.specs.Prelude.{◌≡◌, ◌⊎◌, []};
 use crate::fault::Fault;
 use crate::notes::Notes;
 use gdialogue::{Answer, Side};
-use ggrammar::{Message, MessageFault, Why};
+use ggrammar::{MessageFault, Step, Why};
 use gparts::PartPacker;
 use gserver::{ServedRepository, ServerReply, Speech};
 use std::alloc::Global;
@@ -67,12 +67,13 @@ impl<'n, S> Visitor<'n, S> {
 impl<S, M, K> Side<M, ServerReply<Global, K, K::Parts>> for Visitor<'_, S>
 where
     S: Side<M, ServerReply<Global, K, K::Parts>>,
-    M: Message,
     K: ServedRepository<Global> + PartPacker<Global> + Drop,
 {
     ghost judge = { λ visitor. S.judge visitor.side };
 
     ghost brings = { λ visitor. S.brings visitor.side };
+
+    ghost hears = { λ visitor message packets. S.hears visitor.side message packets };
 
     ghost opens = { λ visitor. S.opens visitor.side };
 
@@ -85,6 +86,10 @@ where
 
     fn message(&self) -> M {
         self.side.message()
+    }
+
+    fn hear(&self, message: &mut M, line: Packet<'_>) -> Result<Step, Why> {
+        self.side.hear(message, line)
     }
 
     fn answer(&mut self, message: M) -> Answer<ServerReply<Global, K, K::Parts>> {
@@ -102,5 +107,9 @@ where
         let reply = self.side.refuse(fault);
         self.take_notes();
         reply
+    }
+
+    fn laws() {
+        S::laws();
     }
 }

@@ -68,9 +68,9 @@ pub fn read_ls_reply_in<S: Source, A: Allocator + Copy, B: Allocator + Copy>(
     }
 }
 
-/// A reply that is being read.
+/// An ls-refs reply that is being read.
 #[derive(Drop)]
-pub(crate) struct LsReplyReader<A: Allocator + Copy> {
+pub struct LsReplyReader<A: Allocator + Copy> {
     alloc: A,
     format: Format,
     ends: Ends,
@@ -84,7 +84,7 @@ pub(crate) struct LsReplyReader<A: Allocator + Copy> {
 
 impl<A: Allocator + Copy> LsReplyReader<A> {
     /// Returns a reader that has not read any packet yet.
-    pub(crate) fn new(alloc: A, format: Format, ends: Ends) -> LsReplyReader<A>
+    pub fn new(alloc: A, format: Format, ends: Ends) -> LsReplyReader<A>
         ensures format { result.format ≡ format }
         ensures ends { result.ends ≡ ends }
         ensures state { state_in result ≡ state_of format [] }
@@ -101,7 +101,7 @@ impl<A: Allocator + Copy> LsReplyReader<A> {
     }
 
     /// Returns the reply that the accepted packets encode.
-    fn finish(self) -> LsReply<A>
+    pub fn finish(self) -> LsReply<A>
         requires { IsReplyValue (state_in self).reply }
         ensures { result ≡ (state_in self).reply }
     {
