@@ -2,12 +2,12 @@
 
 ghost use Rattle.std.specs.Prelude.{◌≡◌, [], List};
 ghost use Rattle.gpkt.specs.Packets.{Packet, packet_of};
-ghost use Rattle.ggrammar.specs.Grammar.{IsWhole};
-ghost use Rattle.gfetchreply.specs.FetchReplies.{judge, judge_at};
+ghost use Rattle.ggrammar.specs.Grammar.{IsOpen, IsWhole};
+ghost use Rattle.ggrammar.specs.MessageReading.{TakesPacket};
+ghost use Rattle.gfetchreply.specs.FetchReplies.{brings_into, judge};
 ghost use Rattle.gfetchreply.specs.ReplyReading.{HasRead};
-ghost use Rattle.gfetchreply.specs.steps.ReplyState.{HoldsReply, TakesBoth, brings_there, data_there, kept_in, place_in, state_in, with_packet};
+ghost use Rattle.gfetchreply.specs.steps.ReplyState.{HoldsReply, kept_in};
 ghost use Rattle.gfetchreply.specs.Views.{head_in, reading_in};
-ghost use Rattle.gfetchreply.specs.steps.Views.{reading_with};
 
 use crate::accepting::accept_packet;
 use crate::limit::StreamLimit;
@@ -61,18 +61,22 @@ impl<T: PackSink, A: Allocator + Copy> FetchReader<T, A> {
         (sections.into_head(reading.direct), sink)
     }
 
-    fn take_packet(&mut self, line: Packet<'_>) -> Result<Step, Why>
+    /// Accepts the next packet, as [`Message::accept_packet`] does. The sink stays the same, in the
+    /// sense of [`PackSink`].
+    pub fn hear_packet(&mut self, line: Packet<'_>) -> Result<Step, Why>
         ensures reading { self.new.reading ≡ self.old.reading }
         ensures same { T.same self.old.sink self.new.sink }
-        ensures takes { TakesBoth T.taken (judge_at
-            (reading_with self.old.reading self.old.sections) (state_in self.old.sections)
-            (packet_of line.entry))
-            (brings_there T.refuses (place_in self.old.sections.place) (packet_of line.entry))
-            (with_packet (kept_in self.old.sections) (packet_of line.entry))
-            (kept_in self.new.sections)
-            (data_there (place_in self.old.sections.place) (packet_of line.entry))
-            self.old.sink self.new.sink result }
+        ensures takes { (front : List Packet) → IsOpen (judge (reading_in self.old.reading)) front
+            → HoldsReply T.taken T.same (reading_in self.old.reading) (kept_in self.old.sections)
+            self.old.sink front
+            → TakesPacket (judge (reading_in self.old.reading))
+            (brings_into T.refuses (reading_in self.old.reading))
+            (λ reader packets. HoldsReply T.taken T.same (reading_in reader.reading)
+            (kept_in reader.sections) reader.sink packets)
+            (λ reader packets. Unit {0}) front (packet_of line.entry) self.new result }
     {
+        // Laws.
+        T::laws();
         accept_packet(self.reading, &mut self.sections, &mut self.sink, line)
     }
 }
@@ -94,8 +98,6 @@ impl<T: PackSink, A: Allocator + Copy> Message for FetchReader<T, A> {
     fn laws() {}
 
     fn accept_packet(&mut self, line: Packet<'_>) -> Result<Step, Why> {
-        // Laws.
-        T::laws();
-        self.take_packet(line)
+        self.hear_packet(line)
     }
 }

@@ -1,14 +1,14 @@
 //! Reading an ls-refs reply.
 
-ghost use Rattle.std.specs.Prelude.{◌≡◌, ◌<◌, true, false, [], IfOk, Ok};
-ghost use Rattle.gpkt.specs.Packets.{Data, Flush, ResponseEnd, packet_of, text};
+ghost use Rattle.std.specs.Prelude.{◌≡◌, ◌<◌, true, false, [], IfOk, List, MatchOption, Ok};
+ghost use Rattle.gpkt.specs.Packets.{Data, Flush, Packet, ResponseEnd, packet_of, text};
 ghost use Rattle.gpkt.specs.Change.{change_of};
 ghost use Rattle.ggrammar.specs.Kinds.{ReadsOrRefuses};
-ghost use Rattle.ggrammar.specs.MessageReading.{LeavesReader, TakesAs};
+ghost use Rattle.ggrammar.specs.MessageReading.{LeavesReader, TakesAs, TakesPacket};
 ghost use Rattle.glsreply.specs.LsReplies.{Says, judge, judge_at, judge_text, judge_line, max_lines, within_limit, brings};
 ghost use Rattle.glsreply.specs.RefTexts.{line_of};
 ghost use Rattle.glsreply.specs.steps.LineViews.{parts_view};
-ghost use Rattle.ggrammar.specs.Grammar.{Open};
+ghost use Rattle.ggrammar.specs.Grammar.{IsOpen, Open};
 ghost use Rattle.glsreply.specs.steps.ReplyState.{Holds, KeepsKind, state_in, state_of, with_packet, with_text, with_line, with_unborn, with_flush};
 ghost use Rattle.glsreply.specs.WellFormed.{IsLsReplyIn, IsReplyValue};
 ghost use Rattle.gname.specs.declared.formats.Format.TheVariants as format;
@@ -101,12 +101,34 @@ impl<A: Allocator + Copy> LsReplyReader<A> {
     }
 
     /// Returns the reply that the accepted packets encode.
-    pub fn finish(self) -> LsReply<A>
+    fn finish(self) -> LsReply<A>
         requires { IsReplyValue (state_in self).reply }
         ensures { result ≡ (state_in self).reply }
     {
         let LsReplyReader { unborn, lines, .. } = self;
         LsReply::of_parts(unborn, lines)
+    }
+
+    /// Returns the reply that the accepted packets encode. Returns `None` if that reply has too many
+    /// lines, or an id of another format, which never happens after a complete reply.
+    pub fn into_reply(self, format: Format) -> Option<LsReply<A>>
+        ensures { MatchOption result
+            (¬ (IsLsReplyIn format (state_in self).reply))
+            (λ reply. (reply ≡ (state_in self).reply) × IsLsReplyIn format reply) }
+    {
+        let LsReplyReader { unborn, lines, .. } = self;
+        LsReply::checked(format, unborn, lines)
+    }
+
+    /// Accepts the next packet, as [`Message::accept_packet`] does.
+    pub fn hear_packet(&mut self, line: Packet<'_>) -> Result<Step, Why>
+        ensures kept { KeepsKind self.old self.new }
+        ensures takes { (front : List Packet)
+            → IsOpen (judge self.old.format self.old.ends) front → Holds self.old front
+            → TakesPacket (judge self.old.format self.old.ends) brings Holds
+            (λ reply packets. Unit {0}) front (packet_of line.entry) self.new result }
+    {
+        self.take_packet(line)
     }
 
     #[tactic(auto, unfolding(crate::specs::LsReplies::judge_at))]
@@ -282,7 +304,7 @@ impl<A: Allocator + Copy> Message for LsReplyReader<A> {
     ghost left = { λ _ _. Unit {0} };
 
     fn accept_packet(&mut self, line: Packet<'_>) -> Result<Step, Why> {
-        self.take_packet(line)
+        self.hear_packet(line)
     }
 
     fn laws() {

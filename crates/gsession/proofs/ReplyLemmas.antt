@@ -1,5 +1,5 @@
 -- Accepting or rejecting a reply, step by step.
-use Rattle.std.proofs.Common.{◌≡◌, ◌≤◌, ℕ, Bool, List, ◌++◌, length, All, Contains, Option, None, Result, Ok, Err, inr}
+use Rattle.std.proofs.Common.{◌≡◌, ◌≤◌, ℕ, Bool, true, false, not, List, ◌++◌, length, All, Contains, Option, Some, None, Result, Ok, Err, inr}
 use Rattle.std.proofs.Common.{MatchResult, refl, sym, ap, subst, true≢false, arith, ◌∙◌}
 use Rattle.std.specs.Option.{option_map}
 use Rattle.std.proofs.lemmas.Cmp.{nat_list_eq_equiv}
@@ -12,7 +12,8 @@ use Rattle.ggrammar.specs.MessageReading.{LeavesReader}
 use Rattle.glsreply.specs.LsReplies.{LsReply}
 use Rattle.gobject.specs.declared.node.Entry.{Entry}
 use Rattle.gdag.proofs.IdLists.{any_from_contains, contains_from_any}
-use Rattle.gfetchreply.specs.FetchReplies.{FetchReply, Acks, Ready, Pack}
+use Rattle.gpkt.specs.Packets.{Packet}
+use Rattle.gfetchreply.specs.FetchReplies.{Reading, FetchReply, Acks, Ready, Pack, Says, ack_texts, band_payloads, reply_by, reply_of}
 use Rattle.gfetchreply.specs.FetchHeads.{FetchHead, acknowledged_by, head_of, pack_of}
 use Rattle.gfetchreply.specs.FetchHeads as head
 use Rattle.gobject.specs.Packs.{Indexes, IndexFails}
@@ -26,13 +27,13 @@ use Rattle.gdag.specs.declared.fault.GraphFault.TheVariants as graph
 use Rattle.grefs.specs.RefLists.{RefList}
 use Rattle.gclientrepo.specs.declared.fault.RepoFault.TheVariants as repo
 use Rattle.gclientrepo.specs.Repos.{RepoState}
-use Rattle.grequest.specs.Asked.{FetchAsked}
+use Rattle.grequest.specs.Asked.{FetchAsked, Fetches, is_direct}
 use Rattle.grequest.specs.RequestValues.{asked_by_request}
 use Rattle.grequest.specs.declared.request.Request.{Request}
-use Rattle.gsession.specs.Sessions.{SessionState, AreCommons, IsOpenFetch, LeavesReplies}
-use Rattle.gsession.specs.steps.Calls.{AnswersLs, AnswersRead, AnswersRefs, AnswersReply, IsAcksFault, IsStrangeAck}
-use Rattle.gsession.specs.TakingRefs.{AwaitsRefs, IsLsFault, IsRefsFault, ReadsRefs}
-use Rattle.gsession.specs.TakingReplies.{Awaits, HasPack, IsFirstStrange, IsReplyFault, IsTakeFault, ReadsFetch}
+use Rattle.gsession.specs.Sessions.{SessionState, AreCommons, IsOpenFetch, LeavesReplies, after_fault}
+use Rattle.gsession.specs.steps.Calls.{AnswersLs, AnswersRead, AnswersRefs, AnswersReply, FitsHead, IsAcksFault, IsStrangeAck}
+use Rattle.gsession.specs.TakingRefs.{AcceptsRefs, AwaitsRefs, IsLsFault, IsUnaccepted, IsRefsFault, ReadsRefs}
+use Rattle.gsession.specs.TakingReplies.{AcceptsRead, Awaits, HasPack, IsFirstStrange, IsReplyFault, IsTakeFault, ReadsFetch}
 use Rattle.gsession.specs.TakingReplies.{RefusesPack, TakesHead, after_acks, reading_for}
 use Rattle.gsession.specs.declared.fault.ClientFault.{ClientFault}
 use Rattle.gsession.specs.declared.fault.ClientFault.TheVariants.{Index, Message, NoOpenRequest, Repo, StrangeAck, TooManyWants}
@@ -231,3 +232,58 @@ module _ {A : Type 0} where
     read_leaves is_down was now haves old repo_old reply new repo_new (Err (Message fault)) leaves answers =
         absurd answers.0
     read_leaves is_down was now haves old repo_old reply new repo_new (Err _) leaves answers = leaves
+
+    -- a rejected reply that the session did not read itself
+    pub unaccepted_reply : (haves : List (List ℕ)) (old mid new : SessionState A) (repo_old repo_new : RepoState A)
+        (reply : FetchReply) (fault given : ClientFault A)
+        → AnswersRead indexes index_fails haves old repo_old reply mid repo_new (Err fault)
+        → given ≡ fault → new ≡ after_fault mid fault
+        → AcceptsRead indexes index_fails haves old repo_old reply new repo_new (Err given)
+    unaccepted_reply haves old mid new repo_old repo_new reply fault given answers same is =
+        subst (λ (f : ClientFault A). AcceptsRead indexes index_fails haves old repo_old reply new repo_new (Err f)) (sym same)
+        (answers.0, is ∙ ap (λ (s : SessionState A). after_fault s fault) answers.1, answers.2)
+
+  refs_unaccepted : (s : SessionState A) (g : List (Entry A)) (reply : LsReply) (fault : ClientFault A)
+      → AwaitsRefs s → IsRefsFault s g reply fault → IsUnaccepted s g reply fault
+  refs_unaccepted s g reply (Message fault) waits is = (waits, is)
+  refs_unaccepted s g reply TooManyWants waits is = (waits, is)
+  refs_unaccepted s g reply (Repo fault) waits is = (waits, is)
+  refs_unaccepted s g reply _ waits is = absurd is
+
+  pub unaccepted : (old mid new : SessionState A) (g : List (Entry A)) (reply : LsReply) (fault given : ClientFault A)
+      → AwaitsRefs old → AnswersRefs old g reply mid (Err fault) → given ≡ fault → new ≡ after_fault mid fault
+      → AcceptsRefs old g reply new (Err given)
+  unaccepted old mid new g reply fault given waits answers same is =
+      subst (λ (f : ClientFault A). AcceptsRefs old g reply new (Err f)) (sym same)
+      (refs_unaccepted old g reply fault waits answers.0, is ∙ ap (λ (s : SessionState A). after_fault s fault) answers.1)
+
+  -- ---- replies that fit their request
+
+  -- a reply with only acknowledgments answers a request that is not direct
+  acks_not_direct : (reading : Reading) (packets : List Packet) (ids : List (List ℕ)) (direct : Bool)
+      → reading.direct ≡ direct → Acks ids ≡ reply_of reading packets → direct ≡ false
+  acks_not_direct reading packets ids false is e = refl
+  acks_not_direct reading packets ids true is e =
+      let p : Acks ids ≡ reply_by (record reading { direct = true }) (ack_texts reading.direct packets) (band_payloads reading.direct packets) =
+      subst (λ (b : Bool). Acks ids ≡ reply_by (record reading { direct = b }) (ack_texts reading.direct packets) (band_payloads reading.direct packets)) is e in
+      absurd (cc p)
+
+  pub head_fits : (s : SessionState A) (asked : FetchAsked) (packets : List Packet) (reply : FetchReply)
+      → Says (reading_for s asked) packets reply → FitsHead asked (head_of reply)
+  head_fits s asked packets (Acks ids) says =
+      acks_not_direct (reading_for s asked) packets ids (is_direct asked) refl says.says
+  head_fits s asked packets (Ready ids pack) says = tt
+  head_fits s asked packets (Pack pack) says = tt
+
+  pub fits_acks : (direct given : Bool) → direct ≡ given → not direct ≡ true → given ≡ false
+  fits_acks false given is yes = sym is
+  fits_acks true given is yes = absurd (cc yes)
+
+  same_asked : (s : SessionState A) (one other : FetchAsked) → Awaits s one → Awaits s other → one ≡ other
+  same_asked s one other waits also =
+      let same : Some (Fetches one) ≡ Some (Fetches other) = sym waits ∙ also in cc
+
+  pub acks_fit : (s : SessionState A) (one other : FetchAsked) (direct : Bool) → direct ≡ is_direct one → Awaits s one → Awaits s other
+      → is_direct other ≡ false → not direct ≡ true
+  acks_fit s one other direct is waits also fits =
+      ap not (is ∙ ap is_direct (same_asked s one other waits also) ∙ fits)

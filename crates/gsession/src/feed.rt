@@ -13,7 +13,7 @@ use std::marker::PhantomData;
 /// A sink that passes a pack to an indexer, piece by piece. After a fault of the indexer, the sink
 /// ignores all later pieces and keeps the fault.
 #[derive(Drop)]
-pub(crate) struct PackFeed<'k, K: Indexer<A>, A: Allocator + Copy> {
+pub struct PackFeed<'k, K: Indexer<A>, A: Allocator + Copy> {
     indexer: &'k K,
     feed: Result<K::Feed, IndexFault>,
     memory: PhantomData<A>,
@@ -21,8 +21,10 @@ pub(crate) struct PackFeed<'k, K: Indexer<A>, A: Allocator + Copy> {
 
 impl<'k, K: Indexer<A>, A: Allocator + Copy> PackFeed<'k, K, A> {
     /// Starts the indexer for a new pack.
-    pub(crate) fn start(alloc: A, indexer: &'k K) -> PackFeed<'k, K, A>
+    pub fn start(alloc: A, indexer: &'k K) -> PackFeed<'k, K, A>
         ensures indexer { result.indexer.now ≡ indexer.now }
+        ensures taken { MayHaveFed (K.fed result.indexer.now) (K.index_fails result.indexer.now)
+            result.feed [] }
         ensures fed { MayHaveFed (K.fed indexer.now) (K.index_fails indexer.now) result.feed [] }
     {
         PackFeed {

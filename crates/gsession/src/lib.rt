@@ -37,6 +37,10 @@
 //!   fault of the indexer, the session still reads the rest of the reply. Once it has read the
 //!   whole reply, it reports out of memory only if all acknowledged ids are haves and the indexer
 //!   accepted the pack.
+//! - [`Session::refs_reader`] and [`Session::objects_reader`] return readers of the reply that the
+//!   session waits for. [`Session::accept_refs`] and [`Session::accept_objects`] apply a complete
+//!   reply that such a reader read. The session then changes as after `take_ls` and `take_reply`.
+//!   [`Session::refuse`] ends the session if the reply is malformed.
 //! - [`Session::settle`] updates the local refs like `Repo::settle`, once a pack has arrived or if
 //!   there are no wants.
 //! - [`Session::is_due`] returns whether the session can make a request now.
@@ -112,6 +116,7 @@ mod stage;
 mod taken;
 
 pub use crate::fault::ClientFault;
+pub use crate::feed::PackFeed;
 pub use crate::options::{FetchPlan, PackOptions};
 pub use crate::session::{MAX_SPECS, Session};
 pub use crate::taken::{LsTaken, Settled, Taken};

@@ -1,7 +1,8 @@
 //! Reading fetch replies.
 
-ghost use Rattle.std.specs.Prelude.{◌≡◌, ◌++◌, false, All, Contains, MatchOption, MatchResult, OnOk, length};
+ghost use Rattle.std.specs.Prelude.{◌≡◌, ◌++◌, [], false, All, Contains, IfOk, IsTrue, List, MatchOption, MatchResult, OnOk, length};
 ghost use Rattle.gpkt.specs.Change.{change_of};
+ghost use Rattle.gpkt.specs.Packets.{Packet};
 
 use crate::acks::{first_strange, with_acks};
 use crate::fault::ClientFault;
@@ -10,7 +11,7 @@ use crate::session::{Session, set_pending};
 use crate::stage::Stage;
 use crate::taken::Taken;
 use gclientrepo::Repo;
-use gfetchreply::{FetchHead, FetchReading, StreamLimit, read_fetch_reply_into_in};
+use gfetchreply::{FetchHead, FetchReader, FetchReading, StreamLimit, read_fetch_reply_into_in};
 use ggraph::Indexer;
 use ggraph::graph_laws::distinct_are_once;
 use gname::Oid;
@@ -19,15 +20,16 @@ use grequest::Request;
 use std::alloc::Allocator;
 
 impl<A: Allocator + Copy> Session<A> {
-    ghost use Rattle.gfetchreply.specs.FetchReplies.{FetchReply};
+    ghost use Rattle.gfetchreply.specs.FetchReplies.{FetchReply, Says};
     ghost use Rattle.gfetchreply.specs.FetchHeads.{acknowledged_by, head_of, pack_of};
     ghost use Rattle.gfetchreply.specs.Views.{head_in, reading_in};
+    ghost use Rattle.gfetchreply.specs.steps.ReplyState.{HoldsReply, kept_in};
     ghost use Rattle.gdag.specs.Levels.{distinct_of};
     ghost use Rattle.gdag.specs.Reach.{Grows};
     ghost use Rattle.grequest.specs.Asked.{FetchAsked, is_direct};
     ghost use Rattle.gsession.specs.Sessions.{AreCommons, LeavesReplies};
-    ghost use Rattle.gsession.specs.steps.Calls.{AnswersRead, AnswersReply, FitsHead, IsAcksFault, IsStrangeAck, MayHaveFed};
-    ghost use Rattle.gsession.specs.TakingReplies.{Awaits, AwaitsObjects, HasPack, TakesReply, after_acks, reading_for};
+    ghost use Rattle.gsession.specs.steps.Calls.{AnswersRead, AnswersReply, FitsOpen, IsAcksFault, IsStrangeAck, MayHaveFed};
+    ghost use Rattle.gsession.specs.TakingReplies.{AcceptsRead, Awaits, AwaitsObjects, HasPack, HasTaken, TakesReply, after_acks, reading_for};
 
     /// Reads the reply to a request for objects, and nothing after it. Passes the pack to the
     /// indexer while the pack arrives. After the end of the reply, checks that each acknowledged id
@@ -84,6 +86,78 @@ impl<A: Allocator + Copy> Session<A> {
         }
     }
 
+    /// Returns a reader of the reply to the open request for objects, or `None` if no request for
+    /// objects is open. The reader passes the pack to the indexer. [`Session::accept_objects`]
+    /// applies the complete reply.
+    pub fn objects_reader<'k, K: Indexer<A>>(
+        &self,
+        indexer: &'k K,
+    ) -> Option<FetchReader<PackFeed<'k, K, A>, A>>
+        ensures { MatchOption result
+            (¬ (AwaitsObjects self.now))
+            (λ reader. (asked : FetchAsked) × Awaits self.now asked
+            × (reading_in reader.reading ≡ reading_for self.now asked)
+            × (reader.sink.indexer.now ≡ indexer.now)
+            × HoldsReply (λ feed bytes. MayHaveFed (K.fed feed.indexer.now)
+            (K.index_fails feed.indexer.now) feed.feed bytes)
+            (λ one other. one.indexer.now ≡ other.indexer.now) (reading_in reader.reading)
+            (kept_in reader.sections) reader.sink []) }
+    {
+        match self.reply_reading() {
+            Some(reading) => {
+                let alloc = self.allocator();
+                Some(FetchReader::new(alloc, reading, PackFeed::start(alloc, indexer)))
+            }
+            None => None,
+        }
+    }
+
+    /// Applies a complete reply to the open request for objects, as [`Session::take_reply`] does
+    /// after it read the reply. The reader has passed the pack of the reply to `feed`.
+    ///
+    /// Fails with `NoOpenRequest` if no request for objects is open, or if the reply has no pack
+    /// although the request requires one. Any other fault ends the session. A fault leaves the
+    /// repository unchanged. Fails with `StrangeAck` if an acknowledged id is not a have. Otherwise
+    /// fails with `Index` if the indexer rejected the pack. Otherwise fails with `Repo` if the graph
+    /// rejects the objects, or if out of memory.
+    pub fn accept_objects<K: Indexer<A>>(
+        &mut self,
+        repo: &mut Repo<A>,
+        head: FetchHead<A>,
+        feed: PackFeed<'_, K, A>,
+    ) -> Result<Taken, ClientFault<A>>
+        ensures accepts { (asked : FetchAsked) (lines : List Packet) (reply : FetchReply)
+            → Awaits self.old asked → Says (reading_for self.old asked) lines reply
+            → head_in head ≡ head_of reply
+            → MayHaveFed (K.fed feed.entry.indexer.now) (K.index_fails feed.entry.indexer.now)
+            feed.entry.feed (pack_of reply)
+            → AcceptsRead (K.indexes feed.entry.indexer.now) (K.index_fails feed.entry.indexer.now)
+            asked.haves self.old repo.old reply self.new repo.new result }
+        ensures goes { IfOk result (HasTaken self.old self.new) }
+    {
+        if !self.fits_open(&head) {
+            return Err(ClientFault::NoOpenRequest);
+        }
+        match self.take_head(repo, head, feed) {
+            Ok(taken) => Ok(taken),
+            Err(fault) => Err(self.end_with_fault(fault)),
+        }
+    }
+
+    // Returns whether this may be the head of a reply to the open request for objects.
+    fn fits_open(&self, head: &FetchHead<A>) -> bool
+        ensures fits { IsTrue result → FitsOpen self.now (head_in head.now) }
+        ensures all { FitsOpen self.now (head_in head.now) → IsTrue result }
+    {
+        match self.reply_reading() {
+            Some(reading) => match head {
+                FetchHead::Acks(_) => !reading.direct,
+                FetchHead::Ready(_) | FetchHead::Pack => true,
+            },
+            None => false,
+        }
+    }
+
     // Returns the parameters for reading the reply to the open request, or `None` if no request for
     // objects is open.
     fn reply_reading(&self) -> Option<FetchReading<StreamLimit>>
@@ -111,8 +185,9 @@ impl<A: Allocator + Copy> Session<A> {
         head: FetchHead<A>,
         feed: PackFeed<'_, K, A>,
     ) -> Result<Taken, ClientFault<A>>
-        requires { (asked : FetchAsked) × Awaits self.old asked × FitsHead asked (head_in head) }
-        ensures { (asked : FetchAsked) (reply : FetchReply) → Awaits self.old asked
+        requires { FitsOpen self.old (head_in head) }
+        ensures goes { IfOk result (HasTaken self.old self.new) }
+        ensures answers { (asked : FetchAsked) (reply : FetchReply) → Awaits self.old asked
             → head_in head ≡ head_of reply
             → MayHaveFed (K.fed feed.entry.indexer.now) (K.index_fails feed.entry.indexer.now)
             feed.entry.feed (pack_of reply)
@@ -129,7 +204,8 @@ impl<A: Allocator + Copy> Session<A> {
     // Applies a reply with only acknowledgments.
     fn take_acks(&mut self, acks: &[Oid]) -> Result<Taken, ClientFault<A>>
         requires { (asked : FetchAsked) × Awaits self.old asked × (is_direct asked ≡ false) }
-        ensures { (asked : FetchAsked) → Awaits self.old asked → MatchResult result
+        ensures goes { IfOk result (HasTaken self.old self.new) }
+        ensures answers { (asked : FetchAsked) → Awaits self.old asked → MatchResult result
             (λ taken. All (Contains asked.haves) acks.now
             × (self.new ≡ after_acks self.old Stage.Fetching acks.now)
             × (taken ≡ Taken.Round (length self.new.commons)))
@@ -152,7 +228,8 @@ impl<A: Allocator + Copy> Session<A> {
         feed: PackFeed<'_, K, A>,
     ) -> Result<Taken, ClientFault<A>>
         requires { AwaitsObjects self.old }
-        ensures { (asked : FetchAsked) (reply : FetchReply) → Awaits self.old asked
+        ensures goes { IfOk result (HasTaken self.old self.new) }
+        ensures answers { (asked : FetchAsked) (reply : FetchReply) → Awaits self.old asked
             → acknowledged_by reply ≡ acks.now
             → HasPack reply
             → MayHaveFed (K.fed feed.entry.indexer.now) (K.index_fails feed.entry.indexer.now)

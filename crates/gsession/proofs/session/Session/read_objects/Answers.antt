@@ -24,7 +24,7 @@ answers g c =
     (sym began) c.start-feed.ensures.fed) in
     subst (λ (k : g.row.K.Denot). AnswersRead (indexes k) (fails k) asked.haves c.args.self.now c.args.repo.now
     read.reply c.take_head.new.self c.take_head.new.repo c.take_head.result) same
-    (c.take_head.ensures asked read.reply c.in-Some.ensures.1 read.is_head fed)
+    (c.take_head.ensures.answers asked read.reply c.in-Some.ensures.1 read.is_head fed)
 
 pub returns-in-Ok-clause-takes : goal.returns-in-Ok-clause-takes
 returns-in-Ok-clause-takes g c =

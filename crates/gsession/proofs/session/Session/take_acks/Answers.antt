@@ -10,21 +10,21 @@ use Rattle.gsession.proofs.ReplyLemmas.{acked, strange_acks}
 use Rattle.gsession.proofs.SessionLemmas.{acks_taken, waits}
 use Rattle.gsession.proofs.session.Session.take_acks.Goals as goal
 
-pub returns-in_err-check_acks : goal.returns-in_err-check_acks
-returns-in_err-check_acks g c = λ asked waits.
+pub returns-in_err-check_acks-clause-answers : goal.returns-in_err-check_acks-clause-answers
+returns-in_err-check_acks-clause-answers g c = λ asked waits.
     let p = err_from_is_err_and c.from_residual.result c.from_residual.ensures.1 in
     rw (p.1, p.2) (
       strange_acks asked.haves c.args.acks.now _ (c.in_err-check_acks.ensures.checks asked waits),
       refl,
     )
 
-pub returns-in_err-joined : goal.returns-in_err-joined
-returns-in_err-joined g c = λ asked waits.
+pub returns-in_err-joined-clause-answers : goal.returns-in_err-joined-clause-answers
+returns-in_err-joined-clause-answers g c = λ asked waits.
     let p = err_from_is_err_and c.from_residual-in_err-joined.result c.from_residual-in_err-joined.ensures.1 in
     rw (p.1, p.2) (c.in_ok-check_acks.ensures.checks asked waits, refl)
 
-pub returns : goal.returns
-returns g c = λ asked waits.
+pub returns-clause-answers : goal.returns-clause-answers
+returns-clause-answers g c = λ asked waits.
     let commons = c.in_ok-joined.joined.items in
     let is = c.in_ok-joined.ensures ∙ ap (λ (l : List (List ℕ)). distinct_of (l ++ c.args.acks.now))
     (c.as_slice.ensures.value ∙ ap (λ (s : SessionState g.row.A.Denot). s.commons) c.self.view_is) in

@@ -9,8 +9,8 @@ use Rattle.gsession.proofs.ReplyLemmas.{acked, graph_fault, same_repo, strange_f
 use Rattle.gsession.proofs.SessionLemmas.{pack_taken, waits}
 use Rattle.gsession.proofs.session.Session.take_pack.Goals as goal
 
-pub returns-in_err-check_acks : goal.returns-in_err-check_acks
-returns-in_err-check_acks g c = λ asked reply waits same has fed.
+pub returns-in_err-check_acks-clause-answers : goal.returns-in_err-check_acks-clause-answers
+returns-in_err-check_acks-clause-answers g c = λ asked reply waits same has fed.
     let p = err_from_is_err_and c.from_residual.result c.from_residual.ensures.1 in
     rw (p.1, p.2) (
       strange_fault (g.K.Indexer.indexes c.args.feed.indexer.now) (g.K.Indexer.index_fails c.args.feed.indexer.now)
@@ -19,23 +19,23 @@ returns-in_err-check_acks g c = λ asked reply waits same has fed.
       refl,
     )
 
-pub returns-in_err-entries : goal.returns-in_err-entries
-returns-in_err-entries g c = λ asked reply waits same has fed.
+pub returns-in_err-entries-clause-answers : goal.returns-in_err-entries-clause-answers
+returns-in_err-entries-clause-answers g c = λ asked reply waits same has fed.
     let p = err_from_is_err_and c.from_residual-in_err-entries.result c.from_residual-in_err-entries.ensures.1 in
     let checks = c.in_ok-check_acks.ensures.checks asked waits in
     let named = subst (λ (l : List (List ℕ)). All (Contains asked.haves) l) (sym same) checks in
     rw (p.1, p.2) ((named, has, c.in_err-entries.ensures (pack_of reply) fed), refl, refl)
 
-pub returns-in_err-commons : goal.returns-in_err-commons
-returns-in_err-commons g c = λ asked reply waits same has fed.
+pub returns-in_err-commons-clause-answers : goal.returns-in_err-commons-clause-answers
+returns-in_err-commons-clause-answers g c = λ asked reply waits same has fed.
     let p = err_from_is_err_and c.from_residual-in_err-commons.result c.from_residual-in_err-commons.ensures.1 in
     let checks = c.in_ok-check_acks.ensures.checks asked waits in
     let named = subst (λ (l : List (List ℕ)). All (Contains asked.haves) l) (sym same) checks in
     rw (p.1, p.2)
     ((named, λ _. (c.in_ok-entries.entries.items, c.in_ok-entries.ensures (pack_of reply) fed)), refl, refl)
 
-pub returns-in_err-added : goal.returns-in_err-added
-returns-in_err-added g c = λ asked reply waits same has fed.
+pub returns-in_err-added-clause-answers : goal.returns-in_err-added-clause-answers
+returns-in_err-added-clause-answers g c = λ asked reply waits same has fed.
     let p = err_from_is_err_and c.from_residual-in_err-added.result c.from_residual-in_err-added.ensures.1 in
     let checks = c.in_ok-check_acks.ensures.checks asked waits in
     let named = subst (λ (l : List (List ℕ)). All (Contains asked.haves) l) (sym same) checks in
@@ -48,8 +48,8 @@ returns-in_err-added g c = λ asked reply waits same has fed.
       same_repo c.insert_all.new.self c.args.repo.now adds.0 c.in_err-added.ensures.refs c.in_err-added.ensures.known,
     )
 
-pub returns : goal.returns
-returns g c = λ asked reply waits same has fed.
+pub returns-clause-answers : goal.returns-clause-answers
+returns-clause-answers g c = λ asked reply waits same has fed.
     let s = c.args.self.now in
     let checks = c.in_ok-check_acks.ensures.checks asked waits in
     let named = subst (λ (l : List (List ℕ)). All (Contains asked.haves) l) (sym same) checks in
