@@ -10,37 +10,25 @@ use Rattle.gpkt.specs.Packets.{Bytes, Packet, canonical_all}
 use Rattle.gpkt.specs.Devices.{KeepsPassed}
 use Rattle.ggrammar.specs.Capabilities.{Capability}
 use Rattle.ggrammar.specs.MessageReading.{IsReadFailure, ReadsRefused}
-use Rattle.ggrammar.specs.declared.ends.Ends.{Ends}
 use Rattle.ggrammar.specs.declared.fault.MessageFault.{MessageFault}
 use Rattle.ghello.specs.Adverts as advert
 use Rattle.ghello.specs.Offers.{check_fault}
 use Rattle.gobject.specs.Packs.{Indexes, IndexFails}
-use Rattle.grefs.specs.Refspecs.{Refspec}
 use Rattle.gclientrepo.specs.Changes.{SettlesAsks}
 use Rattle.gclientrepo.specs.Repos.{RepoState}
 use Rattle.gclientrepo.specs.declared.fault.RepoFault.{RepoFault}
 use Rattle.grequest.specs.Asked.{Asked, Empty}
 use Rattle.grequest.specs.RequestWriting.{canonical_request}
-use Rattle.gsession.specs.Sessions.{SessionState, Begins, max_specs, new_session, no_memory, no_options}
-use Rattle.gsession.specs.Sessions.{tells_unborn, tips_of}
-use Rattle.gsession.specs.declared.options.PackOptions.{PackOptions}
+use Rattle.gsession.specs.Sessions.{SessionState, Begins, max_specs, no_memory}
 use Rattle.gsession.specs.declared.stage.Stage.TheVariants.{Settling}
 use Rattle.gsession.specs.declared.fault.ClientFault.{ClientFault}
 use Rattle.gsession.specs.Requesting.{Requests}
 use Rattle.gsession.specs.declared.fault.ClientFault.TheVariants as client
+pub use Rattle.gfetch.specs.Starts.{Start, Advertises, start_for, start_of, begin_session, hear_advert}
 use Rattle.gclient.specs.Turns.{AreTurns, AsksNext, ClientState, Refuses, Turn}
 use Rattle.gclient.specs.declared.fault.FetchFault.{FetchFault}
 use Rattle.gclient.specs.declared.fetched.Fetched.{Fetched}
 use Rattle.gclient.specs.declared.fault.FetchFault.TheVariants as fetch
-
--- the inputs of a conversation: the repository, the refspecs, the size limit of a pack, how replies end, and the pack
--- options
-pub record Start (A : Type 0) : Type 0 where
-  pub repo : RepoState A
-  pub refspecs : List Refspec
-  pub limit : ℕ
-  pub ends : Ends
-  pub options : PackOptions
 
 -- ---- the bytes written
 
@@ -68,11 +56,6 @@ FailsToAsk format output [] due = FailsToSend output due
 FailsToAsk format output (turn ∷ turns) due = SendsAndFails output (requests_bytes format (turn ∷ turns)) due
 
 -- ---- the bytes read
-
--- the packets are the advertisement of a server that a client of this object format supports
-pub record Advertises (format : Format) (packets : List Packet) (capabilities : List Capability) : Type 0 where
-  pub says : advert.Says packets capabilities
-  pub fits : check_fault format capabilities ≡ None
 
 -- the client reads an advertisement, and does not support the server
 pub record Mismatches (format : Format) (input : Input) (cause : MessageFault) : Type 0 where
@@ -102,31 +85,6 @@ pub record IsLeft (rest : Input) : Type 0 where
   pub up : IsUp rest
 
 -- ---- a conversation so far
-
--- the inputs of a conversation that uses this repository and these pack options
-abbrev pub start_for : {A : Type 0} → RepoState A → List Refspec → ℕ → Ends → PackOptions → Start A
-start_for repo refspecs limit ends options =
-    record { repo = repo; refspecs = refspecs; limit = limit; ends = ends; options = options }
-
--- the inputs of a conversation that uses this repository and the default pack options
-abbrev pub start_of : {A : Type 0} → RepoState A → List Refspec → ℕ → Ends → Start A
-start_of repo refspecs limit ends = start_for repo refspecs limit ends no_options
-
-module _ {A : Type 0} (start : Start A) where
-  -- the session at the beginning of the conversation
-  abbrev pub begin_session : SessionState A
-  begin_session =
-      record (new_session start.repo.graph.format start.refspecs start.limit start.ends (tips_of start.repo)) {
-        options = start.options;
-      }
-
-  -- the state of the client after it read the server's advertisement
-  abbrev pub hear_advert : List Capability → ClientState A
-  hear_advert capabilities = record {
-    session = record begin_session { offers_unborn = tells_unborn capabilities };
-    repo = start.repo;
-    unborn = None;
-  }
 
 module _ {A : Type 0} (indexes : Indexes A) (index_fails : IndexFails) (start : Start A) where
   -- The client reads the advertisement and the replies of the turns, and `last` is the client's state afterwards.
