@@ -222,7 +222,7 @@ def main(program, repository, commits=60_000, times=5):
         what = f"{int(commits):,} commits"
         bench.lists("long.git", what)
         git("commit-graph", "write", "--reachable", cwd=f"{folder}/long.git")
-        what += ", commit-graph"
+        what += " with a commit-graph"
         bench.lists("long.git", what)
         bench.clones("long.git", what)
         bench.fetches("long.git", what)

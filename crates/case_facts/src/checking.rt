@@ -1,10 +1,12 @@
-//! The check of one fact, which returns the actual result of the call.
+//! The check of one fact. `actual_result` calls the function that the fact tests, and returns the
+//! actual result.
 
 use crate::{client_objects, history, parsing, printed_faults, size_limits};
 use case_text::{Fact, FactKind, RefusingAllocator, Trouble};
 use std::alloc::{Allocator, Global};
 
-/// The limits of a check: the maximum number of bytes in a call, and the allocation to refuse.
+/// The limits of a check: the maximum number of bytes in one read or write, and the allocation to
+/// refuse.
 #[derive(Clone, Copy)]
 pub struct Limits {
     /// The maximum number of bytes in one read or write.

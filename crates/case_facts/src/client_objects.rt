@@ -15,8 +15,8 @@ use ggraph::{Count, Graph, GraphFault, Order, Refs, missing_known};
 use gname::{Oid, RefName};
 use std::alloc::{Allocator, Global};
 
-/// Returns the result of a fact about a client with this repository text. `refusal` states which
-/// allocation of the client to refuse, if any.
+/// Makes the call that a fact describes, on a client with this repository text, and returns its
+/// actual result. `refusal` states which allocation of the client to refuse, if any.
 pub(crate) fn actual_result<A: Allocator + Copy>(
     alloc: Global,
     tested_alloc: A,
@@ -120,13 +120,13 @@ fn marked_ids<A: Allocator + Copy>(alloc: Global, repo: &Repo<A>) -> Result<Vec<
     Ok(ids)
 }
 
-// Returns an ancestor of `ids` that the graph lacks, and the counts of visited objects. The walk
-// does not continue past marked objects.
+// Searches the ancestry of `ids` for an id that the graph lacks, without walking past marked
+// objects. Returns the missing id, if any, and the counts of visited objects.
 fn missing_and_count<A: Allocator + Copy>(
     repo: &Repo<A>,
     ids: &[Oid],
 ) -> Result<(Option<Oid>, Count), GraphFault> {
-    // Laws.
+    // This call makes laws of the repository available to the proof.
     repo.laws();
     missing_known(repo.graph(), ids, repo.marks())
 }

@@ -3,12 +3,12 @@
 use case_text::Trouble;
 use std::alloc::Global;
 
-/// Formats the number and the name of a fault.
+/// Formats a fault as its number and its name.
 pub(crate) fn format_fault(alloc: Global, code: u32, name: &str) -> Result<String, Trouble> {
     Ok(format!(in alloc; "{code} {name}")?)
 }
 
-/// Formats the number, the name and the position of a fault.
+/// Formats a fault as its number, its name and its position.
 pub(crate) fn format_fault_at(
     alloc: Global,
     code: u32,

@@ -186,8 +186,8 @@ fn find_haves<A: Allocator + Copy>(
     Ok(SearchResult::Ids(haves(graph, tips, commons, &[], count)?))
 }
 
-// Returns whether the first of the two ids reaches the second. The result for any other list is
-// `none`.
+// Returns whether the first of the two ids reaches the second. If the list does not have exactly
+// two ids, the result is `none`.
 fn check_reach<A: Allocator + Copy>(
     graph: &Graph<A>,
     ids: &[Oid],
@@ -198,7 +198,8 @@ fn check_reach<A: Allocator + Copy>(
     }
 }
 
-// Returns the id to which the only id of the list peels. The result for any other list is `no`.
+// Returns the id to which the id in `ids` peels. If `ids` does not have exactly one id, the result
+// is `no`.
 fn peel_single_id<A: Allocator + Copy>(graph: &Graph<A>, ids: &[Oid]) -> SearchResult<A> {
     match ids {
         [id] => SearchResult::Id(graph.peel(id)),

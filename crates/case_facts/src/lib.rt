@@ -1,5 +1,5 @@
-//! Checks of facts. A fact is the expected result of a call. The call parses a text, searches a
-//! history, queries a client's objects, or prints a fault.
+//! Checks of facts. A fact is the expected result of a function call, which parses a text, searches
+//! a history, queries a client's objects, or prints a fault.
 //!
 //! [`actual_result`] returns the actual result for one fact, in the same form as the expected
 //! result in a test file.

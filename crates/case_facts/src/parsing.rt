@@ -181,7 +181,7 @@ fn pack_result<A: Allocator + Copy>(
     }
 }
 
-// Passes a pack to the indexer in pieces, and returns the number of its entries.
+// Passes a pack to the indexer in pieces, and returns the number of the pack's entries.
 fn count_entries<A: Allocator + Copy>(
     tested_alloc: A,
     text: &[u8],
@@ -190,12 +190,12 @@ fn count_entries<A: Allocator + Copy>(
     let mut feed = PlainPack.start(tested_alloc)?;
     let mut unread = text;
     for _ in 0..text.len() {
-        let (piece, others) = unread.split_at(max_per_call.min(unread.len()));
+        let (piece, remaining) = unread.split_at(max_per_call.min(unread.len()));
         if piece.is_empty() {
             break;
         }
         PlainPack.feed(&mut feed, piece)?;
-        unread = others;
+        unread = remaining;
     }
     Ok(PlainPack.finish(feed)?.len())
 }
@@ -242,7 +242,7 @@ fn write_packet(sink: &mut Limited<VecSink>, text: &[u8]) -> Result<(), WriteFau
     outcome
 }
 
-// Returns the side band of a payload and the number of bytes on it.
+// Returns the side band of a payload, and the number of bytes after the band byte.
 fn band_result(alloc: Global, text: &[u8]) -> Result<String, Trouble> {
     let (word, bytes) = match band_of(text) {
         Ok(Band::Data(bytes)) => ("data", bytes),

@@ -11,9 +11,10 @@ use gpkt::memory::VecSink;
 use gpkt::{BandFault, PacketFault};
 use std::alloc::Global;
 
-/// The hexadecimal digits of the ids in the tested faults: `ID` for SHA-1, `LONG_ID` for SHA-256.
+/// The hexadecimal digits of the SHA-1 id in the tested faults.
 const ID: &[u8] = b"00112233445566778899aabbccddeeff00112233";
 
+/// The hexadecimal digits of the SHA-256 id in the tested faults.
 const LONG_ID: &[u8] = b"00112233445566778899aabbccddeeff00112233445566778899aabbccddeeff";
 
 /// The ref name in the tested faults.

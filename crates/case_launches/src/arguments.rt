@@ -139,6 +139,10 @@ pub fn push_arguments(
 const UNNAMED_FILE: &str = "none";
 
 /// Returns the name of the file that holds the text with this name.
-pub(crate) fn file_name_for(text: &str) -> &str {
-    if text.is_empty() { UNNAMED_FILE } else { text }
+pub(crate) fn file_name_for(text_name: &str) -> &str {
+    if text_name.is_empty() {
+        UNNAMED_FILE
+    } else {
+        text_name
+    }
 }

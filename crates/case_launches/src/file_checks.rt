@@ -9,7 +9,7 @@ use std::os::unix::fs::{MetadataExt, PermissionsExt};
 // The bits of a file mode that are permissions.
 const PERMISSION_BITS: u32 = 0o7777;
 
-/// The inode numbers of files.
+/// The names and inode numbers of files that a launch must not replace.
 #[derive(Drop)]
 pub(crate) struct InodeNumbers<'b> {
     numbers: Vec<(&'b str, u64)>,
@@ -87,7 +87,7 @@ pub(crate) fn first_wrong_file<'b, R: System>(
     Ok(None)
 }
 
-// Returns the item's name if the item is not as expected.
+// Returns the item's name if the item is not as expected, or `None` otherwise.
 fn wrong_final_item<'b, R: System>(
     rt: &R,
     plan: &Plan<'b>,
@@ -103,7 +103,7 @@ fn wrong_final_item<'b, R: System>(
 }
 
 // Returns the file's name if the file has a new lockfile, or has changed although the plan does not
-// list the file.
+// list the file. Returns `None` otherwise.
 fn wrong_initial_item<'b, R: System>(
     rt: &R,
     plan: &Plan<'b>,

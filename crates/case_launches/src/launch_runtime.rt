@@ -69,7 +69,8 @@ impl<'a, R: System> LaunchRuntime<'a, R> {
     }
 }
 
-// Returns the port in the line that a listening server prints.
+// Returns the port in the line that a listening server prints, or `None` if the output is not this
+// line.
 fn listening_port(output: &[u8]) -> Option<u16> {
     let line = std::str::from_utf8(output).ok()?;
     let digits = line.strip_prefix("listening ")?.strip_suffix("\n")?;

@@ -45,7 +45,7 @@ impl<'a> Peers<'a> {
     }
 
     /// Returns the port at which the program listens, or 0 if the program does not listen.
-    pub(crate) fn port(&self) -> u16 {
+    pub(crate) fn program_port(&self) -> u16 {
         self.port.get()
     }
 
@@ -70,7 +70,7 @@ impl<'a> Peers<'a> {
     /// program listens at that address. Otherwise the stream is connected to the next simulated
     /// server.
     pub(crate) fn connect<R: System>(&self, rt: &R, address: SocketAddr) -> io::Result<TcpStream> {
-        if address.port() == self.port() {
+        if address.port() == self.program_port() {
             let stream = TcpStream::connect(rt, address)?;
             self.count_waiting_connection();
             return Ok(stream);

@@ -103,14 +103,16 @@ impl<'b> Plan<'b> {
     }
 
     // Adds a file that has the name and the contents of a named text.
-    fn add_file(&mut self, text: &'b str) -> Result<(), Trouble> {
-        let name = file_name_for(text);
-        self.initial_items.push(InitialItem::File { name, text })?;
+    fn add_file(&mut self, text_name: &'b str) -> Result<(), Trouble> {
+        let name = file_name_for(text_name);
+        self.initial_items.push(InitialItem::File {
+            name,
+            text: text_name,
+        })?;
         Ok(())
     }
 
-    // Makes the plan expect that the file contains the named text after the launch, if `text` names
-    // a text.
+    // If `text` is a name, expects the file to hold the text with that name after the launch.
     fn expect_file(&mut self, file: &'b str, text: Option<&'b str>) -> Result<(), Trouble> {
         if let Some(text) = text {
             let name = file_name_for(file);
@@ -119,7 +121,7 @@ impl<'b> Plan<'b> {
         Ok(())
     }
 
-    // Adds the messages of a row to the plan, on standard streams or over a socket.
+    // Adds the messages of a row to the plan, over standard streams or over a socket.
     fn expect_conversation(&mut self, alloc: Global, row: &Row<'_>) -> Result<(), Trouble> {
         let conversation = &row.conversation;
         let is_remote = row.command.has_hello();
@@ -218,7 +220,7 @@ impl<'b> Plan<'b> {
         push_arguments(alloc, text, &mut self.arguments)
     }
 
-    // Adds messages to the plan, on standard streams or on one connection after another.
+    // Adds messages to the plan, over standard streams or over one connection after another.
     fn expect_transcript(
         &mut self,
         alloc: Global,

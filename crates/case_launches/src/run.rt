@@ -57,8 +57,8 @@ fn denies_owner(initial_items: &[InitialItem<'_>]) -> bool {
     false
 }
 
-// Runs the program. If the status, streams or operations differ from the plan, returns the
-// program's results.
+// Runs the program. Returns a description of the results if the status, streams or operations
+// differ from the plan, or `None` otherwise.
 fn run_and_compare<R: System>(
     rt: &R,
     plan: &Plan<'_>,
@@ -72,7 +72,7 @@ fn run_and_compare<R: System>(
     let output = runtime.written_bytes()?;
     let steps = journal.text()?;
     let is_right = has_expected_status(plan, status)
-        && has_expected_output(alloc, plan, peers.port(), output.as_slice())?
+        && has_expected_output(alloc, plan, peers.program_port(), output.as_slice())?
         && has_expected_errors(plan, errors.written.as_slice())
         && has_expected_steps(plan, steps.as_str())
         && peers.have_received_expected(alloc);

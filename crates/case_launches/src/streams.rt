@@ -54,8 +54,8 @@ impl CommandStreams {
 }
 
 fn has_option(arguments: &str, option: &str) -> bool {
-    for other in arguments.split(' ') {
-        if other == option {
+    for argument in arguments.split(' ') {
+        if argument == option {
             return true;
         }
     }

@@ -1,5 +1,5 @@
 //! Packers and indexers for one run. The packer or the indexer may fail or break its contract. Each
-//! indexer records its calls.
+//! indexer records the calls that it receives.
 
 ghost use Rattle.std.specs.Prelude.{⊤};
 

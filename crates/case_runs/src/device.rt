@@ -213,17 +213,16 @@ impl Sink for Writer {
 // The error or result with which a std reader or writer fails.
 #[derive(Clone, Copy)]
 enum Failure {
-    // Errors after which users of std often retry, or which they mistake for the end of the input.
+    // Errors of kinds that callers often retry, or mistake for the end of the input.
     Interrupted,
     WouldBlock,
     UnexpectedEof,
-    // A write that returns 0.
+    // A write that returns 0, or a read that fails with `ErrorKind::Interrupted`.
     WritesZero,
 }
 
 impl Failure {
-    // Returns the failure for these limits. The number of the failing call determines which of the
-    // four failures.
+    // Returns one of the four failures, which the number of the failing call determines.
     fn for_limits(limits: DeviceLimits) -> Failure {
         match limits.failing_call % 4 {
             0 => Failure::WritesZero,

@@ -3,7 +3,7 @@
 
 use std::cell::Cell;
 
-/// The number of bytes that a reader has returned, and the number that an indexer has received.
+/// The state of a check: how far the pack was read and indexed, and whether a rule was broken.
 #[derive(Drop)]
 pub struct IndexerCheck {
     read_count: Cell<usize>,
@@ -15,7 +15,7 @@ pub struct IndexerCheck {
 }
 
 impl IndexerCheck {
-    /// Returns a check before any byte is read.
+    /// Returns the state before the reader has returned any byte.
     pub fn new() -> IndexerCheck {
         IndexerCheck {
             read_count: Cell::new(0),
@@ -41,10 +41,10 @@ impl IndexerCheck {
     pub(crate) fn note_piece(&self, input: &[u8], piece: &[u8]) {
         let read_count = self.read_count.get();
         let start = read_count.saturating_sub(piece.len());
-        let is_last = input.get(start..read_count) == Some(piece);
+        let ends_read_bytes = input.get(start..read_count) == Some(piece);
         let is_new = start >= self.read_count_at_last_piece.get();
         self.read_count_at_last_piece.set(read_count);
-        if piece.is_empty() || !is_last || !is_new {
+        if piece.is_empty() || !ends_read_bytes || !is_new {
             self.is_wrong.set(true);
         }
         self.check_not_failed();

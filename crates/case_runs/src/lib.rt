@@ -1,7 +1,7 @@
-//! Runs of the commands in `gcmd` and of their network calls, for tests. The sources and sinks
-//! transfer a limited number of bytes in each call, and fail at a chosen call. An allocation may be
-//! refused. Packers and indexers may break their contracts, and the calls of each indexer are
-//! checked.
+//! Test runs of the commands in `gcmd`, and of their conversations over the network. The sources
+//! and sinks transfer a limited number of bytes in each call, and fail at a chosen call. An
+//! allocation may be refused. Packers and indexers may break their contracts, and the calls to each
+//! indexer are checked.
 //!
 //! [`run_command`] runs the command of a [`CommandRun`] on the sources and sinks in [`Devices`].
 //! The function can also serve a connection with its first line, or list refs, as `gitv2` does over

@@ -89,8 +89,8 @@ fn list_over_streams<A: Allocator + Copy, I: Source, O: Sink, R: Sink, E: Sink>(
     conclude_listing(run, reply, &mut devices.report)
 }
 
-/// Ends a listing as the program does. Writes the lines of the reply to the report, or returns the
-/// fault.
+/// Writes a line to the report for each ref of the reply, as the program does at the end of a
+/// listing. Returns the fault if the request failed.
 pub fn conclude_listing<A: Allocator + Copy, R: Sink>(
     run: &CommandRun<'_, '_, '_, A>,
     reply: Result<LsReply<A>, FetchFault<A>>,

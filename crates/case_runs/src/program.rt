@@ -16,9 +16,9 @@ use std::alloc::{Allocator, Global};
 #[derive(Clone, Copy)]
 pub struct CommandRun<'b, 'i, 'm, A: Allocator + Copy> {
     pub alloc: Global,
-    /// The allocator of the command. `refusing_alloc` is the same allocator, and determines which
-    /// allocation is refused.
+    /// The allocator of the command.
     pub tested_alloc: A,
+    /// The same allocator, which can be set to refuse an allocation.
     pub refusing_alloc: &'m RefusingAllocator<Global>,
     pub indexer_check: &'m IndexerCheck,
     pub command: Invocation<'b>,
@@ -34,7 +34,7 @@ pub struct RunOutcome {
     pub status: u8,
     /// The new text of the client's file, if the command writes the file.
     pub new_file: Option<Vec<u8>>,
-    /// The text of the client's repository at the end, if it is known.
+    /// The text of the client's repository at the end, or `None` if the command does not return it.
     pub final_repository_text: Option<Vec<u8>>,
     /// Whether the run reached the allocation to refuse.
     pub was_refused: bool,
@@ -229,7 +229,7 @@ pub fn pack_limit_of(limit: usize) -> PackLimit {
     }
 }
 
-// Returns a copy of the text, which is allocated by the global allocator.
+// Returns a copy of the text, if there is a text. The copy is allocated by the global allocator.
 fn copy_text<A: Allocator + Copy>(
     alloc: Global,
     text: &Option<Vec<u8, A>>,

@@ -1,5 +1,5 @@
-//! A fetch of a client whose repository is in a file in memory. A chosen call to the file fails, or
-//! the run stops at that call.
+//! A fetch of a client whose repository is in a file in memory. A chosen operation on the file
+//! fails, or the run stops at that operation.
 
 ghost use Rattle.std.specs.Prelude.{◌≡◌, IfOk};
 ghost use Rattle.glockfile.specs.declared.storage.Lockfile.TheVariants.{Absent};
@@ -15,15 +15,17 @@ use std::alloc::{Allocator, Global};
 /// A problem with the client's file during a fetch.
 #[derive(Clone, Copy, PartialEq, Eq)]
 pub enum FileProblem {
-    /// No failure.
+    /// No operation fails.
     None,
     /// Another process holds the lock on the file.
     LockedByOther,
-    /// The call with this number, counted from 1, fails.
+    /// The file operation with this number, counted from 1, fails.
     FailedCall(usize),
-    /// The run stops before this call: this call and all later calls fail without effect.
+    /// The run stops before the file operation with this number: this operation and all later
+    /// operations fail without effect.
     StopBefore(usize),
-    /// The run stops after this call: the call takes effect but fails, and each later call fails.
+    /// The run stops after the file operation with this number: this operation takes effect but
+    /// fails, and all later operations fail.
     StopAfter(usize),
 }
 

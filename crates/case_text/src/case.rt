@@ -17,7 +17,7 @@ pub enum Speaker {
     Output,
     /// The standard error of the program.
     Errors,
-    /// The report that a client prints about its ref updates.
+    /// The report that a client prints: its ref updates, or the listed refs.
     Report,
 }
 
@@ -38,11 +38,12 @@ pub struct TranscriptEntry {
     pub bytes: Vec<u8>,
 }
 
-/// A case of a test file.
+/// A case of a test file: messages, the programs to run, and the expected results.
 #[derive(Drop)]
 pub struct Case<'a> {
-    /// The name of the test file. The case begins in the line with the number `line_number`.
+    /// The name of the test file.
     pub file_name: &'a str,
+    /// The number of the line in which the case begins.
     pub line_number: usize,
     pub name: &'a str,
     /// The command lines, each of which runs one end of the conversation.
@@ -55,7 +56,8 @@ pub struct Case<'a> {
     pub new_file: Option<&'a str>,
     /// The packer or indexer that the program uses instead of `PlainPack`, if any.
     pub pack_tool: Option<PackTool>,
-    /// The fault lines expected when an allocation is refused, in order.
+    /// The fault lines that the program must print, in this order, as each allocation is refused in
+    /// turn.
     pub memory_faults: Vec<Vec<u8>>,
     /// The offsets at which packets begin in the last message that the program reads. The list is
     /// empty if the case lists no offsets.
@@ -65,17 +67,17 @@ pub struct Case<'a> {
     /// Whether the case is tested only with its unchanged input, which is read at once and in
     /// pieces.
     pub is_long: bool,
-    /// Whether each byte of the input is changed to every other value.
+    /// Whether the tests change each byte of the input to every other value.
     pub is_deep: bool,
-    /// Whether the case is also tested with a late peer, and over a socket while each allocation is
-    /// refused in turn.
+    /// Whether the case is also tested with a peer that sends or accepts bytes late, and over a
+    /// socket while each allocation is refused in turn.
     pub is_late: bool,
-    /// Whether no response-end packets may be added to the replies.
+    /// Whether the tests must not add response-end packets to the replies.
     pub forbids_response_ends: bool,
 }
 
 impl<'a> Case<'a> {
-    /// Returns a case before any of its lines is read.
+    /// Returns an empty case with this name, which begins at this line of the file.
     pub(crate) fn new(
         alloc: Global,
         file_name: &'a str,
@@ -101,7 +103,7 @@ impl<'a> Case<'a> {
         }
     }
 
-    /// Reads a line of the file, and returns whether the line belongs to a case.
+    /// Reads a line of the file. Returns `false` if the line does not belong to the case.
     pub(crate) fn read_line(
         &mut self,
         alloc: Global,
@@ -127,7 +129,8 @@ impl<'a> Case<'a> {
         Ok(true)
     }
 
-    // Reads a line about a launch of the program.
+    // Reads a line about a launch of the program. Returns `false` if the line is not about the
+    // launch, or if the case has no launch.
     fn read_launch_line(&mut self, keyword: &str, value: &'a str) -> Result<bool, Trouble> {
         let entry_count = self.transcript.len();
         match &mut self.launch {
@@ -137,10 +140,12 @@ impl<'a> Case<'a> {
     }
 }
 
-/// The expected result of one call, which runs on a text or on ids of a graph.
+/// The expected result of one function call on a text, or on ids of a graph.
 #[derive(Drop)]
 pub struct Fact<'a> {
+    /// The name of the test file.
     pub file_name: &'a str,
+    /// The number of the fact's line.
     pub line_number: usize,
     pub kind: FactKind,
     /// The first word of the fact's line in the file.
@@ -148,7 +153,8 @@ pub struct Fact<'a> {
     pub format: Format,
     /// The name of the text block that holds the graph.
     pub graph_name: &'a str,
-    /// The expected result of the call. `text` is the argument of the call.
+    /// The expected result of the call.
     pub expected: Vec<u8>,
+    /// The argument of the call.
     pub text: Vec<u8>,
 }

@@ -11,10 +11,15 @@ use std::alloc::Allocator;
 pub enum Program {
     /// A server that answers one request.
     LsStdioServer,
+    /// A server that serves one connection without a first line (the packet that names a path).
     Upload,
+    /// A client that fetches into its repository.
     Fetch,
+    /// A check of a repository.
     Check,
+    /// A program that prints one line for each packet of its input.
     Lines,
+    /// A simulation of a server and a client.
     Simulate,
     /// A server that serves one connection, including its first line.
     Serve,
@@ -31,7 +36,7 @@ impl Program {
         }
     }
 
-    /// Returns whether the program reports a rejected request to the client.
+    /// Returns whether the program is a server, which reports a rejected request to the client.
     pub fn is_server(self) -> bool {
         match self {
             Program::LsStdioServer | Program::Upload | Program::Serve => true,
@@ -55,7 +60,7 @@ impl Program {
         }
     }
 
-    /// Returns whether the program prints a report.
+    /// Returns whether the program writes a report: the ref updates of a fetch, or the listed refs.
     pub fn has_report(self) -> bool {
         match self {
             Program::Fetch | Program::LsClient => true,
@@ -89,9 +94,10 @@ pub struct Invocation<'a> {
     pub program: Program,
     /// The name of the text block that holds the repository, or an empty string.
     pub repository_name: &'a str,
-    /// The host and the path in the first line of a client's connection, or the path that a server
-    /// serves. `host` and `path` are empty if the connection has no first line.
+    /// The host in the first line of a connection, or an empty string if there is no first line.
     pub host: &'a str,
+    /// The path in the first line of a connection, or the path that a server serves. The path is
+    /// empty if the connection has no first line.
     pub path: &'a str,
     /// The arguments after the repository: the refspecs of a fetch, or the ref prefixes of a
     /// listing. For a simulation, the names of the client's text and of the scenario.
@@ -102,13 +108,15 @@ pub struct Invocation<'a> {
     pub format: Format,
     /// The packer or indexer that the program uses instead of `PlainPack`, if any.
     pub pack_tool: Option<PackTool>,
-    /// The client's text and the scenario of a simulation; both are empty for other programs.
+    /// The text of the client's repository in a simulation, or no bytes for other programs.
     pub client_text: &'a [u8],
+    /// The scenario of a simulation, or no bytes for other programs.
     pub scenario_text: &'a [u8],
 }
 
 impl Invocation<'_> {
-    /// Returns whether the client's first packet names a host and a path.
+    /// Returns whether the connection has a first line, in which the client names a host and a
+    /// path.
     pub fn has_hello(&self) -> bool {
         !self.path.is_empty()
     }

@@ -10,7 +10,7 @@ const FLUSH: &[u8] = b"0000";
 
 const RESPONSE_END: &[u8] = b"0002";
 
-/// Returns whether the case has replies, and none of the replies ends with a response-end packet.
+/// Returns whether the case has at least one reply, and no reply ends with a response-end packet.
 pub fn has_replies_without_response_end(case: &Case<'_>, has_hello: bool) -> bool {
     let mut awaits_hello = has_hello;
     let mut has_request = false;
@@ -33,6 +33,7 @@ pub fn has_replies_without_response_end(case: &Case<'_>, has_hello: bool) -> boo
 /// The position of a packet in the input.
 #[derive(Clone, Copy)]
 pub struct PacketStart {
+    /// The offset in the input at which the packet begins.
     pub start: usize,
     /// The index of the packet in its message.
     pub frame: usize,
@@ -50,18 +51,18 @@ pub struct Conversation {
     /// The offsets at which messages of the output end.
     pub message_ends: Vec<usize>,
     pub errors: Vec<u8>,
-    /// The expected report of a fetch.
+    /// The expected report of a fetch or of a listing.
     pub report: Vec<u8>,
     frame: usize,
     output_before: usize,
     program: Program,
-    // The packets that end each reply. `adds_response_ends` states whether response-end packets are
-    // added to the replies of the case.
+    // The packets that end each reply.
     reply_ends: Ends,
+    // Whether response-end packets are added to the replies of the case.
     adds_response_ends: bool,
     // Whether the client has sent a request. If so, the server's next message is a reply.
     has_request: bool,
-    // Whether the first line of the client's connection has not been added yet.
+    // Whether the first line of the client's connection must still be added.
     awaits_hello: bool,
 }
 
@@ -95,7 +96,8 @@ impl Conversation {
         Ok(conversation)
     }
 
-    /// Returns the packet of the input that begins at or contains `offset`.
+    /// Returns the last packet of the input that begins at or before `offset`, or `None` if there
+    /// is no such packet.
     pub fn packet_at(&self, offset: usize) -> Option<PacketStart> {
         let mut packet = None;
         for packet_start in self.packet_starts.as_slice() {
@@ -106,8 +108,8 @@ impl Conversation {
         packet
     }
 
-    /// Returns the packet at `offset` if a message begins there, or if the input ends there after a
-    /// whole message. Otherwise returns `None`.
+    /// Returns the entry of `packet_starts` at `offset` if a message begins there, or if the input
+    /// ends there after a whole message. Otherwise returns `None`.
     pub fn message_at(&self, offset: usize) -> Option<PacketStart> {
         let packet_start = self.packet_at(offset)?;
         if packet_start.start == offset && packet_start.frame == 0 {
@@ -127,7 +129,7 @@ impl Conversation {
         self.input.len()
     }
 
-    /// Returns whether a message of the output ends at `offset`.
+    /// Returns whether `offset` is 0, the end of a message in the output, or the end of the output.
     pub fn is_message_end(&self, offset: usize) -> bool {
         offset == 0 || offset == self.output.len() || self.message_ends.as_slice().contains(&offset)
     }
@@ -135,24 +137,24 @@ impl Conversation {
     /// Returns whether the packets of the last message in the input begin at these offsets in the
     /// message. The last offset in `expected` is the end of the message.
     pub fn has_packet_offsets(&self, expected: &[usize]) -> bool {
-        let mut base = 0usize;
-        let mut count = 0usize;
+        let mut message_start = 0usize;
+        let mut packet_count = 0usize;
         let mut is_right = true;
         for packet_start in self.packet_starts.as_slice() {
             if packet_start.frame == 0 && packet_start.start < self.input.len() {
-                base = packet_start.start;
-                count = 0;
+                message_start = packet_start.start;
+                packet_count = 0;
                 is_right = true;
             }
-            let offset = packet_start.start.saturating_sub(base);
-            is_right = is_right && expected.get(count) == Some(&offset);
-            count = count.saturating_add(1);
+            let offset = packet_start.start.saturating_sub(message_start);
+            is_right = is_right && expected.get(packet_count) == Some(&offset);
+            packet_count = packet_count.saturating_add(1);
         }
-        is_right && count == expected.len()
+        is_right && packet_count == expected.len()
     }
 
-    // Appends an entry of the transcript, and a response-end packet after the flush packet of a
-    // reply if `adds_response_ends` is set.
+    // Appends an entry of the transcript. If `adds_response_ends` is set, also appends a
+    // response-end packet after the flush packet of a reply.
     fn add_entry(&mut self, speaker: Speaker, bytes: &[u8]) -> Result<(), Trouble> {
         if speaker == Speaker::Client && self.awaits_hello {
             return self.add_hello(bytes);

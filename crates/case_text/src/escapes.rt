@@ -3,12 +3,12 @@
 //! `\n` is a line feed, `\0` is the byte 0, and `\x1f` is the byte 31. A backslash before any other
 //! character yields that character. `{a}` is an id of forty `a`, or of sixty-four for SHA-256.
 //! `{a+1}` is one digit longer than an id, and `{a-4}` is four digits shorter. `{a*64}` is
-//! sixty-four `a`, and `{ab*3}` is `ababab`. `{NAME}` is the text with this name, which has at
-//! least two characters. In a repeated line, `{#4}` is the number of the repetition, counted from
-//! 1, in four digits. `{#4+16}` is the number of the repetition plus 16, and `{#4*2+16}` is twice
-//! that number plus 16. Without the `4`, as in `{#}` and `{#+16}`, the result has as many digits as
-//! an id. `{#=17}` is the number 17 in as many digits as an id. `{@2}` is the index of a packet: 2,
-//! or 3 with SHA-256, because a SHA-256 request has an extra `object-format` line.
+//! sixty-four `a`, and `{ab*3}` is `ababab`. `{NAME}` is the text with the name `NAME`, which has
+//! at least two characters. In a repeated line, `{#4}` is the number of the repetition, counted
+//! from 1, in four digits. `{#4+16}` is the number of the repetition plus 16, and `{#4*2+16}` is
+//! twice that number plus 16. Without the `4`, as in `{#}` and `{#+16}`, the result has as many
+//! digits as an id. `{#=17}` is the number 17 in as many digits as an id. `{@2}` is the index of a
+//! packet: 2, or 3 with SHA-256, because a SHA-256 request has an extra `object-format` line.
 
 use crate::trouble::Trouble;
 use gname::{Format, MAX_ID_TEXT, Oid};
@@ -66,24 +66,24 @@ fn add_next<'a>(
     bytes: &mut Vec<u8>,
 ) -> Result<&'a [u8], Trouble> {
     match rest {
-        [b'\\', b'x', high, low, others @ ..] => {
+        [b'\\', b'x', high, low, remaining @ ..] => {
             bytes.push(hex_byte(*high, *low))?;
-            Ok(others)
+            Ok(remaining)
         }
-        [b'\\', letter, others @ ..] => {
+        [b'\\', letter, remaining @ ..] => {
             bytes.push(escaped_byte(*letter))?;
-            Ok(others)
+            Ok(remaining)
         }
-        [b'{', others @ ..] => {
-            let Some((inside, others)) = split_at_byte(others, b'}') else {
+        [b'{', remaining @ ..] => {
+            let Some((inside, remaining)) = split_at_byte(remaining, b'}') else {
                 return Err(Trouble::OpenBrace);
             };
             add_braced(alloc, texts, inside, escape_context, bytes)?;
-            Ok(others)
+            Ok(remaining)
         }
-        [plain, others @ ..] => {
+        [plain, remaining @ ..] => {
             bytes.push(*plain)?;
-            Ok(others)
+            Ok(remaining)
         }
         [] => Ok(rest),
     }
@@ -133,7 +133,8 @@ fn add_braced(
     }
 }
 
-// Appends an id, an id of a wrong length, or the text with this name.
+// Appends an id of one repeated digit, an id that is too long or too short by the number after `+`
+// or `-`, or the text with the name `inside`.
 fn add_id_or_text(
     texts: &[NamedText<'_>],
     inside: &[u8],
@@ -180,12 +181,12 @@ fn add_number_escape(
     if let Some(number) = inside.strip_prefix(b"=") {
         return add_padded_number(alloc, length, parse_number(number), bytes);
     }
-    let (width, more) = match split_at_byte(inside, b'+') {
-        Some((width, more)) => (width, parse_number(more)),
+    let (width, offset) = match split_at_byte(inside, b'+') {
+        Some((width, offset)) => (width, parse_number(offset)),
         None => (inside, 0),
     };
-    let (width, times) = match split_at_byte(width, b'*') {
-        Some((width, times)) => (width, parse_number(times)),
+    let (width, factor) = match split_at_byte(width, b'*') {
+        Some((width, factor)) => (width, parse_number(factor)),
         None => (width, 1),
     };
     let width = if width.is_empty() {
@@ -195,8 +196,8 @@ fn add_number_escape(
     };
     let number = escape_context
         .repetition
-        .saturating_mul(times)
-        .saturating_add(more);
+        .saturating_mul(factor)
+        .saturating_add(offset);
     add_padded_number(alloc, width, number, bytes)
 }
 
@@ -213,7 +214,7 @@ pub fn add_padded_number(
     Ok(())
 }
 
-// Splits the text at the first occurrence of `byte`.
+// Splits the text at the first occurrence of `byte`. Returns `None` if the text lacks `byte`.
 fn split_at_byte(text: &[u8], byte: u8) -> Option<(&[u8], &[u8])> {
     let mut parts = text.splitn(2, |other| *other == byte);
     let before = parts.next()?;
@@ -231,9 +232,9 @@ fn add_repeated(part: &[u8], times: usize, bytes: &mut Vec<u8>) -> Result<(), Tr
 /// Returns the number with these decimal digits, ignoring other characters.
 pub fn parse_number(digits: &[u8]) -> usize {
     let mut number = 0usize;
-    for letter in digits {
-        if letter.is_ascii_digit() {
-            let value = usize::from(letter.wrapping_sub(b'0'));
+    for digit in digits {
+        if digit.is_ascii_digit() {
+            let value = usize::from(digit.wrapping_sub(b'0'));
             number = number.saturating_mul(10).saturating_add(value);
         }
     }

@@ -1,6 +1,6 @@
 //! The kinds of facts in a test file.
 
-/// The kind of a fact, which determines the calls whose result the fact states.
+/// The kind of a fact, which determines the functions that the fact tests.
 #[derive(Clone, Copy, PartialEq, Eq)]
 pub enum FactKind {
     /// The result of parsing a text: a value or a fault.

@@ -85,7 +85,7 @@ impl<'a> Launch<'a> {
     }
 
     // Reads a line about an item that exists before the launch, or about an item expected after the
-    // launch.
+    // launch. Returns `false` for any other line.
     fn read_initial_item(&mut self, keyword: &str, value: &'a str) -> Result<bool, Trouble> {
         let (name, value) = split_first_word(value);
         match keyword {
@@ -106,7 +106,7 @@ impl<'a> Launch<'a> {
         Ok(true)
     }
 
-    // Reads a line about an item expected after the launch.
+    // Reads a line about an item expected after the launch. Returns `false` for any other line.
     fn read_final_item(
         &mut self,
         keyword: &str,

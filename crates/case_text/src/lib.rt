@@ -1,12 +1,12 @@
-//! The parser of test files. A file contains facts, texts, and rows. A row lists messages, and
+//! The parser of test files. A file contains facts, texts and cases. A case lists messages, and
 //! names programs, packers and indexers.
 //!
-//! A [`Script`] parses files in sequence, for ids of one format. A [`Case`] is a row of a file. A
-//! [`Fact`] is the expected result of one call. An [`Invocation`] is the command line of a row. A
-//! [`Conversation`] holds the input and the expected output of a program. A [`Launch`] holds the
-//! arguments and files of a row that launches the program itself. A [`TableLine`] is a line of a
-//! row's table. A [`PackTool`] is a packer or an indexer for tests, which may fail or break its
-//! contract.
+//! A [`Script`] parses files in sequence, for ids of one format. A [`Case`] holds messages, the
+//! programs to run, and the expected results. A [`Fact`] is the expected result of one function
+//! call. An [`Invocation`] is a command line of a case. A [`Conversation`] holds the input and the
+//! expected output of a program. A [`Launch`] holds the arguments and files of a case that launches
+//! the program itself. A [`TableLine`] is a line of a case's table. A [`PackTool`] is a packer or
+//! an indexer for tests, which may fail or break its contract.
 //!
 //! # Proved
 //!

@@ -66,12 +66,12 @@ fn add_band_packets(
 ) -> Result<(), Trouble> {
     let mut rest = bytes;
     for _ in 0..bytes.len() {
-        let (packet, others) = full_packet(alloc, rest)?;
+        let (packet, remaining) = full_packet(alloc, rest)?;
         transcript.push(TranscriptEntry {
             speaker: Speaker::Server,
             bytes: packet,
         })?;
-        rest = others;
+        rest = remaining;
         if rest.is_empty() {
             break;
         }
@@ -79,8 +79,8 @@ fn add_band_packets(
     Ok(())
 }
 
-// Appends the `object-format` line of a SHA-256 request. The line ends with a line feed after the
-// keyword `C:`, but not after `C.`.
+// Appends the `object-format` packet of a SHA-256 request if the keyword is `C:` or `C.`. The
+// packet ends with a line feed only for `C:`.
 fn add_format_entry(
     alloc: Global,
     keyword: &str,

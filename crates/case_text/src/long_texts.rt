@@ -42,11 +42,11 @@ fn add_repository(
     parents_come_last: bool,
     text: &mut Vec<u8>,
 ) -> Result<(), Trouble> {
-    let head: &[u8] = match format {
+    let first_line: &[u8] = match format {
         Format::Sha1 => b"gitv2 1\n",
         Format::Sha256 => b"gitv2 2 sha256\n",
     };
-    text.extend_from_slice(head)?;
+    text.extend_from_slice(first_line)?;
     if parents_come_last {
         add_late_chain(alloc, count, format, text)?;
     } else {

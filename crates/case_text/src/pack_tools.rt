@@ -11,27 +11,32 @@ pub enum PackTool {
     EmptyPacker,
     /// A packer that omits the last entry.
     ShortPacker,
-    /// Packers that fail with `Other`, with `TooLarge` and with `Memory`, in this order.
+    /// A packer that fails with `Other`.
     FailingPacker,
+    /// A packer that fails with `TooLarge`.
     TooLargePacker,
+    /// A packer that fails with `Memory`.
     OutOfMemoryPacker,
     /// An indexer that omits the first entry.
     DropFirstIndexer,
-    /// Indexers that return only one invalid entry: a commit with a wrong parent, a commit with 65
-    /// parents, or a tag with two parents.
+    /// An indexer that returns only a commit with a wrong parent.
     WrongParentIndexer,
+    /// An indexer that returns only a commit with 65 parents, which is invalid.
     ManyParentsIndexer,
+    /// An indexer that returns only a tag with two parents, which is invalid.
     TwoParentTagIndexer,
-    /// Indexers that fail in `start`, in `feed` and in `finish`, in this order.
+    /// An indexer that fails in `start`.
     FailingStartIndexer,
+    /// An indexer that fails in `feed`.
     FailingFeedIndexer,
+    /// An indexer that fails in `finish`.
     FailingFinishIndexer,
     /// An indexer that fulfills its contract, and checks the calls that it receives.
     CheckingIndexer,
 }
 
 impl PackTool {
-    /// Returns the packer with this name in test files.
+    /// Returns the packer with this name in test files, or `None` if there is no such packer.
     pub fn packer_named(name: &str) -> Option<PackTool> {
         match name {
             "empty" => Some(PackTool::EmptyPacker),
@@ -43,7 +48,7 @@ impl PackTool {
         }
     }
 
-    /// Returns the indexer with this name in test files.
+    /// Returns the indexer with this name in test files, or `None` if there is no such indexer.
     pub fn indexer_named(name: &str) -> Option<PackTool> {
         match name {
             "drops-first" => Some(PackTool::DropFirstIndexer),
@@ -70,7 +75,7 @@ impl PackTool {
         )
     }
 
-    /// Returns whether this is an indexer other than `CheckingIndexer`.
+    /// Returns whether this is an indexer that fails or breaks its contract.
     pub(crate) fn is_faulty_indexer(self) -> bool {
         !self.is_packer() && self != PackTool::CheckingIndexer
     }
@@ -93,7 +98,7 @@ impl PackTool {
         }
     }
 
-    /// Starts the indexing of a pack, or fails.
+    /// Starts the indexing of a pack. Fails if this is `FailingStartIndexer`.
     pub fn start<A: Allocator + Copy>(self, alloc: A) -> Result<ReceivedPack<A>, IndexFault> {
         match self {
             PackTool::FailingStartIndexer => Err(IndexFault::Other),
@@ -101,7 +106,7 @@ impl PackTool {
         }
     }
 
-    /// Appends a piece of the pack, or fails.
+    /// Appends a piece of the pack. Fails if this is `FailingFeedIndexer`, or if memory runs out.
     pub fn feed<A: Allocator + Copy>(
         self,
         received_pack: &mut ReceivedPack<A>,
@@ -161,7 +166,7 @@ impl<A: Allocator + Copy> ReceivedPack<A> {
     }
 }
 
-// Returns the single invalid entry that this indexer reports for every pack.
+// Returns the one invented entry that this indexer reports for every pack.
 fn invented_entries<A: Allocator + Copy>(
     pack_tool: PackTool,
     format: Format,

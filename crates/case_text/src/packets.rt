@@ -7,7 +7,7 @@ use std::alloc::Global;
 /// The maximum number of side-band bytes in one packet.
 const MAX_SIDE_BAND_BYTES: usize = 65_515;
 
-/// Returns the speaker and the bytes of a line with this keyword.
+/// Returns the speaker and the bytes of a line with this keyword, or `None` for an unknown keyword.
 pub(crate) fn read_entry(
     alloc: Global,
     keyword: &str,
@@ -40,8 +40,8 @@ pub(crate) fn full_packet(alloc: Global, bytes: &[u8]) -> Result<(Vec<u8>, &[u8]
     Ok((packet(alloc, b"\x01", part, b"")?, rest))
 }
 
-/// Returns the flush, delimiter or response-end packet with this text, or otherwise a pkt-line of
-/// the text and a line feed.
+/// Returns the special packet `0000`, `0001` or `0002` if the text is that packet. Otherwise
+/// returns a pkt-line of the text and a line feed.
 pub fn text_packet(alloc: Global, text: &[u8]) -> Result<Vec<u8>, Trouble> {
     match text {
         b"0000" | b"0001" | b"0002" => concatenate(alloc, text, b""),

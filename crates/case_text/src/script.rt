@@ -1,7 +1,7 @@
 //! The parser of test files.
 //!
-//! `crates/conformance/FORMAT.md` describes the format of rows, facts, texts and talks. A talk is a
-//! named list of lines that rows can use.
+//! `crates/conformance/FORMAT.md` describes the format of cases (there called rows), facts, texts
+//! and talks. A talk is a named list of lines that cases can use.
 
 use crate::case::{Case, Fact, TranscriptEntry};
 use crate::command::split_first_word;
@@ -14,14 +14,15 @@ use crate::trouble::Trouble;
 use gname::Format;
 use std::alloc::Global;
 
-/// The contents of the test files parsed so far, for ids of one format.
+/// The contents of the test files parsed so far. All ids in the contents have one format.
 #[derive(Drop)]
 pub struct Script<'a> {
     pub format: Format,
     pub cases: Vec<Case<'a>>,
     pub facts: Vec<Fact<'a>>,
-    /// The name of the most recently parsed file, and the number of its most recently parsed line.
+    /// The name of the most recently parsed file.
     pub file_name: &'a str,
+    /// The number of the most recently parsed line.
     pub line_number: usize,
     texts: Vec<NamedText<'a>>,
     talks: Vec<Talk<'a>>,
@@ -51,7 +52,7 @@ enum OpenBlock {
 }
 
 impl<'a> Script<'a> {
-    /// Returns a script for ids of this format, before any file is parsed.
+    /// Returns an empty script for ids of this format.
     pub fn new(alloc: Global, format: Format) -> Script<'a> {
         Script {
             format,
@@ -467,7 +468,7 @@ fn bytes_of_entries(alloc: Global, transcript: &[TranscriptEntry]) -> Result<Vec
     Ok(bytes)
 }
 
-// Returns the lines of the talk with this name.
+// Returns the lines of the talk with this name, or `None` if there is no such talk.
 fn talk_lines<'b, 'a>(talks: &'b [Talk<'a>], name: &str) -> Option<&'b [&'a str]> {
     for talk in talks {
         if talk.name == name {

@@ -1,5 +1,5 @@
-//! Tables of the expected results when a request is truncated, or when one of its bytes is changed.
-//! A line of a table covers a range of positions:
+//! Tables that list the expected results for truncated requests, and for requests with one changed
+//! byte. A line of a table covers a range of positions:
 //!
 //! | Line | Meaning |
 //! |---|---|
@@ -7,11 +7,11 @@
 //! | `change 18 2-9 a-f = OUTCOME` | the byte at offset 18 becomes one of the listed bytes |
 //! | `change 18 other = OUTCOME` | the byte at offset 18 becomes any other byte |
 //!
-//! An outcome is `nothing`, `as it stands`, `use NAME` or `TEXT \| FAULT`. `nothing` means no
-//! reply. `as it stands` means the result of the unchanged request. `use NAME` means the messages
-//! of the talk `NAME`. In the last form, `TEXT` is the text of an error to the client, and `FAULT`
-//! is the printed line of the fault. In `TEXT` and `FAULT`, `{}` is replaced by the input bytes at
-//! the line's positions, in lower case.
+//! An outcome is `nothing`, `as it stands`, `use NAME`, or `TEXT` and `FAULT` separated by ` | `.
+//! `nothing` means no reply. `as it stands` means the result of the unchanged request. `use NAME`
+//! means the messages of the talk (named list of lines) `NAME`. In the last form, `TEXT` is the
+//! text of an error to the client, and `FAULT` is the printed line of the fault. In `TEXT` and
+//! `FAULT`, `{}` is replaced by the input bytes at the line's positions, in lower case.
 
 use crate::escapes::{hex_value, parse_number};
 use crate::packets::packet;
@@ -38,7 +38,7 @@ pub enum OutcomeKind {
     ErrorPacket,
 }
 
-/// The expected output for a changed request, without the output before the request.
+/// The expected output for a changed request. Output that precedes the request is not included.
 #[derive(Drop)]
 pub struct ExpectedOutcome<'a> {
     pub kind: OutcomeKind,
@@ -48,7 +48,7 @@ pub struct ExpectedOutcome<'a> {
 }
 
 impl<'a> ExpectedOutcome<'a> {
-    /// Returns the expectation of the same result as for the unchanged input.
+    /// Returns an outcome that expects the result of the unchanged input.
     pub(crate) fn unchanged(alloc: Global) -> ExpectedOutcome<'a> {
         ExpectedOutcome {
             kind: OutcomeKind::Unchanged,
@@ -58,7 +58,7 @@ impl<'a> ExpectedOutcome<'a> {
         }
     }
 
-    /// Returns the expectation that the output consists of these bytes.
+    /// Returns an outcome that expects exactly these bytes as output.
     pub(crate) fn with_output(output: Vec<u8>) -> ExpectedOutcome<'a> {
         ExpectedOutcome {
             kind: OutcomeKind::Output,
@@ -68,7 +68,7 @@ impl<'a> ExpectedOutcome<'a> {
         }
     }
 
-    /// Returns the expectation of an error for the client and a printed fault.
+    /// Returns an outcome that expects an error packet for the client, and a printed fault.
     pub(crate) fn with_error_packet(
         alloc: Global,
         text: &'a str,
@@ -89,7 +89,7 @@ pub struct TableLine<'a> {
     is_cut: bool,
     first_offset: usize,
     last_offset: usize,
-    // The new values of the changed byte, or `other` for all values.
+    // The new values of the changed byte, or `other`, which covers all values.
     byte_list: &'a str,
     pub expected: ExpectedOutcome<'a>,
 }

@@ -12,9 +12,9 @@ pub enum Trouble {
     OpenBrace,
     /// A line names a text or talk that does not exist.
     UnknownName,
-    /// A line of a row precedes the first row.
+    /// A line that belongs to a case precedes the first case.
     NoCurrentRow,
-    /// A row names no program.
+    /// A case names no program.
     RowWithoutProgram,
     /// The form of a line is unknown.
     UnknownLine,
@@ -22,17 +22,17 @@ pub enum Trouble {
     UnknownProgram,
     /// A line names an unknown packer or indexer.
     UnknownPackTool,
-    /// The limit of a pack is not a number.
+    /// The pack size limit of a command line is not a number.
     InvalidLimit,
-    /// The text of a fact's graph is not a repository.
+    /// The text that must hold the graph of a fact is not a valid repository.
     InvalidGraph,
-    /// The text is not an id.
+    /// An id is invalid.
     InvalidId,
-    /// The two texts do not describe a server and a client of one simulated world.
+    /// The texts of a simulation's repositories do not describe a server and a client.
     InvalidWorld,
-    /// The text is not a scenario.
+    /// The text of a scenario is invalid.
     InvalidScenario,
-    /// A socket or a file of the test itself failed.
+    /// An operation of the test itself on a socket or a file failed.
     TestIo,
 }
 

@@ -21,10 +21,10 @@ const PACK_FAILED_PACKET: &[u8] = b"0021ERR upload-pack: pack failed\n";
 
 const WRITE_FAULT_LINE: &[u8] = b"gitv2: fault 27 Io\n";
 
-/// The numbers of two out-of-memory faults. `LOAD_MEMORY_FAULT` may occur before a connection is
-/// served, and `PACK_MEMORY_FAULT` while a pack is created.
+/// The number of the out-of-memory fault that may occur before a connection is served.
 const LOAD_MEMORY_FAULT: usize = 64;
 
+/// The number of the out-of-memory fault that may occur while a pack is created.
 const PACK_MEMORY_FAULT: usize = 65;
 
 /// The numbers of the faults that a run may report after a refused allocation.
@@ -39,8 +39,8 @@ pub struct Row<'b> {
     /// The expected new text of the client's file, if the file changes.
     pub new_file: Option<&'b [u8]>,
     pub conversation: Conversation,
-    /// The fault lines expected when an allocation is refused, in order. The list is empty if the
-    /// row lists no fault lines.
+    /// The fault lines that the program must print, in this order, as each allocation is refused in
+    /// turn. The list is empty if the row lists no fault lines.
     pub memory_faults: &'b [Vec<u8>],
     /// The packet offsets in the last message that the program reads. The list is empty if the row
     /// lists no offsets.
@@ -49,8 +49,8 @@ pub struct Row<'b> {
     /// table.
     pub table: &'b [TableLine<'b>],
     pub byte_changes: ByteChanges,
-    /// Whether the row is also tested with a late peer, and over a socket while each allocation is
-    /// refused in turn.
+    /// Whether the row is also tested with a peer that sends or accepts bytes late, and over a
+    /// socket while each allocation is refused in turn.
     pub is_late: bool,
     /// Whether the row is tested only with its unchanged input, which is read at once and in
     /// pieces.
@@ -296,7 +296,7 @@ fn has_printed_memory_fault(results: &RunResults) -> bool {
 
 // Returns whether the run wrote complete messages of the expected output, followed by the error for
 // the client if the program is a server. If the run wrote a new file, the output must be complete,
-// because only the report can have failed.
+// because only writing the report can have failed.
 fn has_stopped_at_message_end(row: &Row<'_>, results: &RunResults) -> bool {
     let sent_error = if row.command.program.is_server() {
         memory_error_packet(printed_fault_number(results.errors.written_bytes()))
@@ -343,7 +343,8 @@ pub(crate) fn is_as_table_lists(
     Ok(false)
 }
 
-// Returns the output that is expected before the program reads the request.
+// Returns the output that is expected before the program reads the request, or `None` if the input
+// has no packets.
 fn output_before_request<'b>(row: &'b Row<'_>) -> Option<&'b [u8]> {
     let packet_start = row.conversation.packet_at(0)?;
     row.conversation

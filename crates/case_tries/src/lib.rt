@@ -1,7 +1,7 @@
 //! Tests of one row on sources and sinks in memory, with checks of the results.
 //!
 //! A [`Row`] is a program with its input and its expected results. A [`RowTest`] tests the row with
-//! each [`Variation`].
+//! each [`Variation`]:
 //!
 //! - The input is unchanged, and is read at once or in pieces. The row also runs on std readers and
 //!   writers.
@@ -10,7 +10,7 @@
 //! - Each call to each source and sink fails in turn.
 //! - The input is truncated after each byte, or one of its bytes is changed.
 //! - Each allocation is refused in turn.
-//! - Each call to the client's file fails in turn, or the run stops at that call.
+//! Each operation on the client's file fails in turn, or the run stops at that operation.
 //!
 //! A [`RunResults`] holds the results of a run. Most of the checks also apply to runs over sockets.
 //!

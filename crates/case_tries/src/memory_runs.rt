@@ -11,7 +11,7 @@ use gsimulate::{Simulation, cmd_simulate};
 use std::alloc::{Allocator, Global};
 
 /// The parameters of a run: the limits of the sources and sinks, and the number of the allocation
-/// to refuse, or 0.
+/// to refuse. The number 0 refuses no allocation.
 #[derive(Clone, Copy)]
 pub(crate) struct RunParameters {
     pub(crate) read_limits: DeviceLimits,
@@ -78,7 +78,7 @@ pub struct RunResults {
     pub(crate) status: u8,
     /// The new text of the client's file, if the run changed the file.
     pub(crate) new_file: Option<Vec<u8>>,
-    /// The text of the client's repository at the end, if it is known.
+    /// The text of the client's repository at the end, or `None` if the command does not return it.
     pub(crate) final_repository_text: Option<Vec<u8>>,
     pub(crate) output: Writer,
     pub(crate) report: Writer,

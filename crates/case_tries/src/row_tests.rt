@@ -1,5 +1,5 @@
-//! Tests of a row with each `Variation`. Most functions return the number of the first run that
-//! failed.
+//! Tests of a row with each `Variation`. A function with the result `Option<usize>` returns the
+//! number of the first run that failed, or `None` if no run failed.
 
 use crate::judge::{
     ByteChanges, InputStop, Row, is_as_expected, is_as_expected_after_failed_report,
@@ -62,8 +62,9 @@ struct RefusalProgress {
 pub struct RowTest<'a, 'b> {
     alloc: Global,
     row: &'a Row<'b>,
-    // The parameters of the runs.
+    // Whether the runs use std readers and writers.
     uses_std: bool,
+    // The packer or indexer of the runs, or `None` for `PlainPack`.
     pack_tool: Option<PackTool>,
     pub runs: u64,
     /// The printed bytes of the run that failed.
@@ -82,8 +83,8 @@ impl<'a, 'b> RowTest<'a, 'b> {
         }
     }
 
-    /// Tests the row with this variation, and returns the number of the first run that failed.
-    /// Variations that use sockets, launches of the program or late peers are not tested here.
+    /// Tests the row with this variation, and returns the number of the first run that failed, if
+    /// any. Variations that use sockets, launches of the program or late peers are not tested here.
     pub fn test_variation(&mut self, variation: Variation) -> Result<Option<usize>, Trouble> {
         match variation {
             Variation::WholeInput => self.test_whole_input(),
@@ -207,8 +208,8 @@ impl<'a, 'b> RowTest<'a, 'b> {
         self.test_in_pieces()
     }
 
-    // Returns whether the slow tests also run. They are skipped for long rows, and for rows with
-    // added response-end packets.
+    // Returns whether the slow tests also run. Long rows, and rows with added response-end packets,
+    // skip the slow tests.
     fn is_thorough(&self) -> bool {
         let row = self.row;
         !row.is_long && row.byte_changes != ByteChanges::OneBit
@@ -295,9 +296,9 @@ impl<'a, 'b> RowTest<'a, 'b> {
     }
 
     // Tests a fetch into a file: without a failure, while another process holds the lock, and with
-    // a failure or a stop at each call. If `is_thorough` returns `true`, each write to standard
-    // error also fails in turn. For rows with `ByteChanges::EveryValue`, each allocation is also
-    // refused in turn.
+    // a failure or a stop at each file operation. If `is_thorough` returns `true`, each write to
+    // standard error also fails in turn. For rows with `ByteChanges::EveryValue`, each allocation
+    // is also refused in turn.
     fn test_stored_file(&mut self) -> Result<Option<usize>, Trouble> {
         if !has_stored_file(self.row) {
             return Ok(None);
@@ -324,7 +325,7 @@ impl<'a, 'b> RowTest<'a, 'b> {
         fetch_into_row_file(self.alloc, self.row, parameters)
     }
 
-    // Stores the bytes printed by a run that failed.
+    // Stores the bytes printed by a run that failed, and returns the number of the run.
     fn record_wrong_fetch(
         &mut self,
         results: &StoredFetchResults,
@@ -335,8 +336,8 @@ impl<'a, 'b> RowTest<'a, 'b> {
         Ok(Some(number))
     }
 
-    // Tests the row with a failure or a stop at each of `calls` calls, and while another process
-    // holds the lock.
+    // Tests the row while another process holds the lock, and with a failure or a stop at each of
+    // the first `calls` file operations.
     fn test_file_problems(&mut self, calls: usize) -> Result<Option<usize>, Trouble> {
         for call in 1..=calls {
             let file_problems = [
@@ -553,8 +554,8 @@ impl<'a, 'b> RowTest<'a, 'b> {
     }
 
     // Tests the row with each allocation refused in turn. The out-of-memory faults that the row
-    // lists must occur in this order. If memory runs out after a server has loaded its repository,
-    // memory must not run out during the loading in a later run.
+    // lists must occur in the listed order. Once a run has run out of memory after a server loaded
+    // its repository, no later run may run out of memory during the loading.
     fn test_refusals_in_turn(&mut self) -> Result<Option<usize>, Trouble> {
         let mut progress = RefusalProgress {
             faults_seen: 0,
@@ -658,7 +659,7 @@ fn has_fault_at(listed: &[Vec<u8>], index: usize, text: &[u8]) -> bool {
     }
 }
 
-// Returns whether the tests flip the bits in `change` of the byte at `offset`.
+// Returns whether `byte_changes` includes flipping the bits of the mask `change` at `offset`.
 fn includes_change(byte_changes: ByteChanges, offset: usize, change: u8) -> bool {
     match byte_changes {
         ByteChanges::EveryValue => true,

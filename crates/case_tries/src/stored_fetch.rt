@@ -1,5 +1,5 @@
-//! A fetch into a file in memory, and checks of its results. A chosen call to the file fails, or
-//! the run stops at that call.
+//! A fetch into a file in memory, and checks of its results. A chosen operation on the file fails,
+//! or the run stops at that operation.
 
 use crate::judge::{Row, is_memory_fault, printed_fault_number};
 use case_runs::{
@@ -11,8 +11,8 @@ use std::alloc::Global;
 
 const FILE_FAULT_LINE: &[u8] = b"gitv2: fault 95 File\n";
 
-/// The number of file calls before the fetch sends any bytes: one call locks the file, and one
-/// reads it.
+/// The number of file operations before the fetch sends any bytes: one operation locks the file,
+/// and one reads it.
 const OPENING_CALLS: usize = 2;
 
 /// The failures to simulate during a fetch into a file.
@@ -134,7 +134,7 @@ pub(crate) fn is_stored_as_expected(row: &Row<'_>, results: &StoredFetchResults)
 }
 
 /// Returns whether a fetch with this file problem had the expected results. A fetch without a
-/// failure makes `calls` calls to the file.
+/// failure performs `calls` operations on the file.
 pub(crate) fn is_as_expected_after_problem(
     row: &Row<'_>,
     results: &StoredFetchResults,
@@ -146,8 +146,8 @@ pub(crate) fn is_as_expected_after_problem(
         FileProblem::StopBefore(call) | FileProblem::StopAfter(call) => (call, true),
         FileProblem::None | FileProblem::LockedByOther => (1, false),
     };
-    // If the file is not changed, the last call removes the lockfile. A failure of this call is not
-    // reported.
+    // If the file is not changed, the last operation removes the lockfile. A failure of this
+    // operation is not reported.
     let is_unlock = call == calls && !changes_file(row);
     let has_expected_end = if is_unlock {
         ended_as_expected(row, results)
@@ -177,20 +177,20 @@ fn ended_as_expected(row: &Row<'_>, results: &StoredFetchResults) -> bool {
 pub(crate) fn is_as_expected_when_cut_short(row: &Row<'_>, results: &StoredFetchResults) -> bool {
     let printed = results.errors.written_bytes();
     let is_memory_fault_printed = is_memory_fault(printed_fault_number(printed));
-    let is_report = !row.conversation.report.is_empty()
+    let is_report_prefix = !row.conversation.report.is_empty()
         && row.conversation.report.starts_with(printed);
-    let is_printed = if is_memory_fault_printed {
+    let is_printed_as_expected = if is_memory_fault_printed {
         true
     } else {
-        results.has_failed() && (is_report || row.conversation.errors.starts_with(printed))
+        results.has_failed() && (is_report_prefix || row.conversation.errors.starts_with(printed))
     };
-    let is_after = is_memory_fault_printed
+    let is_file_updated_first = is_memory_fault_printed
         || printed.is_empty()
-        || !is_report
+        || !is_report_prefix
         || has_expected_text(row, results);
     results.fetch.status == 1
-        && is_printed
-        && is_after
+        && is_printed_as_expected
+        && is_file_updated_first
         && held_whole_texts(row, results)
         && !results.fetch.file.is_locked()
 }

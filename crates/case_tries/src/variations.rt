@@ -1,23 +1,29 @@
-//! The variations with which a row is tested.
+//! The ways in which a row is tested.
 
-/// A variation with which a row is tested.
+/// A way in which a row is tested, such as with a truncated input.
 #[derive(Clone, Copy)]
 pub enum Variation {
     WholeInput,
     InputInPieces,
+    /// The row runs on std readers and writers.
     StdDevices,
     Socket,
     LaunchedProgram,
+    /// The peer sends or accepts bytes late.
     LatePeer,
+    /// The calls to the indexer are checked.
     CheckedIndexer,
     FailingReads,
     FailingWrites,
+    /// A write of the report fails.
     FailingReports,
     FailingStderr,
     TruncatedInput,
     ChangedBytes,
+    /// The request is changed as the row's table lists.
     TableChanges,
     RefusedAllocations,
+    /// An operation on the client's file fails.
     FailingFile,
 }
 

@@ -9,7 +9,7 @@ use gworld::Outcome;
 use std::alloc::{AllocError, Global};
 use std::ops::Range;
 
-// The numbers of unused ids, which no repository contains at first.
+// The numbers of the unused ids, which neither repository contains at the start of a run.
 const NEW_IDS: Range<usize> = 900..924;
 
 const REF_NAMES: [&str; 5] = [
@@ -29,15 +29,21 @@ const REFSPECS: [&str; 6] = [
     "refs/heads/x:refs/heads/x +refs/heads/main:refs/heads/y",
 ];
 
-// A step of a fetch session.
+// A step of a fetch session, which is an event of a scenario.
 #[derive(Clone, Copy)]
 enum SessionStep {
+    // The client begins a session.
     Begin,
+    // The session makes its next request.
     Ask,
+    // The server replies to the request at this index.
     Serve(usize),
+    // The client receives the whole reply at this index.
     Deliver(usize),
-    // The index of a reply, and the number of its bytes to deliver.
+    // The client receives only a part of a reply. The fields are the reply's index and the number
+    // of bytes to deliver.
     DeliverPart(usize, usize),
+    // The session updates the refs.
     Settle,
 }
 
@@ -97,7 +103,7 @@ impl EventGenerator {
         }
     }
 
-    // Appends the next step of the session, or sometimes a forged reply.
+    // Appends the next step of the session. Sometimes appends a forged reply instead.
     fn add_next_step(&mut self, line: &mut String) -> Result<(), AllocError> {
         match self.step {
             SessionStep::Serve(_) if self.dice.is_one_in(3) => self.add_forged_reply(line),
@@ -107,15 +113,15 @@ impl EventGenerator {
 
     // Appends a step of the session that is out of order.
     fn add_step_out_of_order(&mut self, roll: usize, line: &mut String) -> Result<(), AllocError> {
-        let request = self.dice.roll(self.request_count.saturating_add(1));
-        let reply = self.dice.roll(self.reply_count.saturating_add(1));
+        let request_index = self.dice.roll(self.request_count.saturating_add(1));
+        let reply_index = self.dice.roll(self.reply_count.saturating_add(1));
         let step = match roll {
             60..=62 => SessionStep::Begin,
             63..=65 => SessionStep::Ask,
-            66..=69 => SessionStep::Serve(request),
-            70..=73 => SessionStep::Deliver(reply),
+            66..=69 => SessionStep::Serve(request_index),
+            70..=73 => SessionStep::Deliver(reply_index),
             74..=75 => SessionStep::Settle,
-            _ => SessionStep::DeliverPart(reply, self.dice.roll(300)),
+            _ => SessionStep::DeliverPart(reply_index, self.dice.roll(300)),
         };
         self.add_step(step, line)
     }
@@ -227,7 +233,7 @@ fn pick_word(words: &[&'static str], dice: &mut Dice) -> &'static str {
     }
 }
 
-// Appends a line with the word and the bytes in hexadecimal. The line has `-` instead if there are
+// Appends a line with the word and the bytes in hexadecimal, or with the word and `-` if there are
 // no bytes.
 fn add_bytes(word: &str, bytes: &[u8], line: &mut String) -> Result<(), AllocError> {
     line.push_str(word)?;
@@ -259,7 +265,8 @@ fn add_object_ids(alloc: Global, text: &[u8], ids: &mut Vec<String>) -> Result<(
     Ok(())
 }
 
-// If the line of a repository's text describes an object, returns the id of that object.
+// Returns the id of the object that a line of a repository's text describes, or `None` if the line
+// describes no object.
 fn object_id(line: &[u8]) -> Option<&str> {
     let line = std::str::from_utf8(line).ok()?;
     let mut words = line.split(' ');

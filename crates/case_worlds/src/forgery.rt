@@ -27,7 +27,7 @@ impl Forger {
         }
     }
 
-    /// Appends a random object as a line of a plain pack.
+    /// Appends a random object as a line of a pack in text form.
     pub(crate) fn add_entry(&mut self, text: &mut String) -> Result<(), AllocError> {
         let is_tag = self.dice.is_one_in(5);
         let count = if is_tag { 1 } else { self.dice.roll(3) };

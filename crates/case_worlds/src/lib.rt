@@ -13,13 +13,14 @@
 //! # What the contracts do not rule out
 //!
 //! No contract states the results of this crate. The tests were run against deliberately wrong
-//! programs, to check that they detect a client whose refs are not connected.
+//! programs, to check that the tests detect a client whose refs are not connected.
 //!
 //! # Dependencies
 //!
-//! `gworld` defines worlds and their events. `gcmd` loads the server and the client, `ggraph`
-//! defines packers and indexers, `gpkt` sinks, and `gname` the formats of ids. `case_text` defines
-//! faulty packers and indexers, packets, and an allocator that refuses an allocation.
+//! `gworld` defines worlds and their events. `gcmd` loads the server and the client. `ggraph`
+//! defines packers and indexers, `gpkt` defines sinks, and `gname` defines the formats of ids.
+//! `case_text` defines faulty packers and indexers, packets, and an allocator that refuses one
+//! chosen allocation.
 #![tactic(auto)]
 
 mod dice;

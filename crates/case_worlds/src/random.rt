@@ -45,6 +45,7 @@ const MAX_REFUSED_ALLOCATION: usize = 30;
 struct RandomRun<'b> {
     inputs: WorldInputs<'b>,
     seed: usize,
+    // The number of events to run.
     count: usize,
     // Whether an allocation is refused in some events.
     refuses_allocations: bool,
@@ -86,7 +87,8 @@ fn find_failure_with_refusals(
     }
 }
 
-// Runs the events with each faulty packer and indexer.
+// Runs the events with each faulty packer and indexer. Returns a description of the first failure,
+// if any.
 fn find_failure_with_faulty_tools(
     alloc: Global,
     random_run: RandomRun<'_>,
@@ -104,7 +106,7 @@ fn find_failure_with_faulty_tools(
     Ok(None)
 }
 
-// Returns the parameters for a run of a quarter of the events with this faulty packer or indexer.
+// Returns the parameters of a run with this faulty packer or indexer and a quarter of the events.
 fn with_faulty_tool(random_run: RandomRun<'_>, pack_tool: PackTool, seed: usize) -> RandomRun<'_> {
     let tools = Tools {
         pack_tool: Some(pack_tool),
@@ -186,27 +188,27 @@ impl<A: Allocator + Copy> RandomEvents<'_, A> {
         event_generator: &mut EventGenerator,
         world: &mut World<Tools, A>,
     ) -> Result<Option<String>, Trouble> {
-        let mut log = String::new(self.alloc);
+        let mut scenario = String::new(self.alloc);
         let mut outcomes = Vec::new(self.alloc);
-        if self.keeps_connected_refs(event_generator, world, &mut log, &mut outcomes)? {
-            self.check_after_events(log.as_str(), outcomes.as_slice(), &*world)
+        if self.keeps_connected_refs(event_generator, world, &mut scenario, &mut outcomes)? {
+            self.check_after_events(scenario.as_str(), outcomes.as_slice(), &*world)
         } else {
-            Ok(Some(log))
+            Ok(Some(scenario))
         }
     }
 
-    // Runs the events, but stops and returns `false` if the client has a ref that is not connected.
+    // Runs the events. Stops and returns `false` as soon as a ref of the client is not connected.
     fn keeps_connected_refs(
         &self,
         event_generator: &mut EventGenerator,
         world: &mut World<Tools, A>,
-        log: &mut String,
+        scenario: &mut String,
         outcomes: &mut Vec<Outcome>,
     ) -> Result<bool, Trouble> {
         for _ in 0..self.random_run.count {
-            let start = log.len();
-            event_generator.add_event(log)?;
-            let line = log.get(start..).unwrap_or("");
+            let start = scenario.len();
+            event_generator.add_event(scenario)?;
+            let line = scenario.get(start..).unwrap_or("");
             if !self.run_event(event_generator, world, line, outcomes)? {
                 return Ok(false);
             }
@@ -247,10 +249,11 @@ impl<A: Allocator + Copy> RandomEvents<'_, A> {
     }
 
     // Runs all events a second time, unless allocations are refused. Returns a description of the
-    // failure if the result differs, or if a required kind of outcome never occurred.
+    // failure if the second result differs from the first, or if a required kind of outcome never
+    // occurred. Returns `None` otherwise.
     fn check_after_events(
         &self,
-        log: &str,
+        scenario: &str,
         outcomes: &[Outcome],
         world: &World<Tools, A>,
     ) -> Result<Option<String>, Trouble> {
@@ -258,18 +261,23 @@ impl<A: Allocator + Copy> RandomEvents<'_, A> {
             return Ok(None);
         }
         let text = format_outcomes_and_refs(self.alloc, outcomes, world)?;
-        match self.difference_in_second_run(text.as_str(), log)? {
+        match self.difference_in_second_run(text.as_str(), scenario)? {
             Some(difference) => Ok(Some(difference)),
             None => self.describe_missing_kind(outcomes),
         }
     }
 
-    // Runs all events a second time. Returns the result if the result differs from `text`.
-    fn difference_in_second_run(&self, text: &str, log: &str) -> Result<Option<String>, Trouble> {
+    // Runs all events a second time. Returns the result of the second run if it differs from
+    // `text`, or `None` otherwise.
+    fn difference_in_second_run(
+        &self,
+        text: &str,
+        scenario: &str,
+    ) -> Result<Option<String>, Trouble> {
         let inputs = WorldInputs {
             server_text: self.random_run.inputs.server_text,
             client_text: self.random_run.inputs.client_text,
-            scenario_text: log.as_bytes(),
+            scenario_text: scenario.as_bytes(),
             tools: self.random_run.inputs.tools,
         };
         let second_text = run_with_refusal(self.alloc, inputs, 0)?.text;
@@ -325,8 +333,8 @@ fn run_events_with_refusal<A: Allocator + Copy>(
     Ok(())
 }
 
-// Returns the first kind of outcome that does not occur in `outcomes`. Rounds of acknowledgments
-// are required only if `requires_rounds` is set.
+// Returns the first kind of outcome that does not occur in `outcomes`, or `None` if all kinds
+// occur. Rounds of acknowledgments are required only if `requires_rounds` is set.
 fn first_missing_kind(outcomes: &[Outcome], requires_rounds: bool) -> Option<&'static str> {
     for kind in OUTCOME_KINDS {
         let is_required = requires_rounds || kind != ROUND;

@@ -37,8 +37,8 @@ pub fn simulate_with_tools<A: Allocator + Copy, O: Sink, E: Sink>(
     }
 }
 
-// An action that runs a scenario in a world. The result is the text to print, or `None` if memory
-// runs out.
+// An action that runs a scenario in a world. The result is the text to print, or `None` if the
+// scenario can't be parsed or memory runs out.
 #[derive(Drop)]
 struct ScenarioAction<'b, A: Allocator + Copy> {
     alloc: Global,

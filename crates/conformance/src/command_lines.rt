@@ -67,7 +67,7 @@ fn format_command(alloc: Global, command: &Gitv2Command) -> Result<String, Troub
 }
 
 fn format_fetch(alloc: Global, fetch: &Fetch) -> Result<String, Trouble> {
-    let from = match &fetch.place {
+    let transport = match &fetch.place {
         Some(place) => {
             let location = format_location(alloc, place)?;
             format!(in alloc; "tcp={location}")?
@@ -76,7 +76,7 @@ fn format_fetch(alloc: Global, fetch: &Fetch) -> Result<String, Trouble> {
     };
     let limit = fetch.limit.bytes();
     let ends = format_reply_ends(fetch.ends);
-    let line = format!(in alloc; "fetch {from} limit={limit} {ends}")?;
+    let line = format!(in alloc; "fetch {transport} limit={limit} {ends}")?;
     command_text(
         alloc,
         line.as_str(),

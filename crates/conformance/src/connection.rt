@@ -33,8 +33,8 @@ struct PrintedLines {
     errors: Writer,
 }
 
-/// The listener of a run, the number of connections to serve, and the clock for their deadlines. A
-/// client uses only the first connection.
+/// The listener of a run, the number of connections to serve, and the clock that measures the
+/// deadlines. A client uses only the first connection.
 #[derive(Drop)]
 pub struct Endpoint<'c, C, L> {
     pub clock: &'c C,
@@ -70,8 +70,7 @@ where
     run_on_connections(&run, endpoint)
 }
 
-// Runs a command on connections, and refuses the allocation with the number `refused_allocation` of
-// the run.
+// Runs a command on connections, and refuses the allocation `run.refused_allocation`.
 fn run_on_connections<A, C, L, S>(
     run: &CommandRun<'_, '_, '_, A>,
     endpoint: Endpoint<'_, C, L>,

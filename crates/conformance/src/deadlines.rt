@@ -1,6 +1,9 @@
 //! Tests of deadlines, on connections with a late peer and a simulated clock.
 //!
-//! The constants of this module repeat the deadlines of `gtcp`.
+//! The constants of this module repeat the deadlines of `gtcp`. A function with the result
+//! `Option<usize>` returns the index of the first late byte in the first failed run. The index is 0
+//! for a failed run with a faulty clock or with two silent clients. The result is `None` if no run
+//! failed.
 
 use crate::connection::{ConnectionRun, Endpoint, run_row_on_connections};
 use crate::late_peer::{ClockBehavior, LateConnection, LateListener, PeerBehavior, SimulatedClock};
@@ -25,10 +28,10 @@ const SILENCE_SECONDS: u64 = 60;
 /// The maximum number of seconds until a server answers a prompt client after two silent clients.
 const ANSWER_SECONDS: u64 = 25;
 
-/// The delays in milliseconds before each byte of a slow peer. With some of these delays, a first
-/// line or a request is complete before its deadline. With the other delays, the first line or the
-/// request is too late. The last delay equals `SILENCE_SECONDS`, and the previous delay is one
-/// millisecond shorter.
+/// The tested delays. With each delay, a slow peer waits this many milliseconds before every byte.
+/// With some of these delays, a first line or a request is complete before its deadline. With the
+/// other delays, the first line or the request is too late. The last delay equals
+/// `SILENCE_SECONDS`, and the previous delay is one millisecond shorter.
 const DELAYS: [u64; 8] = [100, 240, 250, 400, 900, 6_000, 59_999, 60_000];
 
 // The expected timing of a connection.
@@ -69,8 +72,8 @@ fn first_failure_when_silent(
     runs: &mut u64,
 ) -> Result<Option<usize>, Trouble> {
     for packet_start in row.conversation.packet_starts.as_slice() {
-        for more in [0usize, 1, 5] {
-            let silent_from = packet_start.start.saturating_add(more);
+        for offset_in_packet in [0usize, 1, 5] {
+            let silent_from = packet_start.start.saturating_add(offset_in_packet);
             if silent_from < row.conversation.input.len()
                 && !is_as_expected_when_silent(alloc, row, silent_from, runs)?
             {
@@ -133,8 +136,8 @@ fn first_failure_when_full(
     runs: &mut u64,
 ) -> Result<Option<usize>, Trouble> {
     for end in row.conversation.message_ends.as_slice() {
-        for less in [0usize, 1] {
-            let max_accepted = end.saturating_sub(less);
+        for unaccepted_len in [0usize, 1] {
+            let max_accepted = end.saturating_sub(unaccepted_len);
             *runs = runs.saturating_add(1);
             if max_accepted < row.conversation.output.len()
                 && !drops_client_that_stops_reading(alloc, row, max_accepted)?
@@ -263,7 +266,7 @@ fn drops_client_that_stops_reading(
     )
 }
 
-// Returns whether a server reads no bytes from its client if its clock fails or goes back.
+// Returns whether a server reads no bytes from its client if the clock fails or goes back.
 fn fails_with_faulty_clock(
     alloc: Global,
     row: &Row<'_>,

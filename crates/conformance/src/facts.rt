@@ -11,7 +11,7 @@ use case_worlds::simulate_at_random;
 use std::alloc::Global;
 use std::io;
 
-/// Checks a fact, and prints each unexpected result.
+/// Checks a fact of the script's test files, and prints each unexpected result.
 pub fn check_fact<R: System>(
     rt: &R,
     script: &Script<'_>,
@@ -52,8 +52,8 @@ fn print_wrong_fact<R: Print>(
     tally.count_failure();
     let file_name = fact.file_name;
     let line_number = fact.line_number;
-    let kind = fact.keyword;
-    println!(rt; "{file_name}:{line_number}: {kind} {actual_result}")
+    let keyword = fact.keyword;
+    println!(rt; "{file_name}:{line_number}: {keyword} {actual_result}")
 }
 
 // The maximum length of a text that is also checked with refused allocations.
@@ -62,8 +62,8 @@ const LONG_TEXT_LEN: usize = 10_000;
 // The maximum length of the text of a graph that is searched more than once.
 const LONG_GRAPH_LEN: usize = 150_000;
 
-// Returns the first unexpected result. The text is read at once, then in pieces of one byte and of
-// three bytes, and then with each allocation refused in turn.
+// Returns the first unexpected result, if any. The text is read at once, then in pieces of one byte
+// and of three bytes, and then with each allocation refused in turn.
 fn first_wrong_result(
     alloc: Global,
     script: &Script<'_>,
@@ -97,8 +97,8 @@ fn first_wrong_result(
     first_wrong_result_with_refusals(alloc, fact, graph, tally)
 }
 
-// Returns the first result that is neither the expected result nor an out-of-memory fault. The runs
-// refuse one allocation after another.
+// Returns the first result that is neither the expected result nor an out-of-memory fault, if any.
+// The first run refuses the first allocation, the second run the second, and so on.
 fn first_wrong_result_with_refusals(
     alloc: Global,
     fact: &Fact<'_>,

@@ -4,9 +4,9 @@ use case_launches::{Plan, System, can_launch, launch, push_arguments};
 use case_text::{Case, Fact, Script, Trouble};
 use case_tries::{Row, RowTest};
 
-/// Launches the program with the arguments of a row and a file that holds the row's repository.
-/// Does nothing if the program can't run the row. If the results are unexpected, stores a
-/// description of the results in `row_test` and returns 0.
+/// Launches the program with the arguments of a row and a file that holds the row's repository. If
+/// the results are unexpected, stores a description of the results in `row_test` and returns 0.
+/// Otherwise returns `None`. Does nothing if the program can't run the row.
 pub fn launch_row<R: System>(
     rt: &R,
     script: &Script<'_>,

@@ -3,8 +3,8 @@
 //!
 //! The arguments of the command line name test files. `case_text` parses these files. The first
 //! argument may be an option. `--quick` omits the tests that change bytes, and `--once` runs each
-//! case only with its input unchanged. `--edge` runs each case unchanged, and the tests of
-//! launches, connections and failing files.
+//! case only with its input unchanged. With `--edge`, only the unchanged cases and the tests of
+//! launches, connections and failing files run.
 //!
 //! Each case runs with each of its programs, and with ids of both formats. Cases with replies also
 //! run with response-end packets added. A case may exclude one format or the added packets. A case
@@ -17,7 +17,7 @@
 //! - A connection with a first line runs over a socket in this process, and both ends take turns.
 //! - A peer is late, as measured by a simulated clock.
 //! - Each call to each source and sink fails in turn.
-//! - Each call to the client's file fails in turn, or the run stops at that call.
+//! Each operation on the client's file fails in turn, or the run stops at that operation.
 //! - The input is truncated after each byte, or one of its bytes is changed.
 //! - The request is changed as the case's table lists.
 //! - Each allocation is refused in turn.

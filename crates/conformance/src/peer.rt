@@ -44,11 +44,13 @@ pub struct Peer<'r> {
     conversation: &'r Conversation,
     peer_stream: TcpStream,
     pace: Pace,
-    // The number of bytes that the peer has sent, and the number that the program has read.
+    // The number of bytes that the peer has sent.
     sent_len: Cell<usize>,
+    // The number of bytes that the program has read.
     program_read_len: Cell<usize>,
-    // The number of bytes that the program has written, and the bytes that the peer has read.
+    // The number of bytes that the program has written.
     program_written_len: Cell<usize>,
+    // The bytes that the peer has read.
     received: RefCell<Vec<u8>>,
     // Whether the peer takes no more turns, because it has shut down writing or the stream of the
     // program is nonblocking.
@@ -173,11 +175,11 @@ impl<'r> Peer<'r> {
     /// Reads all bytes that the program has written. Fails if the connection is reset.
     pub fn receive_all(&self) -> io::Result<()> {
         for _ in 0..u64::MAX {
-            let left = self
+            let unread_len = self
                 .program_written_len
                 .get()
                 .saturating_sub(self.received_len());
-            if left == 0 || self.receive_some(left)? == 0 {
+            if unread_len == 0 || self.receive_some(unread_len)? == 0 {
                 break;
             }
         }

@@ -93,8 +93,8 @@ fn test_run<R: System>(rt: &R, run: CaseRun<'_>, tally: &mut Tally) -> io::Resul
     }
 }
 
-// Returns the row of a run, or `None` if the run adds response-end packets that the row must
-// not have.
+// Returns the row of a run, or `None` if the run adds response-end packets to replies that must not
+// have them.
 fn make_row<'b>(
     alloc: Global,
     script: &'b Script<'b>,
@@ -106,8 +106,8 @@ fn make_row<'b>(
     }
 }
 
-// Returns the command of a run, or `None` if the run adds response-end packets that the row must
-// not have.
+// Returns the command of a run, or `None` if the run adds response-end packets to replies that must
+// not have them.
 fn make_command<'b>(
     script: &'b Script<'b>,
     run: CaseRun<'b>,
@@ -149,7 +149,8 @@ fn make_row_for_command<'b>(
     })
 }
 
-// Returns the text that the client's file must have after a fetch, if the file changes.
+// Returns the text that the client's file must have after a fetch, or `None` if the file does not
+// change.
 fn expected_new_file<'b>(
     script: &'b Script<'b>,
     case: &Case<'b>,
@@ -229,7 +230,7 @@ fn test_row<R: System>(
     Ok(())
 }
 
-// Tests a row with one variation, and returns the number of the first run that failed.
+// Tests a row with one variation, and returns the number of the first run that failed, if any.
 fn test_variation<R: System>(
     rt: &R,
     run: CaseRun<'_>,
@@ -255,7 +256,7 @@ fn print_failure<R: Print>(
     tally.count_failure();
     let file_name = run.case.file_name;
     let line_number = run.case.line_number;
-    let row = run.case.name;
+    let title = run.case.name;
     let command_line = run.command_line;
     let ends = if run.adds_response_ends {
         " (response-end)"
@@ -268,6 +269,6 @@ fn print_failure<R: Print>(
         Err(_) => "",
     };
     println!(rt;
-        "{file_name}:{line_number}: {row}: {command_line}{ends}: {name}, {failed_run}: {printed}"
+        "{file_name}:{line_number}: {title}: {command_line}{ends}: {name}, {failed_run}: {printed}"
     )
 }

@@ -25,7 +25,7 @@ struct SocketRunParameters {
 
 /// Tests a row over a socket. The peer sends all its messages at once, in turns, or one byte at a
 /// time. A row that has the keyword `late` is also tested with each allocation refused. Counts the
-/// runs in `runs`, and returns the number of the first run that failed.
+/// runs in `runs`, and returns the number of the first run that failed, if any.
 pub fn first_failure<R>(
     rt: &R,
     alloc: Global,
@@ -55,8 +55,8 @@ where
     Ok(None)
 }
 
-// Returns whether the row is tested at this pace. The row must be a short connection with a first
-// line, and must not name a packer or an indexer. At the pace `AtOnce`, clients that fail are
+// Returns whether the row is tested at this pace. The row must have a first line and short
+// messages, and must not name a packer or an indexer. At the pace `AtOnce`, clients that fail are
 // skipped, because their unread input would reset the connection.
 fn applies_to_row(row: &Row<'_>, pace: Pace) -> bool {
     let command = row.command;
@@ -69,7 +69,8 @@ fn applies_to_row(row: &Row<'_>, pace: Pace) -> bool {
         && (ends_well || pace != Pace::AtOnce)
 }
 
-// Tests a row at the pace `Turns`, once for each allocation, which is refused in that run.
+// Tests a row at the pace `Turns`, with each allocation refused in one run. Returns the number of
+// the first run that failed, if any.
 fn first_failure_with_refusals<R>(
     rt: &R,
     alloc: Global,

@@ -11,7 +11,7 @@ key name = record { key = name; value = None }
 abbrev pub key_with : Bytes → Bytes → Capability
 key_with name value = record { key = name; value = Some value }
 
--- the agent's name, ls-refs with `unborn`, fetch, and the object format
+-- the advertised capabilities: the agent's name, ls-refs with `unborn`, fetch, and the object format
 abbrev pub advertisement : Format → List Capability
 advertisement format =
     key_with (codes "agent") (codes "gitv2/1")

@@ -91,7 +91,7 @@ AcksAreCommon A packs =
     (server : Server A) (asked : FetchAsked) (reply : FetchReply)
     → FetchAnswer server packs asked reply → AreCommon server asked (acknowledged_by reply)
 
--- The pack contains entries of the server's graph. Consider a client that holds the full history of each have, and
+-- The pack contains entries of the server's graph. Consider a client that holds the whole ancestry of each have, and
 -- agrees with the server about every object that both hold. Once the client has inserted the entries, it holds every
 -- object that a want reaches at the server.
 pub record IsEnough {A : Type 0} (server : Server A) (packs : Packs A) (asked : FetchAsked)

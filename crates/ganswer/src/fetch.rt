@@ -115,7 +115,7 @@ impl<A: Allocator + Copy> Server<A> {
         }) }
         ensures fault { IfErr result (λ fault. fault ≡ Memory) }
     {
-        // Laws.
+        // Laws that the proof uses.
         positions_are_nodes::<A>();
         request.laws();
         let ids = self.common_ids(request)?;

@@ -26,9 +26,9 @@ pub fn ls_requests_have_one_answer<A: Allocator + Copy>()
     peels_to_one::<A>();
 }
 
-/// Proves that each answer to an ls-refs request is a well-formed message. Its ids have the
-/// server's object format, its ref names are valid, and its number of lines is within the limit of
-/// a reply.
+/// Proves that each answer to an ls-refs request is a well-formed message. The ids of the answer
+/// have the server's object format, the ref names are valid, and the number of lines is within the
+/// limit of a reply.
 pub fn ls_answers_fit<A: Allocator + Copy>()
     ensures { LsAnswersFit A }
 {
@@ -58,7 +58,7 @@ pub fn acks_are_common<A: Allocator + Copy, K: Packer<A>>()
 }
 
 /// Proves that the pack of an answer consists of entries of the server's graph, and suffices for
-/// the client. Consider a client that holds the full history of each have, and agrees with the
+/// the client. Consider a client that holds the whole ancestry of each have, and agrees with the
 /// server about every object that both hold. Once the client has inserted the entries, it holds
 /// every object that the wants reach at the server.
 pub fn packs_are_enough<A: Allocator + Copy, K: Packer<A>>()

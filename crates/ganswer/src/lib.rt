@@ -3,9 +3,10 @@
 //!
 //! # Proved
 //!
-//! - A [`Server`] has exactly the graph, the refs and the HEAD that were passed to [`Server::new`].
-//!   Its graph always holds all parents, the id of each ref, and the id of a detached HEAD. If an
-//!   object is missing, [`Server::new`] reports the first missing object, in a fixed order.
+//! - [`Server::new`] returns a server with exactly the given graph, refs and HEAD. The graph of a
+//!   server always holds all parents of its objects, the id of each ref, and the id of a detached
+//!   HEAD. If an object is missing, [`Server::new`] reports the first missing object, in a fixed
+//!   order.
 //! - [`Server::add`] adds at most one object, [`Server::set_ref`] sets one ref, and
 //!   [`Server::set_head`] sets HEAD. These calls make no other changes. A call that fails reports
 //!   the first reason and changes nothing.
@@ -32,12 +33,12 @@
 //!   server has exactly one answer to each ls-refs request, and holds the id of each line of the
 //!   answer. With a faithful packer, a server has at most one answer to each request of any kind.
 //!   Acknowledged ids are haves of the request that the server holds. Consider a client that holds
-//!   the full history of the haves, and agrees with the server about every object that both hold.
-//!   Inserting the pack gives this client the full history of the wants. If the server holds all
+//!   the whole ancestry of the haves, and agrees with the server about every object that both hold.
+//!   Inserting the pack gives this client the whole ancestry of the wants. If the server holds all
 //!   wants, a request fails only if the packer fails or memory runs out. Answers are well-formed
-//!   messages. A client of the same object format can read them, if the number of haves in its
-//!   request and the pack are within its limits. Changes to a server never remove objects or change
-//!   its object format.
+//!   messages. A client of the same object format can read its answer, if the pack and the number
+//!   of the request's haves are within the client's limits. Changes to a server never remove
+//!   objects or change its object format.
 //! - Each fault has a number, a name and a text. A fault of a request also has a text for the
 //!   client. [`ServeFault::is_memory`] returns whether memory ran out.
 //! - Every call returns, without a panic, an overflow or a read out of bounds.

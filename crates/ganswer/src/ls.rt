@@ -84,7 +84,8 @@ impl<A: Allocator + Copy> Server<A> {
     }
 
     // Appends the line of a ref, if the request includes the ref. `known` is the peeled id of the
-    // ref, or `None` if the peeled id was not looked up before.
+    // ref, `Some(None)` if the ref has no peeled id, or `None` if the peeled id was not looked up
+    // before.
     fn add_ref_line(
         &self,
         request: &LsRefsRequest<A>,
@@ -100,7 +101,7 @@ impl<A: Allocator + Copy> Server<A> {
             → IsAnswering self.now request.now.asked (front ++ (name.now, id) ∷ []) reply.new) }
         ensures fault { IfErr result (λ fault. fault ≡ Memory) }
     {
-        // Laws.
+        // Laws that the proof uses.
         positions_are_nodes::<A>();
         ids_have_one_format();
         self.laws();
@@ -115,8 +116,8 @@ impl<A: Allocator + Copy> Server<A> {
     }
 
     /// Returns the line of a ref with the requested attributes, or `None` if the request does not
-    /// include the ref. `known` is the peeled id of the ref, or `None` if the peeled id was not
-    /// looked up before.
+    /// include the ref. `known` is the peeled id of the ref, `Some(None)` if the ref has no peeled
+    /// id, or `None` if the peeled id was not looked up before.
     pub fn line<'a>(
         &'a self,
         request: &LsRefsRequest<A>,
@@ -211,7 +212,7 @@ fn own_line<A: Allocator + Copy>(line: LentLine<'_, A>) -> Result<RefLine<A>, Al
     })
 }
 
-// Returns whether the name begins with one of the prefixes, or `prefixes` is empty.
+// Returns true if the name begins with one of the prefixes, or if `prefixes` is empty.
 fn is_asked<A: Allocator + Copy>(prefixes: &[Prefix<A>], name: &RefName<A>) -> bool
     ensures { result ≡ is_asked prefixes.now name.now }
 {

@@ -34,8 +34,9 @@ pub(crate) fn keep_peeled<A: Allocator + Copy>(
     }
 }
 
-// Returns the commit that a tag peels to, if the request has `peel`. `known` is the peeled id of
-// the tag, or `None` if the peeled id was not looked up before.
+// Returns the commit that a tag peels to, if `is_asked` (the request has `peel`). `known` is this
+// commit, `Some(None)` if there is no such commit, or `None` if the peeled id was not looked up
+// before.
 pub(crate) fn peeled_if<A: Allocator + Copy>(
     is_asked: bool,
     graph: &Graph<A>,

@@ -59,7 +59,7 @@ impl<A: Allocator + Copy> Server<A> {
     pub fn new(graph: Graph<A>, refs: Refs<A>, head: Head<A>) -> Result<Server<A>, BuildFault<A>>
         ensures { Makes (server_of graph refs head) result }
     {
-        // Laws.
+        // Laws that the proof uses.
         graph.laws();
         if let Some(id) = missing_parent(&graph) {
             return Err(BuildFault::NotClosed { id });
@@ -85,7 +85,7 @@ impl<A: Allocator + Copy> Server<A> {
         requires peels { KnowsPeels graph.entries refs peels.items }
         ensures { Makes (server_of graph refs head) result }
     {
-        // Laws.
+        // Laws that the proof uses.
         graph.laws();
         refs.laws();
         head.laws();
@@ -145,7 +145,7 @@ impl<A: Allocator + Copy> Server<A> {
         ensures grows { Grows self.old.graph.entries self.new.graph.entries }
         ensures server { IsServer self.new }
     {
-        // Laws.
+        // Laws that the proof uses.
         closed_stays::<A>();
         if let Some(id) = self.graph.first_absent(entry.node.parents.as_slice()) {
             return Err(BuildFault::MissingParent { id });
@@ -187,7 +187,7 @@ impl<A: Allocator + Copy> Server<A> {
         if !holds_head(&self.graph, &head) {
             return Err(BuildFault::HeadMissing);
         }
-        // Laws.
+        // Laws that the proof uses.
         head.laws();
         self.head = head;
         Ok(())
@@ -216,7 +216,7 @@ fn missing_parent<A: Allocator + Copy>(graph: &Graph<A>) -> Option<Oid>
     ensures { MatchOption result (IsClosed graph.now.entries)
         (IsFirstAbsent graph.now.entries (parents_in graph.now.entries)) }
 {
-    // Laws.
+    // Laws that the proof uses.
     ordered_is_closed::<A>();
     if graph.is_ordered() {
         return None;
@@ -229,7 +229,7 @@ fn first_missing_parent<A: Allocator + Copy>(graph: &Graph<A>) -> Option<Oid>
     ensures { MatchOption result (IsClosed graph.now.entries)
         (IsFirstAbsent graph.now.entries (parents_in graph.now.entries)) }
 {
-    // Laws.
+    // Laws that the proof uses.
     positions_are_nodes::<A>();
     for place in 0..graph.len() {
         if let Some(id) = graph.first_absent(graph.parents(place)) {

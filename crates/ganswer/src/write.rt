@@ -36,7 +36,7 @@ impl<A: Allocator + Copy> Server<A> {
             → WritesPackets W.contents W.passed_on W.is_down W.loans writer.old writer.new result
             (canonical_reply ends reply) }
     {
-        // Laws.
+        // Laws that the proof uses.
         writes_packets::<W>();
         write_unborn(self.unborn(request), writer)?;
         self.write_lines(request, ends, writer)
@@ -54,7 +54,7 @@ impl<A: Allocator + Copy> Server<A> {
             → WritesPackets W.contents W.passed_on W.is_down W.loans writer.old writer.new result
             (map ref_packet lines ++ Flush ∷ ends_with ends) }
     {
-        // Laws.
+        // Laws that the proof uses.
         writes_packets::<W>();
         let mut text = RefText::new();
         self.write_head(request, &mut text, writer)?;
@@ -75,7 +75,7 @@ impl<A: Allocator + Copy> Server<A> {
             → WritesPart W.contents W.passed_on W.is_down W.loans writer.old writer.new result
             (map ref_packet lines) }
     {
-        // Laws.
+        // Laws that the proof uses.
         writes_packets::<W>();
         peels_to_one::<A>();
         match self.head_id() {
@@ -98,7 +98,7 @@ impl<A: Allocator + Copy> Server<A> {
             → WritesPart W.contents W.passed_on W.is_down W.loans writer.old writer.new result
             (map ref_packet lines) }
     {
-        // Laws.
+        // Laws that the proof uses.
         writes_packets::<W>();
         peels_to_one::<A>();
         for (place, reference) in self.refs().as_slice().iter().enumerate() {
@@ -119,7 +119,7 @@ fn write_line<A: Allocator + Copy, W: Sink>(
     ensures { WritesPart W.contents W.passed_on W.is_down W.loans writer.old writer.new result
         (map ref_packet (line_list (option_copied line.entry))) }
 {
-    // Laws.
+    // Laws that the proof uses.
     writes_packets::<W>();
     match line {
         Some(line) => write_ref(line, text, writer),

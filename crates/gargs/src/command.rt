@@ -6,28 +6,29 @@ use gtcp::Location;
 /// A command with its parameters.
 #[derive(Debug, Drop)]
 pub enum Gitv2Command {
-    /// `check FILE`
+    /// `check FILE`: checks a repository.
     Check {
         /// The name of the file that contains the repository.
         file: String,
     },
-    /// `fetch (--stdio or --tcp ADDR --path PATH) [--limit N] [--response-end] FILE SPEC...`
+    /// `fetch (--stdio or --tcp ADDR --path PATH) [--limit N] [--response-end] FILE SPEC...`:
+    /// fetches from a server.
     Fetch(Fetch),
-    /// `lines`
+    /// `lines`: shows the packets of standard input as text.
     Lines,
-    /// `ls --stdio-server FILE`
+    /// `ls --stdio-server FILE`: serves one request.
     LsStdioServer {
         /// The name of the file that contains the server's repository.
         file: String,
     },
-    /// `ls --tcp ADDR --path PATH [PREFIX]...`
+    /// `ls --tcp ADDR --path PATH [PREFIX]...`: lists the refs of a server.
     LsTcp {
         /// The location of the server.
         place: Location,
         /// The prefixes of the refs to list. An empty list lists all refs.
         prefixes: Vec<String>,
     },
-    /// `pair SERVERFILE CLIENTFILE SPEC...`
+    /// `pair SERVERFILE CLIENTFILE SPEC...`: fetches from a server in the same process.
     Pair {
         /// The name of the file that contains the server's repository.
         server: String,
@@ -36,11 +37,11 @@ pub enum Gitv2Command {
         /// The refspecs. The list has at least one refspec.
         specs: Vec<String>,
     },
-    /// `serve --listen ADDR --path PATH --connections N [--response-end] FILE`
+    /// `serve --listen ADDR --path PATH --connections N [--response-end] FILE`: serves connections.
     Serve(Serve),
-    /// `simulate SERVERFILE CLIENTFILE SCENARIOFILE`
+    /// `simulate SERVERFILE CLIENTFILE SCENARIOFILE`: runs a scenario.
     Simulate(Simulate),
-    /// `upload [--response-end] FILE`
+    /// `upload [--response-end] FILE`: serves one connection.
     Upload {
         /// Whether each reply ends with a response-end packet.
         ends: Ends,

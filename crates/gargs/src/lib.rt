@@ -19,8 +19,7 @@
 //!
 //! # What the contracts do not rule out
 //!
-//! No contract rules out that [`read_command`] rejects any arguments, or returns any command for
-//! any arguments.
+//! [`read_command`] may reject any arguments, and may return any command for any arguments.
 //!
 //! # Dependencies
 //!

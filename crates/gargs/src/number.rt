@@ -31,8 +31,8 @@ pub(crate) fn connections_of(text: &str) -> Option<u32>
     }
 }
 
-// Returns the number that the text's decimal digits denote. Rejects a leading `+`, although `parse`
-// accepts it.
+// Returns the number that the text encodes in decimal digits, or `None` for any other text. A
+// leading `+` is rejected, although `parse` accepts it.
 fn number_of(text: &str) -> Option<usize>
     ensures { MatchOption result (((number : ℕ) → number < 2 ^ 64 → Denotes text.now number → ⊥))
         (Denotes text.now) }

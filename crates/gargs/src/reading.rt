@@ -93,7 +93,7 @@ fn transport_of(matches: &ArgMatches<'_>, flag: &str) -> Option<Transport> {
 }
 
 // Returns the location whose address is the value of this option, and whose path is the value of
-// the option `path`.
+// the option `path`. Returns `None` if the location is invalid.
 fn location_in(alloc: Global, matches: &ArgMatches<'_>, option: &str) -> Option<Location> {
     Location::new(alloc, matches.get_str(option)?, matches.get_str("path")?)
 }

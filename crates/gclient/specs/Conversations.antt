@@ -36,7 +36,7 @@ use Rattle.gclient.specs.declared.fault.FetchFault.TheVariants as fetch
 abbrev pub request_bytes : Format → Asked → Bytes
 request_bytes format asked = canonical_all (canonical_request format asked)
 
--- the bytes of the requests of the turns, in order
+-- the bytes of the requests of the turns, in order; a turn is a request and its reply
 abbrev pub requests_bytes : Format → List Turn → Bytes
 requests_bytes format turns = flat_map (λ turn. request_bytes format turn.asked) turns
 
@@ -57,7 +57,7 @@ FailsToAsk format output (turn ∷ turns) due = SendsAndFails output (requests_b
 
 -- ---- the bytes read
 
--- the client reads an advertisement, and does not support the server
+-- the client reads the advertisement of a server that it does not support
 pub record Mismatches (format : Format) (input : Input) (cause : MessageFault) : Type 0 where
   pub packets : List Packet
   pub capabilities : List Capability

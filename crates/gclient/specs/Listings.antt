@@ -48,7 +48,7 @@ pub record HasHeard (input : Input) (format : Format) (capabilities : List Capab
   pub read : ReadsPackets (record { old = input.read.old; new = between }) packets
   pub rest : Rest (rest_of input between)
 
--- the client reads the advertisement of a server that no client supports, for any object format of the client
+-- the client reads the advertisement of a server that no client of either object format supports
 pub record FitsNone (input : Input) (cause : MessageFault) : Type 0 where
   pub packets : List Packet
   pub capabilities : List Capability

@@ -31,21 +31,21 @@ use gsession::laws::{began_stays, rounds_are_few};
 use gsession::{FetchPlan, PackOptions, Session, Settled, Taken};
 use std::alloc::Allocator;
 
-/// Fetches the refs that match the refspecs from a server (gitprotocol-v2(5)). Reads the server's
-/// advertisement, requests its refs, and requests the wanted objects until the server sends a pack.
-/// Ends the conversation with a lone flush packet, and then updates the local refs. Flushes each
-/// request, and reads nothing after the last reply. A pack has at most `limit` bytes, and `ends`
-/// says whether a response-end packet follows each reply.
+/// Fetches those refs of a server that match the refspecs (gitprotocol-v2(5)). Reads the server's
+/// advertisement, requests the list of refs, and requests the wanted objects until the server sends
+/// a pack. Ends the conversation with a lone flush packet, and then updates the local refs. Flushes
+/// each request, and reads nothing after the last reply. A pack may have at most `limit` bytes, and
+/// `ends` states whether a response-end packet follows each reply.
 ///
 /// Fails with `TooManySpecs` for more than 16 refspecs. Fails with `Repo` or `NoBuffer` if out of
 /// memory at the start, and then reads nothing. Later, the first fault ends the conversation. Fails
 /// with `Message` if the advertisement or a reply is malformed, or if the client does not support
 /// the server (`UnknownCommand`, `Format`). Fails with `Message` (`BadName`) if the name of a local
-/// ref would be invalid. Fails with `TooManyWants` if a request can't hold all wants. Fails with
-/// `StrangeAck`, `Index` or `Repo` if the client rejects the content of a reply. Fails with
-/// `WriteFailed` if the sink fails. The sink has then received a prefix of the requests. Fails with
-/// `Repo` if the refs can't be updated (`NotConnected`, `Refs`), or if out of memory. After every
-/// fault the refs are unchanged, and the graph has lost no objects.
+/// ref would be invalid. Fails with `TooManyWants` if there are more wants than a request may have.
+/// Fails with `StrangeAck`, `Index` or `Repo` if the client rejects the content of a reply. Fails
+/// with `WriteFailed` if the sink fails. The sink has then received a prefix of the requests. Fails
+/// with `Repo` if the refs can't be updated (`NotConnected`, `Refs`), or if out of memory. After
+/// every fault the refs are unchanged, and the graph has lost no objects.
 pub fn fetch_over<S: Source, W: Sink, A: Allocator + Copy, K: Indexer<A>>(
     repo: &mut Repo<A>,
     source: &mut S,
@@ -106,7 +106,7 @@ pub fn fetch_over_with<S: Source, W: Sink, A: Allocator + Copy, K: Indexer<A>>(
     let mut writer = PacketWriter::new(sink);
     let fetched = fetch_to(repo, source, &mut writer, indexer, plan);
     let _sink = writer.into_inner();
-    // Laws.
+    // Laws that the proof uses.
     repo.laws();
     fetched
 }
@@ -144,7 +144,7 @@ fn fetch_to<S: Source, W: Sink, A: Allocator + Copy, K: Indexer<A>>(
     fetched
 }
 
-// Holds the conversation of a session that has begun, and returns its result.
+// Holds the conversation of a session that has begun. Returns the result of the conversation.
 fn converse<S: Source, W: Sink, A: Allocator + Copy, K: Indexer<A>>(
     repo: &mut Repo<A>,
     session: &mut Session<A>,
@@ -167,7 +167,7 @@ fn converse<S: Source, W: Sink, A: Allocator + Copy, K: Indexer<A>>(
     ensures source_loans { S.loans reader.new.source ≡ S.loans reader.old.source }
     ensures sink_loans { W.loans writer.new.sink ≡ W.loans writer.old.sink }
 {
-    // Laws.
+    // Laws that the proof uses.
     rounds_are_few::<A>();
     let unborn_target = talk(repo, session, reader, writer, indexer)?;
     let requests = session.rounds();
@@ -180,7 +180,7 @@ fn converse<S: Source, W: Sink, A: Allocator + Copy, K: Indexer<A>>(
 }
 
 // Reads the advertisement, sends all requests and reads all replies. Returns the target of the
-// server's unborn HEAD.
+// server's HEAD if HEAD is unborn and a refspec fetches HEAD, and `None` otherwise.
 fn talk<S: Source, W: Sink, A: Allocator + Copy, K: Indexer<A>>(
     repo: &mut Repo<A>,
     session: &mut Session<A>,
@@ -203,7 +203,7 @@ fn talk<S: Source, W: Sink, A: Allocator + Copy, K: Indexer<A>>(
     ensures source_loans { S.loans reader.new.source ≡ S.loans reader.old.source }
     ensures sink_loans { W.loans writer.new.sink ≡ W.loans writer.old.sink }
 {
-    // Laws.
+    // Laws that the proof uses.
     reads_join();
     distinct_are_once();
     began_stays::<A>();
@@ -218,8 +218,8 @@ fn talk<S: Source, W: Sink, A: Allocator + Copy, K: Indexer<A>>(
 }
 
 // Requests objects in rounds until the server sends a pack. The caller has already begun the
-// conversation. In the contract, `source` and `sink` are the states in which the conversation
-// began.
+// conversation. In the contract, `source` and `sink` are the source and the sink at the beginning
+// of the conversation.
 fn fetch_all<S: Source, W: Sink, A: Allocator + Copy, K: Indexer<A>>(
     repo: &mut Repo<A>,
     session: &mut Session<A>,
@@ -248,7 +248,7 @@ fn fetch_all<S: Source, W: Sink, A: Allocator + Copy, K: Indexer<A>>(
     ensures source_loans { S.loans reader.new.source ≡ S.loans reader.old.source }
     ensures sink_loans { W.loans writer.new.sink ≡ W.loans writer.old.sink }
 {
-    // Laws.
+    // Laws that the proof uses.
     reads_join();
     began_stays::<A>();
     let mut offers = None;

@@ -70,7 +70,7 @@ pub fn fetch_git<S: Source, W: Sink, A: Allocator + Copy, K: Indexer<A>>(
     ensures source_loans { S.loans source.new ≡ S.loans source.old }
     ensures sink_loans { W.loans sink.new ≡ W.loans sink.old }
 {
-    // Laws.
+    // Laws that the proof uses.
     repo.laws();
     let plan = FetchPlan {
         specs: fetch.specs,

@@ -34,7 +34,7 @@ fn send_hello<W: Sink, A: Allocator + Copy>(
         writer.new.sink) result (hello_bytes hello.now) }
     ensures loans { W.loans writer.new.sink ≡ W.loans writer.old.sink }
 {
-    // Laws.
+    // Laws that the proof uses.
     writes_join::<W>();
     match write_hello(hello, writer) {
         Ok(()) => writer.push(),

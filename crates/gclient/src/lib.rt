@@ -52,12 +52,11 @@
 //!
 //! If a source or a sink does not record its bytes, the contracts say nothing about the bytes read
 //! or written. The contracts still state the outcome of the conversation, and whether the source or
-//! the sink failed. If the sink fails, no contract says how long the written prefix is. No contract
-//! rules out that a call reports out of memory at the start, when it stores data, or when it
-//! updates refs. If memory runs out at the start, no contract says whether the fault is `NoBuffer`
-//! or a fault of the session. No contract bounds the time of a call. No contract rules out that a
-//! call flushes more often than necessary, or that formatting a fault returns `fmt::Error` even if
-//! every write succeeds.
+//! the sink failed. If the sink fails, no contract states how long the written prefix is. A call
+//! may report out of memory at the start, when it stores data, or when it updates refs, although
+//! memory is available. If memory runs out at the start, the fault may be `NoBuffer` or a fault of
+//! the session. A call may take any time, and may flush more often than necessary. Formatting a
+//! fault may return `fmt::Error` even if every write succeeds.
 //!
 //! # Dependencies
 //!

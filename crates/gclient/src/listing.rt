@@ -107,7 +107,8 @@ struct Heard {
     tells_unborn: bool,
 }
 
-// Reads the server's advertisement. Fails if the client does not support the server.
+// Reads the server's advertisement, and returns the parts that a listing needs. Fails if the client
+// does not support the server.
 fn hear_server<S: Source, A: Allocator + Copy>(
     reader: &mut PacketReader<S, A>,
     alloc: A,

@@ -15,8 +15,8 @@ use std::alloc::Allocator;
 /// the request.
 ///
 /// Requires that the writer has not failed, and that the ids of the request have the given format.
-/// Fails if the sink fails. The sink then holds a prefix of the request, and every further call of
-/// the writer fails.
+/// Fails if the sink fails. The sink has then received a prefix of the request, and every further
+/// call on the writer fails.
 pub fn send_request<W: Sink, A: Allocator + Copy>(
     request: &Request<A>,
     format: Format,
@@ -29,7 +29,7 @@ pub fn send_request<W: Sink, A: Allocator + Copy>(
     ensures goes_on { OnOk result (writer.new.failed ≡ false) }
     ensures loans { W.loans writer.new.sink ≡ W.loans writer.old.sink }
 {
-    // Laws.
+    // Laws that the proof uses.
     writes_join::<W>();
     match write_request(request, format, writer) {
         Ok(()) => writer.push(),

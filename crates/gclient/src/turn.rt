@@ -1,4 +1,4 @@
-//! The turns of a conversation.
+//! The turns of a conversation. A turn is a request and its reply.
 
 ghost use Rattle.std.specs.Prelude.{◌≡◌, ℕ, true, false, Option, None, IfOk, IfSome, OnOk};
 ghost use Rattle.gname.specs.Names.{Name};
@@ -42,8 +42,8 @@ pub(crate) fn hear<S: Source, A: Allocator + Copy>(
     Ok(())
 }
 
-/// Makes and sends the session's next request. `offers` holds the state of the walk that selects
-/// haves. A request for objects updates this state.
+/// Makes and sends the session's next request. `offers` is the state of the walk that selects
+/// haves, or `None` before the walk starts. A request for objects updates this state.
 pub(crate) fn ask<W: Sink, A: Allocator + Copy>(
     repo: &Repo<A>,
     session: &mut Session<A>,
@@ -64,7 +64,7 @@ pub(crate) fn ask<W: Sink, A: Allocator + Copy>(
     ensures loans { W.loans writer.new.sink ≡ W.loans writer.old.sink }
 {
     let request = session.request_on(repo, offers)?;
-    // Laws.
+    // Laws that the proof uses.
     session.laws();
     send_request(&request, repo.format(), writer)?;
     Ok(())
@@ -98,11 +98,11 @@ pub(crate) fn fetch<S: Source, W: Sink, A: Allocator + Copy, K: Indexer<A>>(
     ensures source_loans { S.loans reader.new.source ≡ S.loans reader.old.source }
     ensures sink_loans { W.loans writer.new.sink ≡ W.loans writer.old.sink }
 {
-    // Laws.
+    // Laws that the proof uses.
     offers_stay::<A, K>();
     ask(repo, session, offers, writer)?;
     let taken = session.take_reply(repo, reader, indexer)?;
-    // Laws.
+    // Laws that the proof uses.
     session.laws();
     Ok(taken)
 }

@@ -20,11 +20,11 @@ pub enum RepoFault<A: Allocator + Copy = Global> {
     /// The ref `name` is not connected. All refs before it, in the order of the names, are
     /// connected.
     UnconnectedRef { name: RefName<A> },
-    /// The new id of a ref is not connected: it reaches the id `missing`, which the repository does
-    /// not hold.
+    /// The id to which `Repo::set_local_ref` should set a ref is not connected: it reaches the id
+    /// `missing`, which the repository does not hold.
     UnconnectedId { missing: Oid },
-    /// The new id of a requested update is not connected: it reaches the id `missing`, which the
-    /// repository does not hold.
+    /// The new id of an update that `Repo::settle` should make is not connected: it reaches the id
+    /// `missing`, which the repository does not hold.
     NotConnected { missing: Oid },
     /// The graph rejected the change, or there is not enough memory for a walk or a copy.
     Graph(GraphFault),

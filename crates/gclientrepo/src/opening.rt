@@ -36,14 +36,14 @@ pub(crate) fn first_unconnected<A: Allocator + Copy>(
     Ok(Some(first_lost(graph, ids)?))
 }
 
-// Returns the index of the first ref whose id the graph does not hold. In a graph that stores each
-// object after its parents, every id of the graph is connected.
+// Returns the index of the first ref whose id the graph does not hold, if any. In a graph that
+// stores each object after its parents, every id of the graph is connected.
 fn first_absent<A: Allocator + Copy>(graph: &Graph<A>, refs: &Refs<A>) -> Option<usize>
     requires { IsOrdered graph.now.entries }
     ensures { MatchOption result (All (IsConnected graph.now.entries) (values_of refs.now))
         (IsFirstLost graph.now.entries (values_of refs.now)) }
 {
-    // Laws.
+    // Laws that the proof uses.
     ordered_is_closed::<A>();
     closed_is_connected::<A>();
     graph.laws();
@@ -56,7 +56,8 @@ fn first_absent<A: Allocator + Copy>(graph: &Graph<A>, refs: &Refs<A>) -> Option
     None
 }
 
-// Returns the index of the first id that is not connected.
+// Returns the index of the first id that is not connected. Requires that some id is not connected.
+// Fails only with `Memory`.
 fn first_lost<A: Allocator + Copy>(graph: &Graph<A>, ids: &[Oid]) -> Result<usize, GraphFault>
     requires { ¬ (All (IsConnected graph.now.entries) ids.now) }
     ensures place { IfOk result (IsFirstLost graph.now.entries ids.now) }

@@ -41,7 +41,7 @@ impl<A: Allocator + Copy> RefMap<A> {
         requires { ¬ (CannotSet self.old name) }
         ensures { OnOk result (SetsRef self.old self.new name id) }
     {
-        // Laws.
+        // Laws that the proof uses.
         names_are_clean();
         name.laws();
         self.refs.insert(name, id)?;
@@ -53,7 +53,7 @@ impl<A: Allocator + Copy> RefMap<A> {
         ensures refs { IfOk result (λ refs. refs ≡ self) }
         ensures valid { IfOk result IsRefs }
     {
-        // Laws.
+        // Laws that the proof uses.
         refs_come_in_order();
         let mut refs = Refs::new(alloc);
         for (name, id) in self.refs {
@@ -71,7 +71,7 @@ fn tree_of<A: Allocator + Copy>(
     requires { IsRefs refs.now }
     ensures { IfOk result (λ copies. copies.entries ≡ refs.now) }
 {
-    // Laws.
+    // Laws that the proof uses.
     refs_come_in_order();
     let mut copies = BTreeMap::new(alloc);
     for pair in refs {

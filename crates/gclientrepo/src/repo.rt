@@ -99,7 +99,7 @@ impl<A: Allocator + Copy> Repo<A> {
         ensures graph { IsGraph self.now.graph }
         ensures refs { IsRefs self.now.refs }
     {
-        // Laws.
+        // Laws that the proof uses.
         self.laws();
         self.graph.format()
     }
@@ -126,7 +126,7 @@ impl<A: Allocator + Copy> Repo<A> {
         ensures fault { IfErr result (λ fault. (fault ≡ Memory)
             × NeedsWalk self.now.graph.entries ids.now) }
     {
-        // Laws.
+        // Laws that the proof uses.
         ordered_is_closed::<A>();
         closed_is_connected::<A>();
         if let Some(id) = self.graph.first_absent(ids) {
@@ -158,7 +158,7 @@ impl<A: Allocator + Copy> Repo<A> {
         ensures grows { Grows self.old.graph.entries self.new.graph.entries }
         ensures whole { IsConnectedRepo self.new }
     {
-        // Laws.
+        // Laws that the proof uses.
         connected_repo_stays::<A>();
         if let Some(id) = self.graph.first_absent(entry.node.parents.as_slice()) {
             return Err(RepoFault::MissingParent { id });
@@ -185,7 +185,7 @@ impl<A: Allocator + Copy> Repo<A> {
         ensures known { self.new.known ≡ self.old.known }
         ensures whole { IsConnectedRepo self.new }
     {
-        // Laws.
+        // Laws that the proof uses.
         connected_repo_stays::<A>();
         self.graph.insert_all(entries)
     }
@@ -263,7 +263,7 @@ impl<A: Allocator + Copy> Repo<A> {
         ensures fault { IfErr result (λ fault. (fault ≡ Memory)
             × NeedsWalk self.now.graph.entries (asked_ids asks.now)) }
     {
-        // Laws.
+        // Laws that the proof uses.
         ordered_is_closed::<A>();
         closed_is_connected::<A>();
         if let Some(id) = first_absent(&self.graph, asks) {
@@ -287,7 +287,7 @@ impl<A: Allocator + Copy> Repo<A> {
             (λ _. self.new ≡ self.old) }
         ensures whole { IsConnectedRepo self.new }
     {
-        // Laws.
+        // Laws that the proof uses.
         refs_come_in_order();
         let ids = asks.ids(self.graph.allocator())?;
         let (refs, updates) = settle_refs(&self.graph, &self.refs, asks)?;

@@ -58,8 +58,8 @@ fn take_asks<A: Allocator + Copy>(
     Ok(updates)
 }
 
-/// Returns the first new id of the requested updates that the graph does not hold. Allocates
-/// nothing.
+/// Returns the first new id of the requested updates that the graph does not hold, if any.
+/// Allocates nothing.
 pub(crate) fn first_absent<A: Allocator + Copy>(graph: &Graph<A>, asks: &Asks<A>) -> Option<Oid>
     ensures { MatchOption result (All (Holds graph.now.entries) (asked_ids asks.now))
         (λ id. Contains (asked_ids asks.now) id × (node_at graph.now.entries id ≡ None)) }
@@ -86,7 +86,7 @@ pub(crate) fn cannot_set<A: Allocator + Copy>(refs: &Refs<A>, name: &RefName<A>)
 pub(crate) fn cannot_settle<A: Allocator + Copy>(refs: &Refs<A>, asks: &Asks<A>) -> bool
     ensures { IsTrue result ↔ CannotSettle refs.now asks.now }
 {
-    // Laws.
+    // Laws that the proof uses.
     limits_are_the_constants();
     asks_for_head(asks) || count_new(refs, asks) > MAX_REFS - refs.len()
 }

@@ -137,7 +137,7 @@ abbrev pub frame_in_client : {A : Type 0} → ClientFault A → Option ℕ
 frame_in_client (client.Message fault) = Some fault.frame
 frame_in_client _ = None
 
--- the number of the bad line of a plain pack
+-- the number of the malformed line of a plain pack
 abbrev pub line_in_client : {A : Type 0} → ClientFault A → Option ℕ
 line_in_client (client.Index (index.Bad line)) = Some line
 line_in_client _ = None

@@ -55,7 +55,7 @@ ReadsSpecs words (Err _) = ⊥
 
 -- ---- files
 
--- the value of HEAD in a client's repository, which has no HEAD
+-- the value that represents the absence of a HEAD; a client's repository has no HEAD
 abbrev pub no_head : {A : Type 0} → Head A
 no_head = head.None
 

@@ -35,8 +35,8 @@ pub record NamesServer {A : Type 0} (file : Bytes) (server : Server A) : Type 0 
   pub names : NamesParts file server
   pub whole : IsServer server
 
--- the reasons why a graph, refs and a HEAD do not form a server, except a missing parent: the object of a ref or of
--- HEAD is missing, or memory runs out
+-- the reasons, other than a missing parent, why a graph, refs and a HEAD do not form a server: the object of a ref or
+-- of HEAD is missing, or memory runs out
 abbrev pub MissesPart : {A : Type 0} → Server A → BuildFault A → Type 0
 MissesPart parts (build.NotClosed id) = ⊥
 MissesPart parts cause = IsUnserved parts cause

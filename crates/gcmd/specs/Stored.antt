@@ -32,7 +32,7 @@ pub record Stored : Type 0 where
 abbrev pub stored_of : {T : Type 0} → (T → Option Texts) → (T → Lockfile) → T → T → Stored
 stored_of texts lockfile old new = record { old = texts old; new = texts new; lockfile = lockfile new }
 
--- after the file was read, it never had another text
+-- after the file was read, its text never changed
 abbrev pub IsKept : Stored → Type 0
 IsKept stored = KeepsStates stored.old stored.new
 

@@ -16,8 +16,8 @@ use ggraph::{GraphFault, Order, Repository, has_connected_refs, load};
 use gpkt::{Down, Sink};
 use std::alloc::Allocator;
 
-/// An upper bound in bytes on the length of a report: its fixed words, and two numbers of at most
-/// 20 digits.
+/// An upper bound in bytes on the length of a report, which consists of fixed words and two numbers
+/// of at most 20 digits.
 const MAX_REPORT: usize = 76;
 
 /// `gitv2 check FILE`: reports on the repository whose text is `file`. The text may list the nodes
@@ -42,7 +42,7 @@ pub fn cmd_check<A: Allocator + Copy, W: Sink, E: Sink>(
     finish(check(alloc, file, output), errors)
 }
 
-// Writes the report of a file.
+// Checks the repository that a file describes, and writes the report.
 fn check<A: Allocator + Copy, W: Sink>(
     alloc: A,
     file: &[u8],

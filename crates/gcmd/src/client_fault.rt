@@ -11,7 +11,8 @@ use ggraph::IndexFault;
 use gname::Oid;
 use std::alloc::Allocator;
 
-/// Returns the position of the packet at which the client refused a message.
+/// Returns the position of the packet at which the client refused a message, or `None` if the fault
+/// has no position.
 pub(crate) fn frame_in_client<A: Allocator + Copy>(fault: &ClientFault<A>) -> Option<u64>
     ensures { result ≡ frame_in_client fault.now }
 {
@@ -21,7 +22,8 @@ pub(crate) fn frame_in_client<A: Allocator + Copy>(fault: &ClientFault<A>) -> Op
     }
 }
 
-/// Returns the number of the first bad line in a plain pack.
+/// Returns the number of the first malformed line in a plain pack, or `None` if the fault has no
+/// line number.
 pub(crate) fn line_in_client<A: Allocator + Copy>(fault: &ClientFault<A>) -> Option<usize>
     ensures { result ≡ line_in_client fault.now }
 {
@@ -31,9 +33,9 @@ pub(crate) fn line_in_client<A: Allocator + Copy>(fault: &ClientFault<A>) -> Opt
     }
 }
 
-/// Returns the id in the fault, or `None` if the fault has no id. The object with this id is
-/// missing, conflicts with another object, or has another object format. Otherwise the server
-/// acknowledged this id, which is not a have of the request.
+/// Returns the id in the fault, or `None` if the fault has no id. The id can be that of a missing
+/// object, of two different objects, or of an object with another object format. It can also be an
+/// acknowledged id that is not a have of the request.
 pub(crate) fn id_in_client<A: Allocator + Copy>(fault: &ClientFault<A>) -> Option<Oid>
     ensures { result ≡ id_in_client fault.now }
 {
@@ -57,7 +59,8 @@ fn id_in_repo<A: Allocator + Copy>(fault: &RepoFault<A>) -> Option<Oid>
     }
 }
 
-/// Returns the name of the ref that is not connected, or the error text of a peer.
+/// Returns the name of the ref that is not connected, or the error text of a peer. Returns `None`
+/// if the fault has neither.
 pub(crate) fn text_in_client<A: Allocator + Copy>(fault: &ClientFault<A>) -> Option<&[u8]>
     ensures text { option_copied result ≡ text_in_client fault.now }
     ensures short { IsShortText (option_copied result) }

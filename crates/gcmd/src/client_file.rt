@@ -9,9 +9,9 @@ use gclient::{Repo, Spec, SpecFault};
 use ggraph::{Head, LoadFault, Order, Repository, load};
 use std::alloc::Allocator;
 
-/// Reads each word as a refspec (git-fetch(1), "<refspec>").
+/// Reads each argument as a refspec (git-fetch(1), "<refspec>").
 ///
-/// Fails with `Spec` if a word is not a refspec, or if out of memory.
+/// Fails with `Spec` if an argument is not a refspec, or if out of memory.
 pub fn read_specs<A: Allocator + Copy>(
     alloc: A,
     words: &[String<A>],
@@ -41,7 +41,7 @@ fn keep<A: Allocator + Copy>(specs: &mut Vec<Spec<A>, A>, spec: Spec<A>) -> Resu
 /// Returns the client's repository whose text is `file`. The ids may have either object format.
 ///
 /// Fails with `Text` if the file is not the text of a repository, or has a HEAD. Otherwise fails
-/// with `Fetch` if a ref is not connected. Either fault may also report out of memory.
+/// with `Fetch` if a ref is not connected. Both faults can also mean that memory ran out.
 pub fn open_client<A: Allocator + Copy>(alloc: A, file: &[u8]) -> Result<Repo<A>, ProgramFault<A>>
     ensures { OpensClient file.now result }
 {

@@ -1,4 +1,4 @@
-//! Numbers in texts of bounded length, composed without allocation.
+//! Appending numbers to texts of bounded length, without allocation.
 
 ghost use Rattle.std.specs.Prelude.{◌≡◌, ◌+◌, ◌≤◌, ◌++◌, length};
 ghost use Rattle.std.specs.Fmt.{decimal};

@@ -34,15 +34,16 @@ pub enum ProgramFault<A: Allocator + Copy = Global> {
     Request(ServeFault),
     /// Faults 20 to 24 and 28: a packet was refused, or there is not enough memory to read packets.
     Line(PacketFault),
-    /// Faults 18 and 87: a word is not a refspec, or there is not enough memory for the refspecs.
+    /// Faults 18 and 87: an argument is not a refspec, or there is not enough memory for the
+    /// refspecs.
     Spec(SpecFault),
     /// Faults 20 to 25, 27 to 30, 41 to 54, 60 to 64, 66, 69, 75, 80, 82 and 84 to 86: the fetch
-    /// into the client's repository failed, or memory ran out. Fault 80 reports an unconnected ref.
+    /// into the client's repository failed, or memory ran out. Fault 80: a ref is not connected.
     Fetch(FetchFault<A>),
     /// Fault 27: the output failed.
     WriteFailed,
-    /// Faults 11, 13 and 18: a word is not a prefix of ref names, or there is not enough memory for
-    /// the prefixes.
+    /// Faults 11, 13 and 18: an argument is not a prefix of ref names, or there is not enough
+    /// memory for the prefixes.
     Name(NameFault),
     /// Fault 94: a message between the client and the server of `gitv2 pair` is too long.
     PairLimit,

@@ -173,7 +173,7 @@ pub(crate) fn text_of<A: Allocator + Copy>(
     ensures { MatchResult result (λ text. NamesClient text.items repo.now)
         (λ fault. fault ≡ Memory) }
 {
-    // Laws.
+    // Laws that the proof uses.
     positions_are_nodes::<A>();
     repo.laws();
     match save(alloc, repo.graph(), repo.refs(), &Head::None) {

@@ -20,8 +20,8 @@
 //!   the request gets a reply or is a lone flush packet, or if the input is empty. In every other
 //!   case the fault is the refusal of a request or a failure of the output. The served file must be
 //!   the text of a repository. Each parent must precede its children, and the objects of all refs
-//!   and of a detached HEAD must be present. With any other file nothing is read or written, and
-//!   the fault names the line, the ref or HEAD.
+//!   and of a detached HEAD must be present. With any other file nothing is read or written. The
+//!   fault then gives the number of the malformed line, or names the ref or HEAD.
 //! - [`cmd_fetch`] opens the repository that a client's file describes, and fetches into the
 //!   repository with plain packs (`specs/Fetching.antt`). `gclient` specifies the conversation. The
 //!   file must be the text of a repository without HEAD whose refs are all connected. With any
@@ -52,10 +52,10 @@
 //!
 //! # Only tested
 //!
-//! The cases of `conformance` test the exact bytes of whole runs. The cases also test that no call
-//! reports out of memory while enough memory is available, and that a source or a sink is not
-//! called again after a failure. The cases let each call read or write only one byte, and make each
-//! call fail in turn.
+//! The cases of `conformance` test the exact bytes of whole runs. The cases also test that no
+//! function reports out of memory while enough memory is available. In these cases each source and
+//! sink transfers one byte per call, or fails at each of its calls in turn. The cases also test
+//! that no program uses a source or a sink again after that source or sink has failed.
 //!
 //! # What the contracts do not rule out
 //!

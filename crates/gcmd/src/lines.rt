@@ -99,7 +99,7 @@ fn show_each<A: Allocator + Copy, S: Source, W: Sink>(
     ensures input_loans { S.loans reader.new.source ≡ S.loans reader.old.source }
     ensures output_loans { W.loans output.new ≡ W.loans output.old }
 {
-    // Laws.
+    // Laws that the proof uses.
     laws::reads_join();
     for count in 0..u32::MAX {
         let line = match reader.next() {
@@ -184,8 +184,8 @@ fn put_chunk<W: Sink>(bytes: &[u8], output: &mut W) -> Result<(), Down>
         (encode_lower bytes.now) }
     ensures loans { W.loans output.new ≡ W.loans output.old }
 {
-    let mut room = [0u8; 2 * CHUNK];
-    let digits = &mut room[..2 * bytes.len()];
+    let mut buffer = [0u8; 2 * CHUNK];
+    let digits = &mut buffer[..2 * bytes.len()];
     hex::encode_to_slice(bytes, digits).unwrap();
     put(digits, output)
 }

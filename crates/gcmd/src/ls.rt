@@ -56,7 +56,7 @@ fn answer_one<A: Allocator + Copy, S: Source, W: Sink>(
     outcome_of(serve_one(&server, &mut packer, Ends::Plain, input, output))
 }
 
-// Returns the outcome of the program for the end of an exchange.
+// Returns the outcome of the program, given how the exchange with the client ended.
 fn outcome_of<A: Allocator + Copy>(ended: ExchangeEnd) -> Result<(), ProgramFault<A>>
     ensures { result ≡ outcome_of_exchange ended }
 {

@@ -8,9 +8,9 @@ use crate::fault::ProgramFault;
 use gname::{NameFault, Prefix};
 use std::alloc::Allocator;
 
-/// Reads each word as a prefix of ref names (gitprotocol-v2(5), "ls-refs").
+/// Reads each argument as a prefix of ref names (gitprotocol-v2(5), "ls-refs").
 ///
-/// Fails with `Name` if a word is not a prefix, or if out of memory.
+/// Fails with `Name` if an argument is not a prefix, or if out of memory.
 pub fn read_prefixes<A: Allocator + Copy>(
     alloc: A,
     words: &[String<A>],

@@ -86,7 +86,7 @@ impl<'a> FaultLine<'a> {
         }
     }
 
-    // Returns the line for a text that is not a repository, with the number of its bad line.
+    // Returns the line for a text that is not a repository, with the number of the malformed line.
     fn of_text(fault: &LoadFault) -> FaultLine<'a>
         ensures row { row_view result ≡ printed_of_text fault.now }
         ensures short { IsShort result }
@@ -211,7 +211,7 @@ fn as_number(place: Option<usize>) -> Option<u64>
     place.map(|place| place as u64)
 }
 
-// Appends a word and a number, if there is a number.
+// Appends a word and a number. Appends nothing if `place` is `None`.
 fn add_place(word: &[u8], place: Option<u64>, text: &mut ArrayVec<u8, MAX_FAULT_LINE>)
     requires { length text.old.items + length word.now + max_decimal ≤ max_fault_line }
     ensures text { text.new.items ≡ text.old.items ++ number_part word.now place }
@@ -223,7 +223,7 @@ fn add_place(word: &[u8], place: Option<u64>, text: &mut ArrayVec<u8, MAX_FAULT_
     }
 }
 
-// Appends the id, the ref name or the text of the fault.
+// Appends the fault's id, ref name or error text. Appends nothing if the fault has none of them.
 fn add_subject(id: Option<Oid>, printable: Option<&[u8]>, text: &mut ArrayVec<u8, MAX_FAULT_LINE>)
     requires room { length text.old.items + max_subject ≤ max_fault_line }
     requires short { IsShortText (option_copied printable) }
@@ -265,7 +265,8 @@ fn printable(byte: u8) -> u8
     }
 }
 
-// Returns the index of the first byte that makes a name invalid.
+// Returns the index of the first byte that makes a name invalid, or `None` if the fault has no
+// index.
 fn place_in_name(fault: &NameFault) -> Option<usize>
     ensures { result ≡ place_in_name fault.now }
 {
@@ -287,8 +288,8 @@ fn line_in_text(fault: &LoadFault) -> Option<usize>
     }
 }
 
-/// Returns the id in the fault, if there is one: the id of two different objects, or an id that
-/// does not have the graph's object format.
+/// Returns the id in the fault: the id of two different objects, or an id that does not have the
+/// graph's object format. Returns `None` if the fault has no id.
 pub(crate) fn id_in_graph(fault: &GraphFault) -> Option<Oid>
     ensures { result ≡ id_in_graph fault.now }
 {
@@ -347,7 +348,7 @@ fn said_in_request(fault: &ServeFault) -> Option<&[u8]>
     }
 }
 
-/// Returns the error text of a peer.
+/// Returns the error text of a peer, or `None` if the peer sent no error text.
 pub(crate) fn said_in(why: &Why) -> Option<&[u8]>
     ensures text { option_copied result ≡ said_in why.now }
     ensures short { IsShortText (option_copied result) }

@@ -51,7 +51,7 @@ fn update_at(updates: &[RefUpdate], place: usize) -> RefUpdate
     updates[place]
 }
 
-// Appends a line for the ref update at an index.
+// Appends a line for the requested ref update at this index, with its result.
 fn put_ask<A: Allocator + Copy>(
     text: &mut Vec<u8, A>,
     asks: &Asks<A>,

@@ -11,7 +11,7 @@ use std::alloc::Allocator;
 ///
 /// Fails with `Text` if the file is not the text of a repository in which each parent precedes its
 /// children. Otherwise fails with `Build` if the object of a ref or of a detached HEAD is missing.
-/// Either fault may also report out of memory.
+/// Both faults can also mean that memory ran out.
 pub fn load_server<A: Allocator + Copy>(alloc: A, file: &[u8]) -> Result<Server<A>, ProgramFault<A>>
     ensures { LoadsServer file.now result }
 {

@@ -72,7 +72,8 @@ pub fn cmd_fetch_stored<A: Allocator + Copy, T: Storage, S: Source, W: Sink, E: 
     exit_after(outcome, errors)
 }
 
-// Ends a program that writes its report to the error sink. Returns the exit status.
+// Prints the fault in `outcome`, if any, and returns the exit status. Prints nothing if `errors`
+// failed while the report was written to it.
 fn exit_after<A: Allocator + Copy, E: Sink>(
     outcome: Result<(), ProgramFault<A>>,
     errors: &mut E,
@@ -154,7 +155,7 @@ fn fetch_opened<A: Allocator + Copy, T: Storage, S: Source, W: Sink, R: Sink>(
 
 /// Locks a client's file, reads it, and opens its repository.
 ///
-/// Fails with `File` if the file can't be locked or read, with `Memory` if out of memory, and with
+/// Fails with `File` if the file can't be locked or read, with `Memory` if out of memory, or with
 /// the faults of `open_client`. After a fault the program holds no lockfile.
 pub fn open_stored<A: Allocator + Copy, T: Storage>(
     alloc: A,

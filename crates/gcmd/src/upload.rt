@@ -60,7 +60,7 @@ fn answer_all<A: Allocator + Copy, S: Source, W: Sink>(
     outcome_of(serve(&server, &mut packer, ends, input, output).end)
 }
 
-// Returns the outcome of a connection.
+// Returns the outcome of the program, given how the connection ended.
 fn outcome_of<A: Allocator + Copy>(ended: End) -> Result<(), ProgramFault<A>>
     ensures { result ≡ outcome_of_connection ended }
 {

@@ -8,7 +8,8 @@ use gname::Oid;
 use std::alloc::Allocator;
 
 impl<A: Allocator + Copy> Graph<A> {
-    /// Returns the position of the id, as [`Graph::position`] does.
+    /// Returns the position of the id in insertion order, or `None` if the graph does not contain
+    /// the id. An alias of [`Graph::position`].
     pub fn number(&self, id: &Oid) -> Option<usize>
         ensures { result ≡ position_of self.now.entries id.now }
     {

@@ -12,10 +12,10 @@ use std::fmt;
 /// The reason why a call on a graph failed.
 #[derive(Clone, Copy, Debug, PartialEq, Eq, Drop)]
 pub enum GraphFault {
-    /// The entry with this id, or one of the entry's parents, does not have the object format of
+    /// In the entry with this id, this id or the id of a parent does not have the object format of
     /// the graph.
     OtherFormat { id: Oid },
-    /// This id already has a different node, in the graph or earlier in the list.
+    /// The graph, or an earlier entry of the list, has a different node for this id.
     Conflict { id: Oid },
     /// The graph would have more than `MAX_NODES` nodes.
     TooMany,
@@ -42,7 +42,7 @@ impl GraphFault {
         self.fault_row().1
     }
 
-    /// Returns the fault's row in the table of faults: the number and the name of the fault.
+    /// Returns the number and the name of the fault.
     pub fn fault_row(&self) -> (u32, &'static str)
         ensures { (result.0, result.1.now) ≡ graph_fault_row self.now }
     {

@@ -18,8 +18,8 @@ use std::marker::Model;
 /// The maximum number of nodes of a graph.
 pub const MAX_NODES: usize = 1_048_576;
 
-/// The hasher for the ids of a graph. An attacker who chooses ids can easily construct ids that
-/// collide under std's fast hasher. Under `DefaultHasher` the attacker must search for each
+/// The hasher for the ids of a graph. Under std's faster hasher, an attacker who chooses ids could
+/// easily construct ids that collide. Under `DefaultHasher` the attacker must search for each
 /// collision.
 pub type IdHasher = BuildHasherDefault<DefaultHasher>;
 
@@ -215,16 +215,16 @@ impl<A: Allocator + Copy> Graph<A> {
         Ok(Entry { id: *id, node })
     }
 
-    // Returns whether each node comes after all its parents once one more node is appended. The
-    // argument `parents_held` states whether the graph contains the parents of the new node.
+    // Returns whether each node would come after all its parents if one more node were appended.
+    // The argument `parents_held` states whether the graph contains the parents of the new node.
     fn stays_ordered(&self, parents_held: bool) -> bool
         ensures { IsTrue result ↔ (IsOrdered self.now.entries × IsTrue parents_held) }
     {
         self.is_ordered() && parents_held
     }
 
-    /// Appends an entry whose id is new. Fails only with `Memory`, and then leaves the graph
-    /// unchanged.
+    /// Appends an entry whose id the graph does not contain. Fails only with `Memory`, and then
+    /// leaves the graph unchanged.
     pub(crate) fn push(&mut self, entry: Entry<A>) -> Result<(), GraphFault>
         requires new { node_at self.old.entries entry.id ≡ None }
         requires ids { HasIdsOf self.old.format entry }
@@ -240,8 +240,8 @@ impl<A: Allocator + Copy> Graph<A> {
         self.push_after(entry, parents_held)
     }
 
-    /// Appends an entry whose id is new. The argument `parents_held` states whether the graph
-    /// contains all parents of the entry.
+    /// Appends an entry whose id the graph does not contain. The argument `parents_held` states
+    /// whether the graph contains all parents of the entry.
     ///
     /// Fails only with `Memory`, and then leaves the graph unchanged.
     #[tactic(auto, using(crate::proofs::Pairs::pushed_pairs))]

@@ -39,15 +39,15 @@ impl<A: Allocator + Copy> Graph<A> {
         Ok(is_new)
     }
 
-    /// Appends all entries or none of them, and returns the number of new ids. An entry whose id
-    /// already has the same node is skipped. New entries keep the order of the list, and no entry
-    /// is copied.
+    /// Appends all entries or none of them, and returns the number of new ids. An entry is skipped
+    /// if the graph already maps its id to the same node. New entries keep the order of the list,
+    /// and no entry is copied.
     ///
     /// The call checks the entries in order, and fails at the first entry that can't be added. A
     /// failed call leaves the graph unchanged. The fault is the first of the following that applies
     /// to the entry:
     ///
-    /// - `OtherFormat`: the entry's id or one of its parents does not have the graph's format.
+    /// - `OtherFormat`: the entry's id or the id of a parent does not have the graph's format.
     /// - `TooManyParents`: the entry has more than `MAX_PARENTS` parents.
     /// - `TagShape`: the entry is a tag without exactly one parent.
     /// - `Conflict`: the entry's id has a different node in the graph or earlier in the list.
@@ -78,7 +78,7 @@ impl<A: Allocator + Copy> Graph<A> {
     }
 
     // Returns whether the entry must be appended because its id is new. Returns `false` if the
-    // graph already maps the id to the same node.
+    // graph already maps the id to the same node. Fails if the entry can't be added.
     fn admits(&self, entry: &Entry<A>) -> Result<bool, GraphFault>
         ensures graph { IsGraph self.now }
         ensures admits { MatchResult result
@@ -115,7 +115,7 @@ fn are_of(format: Format, ids: &[Oid]) -> bool
     ids.iter().all(|id| is_of(format, id))
 }
 
-// Checks that the id and the parents of an entry have the format.
+// Checks that the id of an entry and the ids of its parents have the format.
 fn check_ids<A: Allocator + Copy>(format: Format, entry: &Entry<A>) -> Result<(), GraphFault>
     ensures { MatchResult result
         (λ _. HasIdsOf format entry.now)

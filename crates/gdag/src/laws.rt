@@ -1,4 +1,6 @@
-//! The laws of graphs. Each function does nothing at run time, and its contract states the law.
+//! The laws of graphs. Each function does nothing at run time, and its contract states the law. An
+//! id is connected if the graph contains every id that it reaches. Two graphs agree if each id that
+//! both contain has the same node in both.
 
 ghost use Rattle.std.specs.Prelude.{◌≡◌};
 ghost use Rattle.gdag.specs.Laws.{EntriesComeInOrder, OneCause, OneRefusal, WholeListsComeIn, ClosedIsConnected, ReachingGoesOn, ConnectedStaysConnected, PathsAreShared, GrowingKeeps, GrowingGoesOn, ComingGrows, HoldingIsANode, KeepingHolds, KeepingReaches, AgreeingStays, AgreeingEntriesFit, PeelsToOne, PeelsAlongTags, OrderedIsClosed, ReachingGoesDown, ClosedStays, PositionsAreNodes, OneListToSend, SentAreEntries, SendingIsEnough, KeepingHasAll, ReachedAreCounted, CountsStay, LevelsAreDistances, LevelsAreReached, OffersAreExact, CommonsAreHeld, DistinctAreOnce};
@@ -7,24 +9,25 @@ ghost use Rattle.gdag.specs.Graphs.{max_nodes};
 use crate::MAX_NODES;
 use std::alloc::Allocator;
 
-/// Proves that [`MAX_NODES`] equals the limit of the specs, `max_nodes`.
+/// Proves that [`MAX_NODES`] equals `max_nodes`, the limit in the specs.
 pub fn limits_are_the_constants()
     ensures { MAX_NODES ≡ max_nodes }
 {}
 
-/// Proves that each entry of a graph meets the conditions for appending it to the earlier entries.
+/// Proves that each entry of a graph could be appended to a graph that consists of the earlier
+/// entries. The entry is valid, its id is new, and that graph is not full.
 pub fn entries_come_in_order<A: Allocator + Copy>()
     ensures { EntriesComeInOrder A }
 {}
 
-/// Proves that a refused entry has only one possible fault: the first in the order of
-/// `Graph::insert_all`.
+/// Proves that there is only one possible fault for an entry that `Graph::insert` refuses. The
+/// documentation of `Graph::insert_all` states the order in which faults are checked.
 #[tactic(auto, using(crate::proofs::Refusing::one_cause))]
 pub fn one_cause<A: Allocator + Copy>()
     ensures { OneCause A }
 {}
 
-/// Proves that a refused list of entries has only one possible fault, apart from out of memory.
+/// Proves that a refused list of entries has only one possible fault, apart from `Memory`.
 pub fn one_refusal<A: Allocator + Copy>()
     ensures { OneRefusal A }
 {}
@@ -40,7 +43,8 @@ pub fn closed_is_connected<A: Allocator + Copy>()
     ensures { ClosedIsConnected A }
 {}
 
-/// Proves that reachability is transitive.
+/// Proves that reachability is transitive: if `a` reaches `b` and `b` reaches `c`, then `a` reaches
+/// `c`.
 #[tactic(auto, using(crate::proofs::Reaching::reaches_on))]
 pub fn reaching_goes_on<A: Allocator + Copy>()
     ensures { ReachingGoesOn A }
@@ -52,8 +56,8 @@ pub fn connected_stays_connected<A: Allocator + Copy>()
     ensures { ConnectedStaysConnected A }
 {}
 
-/// Proves a law of two graphs that agree and an id that is connected in the second graph: each path
-/// from that id in the first graph is also a path in the second.
+/// Proves a law of two graphs that agree. If an id is connected in the second graph, each path from
+/// that id in the first graph is also a path in the second.
 #[tactic(auto, using(crate::proofs::Sharing::path_shared))]
 pub fn paths_are_shared<A: Allocator + Copy>()
     ensures { PathsAreShared A }
@@ -65,20 +69,21 @@ pub fn growing_keeps<A: Allocator + Copy>()
     ensures { GrowingKeeps A }
 {}
 
-/// Proves that growth is transitive: if graph `f` grows to `g` and `g` grows to `h`, then `f` grows
-/// to `h`.
+/// Proves that growth is transitive. If graph `g` is `f` with entries appended, and `h` is `g` with
+/// entries appended, then `h` is `f` with entries appended.
 #[tactic(auto, using(crate::proofs::Growing::grows_on))]
 pub fn growing_goes_on<A: Allocator + Copy>()
     ensures { GrowingGoesOn A }
 {}
 
-/// Proves that a graph grows when an entry is added.
+/// Proves that after an entry is inserted, a graph is the old graph with zero or more entries
+/// appended.
 #[tactic(auto, using(crate::proofs::Growing::comes_grows))]
 pub fn coming_grows<A: Allocator + Copy>()
     ensures { ComingGrows A }
 {}
 
-/// Proves that each id that a graph contains has a node.
+/// Proves that a graph has a node for each id that it contains.
 #[tactic(auto, using(crate::proofs::Holding::held_node))]
 pub fn holding_is_a_node<A: Allocator + Copy>()
     ensures { HoldingIsANode A }
@@ -97,15 +102,16 @@ pub fn keeping_reaches<A: Allocator + Copy>()
     ensures { KeepingReaches A }
 {}
 
-/// Proves that two graphs that agree still agree after entries are inserted into the second, if the
-/// first graph agrees with each of these entries.
+/// Proves that two graphs that agree still agree after entries are inserted into the second. The
+/// first graph must have no different node for the id of an inserted entry.
 #[tactic(auto, using(crate::proofs::Sharing::agree_inserted))]
 pub fn agreeing_stays<A: Allocator + Copy>()
     ensures { AgreeingStays A }
 {}
 
-/// Proves that if two graphs agree, the second refuses entries of the first only with `TooMany` or
-/// `Memory`. The entries must form a valid graph of the second graph's format.
+/// Proves that if two graphs agree, inserting entries of the first into the second fails only with
+/// `TooMany` or `Memory`. The inserted entries must form a valid graph of the second graph's
+/// format.
 pub fn agreeing_entries_fit<A: Allocator + Copy>()
     ensures { AgreeingEntriesFit A }
 {}
@@ -126,8 +132,8 @@ pub fn ordered_is_closed<A: Allocator + Copy>()
     ensures { OrderedIsClosed A }
 {}
 
-/// Proves a law of graphs in which each entry comes after its parents: an id of the graph reaches
-/// only ids of the graph, at the same or a lower position.
+/// Proves that if each entry of a graph comes after its parents, an id of the graph reaches only
+/// ids of the graph. A reached id has the same or a lower position.
 #[tactic(auto, using(crate::proofs::Ordering::reaching_down))]
 pub fn reaching_goes_down<A: Allocator + Copy>()
     ensures { ReachingGoesDown A }
@@ -145,14 +151,15 @@ pub fn positions_are_nodes<A: Allocator + Copy>()
     ensures { PositionsAreNodes A }
 {}
 
-/// Proves that the wants, the common ids and the tips determine the list to send.
+/// Proves that the graph, the wants, the common ids and the tips determine the list to send, which
+/// is the list of entries that a server sends in a pack.
 #[tactic(auto, using(crate::proofs::Choosing::one_choice))]
 pub fn one_list_to_send<A: Allocator + Copy>()
     ensures { OneListToSend A }
 {}
 
-/// Proves that the entries of a list to send form a valid graph in the sender's format, and a
-/// packer accepts them. The sender's graph maps the id of each entry to the entry's node.
+/// Proves that the entries of a list to send form a valid graph in the format of the sender's
+/// graph, and may be packed. The sender's graph maps the id of each entry to the entry's node.
 pub fn sent_are_entries<A: Allocator + Copy>()
     ensures { SentAreEntries A }
 {
@@ -175,35 +182,37 @@ pub fn keeping_has_all<A: Allocator + Copy>()
     ensures { KeepingHasAll A }
 {}
 
-/// Proves that a list of distinct ids that the graph contains and the tips reach is at most as long
-/// as the count of reachable ids.
+/// Proves a bound on a list of distinct ids, each of which the graph contains and a tip reaches.
+/// The list is at most as long as the number of all such ids.
 pub fn reached_are_counted<A: Allocator + Copy>()
     ensures { ReachedAreCounted A }
 {}
 
-/// Proves that if the tips are connected, adding objects to the graph does not change how many ids
-/// and parents the tips reach.
+/// Proves that if the tips are connected, adding objects to the graph changes neither the number of
+/// ids that the tips reach nor the total number of their parents.
 #[tactic(auto, using(crate::proofs::Counting::counts_stay))]
 pub fn counts_stay<A: Allocator + Copy>()
     ensures { CountsStay A }
 {}
 
-/// Proves that level k of a search from the tips has exactly the ids at distance k from the tips.
-/// The distance of an id is the length of the shortest path from a tip to that id. Each step of a
-/// path leads from an object to a parent. No id occurs twice, either in one level or in two levels.
-/// All levels together have at most as many ids as there are tips and parents, so only finitely
-/// many levels have ids.
+/// Proves that level `k` of a search from the tips has exactly the ids at distance `k` from the
+/// tips. The distance of an id is the length of the shortest path from a tip to that id. Each step
+/// of a path leads from an object to a parent. No id occurs twice, either in one level or in two
+/// levels. All levels together have at most as many ids as there are tips and parents, so only
+/// finitely many levels have ids.
 pub fn levels_are_distances<A: Allocator + Copy>()
     ensures { LevelsAreDistances A }
 {}
 
-/// Proves that an id is in some level exactly when one of the tips reaches that id.
+/// Proves that an id is in some level of a search from the tips exactly when one of the tips
+/// reaches that id.
 pub fn levels_are_reached<A: Allocator + Copy>()
     ensures { LevelsAreReached A }
 {}
 
 /// Proves that the offer, which is the list of at most `n` ids that a client sends as haves, is
-/// unique. The ids of the offer are distinct, may be offered, and are reachable from a tip. An
+/// unique. An id may be offered if the graph contains it, no common id reaches it, and it was not
+/// sent before. The ids of the offer are distinct, may be offered, and are reachable from a tip. An
 /// offer of fewer than `n` ids contains every id that may be offered and is reachable from a tip.
 #[tactic(auto, using(crate::proofs::OfferLaws::offers_are_exact))]
 pub fn offers_are_exact<A: Allocator + Copy>()

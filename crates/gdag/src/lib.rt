@@ -10,18 +10,19 @@
 //! - `is_ordered` returns whether each object was inserted after all its parents.
 //! - `insert` and `insert_all` append only the new objects. If a call fails, the graph is
 //!   unchanged. The faults of an entry are checked in a fixed order. Both calls report out of
-//!   memory only if an object is new and the graph has room for it. Apart from out of memory, a
-//!   refused list has only one possible fault: the fault of the first entry that can't be added. A
-//!   list whose entries can all be added is refused only if out of memory.
+//!   memory only if an object is new and the graph has fewer than `MAX_NODES` nodes. Apart from
+//!   `Memory`, a refused list has only one possible fault: the fault of the first entry that can't
+//!   be added. A list whose entries can all be added is refused only if memory runs out.
 //! - `is_closed` returns whether the graph is closed. `peel` returns the commit at the end of a
-//!   chain of tags, exactly when the chain ends with a commit. Neither `is_closed` nor `peel`
-//!   allocates.
+//!   chain of tags, or `None` if the chain does not end with a commit. Neither `is_closed` nor
+//!   `peel` allocates.
 //! - `first_absent` returns the first id of a list that the graph does not contain.
 //! - `distinct_ids` returns the distinct ids of a list, in the order of their first occurrences.
-//! - `laws` proves facts about reachability, connected ids, graphs that grow, and graphs that
-//!   agree. Further laws cover positions, peeling, the number of reachable ids, their distances
-//!   from the tips, the ids to offer as haves, and distinct ids. After a client inserts the list
-//!   that a server sends, the wants are connected in the client's graph.
+//! - `laws` proves facts about reachability, connected ids, graphs that grow, and graphs that agree
+//!   on the ids that both contain. Further laws cover positions, peeling, the number of reachable
+//!   ids, their distances from given ids, the ids to offer as haves, and distinct ids. One law
+//!   states that after a client inserts the list that a server sends, the wants are connected in
+//!   the client's graph.
 //!
 //! # What the contracts do not rule out
 //!

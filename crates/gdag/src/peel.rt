@@ -17,8 +17,9 @@ impl<A: Allocator + Copy> Graph<A> {
         ensures found { IfSome result (PeelsTo self.now.entries id.now) }
         ensures only { (c : Id) → PeelsTo self.now.entries id.now c → result ≡ Some c }
     {
-        // Brent's algorithm detects cycles. The id `kept` is in the chain, and is replaced after 1,
-        // 2, 4, 8 and so on steps. If the chain returns to `kept`, the chain is a cycle.
+        // Brent's algorithm detects cycles. The id `kept` is in the chain. After 1, 2, 4, 8 and so
+        // on steps the current id replaces `kept`. If the chain returns to `kept`, the chain is a
+        // cycle.
         let mut at = *id;
         let mut kept = *id;
         for steps in 0..self.len() {

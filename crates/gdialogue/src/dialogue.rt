@@ -31,9 +31,9 @@ enum DialogueStage<M, R> {
 /// One end of a dialogue: a conversation of packets ([`Conversation`]).
 ///
 /// A dialogue receives one message after another, and sends the answer of its [`Side`] to each
-/// message. It ends after the last answer. A message is refused if its grammar rejects a packet, if
-/// memory runs out for a packet, or if no more packets arrive before its end. The answer to a
-/// refused message is the last answer.
+/// message. The dialogue ends after the last answer. A message is refused if its grammar rejects a
+/// packet, if memory runs out for a packet, or if no more packets arrive and the message is
+/// incomplete. The answer to a refused message is the last answer.
 #[derive(Drop)]
 pub struct Dialogue<S, M, R> {
     side: S,
@@ -68,7 +68,7 @@ impl<S: Side<M, R>, M: Drop, R: Reply + Drop> Dialogue<S, M, R> {
             → Holds S.judge S.brings S.opens S.answers S.refuses S.hears R.may result no_talk }
         ensures side { result.side ≡ side }
     {
-        // Laws.
+        // Laws that the proof uses.
         grammars_are_exact();
         let message = side.message();
         Dialogue {
@@ -107,7 +107,7 @@ impl<S: Side<M, R>, M: Drop, R: Reply + Drop> Dialogue<S, M, R> {
             → IsNearerStage R.calls (S.messages self.old.side) (stage.Hears message frame)
             (S.messages self.new.side) result }
     {
-        // Laws.
+        // Laws that the proof uses.
         S::laws();
         grammars_are_exact();
         match self.side.hear(&mut message, line) {
@@ -150,7 +150,7 @@ impl<S: Side<M, R>, M: Drop, R: Reply + Drop> Dialogue<S, M, R> {
         ensures nearer { IsNearerStage R.calls (S.messages self.now.side) (stage.Says reply)
             (S.messages self.now.side) result }
     {
-        // Laws.
+        // Laws that the proof uses.
         grammars_are_exact();
         match reply.say(out) {
             Said::More => DialogueStage::Says(reply),

@@ -14,11 +14,12 @@
 //! - A dialogue ends with a last answer, with a reply that ends the dialogue early, or with a
 //!   refused message (`HasEnded`). A message is refused at the first packet that its grammar
 //!   rejects, with the position of the packet and the reason. A message is also refused if memory
-//!   runs out for a packet, or if no more packets arrive before its end.
-//! - A reply sends only packets that its contract permits, and sends them completely. The reply can
-//!   choose its packets while it is being sent (`SaysSome` in `specs/Sides.antt`).
-//! - Each dialogue ends. Each call decreases the number of remaining packets of the message, of
-//!   remaining calls for the reply, or of remaining messages (`left_of`).
+//!   runs out for a packet, or if no more packets arrive and the message is incomplete.
+//! - The packets of a complete reply are a list that the contract of the reply permits (`may` in
+//!   [`Reply`]). The reply can choose its packets while it is being sent (`SaysSome` in
+//!   `specs/Sides.antt`).
+//! - Each dialogue ends. Each call decreases one of three bounds (`left_of`): on the remaining
+//!   packets of the message, on the remaining calls for the reply, or on the remaining messages.
 //!
 //! # What the contracts do not rule out
 //!

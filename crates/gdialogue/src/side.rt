@@ -34,7 +34,8 @@ pub trait Reply {
     ghost calls: { Self → ℕ };
 
     /// Adds the next packets of the reply to an empty send queue. One call may add any number of
-    /// packets that fit, even zero.
+    /// packets that fit, even zero. Returns whether the reply is then complete, and whether the
+    /// dialogue ends.
     fn say<A: Allocator + Copy>(&mut self, out: &mut Outgoing<A>) -> Said
         requires empty { out.old ≡ [] }
         ensures says { SaysSome may self.old self.new out.new result }
@@ -82,7 +83,7 @@ pub trait Side<M, R: Reply> {
     // The maximum number of further messages that the side answers without ending the dialogue.
     ghost messages: { Self → ℕ };
 
-    /// Returns the message to receive next, in its state before the first packet.
+    /// Returns the message to receive next, before its first packet.
     fn message(&self) -> M
         ensures { hears self.now result [] };
 

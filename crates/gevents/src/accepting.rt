@@ -52,7 +52,8 @@ impl<C: Conversation + Drop, A: Allocator + Copy> EventLoop<'_, C, A> {
         }
     }
 
-    /// Accepts a connection, if one is pending.
+    /// Accepts a connection if one is pending, and returns the event that reports it. Returns
+    /// `None` if no connection was accepted.
     pub(crate) fn accept(&mut self) -> io::Result<Option<Event<C, A>>> {
         match self.listener.accept() {
             Ok((stream, address)) => Ok(Some(self.receive(stream, address))),
@@ -92,7 +93,7 @@ impl<C: Conversation + Drop, A: Allocator + Copy> EventLoop<'_, C, A> {
     }
 
     // Adds a peer to the served peers. The peer has its first turn when its socket is ready. If the
-    // peer can't be added, the next call of `next` reports the end of its connection.
+    // peer can't be added, the next call of `EventLoop::next` reports the end of its connection.
     fn admit(&mut self, peer: Peer<C, A>)
         requires { pending_of peer.connection ≡ [] }
     {
@@ -131,7 +132,7 @@ fn pending_after(error: io::Error) -> io::Result<Pending> {
     }
 }
 
-// Returns whether connections can be accepted again some time after this error.
+// Returns whether accepting connections may succeed again some time after this error.
 fn is_temporary(error: &io::Error) -> bool {
     match error.raw_os_error() {
         Some(number) => OUT_OF_RESOURCES.contains(&number) || NETWORK_FAULTS.contains(&number),

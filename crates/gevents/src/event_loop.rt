@@ -24,7 +24,7 @@ const TICK: u64 = 100;
 // The maximum number of sockets that one poll reports.
 const EVENTS: usize = 256;
 
-// The maximum number of connections to accept before each round of turns.
+// The maximum number of connections to accept in each round of the loop.
 const ACCEPTS: u32 = 64;
 
 /// Whether connections are pending at the listener.
@@ -81,7 +81,7 @@ pub struct EventLoop<'l, C: Conversation, A: Allocator + Copy> {
     pub(crate) slots: Slab<Slot<C, A>, A>,
     /// The number of served peers from each IP address.
     pub(crate) addresses: Addresses<A>,
-    /// The number of slots of peers whose connections have ended.
+    /// The number of slots of peers whose connections have ended, and whose sockets are still open.
     pub(crate) closing_count: u32,
     /// The number of accepted connections, saturated at `u32::MAX`.
     pub(crate) accepted: u32,
@@ -169,7 +169,7 @@ impl<'l, C: Conversation + Drop, A: Allocator + Copy> EventLoop<'l, C, A> {
         }
     }
 
-    // Does one step of a round, and returns the event that it causes, if any.
+    // Takes one step of a round, and returns the event that the step causes, if any.
     fn step<R: Clock>(&mut self, rt: &R) -> io::Result<Option<Event<C, A>>> {
         match self.next_step {
             LoopStep::Polls => {
@@ -189,7 +189,8 @@ impl<'l, C: Conversation + Drop, A: Allocator + Copy> EventLoop<'l, C, A> {
         }
     }
 
-    // Waits until sockets are ready, and stores their keys.
+    // Waits until sockets are ready or the time to wait is over, and stores the keys of the ready
+    // sockets.
     fn wait<R: Clock>(&mut self, rt: &R) -> io::Result<()> {
         let timeout = self.timeout();
         match self.poll.poll(&mut self.events, timeout) {
@@ -205,8 +206,8 @@ impl<'l, C: Conversation + Drop, A: Allocator + Copy> EventLoop<'l, C, A> {
         Ok(())
     }
 
-    // Returns the maximum time to wait for a ready socket. Returns `None` if there is no peer and
-    // no pending connection.
+    // Returns the maximum time to wait for a ready socket. Returns `None`, which means no maximum,
+    // if there is no peer and no pending connection.
     fn timeout(&self) -> Option<Duration> {
         match self.pending {
             Pending::Some => Some(Duration::ZERO),
@@ -222,7 +223,8 @@ impl<'l, C: Conversation + Drop, A: Allocator + Copy> EventLoop<'l, C, A> {
         }
     }
 
-    // Gives the peer of one reported socket its turn.
+    // Gives the peer of one reported socket its turn. Returns an event if the turn ended the
+    // connection.
     fn move_one(&mut self) -> Option<Event<C, A>> {
         match self.ready.pop() {
             Some(key) => self.advance(key),
@@ -233,7 +235,9 @@ impl<'l, C: Conversation + Drop, A: Allocator + Copy> EventLoop<'l, C, A> {
         }
     }
 
-    // Accepts a connection, if one is pending and the limits allow it.
+    // Accepts a connection, if one is pending and the limits allow it. In this round, at most
+    // `left` further connections may be accepted. Returns the event that reports the connection, if
+    // any.
     fn accept_one(&mut self, left: u32) -> io::Result<Option<Event<C, A>>> {
         if left == 0 || self.is_full() || self.pending == Pending::None {
             if self.is_full() {
@@ -261,7 +265,8 @@ impl<'l, C: Conversation + Drop, A: Allocator + Copy> EventLoop<'l, C, A> {
         LoopStep::TimesOut(0)
     }
 
-    // Times out the peer at this key, if the peer is late.
+    // Times out the peer at this key, if the peer is late. Returns an event if this ended the
+    // connection.
     fn time_out_next(&mut self, key: usize) -> Option<Event<C, A>> {
         if key >= self.slots.capacity() {
             self.next_step = LoopStep::Polls;

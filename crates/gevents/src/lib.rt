@@ -2,17 +2,19 @@
 //!
 //! An [`EventLoop`] accepts peers at a listener and reports each [`Event`]: a peer has connected,
 //! or a connection has ended. The caller starts a conversation with each peer that has connected.
-//! The loop moves bytes between each socket and its conversation when the socket is ready (`mio`).
-//! No peer has to wait until another peer sends or receives.
+//! The loop moves bytes between a socket and its conversation when `mio` reports that the socket is
+//! ready. No peer has to wait until another peer sends or receives.
 //!
-//! - In one turn of a peer, the loop moves bytes at most 256 times. Then another peer has its turn.
+//! - A turn of a peer consists of at most 256 steps. In each step the loop sends or receives bytes
+//!   once, or the conversation queues packets. Then another peer has its turn.
 //! - [`Limits`] sets the maximum number of connections, in total and for each IP address. The loop
 //!   reports any further peer as refused.
-//! - Each peer has time limits for its first message, the first byte and the rest of each request,
-//!   receiving bytes, and the whole connection. If a peer sends too late, the loop notifies the
-//!   conversation that the source failed, and the conversation may send its last packets. Any other
-//!   late peer is disconnected. A late peer first has one more turn, because its socket may be
-//!   ready but not reported yet. A peer whose whole connection lasted too long has no further turn.
+//! - Each peer has separate time limits for its first message, for the first byte of each request,
+//!   and for the rest of each request. Further time limits apply to accepting sent bytes, and to
+//!   the whole connection. If a peer sends too late, the loop notifies the conversation that the
+//!   source failed, and the conversation may send its last packets. Any other late peer is
+//!   disconnected. A late peer first has one more turn, because its socket may be ready but not
+//!   reported yet. A peer whose whole connection lasted too long has no further turn.
 //! - A connection allocates memory for received bytes only when the first byte arrives. Before the
 //!   first byte, a connection needs a few hundred bytes and the memory of its conversation. The
 //!   send queue of a connection has room for two packets of the maximum size. The loop frees the

@@ -23,8 +23,8 @@ pub struct Limits {
     pub taking: Duration,
     /// The time limit of the whole connection. The field `pace` extends this limit.
     pub whole: Duration,
-    /// The number of sent bytes for which the time limit `whole` is extended by one second, or 0
-    /// for no extension.
+    /// The number of sent bytes that extend the time limit `whole` by one second, or 0 for no
+    /// extension.
     pub pace: u64,
 }
 

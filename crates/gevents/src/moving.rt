@@ -21,17 +21,18 @@ use std::time::Instant;
 // The maximum number of bytes of one read.
 const PIECE: usize = 4_096;
 
-// The maximum number of moves of one peer before another peer has its turn.
+// The maximum number of steps in one turn of a peer. A step sends or receives bytes once, or makes
+// the conversation queue packets.
 const MOVES: u32 = 256;
 
-// The maximum number of calls that queue packets in a turn of a peer, not counting the last call,
-// which ends the turn.
+// The number of steps of a turn that may queue packets without ending the turn. The next such step
+// ends the turn.
 const SPEAK_CALLS: u32 = 16;
 
 /// The state of a peer after its turn.
 #[derive(Clone, Copy)]
 pub(crate) enum After {
-    /// The peer waits until its socket is ready.
+    /// No bytes can be moved until the socket of the peer is ready.
     Waits,
     /// More bytes can be moved immediately.
     GoesOn,
@@ -45,7 +46,7 @@ enum Move {
     Moved,
     // Bytes or the end of the input were received.
     Heard,
-    // The conversation was asked to queue packets.
+    // The conversation queued packets, perhaps none.
     Spoke,
     // The socket would block.
     Blocked,
@@ -134,7 +135,7 @@ impl<C: Conversation, A: Allocator + Copy> Peer<C, A> {
         (ended, stream)
     }
 
-    // Sends or receives bytes once, or asks the conversation to queue packets.
+    // Sends or receives bytes once, or makes the conversation queue packets.
     fn step(&mut self, now: Instant, limits: &Limits) -> Move
         ensures { EndsByMove C.turn self.new.connection result }
     {
@@ -228,7 +229,7 @@ fn is_temporary(kind: ErrorKind) -> bool {
     matches!(kind, ErrorKind::WouldBlock | ErrorKind::Interrupted)
 }
 
-// Returns the outcome of a step whose call failed with this error.
+// Returns the outcome of a step in which reading or writing the socket failed with this error.
 fn failed_move(kind: ErrorKind) -> Move
     ensures { LosesAtMost result }
 {
@@ -239,7 +240,7 @@ fn failed_move(kind: ErrorKind) -> Move
     }
 }
 
-// Returns the number of bytes that a write accepted.
+// Returns the number of bytes that a write accepted, or 0 if the write failed.
 fn written_count(written: &io::Result<usize>) -> usize
     ensures { result ≡ written_count written.now }
 {

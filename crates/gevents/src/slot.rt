@@ -59,13 +59,14 @@ impl<C: Conversation, A: Allocator + Copy> Slot<C, A> {
 }
 
 impl<C: Conversation + Drop, A: Allocator + Copy> EventLoop<'_, C, A> {
-    /// Gives the peer at this key its turn.
+    /// Gives the peer at this key its turn. Returns an event if the turn ended the connection.
     pub(crate) fn advance(&mut self, key: usize) -> Option<Event<C, A>> {
         let after = advance_at(&mut self.slots, key, self.now, self.limits);
         self.settle(key, after)
     }
 
-    /// Times out the peer at this key, if it is late.
+    /// Times out the peer at this key, if it is late. Returns an event if this ended the
+    /// connection.
     pub(crate) fn time_out_one(&mut self, key: usize) -> Option<Event<C, A>> {
         let after = time_out_at(&mut self.slots, key, self.now, self.limits);
         self.settle(key, after)
@@ -84,7 +85,8 @@ impl<C: Conversation + Drop, A: Allocator + Copy> EventLoop<'_, C, A> {
         }
     }
 
-    // Returns the connection of the peer at this key, if this turn ended the connection.
+    // Returns the connection of the peer at this key if this turn ended the connection, and
+    // otherwise `None`.
     fn end_of_turn(&mut self, key: usize, after: After) -> Option<Ended<C, A>>
         requires { EndsAt C.turn (get self.old.slots key) after }
         ensures { HandsOutAfter (get self.old.slots key) after result }
@@ -113,8 +115,9 @@ impl<C: Conversation + Drop, A: Allocator + Copy> EventLoop<'_, C, A> {
         watched.is_ok()
     }
 
-    /// Removes a peer, and returns its connection. If the conversation is done, the loop then waits
-    /// for the peer to close its socket.
+    /// Removes the peer at this key. Returns its connection, or `None` if that connection had ended
+    /// earlier. If the connection ends because the conversation is done, the loop then waits for
+    /// the peer to close its socket.
     pub(crate) fn part_with(&mut self, key: usize, end: End) -> Option<Ended<C, A>>
         requires { EndsAt C.turn (get self.old.slots key) (After.Ends end) }
         ensures { HandsOut (get self.old.slots key) end result }

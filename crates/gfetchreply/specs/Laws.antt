@@ -24,27 +24,28 @@ HasShortEndings reading = (front : List Packet) → IsOpen (judge reading) front
 
 -- ---- reading the same packets with different parameters
 
--- Consider two readings with the same id format and the same `ends`. Suppose that a list of packets is a reply in one
--- reading, and a prefix of this list is a reply in the other reading. Then both lists and both replies are equal.
+-- Consider two sets of parameters, `reading` and `other`, with the same id format and the same `ends`. Suppose that a
+-- list of packets is read as a reply with the parameters `other`, and a prefix of this list is read as a reply with
+-- `reading`. Then both lists and both replies are equal.
 abbrev pub OneInWhateverReading : Type 0
 OneInWhateverReading =
     (reading other : Reading) (packets back : List Packet) (one also : FetchReply) → other.format ≡ reading.format
     → other.ends ≡ reading.ends → Says reading packets one → Says other (packets ++ back) also
     → (back ≡ []) × (also ≡ one)
 
--- a reply is accepted under any size limit that is at least the length of its pack
+-- an accepted reply is also accepted under any other size limit that is at least the length of its pack
 abbrev pub IsInAnyLimit : Type 0
 IsInAnyLimit =
     (reading : Reading) (limit : ℕ) (packets : List Packet) (reply : FetchReply) → Says reading packets reply
     → length (pack_of reply) ≤ limit → Says (record reading { limit = limit }) packets reply
 
--- a reply is accepted under any limit that is at least the number of its acknowledged ids
+-- an accepted reply is also accepted under any other limits that allow the number of its acknowledged ids
 abbrev pub IsInAnyLimits : Type 0
 IsInAnyLimits =
     (reading : Reading) (limits : Limits) (packets : List Packet) (reply : FetchReply) → Says reading packets reply
     → length (acknowledged_by reply) ≤ max_acks limits → Says (record reading { limits = limits }) packets reply
 
--- if another size limit or other limits cause a reply to be refused because of its content, the fault is `Limit`
+-- if a reply is accepted under some limits and refused under others because of its content, the fault is `Limit`
 abbrev pub IsRefusedOverLimit : Type 0
 IsRefusedOverLimit =
     (reading : Reading) (limit : ℕ) (limits : Limits) (packets front : List Packet) (reply : FetchReply)

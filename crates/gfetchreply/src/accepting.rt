@@ -34,7 +34,7 @@ pub(crate) fn accept_packet<T: PackSink, A: Allocator + Copy>(
         (data_there (place_in sections.old.place) (packet_of line.entry)) sink.old sink.new
         result }
 {
-    // Laws.
+    // Laws that the proof uses.
     T::laws();
     match line {
         Packet::Data(payload) => accept_payload(reading, sections, sink, payload),
@@ -60,7 +60,7 @@ fn accept_payload<T: PackSink, A: Allocator + Copy>(
         (kept_in sections.new)
         (data_there (place_in sections.old.place) (Data payload.now)) sink.old sink.new result }
 {
-    // Laws.
+    // Laws that the proof uses.
     T::laws();
     if let Some(error) = peer_error(payload) {
         return Err(Why::RemoteErr(PeerText::new(error)));
@@ -89,7 +89,7 @@ fn accept_band<T: PackSink, A: Allocator + Copy>(
         (with_band (kept_in sections.old) (length (data_in (band_form payload.now))))
         (kept_in sections.new) (data_in (band_form payload.now)) sink.old sink.new result }
 {
-    // Laws.
+    // Laws that the proof uses.
     T::laws();
     match band_of(payload) {
         Ok(Band::Data(bytes)) => accept_data(limit, sections, sink, bytes),
@@ -112,7 +112,7 @@ fn accept_data<T: PackSink, A: Allocator + Copy>(
         (with_band (kept_in sections.old) (length bytes.now)) (kept_in sections.new) bytes.now
         sink.old sink.new result }
 {
-    // Laws.
+    // Laws that the proof uses.
     T::laws();
     let total = match sections.with_room(limit, bytes.len()) {
         Some(total) => total,

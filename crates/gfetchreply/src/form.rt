@@ -7,15 +7,19 @@ ghost use Rattle.ggrammar.specs.PeerErrors.{after_word};
 
 use ggrammar::after_word;
 
-/// The kinds of texts in a fetch reply (gitprotocol-v2(5), "fetch").
+/// The kind of a text in a fetch reply (gitprotocol-v2(5), "fetch").
 #[derive(Clone, Copy, Debug, PartialEq, Eq)]
 pub(crate) enum ReplyForm<'a> {
+    /// `acknowledgments`, the heading of the acknowledgments.
     Acknowledgments,
     Nak,
+    /// `ready`, which announces a pack.
     Readiness,
+    /// `packfile`, the heading of the pack.
     Packfile,
     /// `ACK ` followed by any text, which may be malformed.
     Ack(&'a [u8]),
+    /// A text of any other form.
     Other,
 }
 

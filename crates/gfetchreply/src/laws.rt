@@ -1,5 +1,5 @@
 //! Laws about fetch replies. Each function does nothing at run time, and its contract states the
-//! law. A proof can use a law after it calls the function.
+//! law. The proof of a function that calls a law can use this law.
 
 ghost use Rattle.std.specs.Prelude.{◌≡◌, ◌≤◌};
 ghost use Rattle.ggrammar.specs.Grammar.{HasEndings, IsPrefixFree, RefusesFirstMisfits};
@@ -51,8 +51,7 @@ pub fn limits_are_the_constants()
 {}
 
 /// Proves that a list of packets is read as a reply exactly if Git's manual and the limits allow
-/// the list. The reply that is read is the reply that the manual states (gitprotocol-v2(5),
-/// "fetch").
+/// the list. The reply has the contents that the manual states (gitprotocol-v2(5), "fetch").
 pub fn manual()
     ensures { (reading : Reading) → AsInManual (Says reading) (IsFetchReply reading) }
 {}
@@ -151,10 +150,11 @@ pub fn reads_back_into<T: PackSink>()
 }
 
 /// Proves that reading the same packets for another request or with other limits never returns a
-/// different reply. The format of the ids and the packets that end the reply must be the same. A
-/// reply is accepted under any size limit that is at least the length of its pack. A reply is
-/// accepted under any limit that is at least the number of its acknowledged ids. If other limits
-/// cause a reply to be refused because of its content, the fault is `Limit`.
+/// different reply. The format of the ids and the packets that end the reply must be the same. An
+/// accepted reply is also accepted under any other size limit that is at least the length of its
+/// pack. The same is true for any other limit on haves that is at least the number of the
+/// acknowledged ids. If a reply is accepted under some limits and refused under others because of
+/// its content, the fault is `Limit`.
 pub fn other_readings()
     ensures whatever_reading { OneInWhateverReading }
     ensures any_limit { IsInAnyLimit }

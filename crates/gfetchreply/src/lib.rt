@@ -1,5 +1,5 @@
 //! Fetch replies (gitprotocol-v2(5), "fetch"): acknowledgments, a pack on side bands, or both. A
-//! reply is read packet by packet. Its pack is passed to a [`PackSink`] in pieces, straight from
+//! reply is read packet by packet. Its pack is passed to a [`PackSink`] in pieces, directly from
 //! the buffer of the reader.
 //!
 //! # Proved
@@ -35,15 +35,15 @@
 //!   the acknowledgments. The pack is within the reader's size limit. The field `direct` of
 //!   [`FetchReading`] is true exactly if the reply has no acknowledgments.
 //! - By [`laws`], a list of packets is a reply exactly if Git's manual and the limits allow the
-//!   list. The reply that is read is the reply that the manual states (`specs/FetchManual.antt`). A
-//!   list of packets encodes at most one reply, and no reply is a prefix of another, as packets or
-//!   as bytes. Each unfinished reply can be completed with at most four packets, and a rejected
-//!   packet is the first that fits no reply. The packets written for a reply encode this reply. A
-//!   written reply that is well-formed for the reader reads back unchanged, even if other bytes
-//!   follow. A reply is read exactly if the input begins with packets that encode this reply. Every
-//!   input begins with a reply or is rejected because of its content. If the same bytes are read
-//!   for another request, the result is the same reply or no reply. With other limits, the result
-//!   is the same reply or a rejection because of a limit. The constants `MAX_ACKS` and `MAX_STREAM`
+//!   list. The reply has the contents that the manual states (`specs/FetchManual.antt`). A list of
+//!   packets encodes at most one reply, and no reply is a prefix of another, as packets or as
+//!   bytes. Each unfinished reply can be completed with at most four packets, and a rejected packet
+//!   is the first that fits no reply. The packets written for a reply encode this reply. A written
+//!   reply that is well-formed for the reader reads back unchanged, even if other bytes follow. A
+//!   reply is read exactly if the input begins with packets that encode this reply. Every input
+//!   begins with a reply or is rejected because of its content. If the same bytes are read for
+//!   another request, the result is the same reply or a rejection. With other limits, the result is
+//!   the same reply or a rejection because of a limit. The constants `MAX_ACKS` and `MAX_STREAM`
 //!   equal the limits in the specifications.
 //!
 //! # Only tested

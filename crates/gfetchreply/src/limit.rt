@@ -10,7 +10,7 @@ use std::marker::Model;
 /// The maximum of a [`StreamLimit`] in bytes.
 pub const MAX_STREAM: usize = 4_294_967_295;
 
-// The default limit in bytes.
+// The default of a [`PackLimit`] and of a [`StreamLimit`], in bytes.
 const DEFAULT_LIMIT: usize = 16_777_216;
 
 /// The maximum length of a pack to read, in bytes, at most [`MAX_PACK`].

@@ -75,7 +75,7 @@ impl<T: PackSink, A: Allocator + Copy> FetchReader<T, A> {
             (kept_in reader.sections) reader.sink packets)
             (λ reader packets. Unit {0}) front (packet_of line.entry) self.new result }
     {
-        // Laws.
+        // Laws that the proof uses.
         T::laws();
         accept_packet(self.reading, &mut self.sections, &mut self.sink, line)
     }

@@ -44,9 +44,9 @@ pub struct FetchReading<K> {
     pub ends: Ends,
 }
 
-// Ghost values that describe one call that reads a reply. The proof of such a call chooses the
-// values for the type `Brand`, in `Invariants.antt`. The values belong to a type because the trait
-// `Message` describes only a reader and its packets.
+// Ghost values that describe one call that reads a reply. The values are members of a type, since
+// the contract of the trait `Message` mentions only a reader and its packets. The proof of each
+// call chooses the values for the type `Brand`, in `Invariants.antt`.
 trait Lent<T> {
     ghost use Rattle.gfetchreply.specs.FetchReplies.{Reading};
 
@@ -63,7 +63,7 @@ trait Lent<T> {
     ghost state_before: { T → Type 0 };
 }
 
-// Placeholders, which no call uses.
+// Placeholders. The proof of each call chooses other values.
 impl<T> Lent<T> for Brand {
     ghost use Rattle.gfetchreply.specs.steps.Views.{no_reading};
 
@@ -142,7 +142,7 @@ impl<T: PackSink, A: Allocator + Copy, L: Lent<T>> Message for ReplyReader<'_, T
     fn laws() {}
 
     fn accept_packet(&mut self, line: Packet<'_>) -> Result<Step, Why> {
-        // Laws.
+        // Laws that the proof uses.
         T::laws();
         self.take_packet(line)
     }
@@ -177,7 +177,7 @@ pub fn read_fetch_reply_into<S: Source, T: PackSink, A: Allocator + Copy, B: All
 }
 
 /// Reads one fetch reply to its end, and nothing after it (gitprotocol-v2(5), "fetch"). The pack is
-/// passed to the sink in pieces, straight from the reader's buffer. No piece is empty. The ids are
+/// passed to the sink in pieces, directly from the reader's buffer. No piece is empty. The ids are
 /// allocated with `alloc`.
 ///
 /// A fault contains the reason, and the position of the first packet that does not fit. A fault of
@@ -206,7 +206,7 @@ pub fn read_fetch_reply_into_in<S: Source, T: PackSink, A: Allocator + Copy, B: 
     ensures loans { S.loans reader.new.source ≡ S.loans reader.old.source }
     ensures reader { LeavesReader S.is_down reader.old reader.new result }
 {
-    // Laws.
+    // Laws that the proof uses.
     T::laws();
     let direct = reading.direct;
     let mut reply = ReplyReader::<T, B, Brand>::new(alloc, reading, sink);
@@ -266,17 +266,17 @@ pub fn read_fetch_reply_in<S: Source, A: Allocator + Copy, B: Allocator + Copy>(
     ensures loans { S.loans reader.new.source ≡ S.loans reader.old.source }
     ensures reader { LeavesReader S.is_down reader.old reader.new result }
 {
-    // Laws.
+    // Laws that the proof uses.
     reading.limit.laws();
     let mut pack = Vec::new(alloc);
-    match read_fetch_reply_into_in(reader, streamed(reading), &mut pack, alloc) {
+    match read_fetch_reply_into_in(reader, with_stream_limit(reading), &mut pack, alloc) {
         Ok(head) => Ok(FetchReply::with_pack(head, pack)),
         Err(fault) => Err(fault),
     }
 }
 
 // Returns these parameters, with the limit converted to a [`StreamLimit`].
-fn streamed(reading: FetchReading<PackLimit>) -> FetchReading<StreamLimit>
+fn with_stream_limit(reading: FetchReading<PackLimit>) -> FetchReading<StreamLimit>
     ensures { result ≡ reading }
 {
     FetchReading {

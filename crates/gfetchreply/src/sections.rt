@@ -111,7 +111,7 @@ impl<A: Allocator + Copy> Sections<A> {
             (state_in self.old) id.now) true
             (kept_in self.new ≡ with_text Acking (kept_in self.old) (Ack id.now)) result }
     {
-        // Laws.
+        // Laws that the proof uses.
         texts_have_one_reading();
         let id = match id_of_text(self.acks.format(), id) {
             Some(id) => id,

@@ -59,7 +59,7 @@ fn write_acks<W: Sink>(
         ((heading_packet ∷ (nak_if_none (map ack_packet ids.now) ++ Flush ∷ []))
         ++ ends_with ends) }
 {
-    // Laws.
+    // Laws that the proof uses.
     writes_packets::<W>();
     writer.text(b"acknowledgments")?;
     write_ids_or_nak(ids, writer)?;
@@ -77,7 +77,7 @@ fn write_ready<W: Sink>(
         ((heading_packet ∷ (map ack_packet ids.now
         ++ ready_packet ∷ Delim ∷ pack_section pack.now)) ++ ends_with ends) }
 {
-    // Laws.
+    // Laws that the proof uses.
     writes_packets::<W>();
     writer.text(b"acknowledgments")?;
     write_ids(ids, writer)?;
@@ -95,7 +95,7 @@ fn write_pack<W: Sink>(
     ensures { WritesPackets W.contents W.passed_on W.is_down W.loans writer.old writer.new result
         (pack_section pack.now ++ ends_with ends) }
 {
-    // Laws.
+    // Laws that the proof uses.
     writes_packets::<W>();
     writer.text(b"packfile")?;
     write_pieces(pack, writer)?;
@@ -107,7 +107,7 @@ fn write_pieces<W: Sink>(pack: &[u8], writer: &mut PacketWriter<W>) -> Result<()
     ensures { WritesPart W.contents W.passed_on W.is_down W.loans writer.old writer.new result
         (map data_packet (pieces pack.now)) }
 {
-    // Laws.
+    // Laws that the proof uses.
     writes_packets::<W>();
     for piece in in_pieces(pack) {
         writer.put_band(&Band::Data(piece))?;
@@ -128,7 +128,7 @@ fn write_ids_or_nak<W: Sink>(ids: &[Oid], writer: &mut PacketWriter<W>) -> Resul
     ensures { WritesPart W.contents W.passed_on W.is_down W.loans writer.old writer.new result
         (nak_if_none (map ack_packet ids.now)) }
 {
-    // Laws.
+    // Laws that the proof uses.
     writes_packets::<W>();
     if ids.is_empty() {
         writer.text(b"NAK")
@@ -142,7 +142,7 @@ fn write_ids<W: Sink>(ids: &[Oid], writer: &mut PacketWriter<W>) -> Result<(), W
     ensures { WritesPart W.contents W.passed_on W.is_down W.loans writer.old writer.new result
         (map ack_packet ids.now) }
 {
-    // Laws.
+    // Laws that the proof uses.
     writes_packets::<W>();
     for id in ids {
         write_id(id, writer)?;
@@ -155,7 +155,7 @@ fn write_id<W: Sink>(id: &Oid, writer: &mut PacketWriter<W>) -> Result<(), Write
     ensures { WritesPackets W.contents W.passed_on W.is_down W.loans writer.old writer.new result
         (ack_packet id.now ∷ []) }
 {
-    // Laws.
+    // Laws that the proof uses.
     writes_packets::<W>();
     let mut digits = [0; MAX_ID_TEXT];
     let count = id.to_hex(&mut digits);
@@ -167,7 +167,7 @@ fn write_end<W: Sink>(ends: Ends, writer: &mut PacketWriter<W>) -> Result<(), Wr
     ensures { WritesPackets W.contents W.passed_on W.is_down W.loans writer.old writer.new result
         (Flush ∷ ends_with ends) }
 {
-    // Laws.
+    // Laws that the proof uses.
     writes_packets::<W>();
     match ends {
         Ends::Plain => writer.flush_pkt(),

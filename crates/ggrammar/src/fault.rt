@@ -63,8 +63,8 @@ pub enum Why {
     Line(PacketFault),
     /// The payload does not begin with a valid side band (faults 29 and 30).
     Band(BandFault),
-    /// The grammar does not allow this flush, delimiter or response-end, or requires a response-end
-    /// (fault 41).
+    /// The grammar does not allow this flush, delimiter or response-end here, or the packet is not
+    /// the response-end that the grammar requires (fault 41).
     UnexpectedFrame,
     /// The text matches no rule of the grammar (fault 42).
     BadText,
@@ -74,9 +74,10 @@ pub enum Why {
     UnknownCapability,
     /// The command does not accept the argument (fault 45).
     UnknownArgument,
-    /// The grammar requires an object id (fault 46).
+    /// The packet has no valid object id where the grammar requires one (fault 46).
     BadId,
-    /// The grammar requires a ref name, or a prefix of ref names (fault 47).
+    /// The packet has no valid ref name, or prefix of ref names, where the grammar requires one
+    /// (fault 47).
     BadName,
     /// Accepting the packet would exceed a limit (fault 48).
     Limit,
@@ -86,7 +87,7 @@ pub enum Why {
     RemoteFatal(PeerText),
     /// The parts of a fetch reply are in the wrong order (fault 51).
     WrongSection,
-    /// The object format is not the expected format (fault 52).
+    /// The peer's object format is not the expected format (fault 52).
     Format,
     /// There is not enough memory for the contents of the packet (fault 53).
     Memory,

@@ -12,7 +12,7 @@ use gname::{Format, Oid};
 pub fn id_of_text(format: Format, text: &[u8]) -> Option<Oid>
     ensures { result ≡ id_of_text format text.now }
 {
-    // Laws.
+    // Laws that the proof uses.
     texts_have_one_reading();
     match Oid::from_hex_in(format, text) {
         Ok(id) => Some(id),

@@ -20,7 +20,8 @@ pub trait MessageKind {
     // The contents that a complete list of packets encodes.
     ghost says: { Given → Meaning Said };
 
-    // The values that can be written, and the packets that are written for them.
+    // The messages that can be written (`is_value`), and the packets that are written for each of
+    // them (`is_canonical`).
     ghost is_value: { Given → Said → Type 0 };
 
     ghost is_canonical: { Given → Meaning Said };

@@ -78,7 +78,7 @@ pub fn read_message<S: Source, A: Allocator + Copy, M: Message>(
     ensures loans { S.loans reader.new.source ≡ S.loans reader.old.source }
     ensures reader { LeavesReader S.is_down reader.old reader.new result }
 {
-    // Laws.
+    // Laws that the proof uses.
     M::laws();
     for frame in 0..u64::MAX {
         let line = match reader.next() {

@@ -17,8 +17,8 @@ pub enum LoadFault {
     /// A line is malformed, exceeds a limit or is missing. `line` is the number of the first wrong
     /// line, counted from 1.
     Text { line: usize },
-    /// A parent of a node is not on an earlier line. `line` is the number of the first line with a
-    /// later or missing parent, counted from 1.
+    /// A parent of a node is not on an earlier line. `line` is the number, counted from 1, of the
+    /// first line that names a parent that is on a later line or on no line.
     ParentLater { line: usize },
     /// Out of memory.
     Memory,
@@ -39,7 +39,7 @@ impl LoadFault {
         self.fault_row().1
     }
 
-    // Returns the fault's row in the table of faults: the number and the name of the fault.
+    // Returns the number and the name of the fault.
     fn fault_row(&self) -> (u32, &'static str)
         ensures { (result.0, result.1.now) ≡ load_fault_row self.now }
     {
@@ -109,7 +109,7 @@ impl SaveFault {
         self.fault_row().1
     }
 
-    // Returns the fault's row in the table of faults: the number and the name of the fault.
+    // Returns the number and the name of the fault.
     fn fault_row(&self) -> (u32, &'static str)
         ensures { (result.0, result.1.now) ≡ save_fault_row self.now }
     {

@@ -7,8 +7,7 @@
 //!   `HEAD`, unless memory runs out. The first line of a text names the format of all ids. Any
 //!   other text is refused at its first invalid line, or at its end if the text ends too early. A
 //!   parent on a later line is reported only if the line that names the parent is otherwise valid.
-//!   A refused text has only one possible fault, apart from out of memory:
-//!   [`laws::texts_stop_once`].
+//!   A refused text has only one possible fault, apart from `Memory` ([`laws::texts_stop_once`]).
 //! - [`load`] reports out of memory only at a valid line of a node, a ref or a symbolic `HEAD`, if
 //!   all earlier lines are valid. A line that breaks a rule or exceeds a limit is refused for that
 //!   reason.
@@ -24,9 +23,9 @@
 //! # What the contracts do not rule out
 //!
 //! No contract rules out that `load` reports out of memory at a valid line with contents to store.
-//! The same is true of `save` for a valid repository, and of `has_connected_refs` for any refs. No
-//! contract bounds the time or the memory of a call. No contract rules out that formatting a fault
-//! returns `fmt::Error` even if every write succeeds.
+//! No contract rules out that `save` reports out of memory for a valid repository, or
+//! `has_connected_refs` for any refs. No contract bounds the time or the memory of a call. No
+//! contract rules out that formatting a fault returns `fmt::Error` even if every write succeeds.
 //!
 //! This crate has no tests of its own. The program `conformance` loads and saves texts up to the
 //! maximum size. The program also runs a server and a client that load repository texts, and makes

@@ -38,7 +38,7 @@ const VERSION: &[u8] = b"version 2";
 // The maximum length of a capability's text in bytes: a key, `=` and a value.
 const MAX_TEXT: usize = 2_001;
 
-// The commands that a client needs a server to support.
+// The commands that a client requires of a server.
 const LS_REFS: &[u8] = b"ls-refs";
 
 const FETCH: &[u8] = b"fetch";
@@ -92,7 +92,7 @@ impl<A: Allocator + Copy> OwnedCapability<A> {
         ensures { WritesPackets W.contents W.passed_on W.is_down W.loans writer.old writer.new result
             (capability_packet self.now ∷ []) }
     {
-        // Laws.
+        // Laws that the proof uses.
         writes_packets::<W>();
         let mut text = ArrayVec::new();
         compose(self.as_capability(), &mut text);
@@ -195,7 +195,8 @@ impl<A: Allocator + Copy> Advert<A> {
         Some(capability.as_capability())
     }
 
-    /// Returns the first capability with this key, or `None` if no capability has the key.
+    /// Returns the first capability with this key and its value, or `None` if no capability has the
+    /// key.
     pub fn value_of(&self, key: &[u8]) -> Option<Capability<'_>>
         ensures { option_map capability_view result ≡ first_with key.now self.now }
     {
@@ -382,7 +383,7 @@ pub fn write_advert<A: Allocator + Copy, W: Sink>(
         result (canonical_advert advert.now) }
     ensures form { AreCapabilities advert.now }
 {
-    // Laws.
+    // Laws that the proof uses.
     writes_packets::<W>();
     let capabilities = advert.capabilities.as_slice();
     write_version(writer)?;
@@ -394,7 +395,7 @@ fn write_version<W: Sink>(writer: &mut PacketWriter<W>) -> Result<(), WriteFault
     ensures { WritesPackets W.contents W.passed_on W.is_down W.loans writer.old writer.new result
         (text_packet version ∷ []) }
 {
-    // Laws.
+    // Laws that the proof uses.
     writes_packets::<W>();
     writer.text(VERSION)
 }
@@ -403,7 +404,7 @@ fn write_flush<W: Sink>(writer: &mut PacketWriter<W>) -> Result<(), WriteFault>
     ensures { WritesPackets W.contents W.passed_on W.is_down W.loans writer.old writer.new result
         (Flush ∷ []) }
 {
-    // Laws.
+    // Laws that the proof uses.
     writes_packets::<W>();
     writer.flush_pkt()
 }
@@ -416,7 +417,7 @@ fn write_capabilities<A: Allocator + Copy, W: Sink>(
     ensures { WritesPart W.contents W.passed_on W.is_down W.loans writer.old writer.new result
         (map capability_packet capabilities.now) }
 {
-    // Laws.
+    // Laws that the proof uses.
     writes_packets::<W>();
     for capability in capabilities {
         capability.write(writer)?;
@@ -514,7 +515,7 @@ impl<A: Allocator + Copy> AdvertReader<A> {
             × (self.new.advert ≡ self.old.advert ++ option_to_list (capability_of text.now)))
             result }
     {
-        // Laws.
+        // Laws that the proof uses.
         texts_are_classified();
         let Some(capability) = capability_of(text) else {
             return Err(Why::BadText);
@@ -536,7 +537,7 @@ impl<A: Allocator + Copy> Message for AdvertReader<A> {
     ghost left = { λ reader packets. ⊤ };
 
     fn accept_packet(&mut self, line: Packet<'_>) -> Result<Step, Why> {
-        // Laws.
+        // Laws that the proof uses.
         texts_are_read();
         self.take_packet(line)
     }

@@ -165,7 +165,7 @@ pub fn write_hello<A: Allocator + Copy, W: Sink>(
         result (canonical_hello hello.now) }
     ensures form { IsHello hello.now }
 {
-    // Laws.
+    // Laws that the proof uses.
     writes_packets::<W>();
     let mut line = ArrayVec::new();
     compose(hello, &mut line);

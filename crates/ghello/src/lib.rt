@@ -11,8 +11,8 @@
 //!   nothing.
 //! - [`read_hello`] and [`read_advert`] read exactly one message, however its bytes are split into
 //!   pieces. Both functions refuse any other input at the first packet that does not fit, with the
-//!   fault that the grammar gives (`specs/Hello.antt`, `specs/Adverts.antt`). Both functions report
-//!   out of memory only at a packet with contents to store. After a message was read, the packet
+//!   fault that the grammar gives (`specs/Hello.antt`, `specs/Adverts.antt`). Both functions fail
+//!   with `Memory` only at a packet whose text they store. After a message was read, the packet
 //!   reader is ready for the next message. After a refusal, the packet reader is unusable exactly
 //!   if the fault is a fault of the packet reader.
 //! - [`write_hello`] and [`write_advert`] write the canonical packets of the value, or a prefix of

@@ -20,8 +20,8 @@ pub(crate) const SUCCESS: &str = "ok";
 /// The text for an out-of-memory fault.
 pub(crate) const OUT_OF_MEMORY: &str = "out of memory";
 
-/// The inputs of one test run: the check, the pack and the files of the store. `replacement_files`
-/// replace `files` after `calls_before_replacement` calls.
+/// The inputs of one test run: the call to test, the pack and the files of the store. After
+/// `calls_before_replacement` calls to the file system, `replacement_files` replace `files`.
 #[derive(Clone, Copy)]
 pub(crate) struct RunInputs<'t, 'a> {
     pub(crate) row: &'t Row<'a>,
@@ -42,7 +42,7 @@ impl ObjectVisitor for AnyObject {
     }
 }
 
-/// Returns the result of a test run whose calls use the allocator `tested_alloc`.
+/// Returns the result of a test run, in which the tested crates allocate with `tested_alloc`.
 pub(crate) fn actual_result<R: Files + AllocGlobal, A: Allocator + Copy>(
     rt: &R,
     tested_alloc: A,

@@ -33,18 +33,18 @@ pub(crate) fn copy_instruction(
     size: usize,
 ) -> Result<Vec<u8>, Trouble> {
     let size = if size == 0x10000 { 0 } else { size };
-    let [one, two, three, four, ..] = offset.to_le_bytes();
-    let [five, six, seven, ..] = size.to_le_bytes();
+    let [offset_0, offset_1, offset_2, offset_3, ..] = offset.to_le_bytes();
+    let [size_0, size_1, size_2, ..] = size.to_le_bytes();
     let mut instruction = Vec::new(alloc);
     instruction.push(0x80)?;
     for (bit, byte) in [
-        (1u8, one),
-        (2, two),
-        (4, three),
-        (8, four),
-        (16, five),
-        (32, six),
-        (64, seven),
+        (1u8, offset_0),
+        (2, offset_1),
+        (4, offset_2),
+        (8, offset_3),
+        (16, size_0),
+        (32, size_1),
+        (64, size_2),
     ] {
         put_byte(&mut instruction, bit, byte)?;
     }

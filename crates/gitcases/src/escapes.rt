@@ -68,14 +68,14 @@ fn before_brace(text: &[u8]) -> (&[u8], Option<&[u8]>) {
 pub(crate) fn add_escaped(text: &[u8], bytes: &mut Vec<u8>) -> Result<(), Trouble> {
     let mut rest = text;
     for _ in 0..text.len() {
-        let (byte, others) = match rest {
-            [b'\\', b'x', high, low, others @ ..] => (hex_byte(*high, *low), others),
-            [b'\\', letter, others @ ..] => (escaped_byte(*letter), others),
-            [plain, others @ ..] => (*plain, others),
+        let (byte, remaining) = match rest {
+            [b'\\', b'x', high, low, remaining @ ..] => (hex_byte(*high, *low), remaining),
+            [b'\\', letter, remaining @ ..] => (escaped_byte(*letter), remaining),
+            [plain, remaining @ ..] => (*plain, remaining),
             [] => break,
         };
         bytes.push(byte)?;
-        rest = others;
+        rest = remaining;
     }
     Ok(())
 }

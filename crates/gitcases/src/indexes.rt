@@ -61,8 +61,8 @@ impl<'a> PackIndex<'a> {
         let pack = pack.bytes(alloc)?;
         let end = pack.len().saturating_sub(TRAILER);
         text.extend_from_slice(pack.as_slice().get(end..).unwrap_or(b""))?;
-        let sum = Sha1::digest(text.as_slice());
-        text.extend_from_slice(&sum)?;
+        let checksum = Sha1::digest(text.as_slice());
+        text.extend_from_slice(&checksum)?;
         Ok(text)
     }
 }
@@ -70,17 +70,17 @@ impl<'a> PackIndex<'a> {
 // Appends the fan-out table: for each byte value, the number of ids whose first byte is at most
 // that value.
 fn put_fan_out(text: &mut Vec<u8>, entries: &[IndexEntry]) -> Result<(), Trouble> {
-    for first in 0..=u8::MAX {
-        let count = count_ids_up_to(entries, first);
+    for first_byte in 0..=u8::MAX {
+        let count = count_ids_up_to(entries, first_byte);
         text.extend_from_slice(&count.to_be_bytes())?;
     }
     Ok(())
 }
 
-fn count_ids_up_to(entries: &[IndexEntry], first: u8) -> u32 {
+fn count_ids_up_to(entries: &[IndexEntry], max_first_byte: u8) -> u32 {
     let mut count = 0u32;
     for entry in entries {
-        if entry.id.as_bytes().first().copied().unwrap_or(0) <= first {
+        if entry.id.as_bytes().first().copied().unwrap_or(0) <= max_first_byte {
             count = count.saturating_add(1);
         }
     }

@@ -2,8 +2,8 @@
 //! paths. Test files describe the inputs and the expected results.
 //!
 //! The arguments of the program name test files. FORMAT.md describes the lines of these files. A
-//! row states the expected result for a pack, a text or a store, which is a Git directory. A row is
-//! tested with its input unchanged. A row without the keyword `large` is also tested with each
+//! row states the expected result for a pack, a text or a store. A store is a Git directory. A row
+//! is tested with its input unchanged. A row without the keyword `large` is also tested with each
 //! allocation refused in turn. A row may name files that replace the files of its store during a
 //! run. A row with the keyword `sweep` is also tested with each bit of the input flipped, and with
 //! a pack truncated after each byte. Packs and stores are in memory. Refs are files in a folder

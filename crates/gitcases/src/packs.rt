@@ -14,17 +14,19 @@ pub(crate) const HEADER: usize = 12;
 /// The length in bytes of a pack's trailer.
 pub(crate) const TRAILER: usize = 20;
 
-// The type numbers of deltas in a pack.
+// The type number of an offset delta in a pack.
 const OFFSET_DELTA: u8 = 6;
 
+// The type number of a ref delta in a pack.
 const REF_DELTA: u8 = 7;
 
 /// A pack whose entries, header or trailer may be wrong.
 #[derive(Drop)]
 pub(crate) struct Pack<'a> {
     pub(crate) name: &'a str,
-    // The bytes of the entries, and the offset of each entry in the pack.
+    // The bytes of the entries.
     entry_bytes: Vec<u8>,
+    // The offset of each entry in the pack.
     entry_offsets: Vec<usize>,
     magic: Option<Vec<u8>>,
     count: Option<usize>,
@@ -90,7 +92,7 @@ impl<'a> Pack<'a> {
         Ok(deflater.deflate(bytes, &mut self.entry_bytes)?)
     }
 
-    /// Appends an entry with a whole object.
+    /// Appends an entry that holds a whole object, not a delta.
     pub(crate) fn put_whole(
         &mut self,
         deflater: &mut Deflater<Global>,
@@ -115,10 +117,10 @@ impl<'a> Pack<'a> {
     /// Returns the distance in bytes between the next entry and the entry that is `back` entries
     /// before it.
     pub(crate) fn distance_of(&self, back: usize) -> Result<usize, Trouble> {
-        let next = self.entry_bytes.len().saturating_add(HEADER);
+        let next_entry_offset = self.entry_bytes.len().saturating_add(HEADER);
         let index = self.entry_offsets.len().wrapping_sub(back);
         match self.entry_offsets.get(index) {
-            Some(start) => Ok(next.saturating_sub(*start)),
+            Some(start) => Ok(next_entry_offset.saturating_sub(*start)),
             None => Err(Trouble::InvalidNumber),
         }
     }
@@ -126,7 +128,7 @@ impl<'a> Pack<'a> {
     // Appends the distance of an offset delta in groups of seven bits, the highest group first. The
     // value of each group except the last is stored minus one.
     fn put_distance(&mut self, distance: usize) -> Result<(), Trouble> {
-        let first = self.entry_bytes.len();
+        let distance_start = self.entry_bytes.len();
         self.entry_bytes.push(low_bits(distance))?;
         let mut rest = distance >> 7;
         for _ in 0..usize::BITS {
@@ -134,7 +136,7 @@ impl<'a> Pack<'a> {
                 break;
             }
             rest = rest.wrapping_sub(1);
-            let index = first.min(self.entry_bytes.len());
+            let index = distance_start.min(self.entry_bytes.len());
             self.entry_bytes.insert(index, low_bits(rest) | 0x80)?;
             rest >>= 7;
         }
@@ -159,14 +161,14 @@ impl<'a> Pack<'a> {
             None => bytes.extend_from_slice(b"PACK\0\0\0\x02")?,
         }
         let count = self.count.unwrap_or(self.entry_offsets.len());
-        let [one, two, three, four, ..] = count.to_le_bytes();
-        bytes.extend_from_slice(&[four, three, two, one])?;
+        let [byte_0, byte_1, byte_2, byte_3, ..] = count.to_le_bytes();
+        bytes.extend_from_slice(&[byte_3, byte_2, byte_1, byte_0])?;
         bytes.extend_from_slice(self.entry_bytes.as_slice())?;
         match &self.trailer {
             Some(trailer) => bytes.extend_from_slice(trailer.as_slice())?,
             None => {
-                let sum = Sha1::digest(bytes.as_slice());
-                bytes.extend_from_slice(&sum)?;
+                let checksum = Sha1::digest(bytes.as_slice());
+                bytes.extend_from_slice(&checksum)?;
             }
         }
         Ok(bytes)
@@ -204,6 +206,6 @@ pub(crate) fn parse_type_number(word: &str) -> Result<u8, Trouble> {
 pub(crate) fn correct_trailer(pack: &mut Vec<u8>) -> Result<(), Trouble> {
     let end = pack.len().saturating_sub(TRAILER);
     pack.truncate(end);
-    let sum = Sha1::digest(pack.as_slice());
-    Ok(pack.extend_from_slice(&sum)?)
+    let checksum = Sha1::digest(pack.as_slice());
+    Ok(pack.extend_from_slice(&checksum)?)
 }

@@ -79,9 +79,9 @@ fn format_ref_names<R: AllocGlobal, A: Allocator + Copy>(
     refs: &Refs<A>,
 ) -> Result<String, Trouble> {
     let mut text = String::from_str(rt.alloc(), SUCCESS)?;
-    for pair in refs.as_slice() {
+    for reference in refs.as_slice() {
         text.push_str(" ")?;
-        text.push_str(str::from_utf8(pair.0.as_bytes()).unwrap_or("?"))?;
+        text.push_str(str::from_utf8(reference.0.as_bytes()).unwrap_or("?"))?;
     }
     Ok(text)
 }

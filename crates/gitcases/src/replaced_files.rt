@@ -4,7 +4,7 @@ use gitobjects::{Cause, FolderTime, MemoryFiles, MemoryPack, ObjectFiles};
 use std::alloc::Allocator;
 use std::cell::Cell;
 
-/// Files that are replaced by other files after a given number of calls.
+/// Files that are replaced by other files after a given number of file-system calls.
 #[derive(Drop)]
 pub(crate) struct ReplacedFiles<'f, A: Allocator + Copy> {
     original: &'f MemoryFiles<A>,
@@ -13,8 +13,8 @@ pub(crate) struct ReplacedFiles<'f, A: Allocator + Copy> {
 }
 
 impl<'f, A: Allocator + Copy> ReplacedFiles<'f, A> {
-    /// Returns files that are `original` for the next `calls_left` calls, and `replacement`
-    /// afterwards.
+    /// Returns files that are `original` for the next `calls_left` file-system calls, and
+    /// `replacement` afterwards.
     pub(crate) fn new(
         original: &'f MemoryFiles<A>,
         replacement: &'f MemoryFiles<A>,
@@ -27,8 +27,8 @@ impl<'f, A: Allocator + Copy> ReplacedFiles<'f, A> {
         }
     }
 
-    // Counts a call, and returns the files that the call uses: the original files or their
-    // replacements.
+    // Counts a file-system call, and returns the files that the call uses: the original files or
+    // their replacements.
     fn files(&self) -> &'f MemoryFiles<A> {
         match self.calls_left.get().checked_sub(1) {
             Some(calls_left) => {
@@ -77,7 +77,7 @@ impl<'f, A: Allocator + Copy> ObjectFiles for ReplacedFiles<'f, A> {
         self.files().open_pack(path)
     }
 
-    // After the files are replaced, each folder has a later change time.
+    // Returns the change time of a folder. The time is later once the files are replaced.
     fn change_time(&self, path: &str) -> Result<Option<FolderTime>, Cause> {
         let is_replaced = self.calls_left.get() == 0;
         match self.files().change_time(path)? {

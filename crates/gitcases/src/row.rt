@@ -53,8 +53,9 @@ pub(crate) struct Row<'a> {
     pub(crate) file_name: &'a str,
     pub(crate) line_number: usize,
     pub(crate) title: &'a str,
-    /// The name of the pack. `store` is the name of the Git directory.
+    /// The name of the pack.
     pub(crate) pack: &'a str,
+    /// The name of the store, which is a Git directory.
     pub(crate) store: &'a str,
     /// The name of the store whose files replace those of `store` during a run.
     pub(crate) replacement_store: &'a str,

@@ -16,10 +16,10 @@ const BITS: [u8; 8] = [1, 2, 4, 8, 16, 32, 64, 128];
 // An exclusive upper bound on the number of the refused allocation.
 const MAX_REFUSED: u64 = 100_000;
 
-// An exclusive upper bound on the number of calls before the files are replaced.
+// An exclusive upper bound on the number of file-system calls before the files are replaced.
 const MAX_CALLS: u64 = 60;
 
-/// Tests a row with each `Variation`.
+/// Tests each call of a row, with each `Variation` that applies to the row.
 pub(crate) fn test_row<R: Files + Print + AllocGlobal>(
     rt: &R,
     script: &Script<'_>,
@@ -127,7 +127,7 @@ fn is_allowed_result(inputs: RunInputs<'_, '_>, actual_result: &str) -> bool {
     actual_result.as_bytes() == inputs.check.expected.as_slice()
 }
 
-// Tests a call with each allocation refused in turn.
+// Tests a row with each allocation refused in turn.
 fn test_refused_allocations<R: Files + Print + AllocGlobal>(
     rt: &R,
     inputs: RunInputs<'_, '_>,
@@ -151,8 +151,8 @@ fn test_refused_allocations<R: Files + Print + AllocGlobal>(
     Ok(())
 }
 
-// Tests a call whose files are replaced during the run, once for each number of calls before the
-// replacement.
+// Tests a row whose files are replaced during the run. Each run replaces the files after a
+// different number of file-system calls.
 fn test_replaced_files<R: Files + Print + AllocGlobal>(
     rt: &R,
     inputs: RunInputs<'_, '_>,
@@ -186,20 +186,20 @@ fn test_truncated_pack<R: Files + Print + AllocGlobal>(
     offset: usize,
     tally: &mut Tally,
 ) -> Result<(), Trouble> {
-    let front = inputs.pack.get(..offset).unwrap_or(b"");
-    let mut cut = front.to_vec(rt.alloc())?;
+    let prefix = inputs.pack.get(..offset).unwrap_or(b"");
+    let mut truncated_pack = prefix.to_vec(rt.alloc())?;
     test_pack(
         rt,
         inputs,
-        cut.as_slice(),
+        truncated_pack.as_slice(),
         (Variation::BrokenPack, offset),
         tally,
     )?;
-    correct_trailer(&mut cut)?;
+    correct_trailer(&mut truncated_pack)?;
     test_pack(
         rt,
         inputs,
-        cut.as_slice(),
+        truncated_pack.as_slice(),
         (Variation::BrokenPack, offset),
         tally,
     )
@@ -214,20 +214,20 @@ fn test_flipped_bits<R: Files + Print + AllocGlobal>(
     tally: &mut Tally,
 ) -> Result<(), Trouble> {
     for bit in BITS {
-        let mut changed = inputs.pack.to_vec(rt.alloc())?;
-        flip_bit(&mut changed, offset, bit);
+        let mut changed_pack = inputs.pack.to_vec(rt.alloc())?;
+        flip_bit(&mut changed_pack, offset, bit);
         test_pack(
             rt,
             inputs,
-            changed.as_slice(),
+            changed_pack.as_slice(),
             (Variation::BrokenPack, offset),
             tally,
         )?;
-        correct_trailer(&mut changed)?;
+        correct_trailer(&mut changed_pack)?;
         test_pack(
             rt,
             inputs,
-            changed.as_slice(),
+            changed_pack.as_slice(),
             (Variation::ChangedBits, offset),
             tally,
         )?;
@@ -242,7 +242,7 @@ fn test_pack<R: Files + Print + AllocGlobal>(
     variation_at: (Variation, usize),
     tally: &mut Tally,
 ) -> Result<(), Trouble> {
-    let changed = RunInputs {
+    let changed_inputs = RunInputs {
         row: inputs.row,
         check: inputs.check,
         pack,
@@ -250,7 +250,7 @@ fn test_pack<R: Files + Print + AllocGlobal>(
         replacement_files: inputs.replacement_files,
         calls_before_replacement: inputs.calls_before_replacement,
     };
-    test_once(rt, changed, variation_at, tally)
+    test_once(rt, changed_inputs, variation_at, tally)
 }
 
 fn flip_bit(bytes: &mut Vec<u8>, offset: usize, bit: u8) {
@@ -297,7 +297,7 @@ fn test_files<R: Files + Print + AllocGlobal>(
     offset: usize,
     tally: &mut Tally,
 ) -> Result<(), Trouble> {
-    let changed = RunInputs {
+    let changed_inputs = RunInputs {
         row: inputs.row,
         check: inputs.check,
         pack: inputs.pack,
@@ -305,7 +305,7 @@ fn test_files<R: Files + Print + AllocGlobal>(
         replacement_files: inputs.replacement_files,
         calls_before_replacement: inputs.calls_before_replacement,
     };
-    test_once(rt, changed, (Variation::ChangedBits, offset), tally)
+    test_once(rt, changed_inputs, (Variation::ChangedBits, offset), tally)
 }
 
 fn flip_file_bit(files: &mut Vec<File>, file_index: usize, offset: usize, bit: u8) {

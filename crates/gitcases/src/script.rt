@@ -25,8 +25,9 @@ pub(crate) struct Script<'a> {
     pub(crate) rows: Vec<Row<'a>>,
     // The number of times that the next line is repeated.
     repetitions: usize,
-    /// The name of the current file, and the number of its current line.
+    /// The name of the current file.
     pub(crate) file_name: &'a str,
+    /// The number of the current line.
     pub(crate) line_number: usize,
 }
 
@@ -420,8 +421,8 @@ impl<'a> Script<'a> {
     }
 }
 
-// Returns the offset that `offset` states. An empty text means `start`, and a leading `+` means a
-// distance from `start`.
+// Parses the offset of an entry. An empty text means `start`, and a leading `+` marks a distance
+// from `start`.
 fn entry_offset(start: usize, offset: &str) -> Result<u64, Trouble> {
     if offset.is_empty() {
         return Ok(start as u64);

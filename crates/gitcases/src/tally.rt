@@ -2,7 +2,7 @@
 
 use std::io;
 
-/// A variation with which a row is tested.
+/// A way in which a row is tested.
 #[derive(Clone, Copy, PartialEq, Eq)]
 pub(crate) enum Variation {
     /// The input is unchanged.

@@ -51,8 +51,8 @@ MayHaveChunk chunks name bytes =
 abbrev pub begins_within : ℕ → Id → Bool
 begins_within byte id = nat_le (slice_index id 0) byte
 
--- the first rows of the fan-out table: for each byte below this limit, the number of ids that begin with the byte or a
--- lower byte
+-- the first n rows of the fan-out table: for each byte below n, the number of ids that begin with the byte or a lower
+-- byte
 unfoldable pub fan_out : ℕ → List Id → List ℕ
 fan_out zero ids = []
 fan_out (suc byte) ids = fan_out byte ids ++ to_be_bytes w32 (count_by (begins_within byte) ids)

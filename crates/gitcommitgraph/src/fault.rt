@@ -30,7 +30,7 @@ pub enum CommitGraphFault {
     Edges,
     /// The base graphs of the file are not the files that were added earlier.
     Bases,
-    /// The commit-graph would have more commits than there are positions.
+    /// The commit-graph would have more than 0x7000_0000 commits.
     TooMany,
     /// The file lists a parent position at which there is no commit.
     Parents,

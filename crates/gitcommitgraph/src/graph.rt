@@ -53,7 +53,7 @@ impl<A: Allocator + Copy> CommitGraph<A> {
     /// lowest to the highest. The bytes are kept unchanged, and the file's checksum is not checked.
     ///
     /// Fails with `Bases` if the base graphs of the file are not the files added earlier, and with
-    /// `TooMany` if there would be more commits than positions. Fails with `Parents` if the file
+    /// `TooMany` if there would be more than 0x7000_0000 commits. Fails with `Parents` if the file
     /// lists a parent position without a commit, or with `Memory` if out of memory. Fails with any
     /// other fault if the bytes are not a commit-graph file. After a failure the commit-graph is
     /// unchanged.
@@ -143,7 +143,7 @@ impl<A: Allocator + Copy> CommitGraph<A> {
     }
 }
 
-// Returns the position of the first commit with this id.
+// Returns the position of the first commit with this id, or `None` if no commit has the id.
 fn find_commit<A: Allocator + Copy>(layers: &[Layer<A>], id: &[u8; ID_BYTES]) -> Option<usize>
     requires { length (graph_commits layers.now) ≤ no_parent }
     ensures { FindsCommit (graph_commits layers.now) id.now result }

@@ -7,9 +7,10 @@
 //! - [`CommitGraph::add`] adds a file if and only if the text of the file has the form of `specs/`:
 //!   header, table of contents, chunks and trailer. The ids ascend, the fan-out table matches the
 //!   ids, and each edge list has an end. The base graphs are the files added earlier, and each
-//!   position in the file is the position of a commit. `Bases`, `TooMany` and `Parents` are
-//!   returned only if the file has the fault. Any other fault except `Memory` is returned only if
-//!   the text is not a commit-graph file. After a failure the commit-graph is unchanged.
+//!   position in the file is the position of a commit. Each of the faults `Bases`, `TooMany` and
+//!   `Parents` is returned only if the file has that fault. Any other fault except `Memory` is
+//!   returned only if the text is not a commit-graph file. After a failure the commit-graph is
+//!   unchanged.
 //! - [`CommitGraph::find`] returns a position if and only if some file has a commit with the given
 //!   id.
 //! - [`CommitGraph::parents_of`] lists the parents of a commit, from its commit data and its edge
@@ -32,8 +33,8 @@
 //!   between chunks. Git also accepts a last edge that does not end its list, but never writes such
 //!   an edge.
 //! - The crate does not check the trailer. Git does not check the trailer either when it opens a
-//!   file, but `git commit-graph verify` does. A chain must list the trailers of its files. Git
-//!   also compares these trailers with the names of the files.
+//!   file, but `git commit-graph verify` does. Each file of a chain must list the trailers of the
+//!   files below it, as in Git. Git also compares the trailers with the names of the files.
 //! - All ids are SHA-1. The crate does not read generation numbers, dates, changed paths or the ids
 //!   of trees.
 //!

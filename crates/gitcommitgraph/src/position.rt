@@ -4,7 +4,8 @@ ghost use Rattle.std.specs.Prelude.{◌≡◌};
 
 use std::marker::Model;
 
-/// The maximum number of commits. A commit-graph file stores this number if there is no parent.
+/// The maximum number of commits. If a commit has no first or second parent, a commit-graph file
+/// stores this number instead of the parent's position.
 pub(crate) const MAX_COMMITS: usize = 0x7000_0000;
 
 /// The position of a commit in a commit-graph: its index among the commits of all files. The

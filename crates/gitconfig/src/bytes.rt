@@ -61,7 +61,7 @@ pub(crate) fn split_blanks(text: &[u8]) -> (&[u8], &[u8])
     }
 }
 
-/// Returns the variable-name bytes at the front of a text, and the rest of the text.
+/// Returns the bytes at the front of a text that variable names can contain, and the rest.
 pub(crate) fn split_name(text: &[u8]) -> (&[u8], &[u8])
     ensures parts { text.now ≡ result.0.now ++ result.1.now }
     ensures each { All (λ b. is_name_byte b ≡ true) result.0.now }
@@ -72,7 +72,7 @@ pub(crate) fn split_name(text: &[u8]) -> (&[u8], &[u8])
     }
 }
 
-/// Returns the section-name bytes at the front of a text, and the rest of the text.
+/// Returns the bytes at the front of a text that section names can contain, and the rest.
 pub(crate) fn split_section(text: &[u8]) -> (&[u8], &[u8])
     ensures parts { text.now ≡ result.0.now ++ result.1.now }
     ensures each { All (λ b. is_section_byte b ≡ true) result.0.now }

@@ -39,6 +39,7 @@ pub(crate) fn split_piece(text: &[u8], is_quoted: bool) -> Option<(Piece, &[u8])
 }
 
 // Returns the piece that a backslash followed by this text encodes, and the text after the piece.
+// Returns `None` if a backslash followed by this text encodes nothing.
 fn split_escape(text: &[u8]) -> Option<(Piece, &[u8])>
     ensures piece { IfSome result (λ parts. (is_quoted : Bool)
         → BeginsWithPiece is_quoted (92 ∷ text.now) parts.0 parts.1.now) }

@@ -206,7 +206,8 @@ fn split_quoted(text: &[u8]) -> Option<(u8, &[u8])>
     }
 }
 
-// Reads `=` and a value, or nothing if the line ends. Returns the value and the rest of the text.
+// Reads `=` and a value. Returns the value, or `None` if the line ends instead, and the rest of the
+// text.
 fn read_assigned<A: Allocator + Copy>(
     alloc: A,
     text: &[u8],

@@ -12,9 +12,9 @@
 //!   reads the links of an object of any type. Each function accepts exactly the texts of the form
 //!   defined in `specs/`, and refuses all others.
 //! - A link consists of an id, and the type that the object with that id must have. In a tree, the
-//!   file type in the mode of an entry decides the type of the link. A directory links to a tree. A
-//!   file or a symbolic link links to a blob. A gitlink names a commit of another repository, and
-//!   has no link.
+//!   file type in the mode of an entry decides the type of the link. The entry of a directory has a
+//!   link to a tree. The entry of a file or of a symbolic link has a link to a blob. A gitlink,
+//!   which names a commit of another repository, has no link.
 //! - [`split_loose`] accepts exactly the texts that encode an object.
 //! - An object has at most one list of links, and a text encodes at most one object of fewer than
 //!   2^64 bytes (see [`laws`]).
@@ -32,7 +32,7 @@
 //! - Git accepts a commit that ends within a parent line, and ignores that line. This crate refuses
 //!   the commit, as git-fsck(1) does.
 //! - Git reads the type of a tag only up to the first NUL, so it accepts `commit` followed by a NUL
-//!   and other bytes.
+//!   and other bytes. This crate refuses such a tag.
 //!
 //! # What the contracts do not rule out
 //!

@@ -105,7 +105,8 @@ fn push_parents<A: Allocator + Copy>(
     }
 }
 
-// Returns whether the text is not empty and does not begin with `parent` and a space.
+// Returns whether a commit may continue with this text after its parent lines: the text is not
+// empty and does not begin with `parent` and a space.
 fn goes_on(text: &[u8]) -> bool
     ensures { IsTrue result ↔ GoesOn text.now }
 {

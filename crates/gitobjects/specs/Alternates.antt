@@ -3,7 +3,7 @@
 use Rattle.std.specs.Prelude.{◌≡◌, ℕ, ◌==◌, Bool, false, not, List, [], ◌∷◌, ◌++◌, filter}
 use Rattle.gitobjects.specs.Parts.{IsOfParts}
 
--- the line names a folder: it is neither empty nor a comment
+-- whether the line names a folder: an empty line and a comment do not
 abbrev pub names_folder : List ℕ → Bool
 names_folder [] = false
 names_folder (b ∷ line) = not (b == 35)

@@ -14,8 +14,8 @@ IsListedAt time listed.Never = ⊥
 IsListedAt time (listed.Once earlier) = earlier ≡ time
 IsListedAt time (listed.Twice earlier) = earlier ≡ time
 
--- the relation between the states before and after a listing: the state after it is `Twice` if the names have not
--- changed since an earlier listing, and `Once` otherwise
+-- the state `new` after another listing: `Twice` if the names have not changed since an earlier listing, and `Once`
+-- otherwise
 abbrev pub ListsAgain : Option FolderTime → Listed → Listed → Type 0
 ListsAgain time old new =
     (IsListedAt time old × (new ≡ listed.Twice time)) ⊎ (¬ (IsListedAt time old) × (new ≡ listed.Once time))

@@ -15,14 +15,14 @@ pub record IsIndexName (stem name : List ℕ) : Type 0 where
 abbrev pub IsOtherName : List ℕ → Type 0
 IsOtherName name = (stem : List ℕ) → ¬ (IsIndexName stem name)
 
--- the stems name exactly the packs whose indexes are among these file names, in the same order
+-- `stems` are the names of exactly the packs whose indexes are among these file names, in the same order
 abbrev pub AreStems : List (List ℕ) → List (List ℕ) → Type 0
 AreStems [] stems = stems ≡ []
 AreStems (name ∷ names) stems =
     ((stem : List ℕ) × (more : List (List ℕ)) × IsIndexName stem name × (stems ≡ stem ∷ more) × AreStems names more)
     ⊎ (IsOtherName name × AreStems names stems)
 
--- the stems name exactly the packs whose indexes the text lists, in any order
+-- `stems` are the names of exactly the packs whose indexes the text lists, in any order
 pub record AreListed (text : List ℕ) (stems : List (List ℕ)) : Type 0 where
   pub names : List (List ℕ)
   pub rest : List ℕ

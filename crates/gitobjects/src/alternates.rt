@@ -20,7 +20,8 @@ pub(crate) struct Folder<A: Allocator + Copy> {
     // The path of the pack folder.
     pub(crate) pack_folder: String<A>,
     pub(crate) listed: Listed,
-    // The faults of the packs that were left out.
+    // The faults of the packs that were left out, or the fault of a pack folder that could not be
+    // listed.
     pub(crate) left_out: Vec<FileFault<A>, A>,
     // The number of alternates files that lead to this folder: 0 for the repository's own folder.
     depth: usize,

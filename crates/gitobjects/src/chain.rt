@@ -16,7 +16,7 @@ use std::alloc::Allocator;
 struct Chain<A: Allocator + Copy> {
     // The offsets of the deltas, with the requested object first.
     deltas: Vec<usize, A>,
-    // The offset of the entry after the last delta: a whole object, a cached object or a broken
+    // The offset of the entry that ends the chain: a whole object, a cached object or a broken
     // entry.
     end: usize,
 }
@@ -28,7 +28,8 @@ struct Broken {
     cause: Cause,
 }
 
-// Adds the offset of an entry to the fault of a failed call.
+// Returns `outcome`. If `outcome` is a failure, the offset `start` of the broken entry is added to
+// the cause.
 fn at<T: Drop>(start: usize, outcome: Result<T, Cause>) -> Result<T, Broken> {
     match outcome {
         Ok(value) => Ok(value),
@@ -138,9 +139,9 @@ impl<F: ObjectFiles, A: Allocator + Copy> ObjectReader<'_, F, A> {
         Ok(())
     }
 
-    // Returns the delta chain of the entry at this offset. A broken entry ends the chain, and makes
-    // a later call fail when that call reads the entry. Fails with `Circle` if the chain is cyclic,
-    // or with `Memory` if out of memory.
+    // Returns the delta chain of the entry at this offset. A broken entry ends the chain, and its
+    // fault is reported when the entry is read. Fails with `Circle` if the chain is cyclic, or with
+    // `Memory` if out of memory.
     fn trace(&mut self, pack: usize, start: usize) -> Result<Chain<A>, Cause> {
         let mut deltas = Vec::new(self.store.allocator());
         let mut end = start;
@@ -191,7 +192,7 @@ impl<F: ObjectFiles, A: Allocator + Copy> ObjectReader<'_, F, A> {
         let mut object = base;
         let mut base_start = end;
         while let Some(start) = deltas.pop() {
-            let made = at(start, self.apply(&object, Spot { pack, start }))?;
+            let result = at(start, self.apply(&object, Spot { pack, start }))?;
             let base_spot = Spot {
                 pack,
                 start: base_start,
@@ -202,7 +203,7 @@ impl<F: ObjectFiles, A: Allocator + Copy> ObjectReader<'_, F, A> {
                     cause: Cause::Memory,
                 });
             }
-            object = made;
+            object = result;
             base_start = start;
         }
         Ok(object)

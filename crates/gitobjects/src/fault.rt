@@ -19,7 +19,7 @@ pub enum Cause {
     List(ErrorKind),
     /// A path in the alternates file is not UTF-8.
     NotText,
-    /// The file exceeds its size limit.
+    /// The file, or the list of the names in the folder, exceeds its size limit.
     FileSize,
     /// An object has more bytes than [`crate::MAX_OBJECT`].
     ObjectSize,

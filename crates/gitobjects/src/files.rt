@@ -12,8 +12,8 @@ pub trait OpenPack {
     // change.
     ghost bytes: { Self → Option (List ℕ) };
 
-    /// Reads `count` bytes starting at `start`. Fails with `Read` if the file is too short or the
-    /// system refuses the call. Fails with `Memory` if out of memory.
+    /// Reads `count` bytes starting at `start`. Fails with `Read` if the file is too short or a
+    /// system call fails. Fails with `Memory` if out of memory.
     fn read_at<A: Allocator + Copy>(
         &mut self,
         alloc: A,
@@ -25,7 +25,7 @@ pub trait OpenPack {
         ensures bytes { bytes self.new ≡ bytes self.old };
 
     /// Fills the buffer with the bytes starting at `start`. Fails with `Read` if the file is too
-    /// short or the system refuses the call. After a fault the buffer may hold any bytes.
+    /// short or a system call fails. After a fault the buffer may hold any bytes.
     fn fill_at(&mut self, start: usize, buffer: &mut [u8]) -> Result<(), Cause>
         ensures part { OnOk result (IsPart (bytes self.old) start buffer.new) }
         ensures bytes { bytes self.new ≡ bytes self.old };
@@ -45,11 +45,11 @@ pub struct FolderTime {
 
 /// Access to the object files of a Git directory.
 pub trait ObjectFiles {
-    /// An open pack.
+    /// The type of an open pack or index.
     type Pack: OpenPack + Drop;
 
     /// Returns the bytes of a file, or `None` if there is no such file. Fails with `Open` or `Read`
-    /// if the system refuses a call, or with `FileSize` if the file has more than `most` bytes.
+    /// if a system call fails, or with `FileSize` if the file has more than `most` bytes.
     fn read<A: Allocator + Copy>(
         &self,
         alloc: A,
@@ -58,7 +58,7 @@ pub trait ObjectFiles {
     ) -> Result<Option<Vec<u8, A>>, Cause>;
 
     /// Returns the first `most` bytes of a file, or all bytes if the file is shorter. Returns
-    /// `None` if there is no such file. Fails with `Open` or `Read` if the system refuses a call.
+    /// `None` if there is no such file. Fails with `Open` or `Read` if a system call fails.
     fn read_front<A: Allocator + Copy>(
         &self,
         alloc: A,
@@ -66,12 +66,12 @@ pub trait ObjectFiles {
         most: usize,
     ) -> Result<Option<Vec<u8, A>>, Cause>;
 
-    /// Returns whether there is a file with this path. Fails with `Open` if the system refuses the
-    /// call.
+    /// Returns whether there is a file or a folder with this path. Fails with `Open` if a system
+    /// call fails.
     fn exists(&self, path: &str) -> Result<bool, Cause>;
 
     /// Returns the canonical path of a folder: absolute, without symbolic links, `.` or `..`.
-    /// Returns `None` if there is no such folder. Fails with `Open` if the system refuses the call.
+    /// Returns `None` if there is no such folder. Fails with `Open` if a system call fails.
     fn canonical<A: Allocator + Copy>(
         &self,
         alloc: A,
@@ -79,15 +79,15 @@ pub trait ObjectFiles {
     ) -> Result<Option<String<A>>, Cause>;
 
     /// Opens a pack or an index, and returns the open file and its length. Returns `None` if there
-    /// is no such file. Fails with `Open` if the system refuses the call.
+    /// is no such file. Fails with `Open` if a system call fails.
     fn open_pack(&self, path: &str) -> Result<Option<(Self::Pack, usize)>, Cause>;
 
     /// Returns the time of the last change of the names in a folder, or `None` if there is no such
-    /// folder. Fails with `List` if the system refuses the call.
+    /// folder. Fails with `List` if a system call fails.
     fn change_time(&self, path: &str) -> Result<Option<FolderTime>, Cause>;
 
     /// Returns the NUL-terminated names in a folder, or no names if there is no such folder. Fails
-    /// with `List` if the system refuses a call, or with `FileSize` if the names have more than
+    /// with `List` if a system call fails, or with `FileSize` if the names have more than
     /// [`crate::MAX_NAMES`] bytes.
     fn list<A: Allocator + Copy>(&self, alloc: A, path: &str) -> Result<Vec<u8, A>, Cause>;
 }

@@ -16,7 +16,7 @@ const COUNTS: usize = 256;
 // The offset at which the fan-out table ends.
 const TABLE_END: usize = 1_032;
 
-// The length of a count, of a CRC-32 and of a short offset.
+// The length in bytes of a count, of a CRC-32 and of a short offset.
 const WORD: usize = 4;
 
 // The total length of the two checksums at the end of an index.
@@ -212,7 +212,7 @@ impl<P: OpenPack + Drop, A: Allocator + Copy> IndexFile<P, A> {
         }
     }
 
-    // Looks up an id among the ids at these positions, after reading them if necessary.
+    // Looks up an id among the ids at these positions. Reads these ids if they are not in memory.
     fn look(&mut self, part: Places, wanted: &[u8]) -> Result<SearchResult, Cause> {
         let count = part
             .high
@@ -251,7 +251,8 @@ impl<P: OpenPack + Drop, A: Allocator + Copy> IndexFile<P, A> {
         self.long_offset(table, short - LONG)
     }
 
-    // Returns entry `number` of the table of long offsets, which begins at offset `table`.
+    // Returns entry `number` of the table of long offsets, which begins at offset `table`. Returns
+    // `None` if the entry does not fit in a `usize`.
     fn long_offset(&mut self, table: usize, number: u32) -> Result<Option<usize>, Cause> {
         let start = (number as usize)
             .saturating_mul(2 * WORD)
@@ -265,14 +266,14 @@ impl<P: OpenPack + Drop, A: Allocator + Copy> IndexFile<P, A> {
 }
 
 // Returns the likely position of an id among these positions, assuming that ids are evenly
-// distributed.
+// distributed. The ids at these positions begin with the same byte.
 fn likely_place(places: Places, wanted: &[u8]) -> usize {
-    let next = number_of(wanted.get(1..).unwrap_or(b""));
+    let after_first_byte = number_of(wanted.get(1..).unwrap_or(b""));
     let width = places.high.saturating_sub(places.low) as u64;
-    let before = width.saturating_mul(u64::from(next)) >> 32;
+    let ids_before = width.saturating_mul(u64::from(after_first_byte)) >> 32;
     places
         .low
-        .saturating_add(usize::try_from(before).unwrap_or(0))
+        .saturating_add(usize::try_from(ids_before).unwrap_or(0))
 }
 
 fn halfway(places: Places) -> usize {
@@ -280,7 +281,7 @@ fn halfway(places: Places) -> usize {
     places.low.saturating_add(width / 2)
 }
 
-// Returns the positions around `middle` that are inside the range.
+// Returns the positions in `places` that are at most `NEAR` or `FAR` from `middle`.
 fn part_around(places: Places, middle: usize) -> Places {
     let around = if places.high.saturating_sub(places.low) <= FEW {
         NEAR

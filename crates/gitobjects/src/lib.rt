@@ -7,7 +7,8 @@
 //! - [`ObjectReader::raw_entry`] returns a pack entry unchanged, so that a packer can copy it.
 //! - A [`QuickReader`] looks up and reads a few objects. A quick reader reads indexes in parts,
 //!   while an [`ObjectStore`] reads whole indexes.
-//! - [`StoredFiles`] are the files of the system, and [`MemoryFiles`] are files in memory.
+//! - [`StoredFiles`] accesses files through the operating system, and [`MemoryFiles`] holds files
+//!   in memory.
 //!
 //! # Proved
 //!
@@ -22,8 +23,9 @@
 //!   if the folder was listed at least twice since the names in it last changed.
 //! - The path of a loose object consists of a folder and the digits of the id. The paths in
 //!   `info/alternates` are read in the order of its lines.
-//! - A private function reads the names in a pack folder, and returns exactly the packs whose index
-//!   is among the names. The name of an index ends in `.idx`, is UTF-8 and has no slash.
+//! - A private function parses the list of the names in a pack folder, and returns the names of
+//!   exactly the packs whose index is listed. The name of an index ends in `.idx`, is UTF-8 and has
+//!   no slash.
 //! - No call panics, overflows or reads out of bounds, and every call returns, for any contents of
 //!   the files. A delta chain may be cyclic.
 //!
@@ -34,17 +36,17 @@
 //!
 //! # Differences from Git
 //!
-//! - A pack stays open once found. Git opens packs as needed, and closes some.
+//! - A pack stays open once found. Git opens packs as needed, and may close them again.
 //! - If an object is not found, Git lists all packs again. This crate lists only folders in which
 //!   names have changed, and each folder at most twice after a change.
 //! - Packs with an index of version 1 and packs of version 3 are ignored. Git reads both.
 //!   Multi-pack indexes, bitmaps and commit-graphs are not read.
-//! - Each open pack uses a file descriptor. A repository with about a thousand packs needs `git gc`
-//!   first, because the system limits open files.
-//! - If an object is missing and a pack was ignored, the fault names that pack. Git reports a
-//!   missing object.
+//! - Each open pack uses a file descriptor, and the system limits the number of open files. A
+//!   repository with about a thousand packs must be repacked with `git gc`.
+//! - If an object is missing and a pack was ignored, the fault names that pack. Git reports only
+//!   that the object is missing.
 //! - If a delta base is broken in its pack, another copy is used, as in Git. In this crate the copy
-//!   must be no larger than 4 MiB, and all its own bases must be intact. At most 15 bases of a
+//!   must be no larger than 4 MiB, and all bases of the copy must be intact. At most 15 bases of a
 //!   chain may be replaced by copies.
 //! - A quoted path in `info/alternates`, or a path that is not UTF-8, is a fault. Git reads quoted
 //!   paths and paths that are not UTF-8.
@@ -55,37 +57,37 @@
 //!
 //! # What the contracts do not rule out
 //!
-//! - No contract rules out that [`ObjectReader::read`] returns an object with another id. The
-//!   method trusts the files and does not compute ids. A contract cannot describe the contents of a
-//!   system file.
+//! No contract rules out any of the following:
+//!
+//! - [`ObjectReader::read`] may return an object with another id. The method trusts the files and
+//!   does not compute ids. A contract cannot describe the contents of a system file.
 //! - No contract says which object a whole delta chain produces, or which type
 //!   [`ObjectReader::kind_of`] returns. Only the single steps have contracts, in `gitpack`.
-//! - No contract says that other copies of a broken object are tried. No contract says that a
-//!   listed pack is opened.
-//! - No contract rules out that [`ObjectReader::raw_entry`] returns arbitrary bytes. The CRC-32 of
-//!   the entry is compared with the index, but no contract covers this comparison.
-//! - No contract rules out that a new pack is overlooked. A pack can be overlooked if the pack is
-//!   added after a listing, but in the same tick of the file system's clock. The pack is then found
-//!   only after the folder changes again, or after [`ObjectReader::refresh`].
+//! - No contract says that other copies of a broken object are tried, or that a listed pack is
+//!   opened.
+//! - [`ObjectReader::raw_entry`] may return arbitrary bytes. The CRC-32 of the entry is compared
+//!   with the index, but no contract covers this comparison.
+//! - A new pack may be overlooked if it is added after a listing, but in the same tick of the file
+//!   system's clock. The pack is then found only after the folder changes again, or after
+//!   [`ObjectReader::refresh`].
 //! - No contract says which object the base cache returns. It is only proved that the cache does
 //!   not panic.
-//! - No contract rules out that [`ObjectStore::find`], [`ObjectStore::find_in`] and
-//!   [`ObjectReader::find`] return a wrong location, or `None` for an object that exists. No
-//!   contract rules out that [`ObjectStore::index`] and [`ObjectStore::starts`] return the data of
-//!   another pack, or nothing.
+//! - [`ObjectStore::find`], [`ObjectStore::find_in`] and [`ObjectReader::find`] may return a wrong
+//!   location, or `None` for an object that exists. [`ObjectStore::index`] and
+//!   [`ObjectStore::starts`] may return the data of another pack, or nothing.
 //! - No contract says from which pack and position an entry is read. It is only proved that the
 //!   private type `Window` returns the correct bytes of a pack.
-//! - No contract rules out that a pack is opened although it does not match its index. The header,
-//!   object count and checksum of the pack are compared with the index, but no contract covers this
-//!   comparison.
-//! - No contract rules out that a loose object is accepted although bytes follow its stream.
+//! - A pack may be opened although it does not match its index. The header, object count and
+//!   checksum of the pack are compared with the index, but no contract covers this comparison.
+//! - A loose object may be accepted although bytes follow its stream.
 //! - No contract says which alternates are read, where a relative path begins, or how the open
 //!   packs are ordered.
-//! - No contract rules out that [`ObjectReader::refresh`] finds nothing new. No contract rules out
-//!   that a folder is listed more or less often than the proved function decides.
-//! - No contract rules out that [`MemoryFiles`] returns bytes that differ from the added bytes.
-//! - No contract rules out that a [`QuickReader`] finds no object, reports an object that does not
-//!   exist, or returns a wrong type. A quick reader does not check a whole index.
+//! - [`ObjectReader::refresh`] may miss new packs and alternates. The private function that returns
+//!   whether to list a pack folder again is proved, but no contract says that its callers list the
+//!   folder exactly if the result is `true`.
+//! - [`MemoryFiles`] may return bytes that differ from the added bytes.
+//! - A [`QuickReader`] may find no object, report an object that does not exist, or return a wrong
+//!   type. A quick reader does not check a whole index.
 //! - No contract says which fault is returned, which file the fault names, or how the fault is
 //!   displayed.
 //! - No contract says when a call runs out of memory, or which files are refused.

@@ -1,6 +1,6 @@
-//! The limits on the sizes of files and caches. Only the system limits the number of packs, because
-//! each open pack uses a file descriptor. A repository with about a thousand packs needs `git gc`
-//! first.
+//! The limits on the sizes of files and caches. The number of packs is limited only by the system,
+//! because each open pack uses a file descriptor. A repository with about a thousand packs must be
+//! repacked with `git gc`.
 
 /// The maximum size of an object: 1 GiB.
 pub const MAX_OBJECT: usize = 1_073_741_824;

@@ -53,8 +53,8 @@ fn push_stem<A: Allocator + Copy>(
     }
 }
 
-// Returns the name of a pack index without its extension, or `None` for any other name. All names
-// from Git are UTF-8.
+// Returns the name of a pack index without its extension, or `None` for any other name. Git gives
+// its packs only UTF-8 names.
 fn stem_of(name: &[u8]) -> Option<&str>
     ensures { MatchOption result (IsOtherName name.now) (λ stem. IsIndexName stem.now name.now) }
 {

@@ -21,7 +21,7 @@ pub struct MemoryFiles<A: Allocator + Copy> {
     files: Vec<MemoryFile<A>, A>,
 }
 
-/// A pack in memory.
+/// An open pack or index in memory.
 #[derive(Drop)]
 pub struct MemoryPack<A: Allocator + Copy> {
     bytes: Vec<u8, A>,

@@ -29,7 +29,7 @@ impl<A: Allocator + Copy> Object<A> {
         id_of(self.kind, self.body.as_slice()) == *id
     }
 
-    /// Returns a copy of the object in another allocator.
+    /// Returns a copy of the object that is allocated with `alloc`.
     pub(crate) fn copy_in<B: Allocator + Copy>(&self, alloc: B) -> Result<Object<B>, AllocError>
         ensures kind { IfOk result (λ copy. copy.kind ≡ self.now.kind) }
         ensures body { IfOk result (λ copy. copy.body.items ≡ self.now.body.items) }
@@ -79,7 +79,8 @@ pub(crate) fn loose_kind<A: Allocator + Copy>(
     }
 }
 
-// Returns the type whose name and a space begin the text, or `None` if there is no such type.
+// Returns the type whose name is at the start of the text, followed by a space. Returns `None` if
+// there is no such type.
 fn kind_in(text: &[u8]) -> Option<ObjectType>
     ensures { MatchOption result ((kind : ObjectType) → ¬ (BeginsAsObject text.now kind))
         (BeginsAsObject text.now) }
@@ -97,7 +98,7 @@ fn kind_in(text: &[u8]) -> Option<ObjectType>
     }
 }
 
-// Returns whether a text begins with the word.
+// Returns whether a text begins with this word.
 fn begins(word: &[u8], text: &[u8]) -> bool
     ensures { IsTrue result ↔ BeginsWith word.now text.now }
 {

@@ -26,7 +26,8 @@ pub(crate) struct EntryOrder<A: Allocator + Copy> {
 
 impl<A: Allocator + Copy> EntryOrder<A> {
     /// Returns the entries of a pack, the last of which ends at `end`. Fails with `Offset` if an
-    /// offset of the index is outside the entries, or with `Memory` if out of memory.
+    /// offset in the index is not between the pack header and `end`, or with `Memory` if out of
+    /// memory.
     pub(crate) fn new(alloc: A, index: &PackIndex<A>, end: usize) -> Result<EntryOrder<A>, Cause> {
         let mut starts = Vec::with_capacity(alloc, index.len())?;
         for place in 0..index.len() {
@@ -42,7 +43,8 @@ impl<A: Allocator + Copy> EntryOrder<A> {
         self.starts.as_slice()
     }
 
-    // Returns the position in pack order of the entry at this offset.
+    // Returns the position in pack order of the entry at this offset, or `None` if no entry begins
+    // at that offset.
     fn number_of(&self, offset: usize) -> Option<usize> {
         let search = self
             .starts
@@ -68,8 +70,8 @@ impl<A: Allocator + Copy> EntryOrder<A> {
     }
 }
 
-// Returns the offset at a position of the pack index. The offset must be between the pack header
-// and the end of the entries.
+// Returns the offset at a position of the pack index. Fails with `Offset` if the offset is not
+// between the pack header and `end`, or with `Index` if there is no such position.
 fn offset_of<A: Allocator + Copy>(
     index: &PackIndex<A>,
     place: usize,

@@ -26,7 +26,7 @@ pub(crate) struct PackFile<A: Allocator + Copy> {
     number: usize,
 }
 
-/// The form of a pack entry, with the offset of the base of a delta.
+/// The form of a pack entry: a whole object, or a delta with the offset of its base.
 #[derive(Clone, Copy, Debug, PartialEq, Eq)]
 pub(crate) enum LocalForm {
     /// A whole object of this type.
@@ -99,7 +99,8 @@ fn open_entries<F: ObjectFiles, A: Allocator + Copy>(
     Ok(Some((number, order)))
 }
 
-// Checks that the header of the pack has version 2 and the object count of the index.
+// Checks that the header of the pack has version 2 and the object count of the index. Fails with
+// `Pack` if not.
 fn check_header<P: OpenPack, A: Allocator + Copy>(
     file: &mut P,
     alloc: A,
@@ -115,7 +116,7 @@ fn check_header<P: OpenPack, A: Allocator + Copy>(
     }
 }
 
-// Checks that the pack ends with the checksum in the index.
+// Checks that the pack ends with the checksum in the index. Fails with `Pack` if not.
 fn check_trailer<P: OpenPack, A: Allocator + Copy>(
     file: &mut P,
     alloc: A,
@@ -184,7 +185,7 @@ impl<A: Allocator + Copy> PackFile<A> {
 
     /// Returns the unchanged entry at this index position, or `None` past the end of the index.
     /// Fails with `Crc` if the CRC-32 of the entry does not match the index, and with `Head` if the
-    /// entry header is malformed. Other faults are those of `bytes_at`.
+    /// entry header is malformed. Also fails for the same reasons as `bytes_at`.
     pub(crate) fn raw_entry<P: OpenPack + Drop>(
         &self,
         window: &mut Window<P, A>,

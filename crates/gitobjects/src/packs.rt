@@ -153,8 +153,8 @@ fn stems_in<F: ObjectFiles, A: Allocator + Copy>(
     index_stems(alloc, names.as_slice())
 }
 
-// Adds the fault to `faults` if a call failed because of a file. Returns any other outcome
-// unchanged.
+// If `outcome` is the fault of a file, adds the fault to `faults` and returns `Ok`. Returns any
+// other outcome unchanged.
 fn keep_fault<A: Allocator + Copy>(
     faults: &mut Vec<FileFault<A>, A>,
     outcome: Result<(), StoreFault<A>>,

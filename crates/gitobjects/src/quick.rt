@@ -172,8 +172,8 @@ fn add_packs<F: ObjectFiles, A: Allocator + Copy>(
     Ok(())
 }
 
-// Returns the value of a successful call, or `None` if the call failed with a cause other than
-// `Memory`. Fails if the call failed with `Memory`.
+// Returns the value of `outcome`, or `None` if `outcome` is a failure with a cause other than
+// `Memory`. Fails if the cause is `Memory`.
 fn or_unknown<T: Drop>(outcome: Result<T, Cause>) -> Result<Option<T>, AllocError> {
     match outcome {
         Ok(value) => Ok(Some(value)),

@@ -21,8 +21,8 @@ const MAX_TEXT: usize = 131_072;
 // git-fast-import(1) may put into a chain.
 const MAX_CHAIN: usize = 8_192;
 
-// The number of bytes to read for an entry, and the number of bytes to read if the first bytes do
-// not contain the whole entry.
+// The number of bytes to read in the first attempt to read an entry, and in the second attempt. The
+// second attempt is made if the bytes from the first attempt do not contain the whole entry.
 const FRONTS: [usize; 2] = [4_096, MAX_TEXT];
 
 /// An open pack and its index. Only the needed parts of both are read.
@@ -35,13 +35,14 @@ pub(crate) struct QuickPack<P: OpenPack + Drop, A: Allocator + Copy> {
     end: usize,
 }
 
+// An inflated pack entry: an object, or a delta.
 #[derive(Drop)]
 struct QuickEntry<A: Allocator + Copy> {
     form: EntryForm,
     text: Vec<u8, A>,
 }
 
-// The form of a pack entry, with the offset of the base of a delta.
+// The form of a pack entry: a whole object, or a delta with the offset of its base.
 #[derive(Clone, Copy, Debug)]
 enum LocalForm {
     // A whole object of this type.
@@ -157,7 +158,8 @@ impl<P: OpenPack + Drop, A: Allocator + Copy> QuickPack<P, A> {
         Ok(None)
     }
 
-    // Returns at most `most` bytes of the pack starting at `start`, and none after the last entry.
+    // Returns at most `most` bytes of the pack starting at `start`, without any bytes after the
+    // last entry.
     fn front(&mut self, start: usize, most: usize) -> Result<Vec<u8, A>, Cause> {
         let count = self.end.saturating_sub(start).min(most);
         self.file.read_at(self.alloc, start, count)

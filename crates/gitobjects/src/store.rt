@@ -73,9 +73,8 @@ impl<'f, F: ObjectFiles, A: Allocator + Copy> ObjectStore<'f, F, A> {
         Ok(())
     }
 
-    /// Lists the pack folders that may have changed since they were last listed, and returns
-    /// whether a folder was listed. A folder is listed at most twice after each change of the names
-    /// in it.
+    /// Lists each pack folder that was listed fewer than twice since the names in it last changed.
+    /// Returns whether a folder was listed.
     ///
     /// Fails only if out of memory.
     pub(crate) fn list_stale(&mut self) -> Result<bool, StoreFault<A>> {
@@ -162,8 +161,8 @@ impl<'f, F: ObjectFiles, A: Allocator + Copy> ObjectStore<'f, F, A> {
     }
 
     /// Returns the location of the object with this id, as [`ObjectStore::find`] does. `folders`
-    /// records whether each folder of loose objects existed when it was first looked up. If a
-    /// folder did not exist then, no loose object is looked up in it.
+    /// records whether each folder of loose objects existed at its first look-up. No loose object
+    /// is looked up in a folder that is recorded as missing.
     pub fn find_in(
         &self,
         id: &Oid,
@@ -179,8 +178,8 @@ impl<'f, F: ObjectFiles, A: Allocator + Copy> ObjectStore<'f, F, A> {
         }
     }
 
-    // Returns whether the folder of a loose object with this id existed when it was first looked
-    // up. A folder that cannot be looked up counts as existing.
+    // Returns whether any object folder had a two-digit folder for this id when that two-digit
+    // folder was first looked up. A folder that cannot be looked up counts as existing.
     fn has_folder(&self, id: &Oid, folders: &mut LooseFolders) -> Result<bool, StoreFault<A>> {
         if let Some(is_there) = folders.get(id) {
             return Ok(is_there);
@@ -204,7 +203,8 @@ impl<'f, F: ObjectFiles, A: Allocator + Copy> ObjectStore<'f, F, A> {
         Ok(false)
     }
 
-    // Returns the location of the object in the first pack that contains the object.
+    // Returns the location of the object in the first pack that contains the object, or `None` if
+    // no pack contains the object.
     fn find_packed(&self, id: &Oid) -> Option<Found> {
         for pack in 0..self.packs.len() {
             if let Some(place) = self.place_in(pack, id) {
@@ -214,7 +214,8 @@ impl<'f, F: ObjectFiles, A: Allocator + Copy> ObjectStore<'f, F, A> {
         None
     }
 
-    // Returns the position of the object in the index of a pack.
+    // Returns the position of the object in the index of a pack, or `None` if there is no such pack
+    // or the pack has no such object.
     fn place_in(&self, pack: usize, id: &Oid) -> Option<usize> {
         self.packs.get(pack)?.index().find(id)
     }
@@ -295,7 +296,8 @@ impl<'f, F: ObjectFiles, A: Allocator + Copy> ObjectStore<'f, F, A> {
         }
     }
 
-    /// Returns a fault that names the file of the object with this id.
+    /// Returns a fault that names the pack of the object with this id, or the file of the loose
+    /// object if no pack contains the object.
     pub(crate) fn fault_of(&self, id: &Oid, cause: Cause) -> StoreFault<A> {
         if let Some(Found::Packed { pack, .. }) = self.find_packed(id) {
             return self.fault_in(pack, cause);

@@ -104,13 +104,14 @@ fn open_file<R: Files>(files: &R, path: &str) -> Result<Option<(R::File, usize)>
     }
 }
 
-// The maximum number of bytes that one read of the names in a folder returns.
+// The maximum number of bytes that one read call on an open folder returns.
 const PART: usize = 16_384;
 
-// The maximum number of reads of the names in a folder.
+// The maximum number of read calls for one listing of a folder. With 256 bytes per call, this
+// number of calls reads `MAX_NAMES` bytes.
 const MAX_PARTS: usize = MAX_NAMES / 256;
 
-// Returns the names of all files in an open folder.
+// Returns the NUL-terminated names in an open folder.
 fn read_names<D: Read, A: Allocator + Copy>(alloc: A, folder: &mut D) -> Result<Vec<u8, A>, Cause> {
     let mut names = Vec::new(alloc);
     let mut part = [0; PART];

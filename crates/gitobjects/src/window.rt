@@ -1,5 +1,5 @@
-//! Access to the open packs, with a cache of the most recently loaded blocks. So a pack need not be
-//! in memory as a whole.
+//! Access to the open packs, with a cache of the most recently loaded blocks. A pack thus need not
+//! be in memory as a whole.
 
 ghost use Rattle.std.specs.Prelude.{◌≡◌, ◌+◌, ◌≤◌, ◌<◌, ◌++◌, ◌∷◌, [], ℕ, List, Option, IfOk, IfSome, OnErr, OnOk, OnSome, take, drop, length, map, vec_len};
 ghost use Rattle.gitobjects.specs.Windows.{AreBlocks, IsBlock, IsPartOf};
@@ -39,7 +39,7 @@ impl<P: OpenPack + Drop, A: Allocator + Copy> Model for Window<P, A> {
     ghost use Rattle.std.specs.Prelude.{ℕ, List, Option, map};
     ghost use Rattle.gitobjects.specs.Windows.{AreBlocks};
 
-    // The bytes of each pack, or `None` if the bytes are unknown.
+    // The bytes of each pack, or `None` if the contracts do not describe them.
     ghost Value = { List (Option (List ℕ)) };
 
     ghost view = { λ w. map (λ opened. P.bytes opened.file) w.packs.items };
@@ -105,7 +105,7 @@ impl<P: OpenPack + Drop, A: Allocator + Copy> Window<P, A> {
         self.block_at(pack, first).is_some()
     }
 
-    // Returns the block at this offset of a pack, or `None` if memory does not hold the block.
+    // Returns the block at this offset of a pack, or `None` if the block is not in memory.
     fn block_at(&self, pack: usize, first: usize) -> Option<&[u8]>
         ensures { IfSome result (λ bytes. IsPartOf self.now pack first bytes.now) }
     {

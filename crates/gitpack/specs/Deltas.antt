@@ -54,7 +54,7 @@ abbrev pub add_instruction : List ℕ → Instruction → List ℕ
 add_instruction base (Copy offset size) = take size (drop offset base)
 add_instruction base (Insert bytes) = bytes
 
--- a copied range is within the base
+-- the instruction copies no bytes beyond the end of the base
 abbrev pub Fits : List ℕ → Instruction → Type 0
 Fits base (Copy offset size) = offset + size ≤ length base
 Fits base (Insert bytes) = ⊤

@@ -47,8 +47,8 @@ begins_within byte e = nat_le (slice_index e.id 0) byte
 abbrev pub ids_within : ℕ → List IndexEntry → ℕ
 ids_within byte entries = count_by (begins_within byte) entries
 
--- the first numbers of the fan-out table: for each byte value below the limit, the number of ids whose first byte is at
--- most this value
+-- the first n numbers of the fan-out table: for each byte value below n, the number of ids whose first byte is at most
+-- this value
 unfoldable pub fan_out : ℕ → List IndexEntry → List ℕ
 fan_out zero entries = []
 fan_out (suc byte) entries = fan_out byte entries ++ to_be_bytes w32 (ids_within byte entries)
@@ -72,7 +72,7 @@ short_offsets longs (e ∷ entries) =
     if is_short e then to_be_bytes w32 e.offset ++ short_offsets longs entries
     else to_be_bytes w32 (2147483648 + longs) ++ short_offsets (longs + 1) entries
 
--- the bytes of an entry in the table of 64-bit offsets
+-- the bytes of an entry in the table of 64-bit offsets, or none if the offset fits in 31 bits
 abbrev pub long_bytes : IndexEntry → List ℕ
 long_bytes e = if is_short e then [] else to_be_bytes w64 e.offset
 

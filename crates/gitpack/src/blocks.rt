@@ -91,9 +91,9 @@ impl<A: Allocator + Copy> Blocks<A> {
         }
     }
 
-    /// Returns the first match of at least one block whose offset in the target is in `from..to`.
-    /// Returns `None` if the search finds no match. The match ends where the target and the base
-    /// differ.
+    /// Returns the first match that begins in `from..to` of the target and has at least the length
+    /// of a block. Returns `None` if the search finds no match. The match ends where the target and
+    /// the base differ, or where one of them ends.
     pub(crate) fn next_match(
         &self,
         base: &[u8],
@@ -149,7 +149,7 @@ impl<A: Allocator + Copy> Blocks<A> {
 impl Match {
     /// Returns the match, extended backwards as long as the bytes of base and target are equal. The
     /// extended match does not begin before offset `start` of the target.
-    pub(crate) fn extended_back(self, base: &[u8], target: &[u8], start: usize) -> Match {
+    pub(crate) fn extend_back(self, base: &[u8], target: &[u8], start: usize) -> Match {
         let more = common_back(base.get(..self.offset), target.get(start..self.at));
         Match {
             at: self.at.wrapping_sub(more),

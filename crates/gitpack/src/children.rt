@@ -80,7 +80,7 @@ impl<A: Allocator + Copy> Children<A> {
     }
 
     /// Returns the cursor advanced past the next delta.
-    pub(crate) fn advanced(&self, cursor: &Cursor) -> Cursor {
+    pub(crate) fn cursor_after(&self, cursor: &Cursor) -> Cursor {
         let mut next = *cursor;
         if self.next_by_offset(cursor).is_some() {
             next.offset_index = next.offset_index.saturating_add(1);

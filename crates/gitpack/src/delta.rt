@@ -166,6 +166,7 @@ pub(crate) fn part_of(base: &[u8], range: Range) -> Option<&[u8]>
 }
 
 // Returns the range of a copy instruction with this command, and the bytes after the instruction.
+// Returns `None` if the bytes end within the instruction.
 fn split_copy(command: u8, bytes: &[u8]) -> Option<(Range, &[u8])>
     requires { 128 ≤ command }
     ensures cases { MatchOption result
@@ -193,7 +194,7 @@ fn copy_size(number: usize) -> usize
 }
 
 // Decodes a little-endian number of `count` bytes, of which only the bytes with a set bit in `bits`
-// are stored. Returns the number and the remaining bytes.
+// are stored. Returns the number and the remaining bytes, or `None` if there are too few bytes.
 fn split_sparse(bits: u8, count: u32, bytes: &[u8]) -> Option<(usize, &[u8])>
     requires { count ≤ 4 }
     ensures cases { MatchOption result

@@ -19,12 +19,13 @@ const MAX_COPY: usize = 0x10000;
 // The bit that marks a copy command.
 const COPY: u8 = 0x80;
 
-// The bits that mark the lowest byte of the offset and of the size of a copy.
+// The bits of a copy command that are set if the lowest byte of the offset, or of the size, is
+// present.
 const OFFSET_BIT: u8 = 0x01;
 
 const SIZE_BIT: u8 = 0x10;
 
-/// A base that deltas can refer to. In contracts, a base is the list of its bytes.
+/// An object against which deltas can be made. In contracts, a base is the list of its bytes.
 #[derive(Drop)]
 pub struct DeltaBase<A: Allocator + Copy> {
     alloc: A,
@@ -85,7 +86,8 @@ impl<A: Allocator + Copy> DeltaBase<A> {
         Ok(Some(delta))
     }
 
-    // Searches for a delta of at most `limit` bytes, but may return a longer delta.
+    // Searches for a delta of at most `limit` bytes, and returns `None` if none is found. The
+    // returned delta may be longer than `limit`.
     fn search(&self, target: &[u8], limit: usize) -> Result<Option<Vec<u8, A>>, AllocError> {
         let base = self.bytes.as_slice();
         let mut delta = Vec::new(self.alloc);
@@ -98,7 +100,7 @@ impl<A: Allocator + Copy> DeltaBase<A> {
             let Some(found) = self.blocks.next_match(base, target, done, end) else {
                 break;
             };
-            let copy = found.extended_back(base, target, done);
+            let copy = found.extend_back(base, target, done);
             put_insertions(&mut delta, target.get(done..copy.at))?;
             put_copies(&mut delta, copy.offset, copy.length)?;
             done = copy.at.wrapping_add(copy.length);

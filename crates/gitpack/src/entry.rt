@@ -77,7 +77,8 @@ struct TypeAndSize {
     size: usize,
 }
 
-// Returns the type and size at the start of the bytes, and the remaining bytes.
+// Returns the type number and the size at the start of the bytes, and the remaining bytes. Returns
+// `None` if the bytes do not begin with a type number and a size.
 fn split_type_and_size(bytes: &[u8]) -> Option<(TypeAndSize, &[u8])>
     ensures { MatchOption result
         ((number size : ℕ) (text rest : List ℕ) → IsTypeAndSize number size text
@@ -97,7 +98,8 @@ fn split_type_and_size(bytes: &[u8]) -> Option<(TypeAndSize, &[u8])>
 }
 
 // Returns the entry type with this number, and the remaining bytes. For a delta, the offset or id
-// of the base is read from the start of the bytes.
+// of the base is read from the start of the bytes. Returns `None` if no type has this number, or if
+// the bytes do not begin with the offset or id.
 fn split_form(number: u8, bytes: &[u8]) -> Option<(EntryForm, &[u8])>
     ensures { MatchOption result
         ((form : EntryForm) (text rest : List ℕ) → IsBaseOf form number text

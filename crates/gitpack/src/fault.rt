@@ -12,11 +12,11 @@ use std::io::ErrorKind;
 pub enum PackFileFault {
     /// Out of memory.
     Memory,
-    /// The header, the number of entries or the trailer of the pack is wrong.
+    /// The header or the trailer of the pack is wrong, or bytes follow the last entry.
     Frame,
     /// The entry at this position is truncated, its header is malformed, or its zlib stream is
     /// malformed or has the wrong size. A delta also causes this fault if it cannot be applied to
-    /// its base, or if the base occurs twice.
+    /// its base, or if its base occurs twice in the pack.
     Entry(usize),
     /// The base of a delta is not in the pack: the pack is thin, or an offset is wrong.
     Thin,

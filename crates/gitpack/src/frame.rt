@@ -225,7 +225,7 @@ fn releasable(head: PackHead, window: &[u8], count: usize) -> usize
     }
 }
 
-// Removes the first `count` bytes.
+// Removes the first `count` bytes of the window.
 fn drop_front<A: Allocator + Copy>(window: &mut Vec<u8, A>, count: usize)
     requires { count ≤ length window.old.items }
     ensures { window.new.items ≡ drop count window.old.items }
@@ -235,8 +235,8 @@ fn drop_front<A: Allocator + Copy>(window: &mut Vec<u8, A>, count: usize)
     window.truncate(length - count);
 }
 
-// Returns the state of the header after more bytes. If `head` is `Unread`, the pack begins with
-// `body`. Otherwise the header was read earlier, and `head` is returned.
+// Returns the state of the header after more bytes have arrived. If `head` is `Unread`, `body` is
+// the start of the pack, and the header is read from `body`. Otherwise `head` is returned.
 fn head_after(head: PackHead, body: &[u8]) -> PackHead
     ensures { HeadAfter head body.now result }
 {
@@ -275,8 +275,8 @@ fn body_of(pack: &[u8]) -> &[u8]
     }
 }
 
-// Returns the trailer of a pack that ends with these bytes. Returns `None` if the trailer differs
-// from `sum`.
+// Returns the trailer of a pack that ends with these bytes, or `None` if the last twenty bytes
+// differ from `sum`.
 fn trailer_of(pack: &[u8], sum: &[u8; ID_BYTES]) -> Option<Oid>
     ensures parts { IfSome result (λ id. (id ≡ sum.now)
         × (pack.now ≡ take (length pack.now - 20) pack.now ++ sum.now)) }

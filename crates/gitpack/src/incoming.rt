@@ -68,9 +68,9 @@ impl<S: Spool + Drop, A: Allocator + Copy> IncomingPack<S, A> {
         Ok(())
     }
 
-    /// Returns the spool of the received pack and the objects of the pack, once all bytes have
-    /// arrived. The visitor must be the same as in all `feed` calls, and receives the remaining
-    /// objects.
+    /// Returns the spool with the received pack, and the objects of the pack. Must be called after
+    /// all bytes have arrived. The visitor must be the same as in all `feed` calls, and receives
+    /// the remaining objects.
     ///
     /// Fails for the same reasons as [`crate::index_pack`]. Fails with `Spool` if the spool fails,
     /// or returns a zlib stream that cannot be inflated.
@@ -100,7 +100,7 @@ impl<S: Spool + Drop, A: Allocator + Copy> IncomingPack<S, A> {
     }
 }
 
-// Returns the objects of a scanned pack.
+// Applies the deltas of a scanned pack, and returns all objects of the pack.
 fn objects_of<S: Spool, A: Allocator + Copy, V: ObjectVisitor>(
     spool: &S,
     scanned: ScannedPack<A>,

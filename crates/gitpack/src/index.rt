@@ -105,7 +105,7 @@ impl<A: Allocator + Copy> PackIndex<A> {
         self.entries.as_slice()
     }
 
-    /// Returns the position of the entry with this id, or `None` if the index lacks the id.
+    /// Returns the position of an entry with this id, or `None` if no entry has the id.
     pub fn find(&self, id: &Oid) -> Option<usize>
         ensures { MatchOption result (All (λ e. e.id ≢ id.now) self.now.entries)
             (HoldsAt (λ e. e.id ≡ id.now) self.now.entries) }
@@ -117,7 +117,7 @@ impl<A: Allocator + Copy> PackIndex<A> {
         }
     }
 
-    /// Returns the id of the entry at position `place`, or `None` past the end.
+    /// Returns the id of the entry at position `place`, or `None` if there is no such entry.
     pub fn id(&self, place: usize) -> Option<Oid>
         ensures { MatchOption result (length self.now.entries ≤ place)
             (λ id. HoldsAt (λ e. e.id ≡ id) self.now.entries place) }
@@ -128,7 +128,7 @@ impl<A: Allocator + Copy> PackIndex<A> {
         }
     }
 
-    /// Returns the CRC-32 of the entry at position `place`, or `None` past the end.
+    /// Returns the CRC-32 of the entry at position `place`, or `None` if there is no such entry.
     pub fn crc(&self, place: usize) -> Option<u32>
         ensures { MatchOption result (length self.now.entries ≤ place)
             (λ crc. HoldsAt (λ e. e.crc ≡ crc) self.now.entries place) }
@@ -139,7 +139,7 @@ impl<A: Allocator + Copy> PackIndex<A> {
         }
     }
 
-    /// Returns the offset of the entry at position `place`, or `None` past the end.
+    /// Returns the offset of the entry at position `place`, or `None` if there is no such entry.
     pub fn offset(&self, place: usize) -> Option<u64>
         ensures { MatchOption result (length self.now.entries ≤ place)
             (λ offset. HoldsAt (λ e. e.offset ≡ offset) self.now.entries place) }
@@ -158,9 +158,9 @@ impl<A: Allocator + Copy> PackIndex<A> {
     }
 }
 
-// Searches for an id by its first eight bytes, and returns the position of its entry. The search
-// reads only a small part of `fronts`. If two ids begin with the same eight bytes, the search can
-// miss an entry.
+// Searches for an id by its first eight bytes. Returns the position of an entry with the id, or
+// `None` if the search finds none. The search reads only a small part of `fronts`. If two ids begin
+// with the same eight bytes, the search can miss one of them.
 fn find_front(entries: &[IndexEntry], fronts: &[u64], ends: &[u32; 256], id: &Oid) -> Option<usize>
     ensures { IfSome result (HoldsAt (λ e. e.id ≡ id.now) entries.now) }
 {
@@ -210,7 +210,7 @@ fn ends_of(entries: &[IndexEntry]) -> [u32; 256]
     ends
 }
 
-// Returns the position of the entry with this id, or `None` if no entry has the id.
+// Returns the position of an entry with this id, or `None` if no entry has the id.
 fn find(entries: &[IndexEntry], id: &Oid) -> Option<usize>
     requires { AreEntries entries.now }
     ensures { MatchOption result (All (λ e. e.id ≢ id.now) entries.now)
@@ -222,7 +222,7 @@ fn find(entries: &[IndexEntry], id: &Oid) -> Option<usize>
     }
 }
 
-// Returns whether the entries are sorted by id, and their number is within the limit.
+// Returns whether the entries are sorted by id, and there are at most `MAX_ENTRIES` entries.
 fn are_entries(entries: &[IndexEntry]) -> bool
     requires { All IsLine entries.now }
     ensures { IsTrue result ↔ AreEntries entries.now }

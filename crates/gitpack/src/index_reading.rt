@@ -9,10 +9,12 @@ use crate::index::{IndexEntry, MAX_ENTRIES};
 use gitobject::{ID_BYTES, id_of_bytes};
 use std::alloc::{AllocError, Allocator};
 
-// The offset in the index of the last number of the fan-out table. This number counts all ids.
+// The offset of the last number of the fan-out table in the index. This number is the number of
+// entries.
 const COUNT: usize = 1_028;
 
-// The bit that marks a position in the table of 64-bit offsets.
+// The bit of a number in the table of 32-bit offsets that is set if the other bits are a position
+// in the table of 64-bit offsets.
 const LONG_MARK: u32 = 1 << 31;
 
 // The unread parts of the tables of a pack index.
@@ -34,8 +36,8 @@ pub(crate) fn read_entries<A: Allocator + Copy>(
     bytes: &[u8],
 ) -> Result<Option<Vec<IndexEntry, A>>, AllocError>
     ensures lines { IfOk result (λ found. IfSome found (λ entries. All IsLine entries.items)) }
-    ensures whole { (lines : List IndexEntry) → AreEntries lines → bytes.now ≡ index_tables lines
-        → IfOk result (λ found. MatchOption found ⊥ (λ entries. entries.items ≡ lines)) }
+    ensures whole { (all : List IndexEntry) → AreEntries all → bytes.now ≡ index_tables all
+        → IfOk result (λ found. MatchOption found ⊥ (λ entries. entries.items ≡ all)) }
 {
     let Some((count, rows)) = split_count(bytes) else {
         return Ok(None);
@@ -46,10 +48,11 @@ pub(crate) fn read_entries<A: Allocator + Copy>(
     read_lines(alloc, tables, count)
 }
 
-// Returns the number of entries, and the bytes after the fan-out table.
+// Returns the number of entries, and the bytes after the fan-out table. Returns `None` if there are
+// too few bytes.
 fn split_count(bytes: &[u8]) -> Option<(usize, &[u8])>
-    ensures { (lines : List IndexEntry) → AreEntries lines → bytes.now ≡ index_tables lines
-        → MatchOption result ⊥ (λ it. (it.0 ≡ length lines) × (it.1.now ≡ index_rows lines)) }
+    ensures { (all : List IndexEntry) → AreEntries all → bytes.now ≡ index_tables all
+        → MatchOption result ⊥ (λ it. (it.0 ≡ length all) × (it.1.now ≡ index_rows all)) }
 {
     let Some((_before, after)) = bytes.split_at_checked(COUNT) else {
         return None;
@@ -60,11 +63,12 @@ fn split_count(bytes: &[u8]) -> Option<(usize, &[u8])>
     Some((u32::from_be_bytes(*count) as usize, rows))
 }
 
-// Splits the bytes after the fan-out table into the tables of `count` entries.
+// Splits the bytes after the fan-out table into the tables of `count` entries. Returns `None` if
+// there are too few bytes, or if `count` is at least 2^31.
 fn split_tables(rows: &[u8], count: usize) -> Option<Tables<'_>>
-    ensures { (lines : List IndexEntry) → AreEntries lines → count ≡ length lines
-        → rows.now ≡ index_rows lines
-        → MatchOption result ⊥ (λ it. AreRows it.ids.now it.crcs.now it.offsets.now it.long_offsets.now 0 lines) }
+    ensures { (all : List IndexEntry) → AreEntries all → count ≡ length all
+        → rows.now ≡ index_rows all
+        → MatchOption result ⊥ (λ it. AreRows it.ids.now it.crcs.now it.offsets.now it.long_offsets.now 0 all) }
 {
     if count > MAX_ENTRIES {
         return None;
@@ -93,9 +97,9 @@ fn read_lines<A: Allocator + Copy>(
     count: usize,
 ) -> Result<Option<Vec<IndexEntry, A>>, AllocError>
     ensures lines { IfOk result (λ found. IfSome found (λ entries. All IsLine entries.items)) }
-    ensures whole { (lines : List IndexEntry) → AreEntries lines → count ≡ length lines
-        → AreRows tables.entry.ids.now tables.entry.crcs.now tables.entry.offsets.now tables.entry.long_offsets.now 0 lines
-        → IfOk result (λ found. MatchOption found ⊥ (λ entries. entries.items ≡ lines)) }
+    ensures whole { (all : List IndexEntry) → AreEntries all → count ≡ length all
+        → AreRows tables.entry.ids.now tables.entry.crcs.now tables.entry.offsets.now tables.entry.long_offsets.now 0 all
+        → IfOk result (λ found. MatchOption found ⊥ (λ entries. entries.items ≡ all)) }
 {
     let mut entries = Vec::with_capacity(alloc, count)?;
     let mut left = tables;
@@ -109,7 +113,8 @@ fn read_lines<A: Allocator + Copy>(
     Ok(Some(entries))
 }
 
-// Returns the first entry in these tables, and the tables without this entry.
+// Returns the first entry in these tables, and the tables without this entry. Returns `None` if a
+// table is too short.
 fn split_line(tables: Tables<'_>) -> Option<(IndexEntry, Tables<'_>)>
     ensures line { IfSome result (λ it. IsLine it.0) }
     ensures first { (longs : ℕ) (line : IndexEntry) (more : List IndexEntry)
@@ -146,7 +151,7 @@ fn split_line(tables: Tables<'_>) -> Option<(IndexEntry, Tables<'_>)>
 }
 
 // Returns the offset that a number in the table of 32-bit offsets denotes, and the unread part of
-// the table of 64-bit offsets.
+// the table of 64-bit offsets. Returns `None` if the offset is missing in the latter table.
 fn split_offset(short: u32, longs: &[u8]) -> Option<(u64, &[u8])>
     ensures { (before : ℕ) (line : IndexEntry) (more : List ℕ) → IsLine line
         → short ≡ short_of before line → longs.now ≡ long_bytes line ++ more

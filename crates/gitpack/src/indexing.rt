@@ -37,7 +37,7 @@ pub struct IndexLimits {
     /// The maximum size of an object.
     pub object: usize,
     /// The maximum number of bytes in memory while deltas are applied: bases, a delta, and its
-    /// result. A zlib stream of at most 128 MiB and a cache of 64 MiB are not counted.
+    /// result. Not counted are one zlib stream, which has at most 128 MiB, and the cache of 64 MiB.
     pub held: usize,
     /// The maximum total size of all objects and deltas.
     pub total: usize,
@@ -132,8 +132,8 @@ impl<A: Allocator + Copy> IndexedPack<A> {
         ensures read_back { IfOk result (λ text. (found : Option Index)
             → ReadsIndex text.items found → found ≡ Some (index_of self.now)) }
     {
-        let lines = lines_of(alloc, self.entries.as_slice())?;
-        write_index(alloc, lines.as_slice(), &self.checksum)
+        let index_entries = lines_of(alloc, self.entries.as_slice())?;
+        write_index(alloc, index_entries.as_slice(), &self.checksum)
     }
 }
 
@@ -154,14 +154,14 @@ fn lines_of<A: Allocator + Copy>(
     alloc: A,
     entries: &[IndexedEntry],
 ) -> Result<Vec<IndexEntry, A>, AllocError>
-    ensures lines { IfOk result (λ lines. lines.items ≡ map line_of entries.now) }
-    ensures count { IfOk result (λ lines. length lines.items ≡ length entries.now) }
+    ensures lines { IfOk result (λ list. list.items ≡ map line_of entries.now) }
+    ensures count { IfOk result (λ list. length list.items ≡ length entries.now) }
 {
     entries.iter().map(|entry| entry.entry).collect(alloc)
 }
 
-/// Indexes a pack, and passes each object to a visitor. The visitor receives undeltified objects
-/// first, and the result of each delta after its base.
+/// Indexes a pack, and passes each object to a visitor. The visitor receives all undeltified
+/// objects first, and then the result of each delta after the delta's base.
 ///
 /// Fails with `Frame` if the header or the trailer is wrong, or if bytes follow the last entry.
 /// Fails with `Entry` if an entry is malformed or missing, and with `Thin` if the base of a delta
@@ -186,7 +186,7 @@ pub fn index_pack<A: Allocator + Copy, V: ObjectVisitor>(
     Ok(index)
 }
 
-// Feeds a pack in pieces. The pieces that are already scanned do not stay in memory.
+// Feeds a pack to `incoming` in pieces. Pieces whose entries are scanned do not stay in memory.
 fn feed_all<S: Spool + Drop, A: Allocator + Copy, V: ObjectVisitor>(
     incoming: &mut IncomingPack<S, A>,
     pack: &[u8],

@@ -4,8 +4,8 @@
 //! # Proved
 //!
 //! - [`read_head`] accepts exactly the entry headers of `specs/Entries.antt`: a type, a size, and
-//!   the offset or id of a delta base. A byte sequence begins with at most one entry header
-//!   ([`laws`]), so [`read_head`] reads back each header that [`PackWriter`] writes.
+//!   for a delta also the offset or id of its base. A byte sequence begins with at most one entry
+//!   header ([`laws`]), so [`read_head`] reads back each header that [`PackWriter`] writes.
 //! - [`apply_delta`] returns an object if and only if the bytes are a delta of the base, and the
 //!   size of the object is within the limit. In a delta of the base, both recorded sizes are
 //!   correct, and each copied range is within the base. The object consists of the copied and
@@ -25,10 +25,10 @@
 //!   SHA-1 of all these bytes. The functions [`put_header`] and [`put_entry`] write only a pack
 //!   header or one entry.
 //! - [`IncomingPack`] accepts only packs of version 2 whose trailer is the SHA-1 of all preceding
-//!   bytes. All received bytes are appended to a [`Spool`], in order, and the spool is returned.
-//!   Each successful [`IncomingPack::feed`] stores its bytes, even after a fault of the pack. The
-//!   visitor receives each object with the id that its type and bytes determine. The returned
-//!   objects are sorted by id.
+//!   bytes. All received bytes are appended to a [`Spool`], in order, and
+//!   [`IncomingPack::finish`] returns the spool. Each successful [`IncomingPack::feed`] stores its
+//!   bytes, even if the pack has a fault. An [`ObjectVisitor`] receives each object with the id
+//!   that the object's type and bytes determine. The returned objects are sorted by id.
 //! - A vector is a [`Spool`], and returns the bytes that were appended to it.
 //! - [`index_pack`] gives the same guarantees for a pack in one slice.
 //! - No call panics, overflows or reads out of bounds, and every call returns.
@@ -47,10 +47,10 @@
 //! - The encoding of a size in a delta, or of the offset of a base, has at most eight bytes.
 //! - A pack of version 3 is refused; Git reads it. All ids are SHA-1 ids.
 //! - An index of version 1 is refused. An index of version 2 is accepted only in the form that Git
-//!   writes. Its table of 64-bit offsets contains only offsets of at least 2^31, one per entry, in
-//!   the order of the entries. The index's own checksum is not checked.
+//!   writes. In this form, the table of 64-bit offsets contains exactly the offsets of at least
+//!   2^31, in the order of the entries. The index's own checksum is not checked.
 //! - A pack of 2^31 objects or more is refused. A thin pack is refused, and so is a pack with a
-//!   chain of more than 8,191 deltas. No Git command makes longer chains, but Git can read them.
+//!   chain of more than 8,191 deltas. Git can read longer chains, but no Git command makes them.
 //!   Indexing refuses a pack with an entry of more than 128 MiB. This limit covers the entry header
 //!   and the zlib stream.
 //! - A pack may contain the same object twice, and then the index lists both entries. Git accepts a

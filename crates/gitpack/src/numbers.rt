@@ -11,7 +11,7 @@ const GROUP_VALUES: u8 = 128;
 const MAX_BYTES: usize = 8;
 
 /// Splits the bytes into the encoded number at their start and the remaining bytes. Returns `None`
-/// if the number has more than `most` bytes, or if the bytes end first.
+/// if the number has more than `most` bytes, or if the bytes end before the number does.
 pub(crate) fn split_number(most: usize, bytes: &[u8]) -> Option<(&[u8], &[u8])>
     ensures { MatchOption result
         ((text rest : List ℕ) → IsNumber text → length text ≤ most → ¬ (bytes.now ≡ text ++ rest))
@@ -27,7 +27,7 @@ pub(crate) fn split_number(most: usize, bytes: &[u8]) -> Option<(&[u8], &[u8])>
     Some(bytes.split_at(last + 1))
 }
 
-// Returns the index of the first byte below 128.
+// Returns the index of the first byte below 128, or `None` if no byte is below 128.
 fn last_place(bytes: &[u8]) -> Option<usize>
     ensures { MatchOption result
         ((k : ℕ) → k < length bytes.now → 128 ≤ slice_index bytes.now k)

@@ -122,14 +122,14 @@ impl<'a, S: Spool, A: Allocator + Copy> Resolver<'a, S, A> {
         }
     }
 
-    // Removes the inflated stream of an entry from the cache and returns the stream, or `None` if
-    // the stream is not cached.
+    // Takes the inflated stream of an entry out of the cache. Returns `None` if the stream is not
+    // cached.
     fn take_cached(&mut self, index: usize) -> Option<Vec<u8, A>> {
         self.cache.get_mut(index)?.take()
     }
 
-    // Reads the stream of an entry from the spool and inflates it again. Fails with `Spool` if the
-    // stream cannot be inflated, since the same stream was inflated when it arrived.
+    // Reads the stream of an entry from the spool and inflates it again. The stream was inflated
+    // once when it arrived. So if it cannot be inflated again, the fault is `Spool`.
     fn reinflate(&mut self, index: usize, entry: &Scanned) -> Result<Vec<u8, A>, PackFileFault> {
         let stream = self.read_stream(entry)?;
         let bytes = stream.as_slice();
@@ -192,11 +192,12 @@ impl<'a, S: Spool, A: Allocator + Copy> Resolver<'a, S, A> {
         }
     }
 
-    // Returns the index of the next delta against the last base of the chain.
+    // Returns the index of the next delta against the last base of the chain, or `None` if all
+    // deltas against this base are applied.
     fn next_delta(&mut self) -> Option<usize> {
         let last = self.bases.last_mut()?;
         let current = last.remaining;
-        last.remaining = self.children.advanced(&current);
+        last.remaining = self.children.cursor_after(&current);
         self.children.peek(&current)
     }
 
@@ -240,8 +241,8 @@ impl<'a, S: Spool, A: Allocator + Copy> Resolver<'a, S, A> {
         Ok(())
     }
 
-    // Returns the length of the chain with one more delta. Fails with `TooLarge` if the chain is
-    // too long.
+    // Returns the number of deltas in the chain after one more delta is applied. Fails with
+    // `TooLarge` if the chain would be too long.
     fn next_depth(&self) -> Result<usize, PackFileFault> {
         match self.bases.last() {
             Some(base) if base.depth >= MAX_DEPTH => Err(PackFileFault::TooLarge),
@@ -258,8 +259,8 @@ impl<'a, S: Spool, A: Allocator + Copy> Resolver<'a, S, A> {
         Ok(())
     }
 
-    // Fails with `TooLarge` if the object that a delta makes exceeds the limits for one object or
-    // for memory.
+    // Fails with `TooLarge` if the object that a delta makes exceeds the size limit, or if the
+    // delta and this object would exceed the memory limit.
     fn check_size(&self, delta: &[u8]) -> Result<(), PackFileFault> {
         match made_size(delta) {
             Some(size) if size > self.limits.object => Err(PackFileFault::TooLarge),
@@ -278,7 +279,7 @@ impl<'a, S: Spool, A: Allocator + Copy> Resolver<'a, S, A> {
     }
 
     // Applies the delta to the last base of the chain, and returns the type and the bytes of the
-    // result.
+    // result. Returns `None` if the delta cannot be applied.
     fn apply(&self, delta: &[u8]) -> Result<Option<(ObjectType, Vec<u8, A>)>, AllocError> {
         let Some(base) = self.bases.last() else {
             return Ok(None);

@@ -134,7 +134,8 @@ impl<A: Allocator + Copy> Scanner<A> {
         }
     }
 
-    /// Scans the remaining entries of a complete pack with `count` entries.
+    /// Scans the remaining entries of a complete pack with `count` entries. Fails with the first
+    /// fault of the pack or of the visitor.
     pub(crate) fn finish<V: ObjectVisitor>(
         self,
         count: u32,
@@ -201,8 +202,8 @@ impl<A: Allocator + Copy> Scanner<A> {
         Ok(())
     }
 
-    // Scans the next entry, and returns whether it is complete. Fails with `TooLarge` if the entry
-    // is longer than `MAX_ENTRY`, even if it is incomplete.
+    // Scans the next entry. Returns `false` if some bytes of the entry have not arrived. Fails with
+    // `TooLarge` if the entry is longer than `MAX_ENTRY`, even if its end has not arrived.
     fn scan_entry<V: ObjectVisitor>(
         &mut self,
         limits: IndexLimits,

@@ -13,7 +13,7 @@ use std::io::ErrorKind;
 pub enum SpoolFault {
     /// Out of memory.
     Memory,
-    /// The system refused a call, or the spool is too short.
+    /// A system call failed, or the spool has fewer bytes than requested.
     File(ErrorKind),
 }
 
@@ -26,14 +26,14 @@ pub trait Spool {
     // the contents of a system file.
     ghost is_known: { Bool };
 
-    /// Appends bytes. Fails with `File` if the system refuses a call, or with `Memory` if out of
-    /// memory. A failed call appends nothing.
+    /// Appends bytes. Fails with `File` if a system call fails, or with `Memory` if out of memory.
+    /// After a fault the spool is unchanged.
     fn append(&mut self, piece: &[u8]) -> Result<(), SpoolFault>
         ensures ok { OnOk result (bytes self.new ≡ bytes self.old ++ piece.now) }
         ensures err { OnErr result (bytes self.new ≡ bytes self.old) };
 
-    /// Fills the buffer with the bytes starting at `start`. Fails with `File` if the spool is too
-    /// short or the system refuses a call. After a fault the buffer may hold any bytes.
+    /// Fills the buffer with the bytes starting at `start`. Fails with `File` if the spool has
+    /// too few bytes or a system call fails. After a fault the buffer may hold any bytes.
     fn read_at(&self, start: usize, buffer: &mut [u8]) -> Result<(), SpoolFault>
         ensures ok { OnOk result (IsTrue is_known → IsPart (bytes self.now) start buffer.new) }
         ensures err { OnErr result

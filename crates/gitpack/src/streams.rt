@@ -23,8 +23,8 @@ pub(crate) struct Inflated<A: Allocator + Copy> {
 }
 
 /// Inflates the stream at the start of `bytes` to exactly `size` bytes. Returns `None` if `bytes`
-/// ends before the stream does. Fails with `Entry(number)` if the stream is malformed or has the
-/// wrong size.
+/// ends before the stream does. Fails with `Entry(number)` if the stream is malformed or inflates
+/// to another size, or with `Memory` if out of memory.
 pub(crate) fn inflate<A: Allocator + Copy>(
     alloc: A,
     inflater: &mut Inflater,

@@ -1,4 +1,4 @@
--- A repository that several connections share, and the packs that they receive.
+-- A repository that several connections share, and the packs that their clients receive.
 use Rattle.std.specs.Prelude.{◌≡◌, ◌≤◌, ◌++◌, ℕ, List, Option, None, length, ⊤}
 use Rattle.std.specs.declared.alloc.Global.{Global}
 use Rattle.gobject.specs.declared.fault.PackFault.{PackFault}
@@ -10,7 +10,7 @@ use Rattle.gitrepository.specs.declared.parts.StoreParts.{StoreParts}
 use Rattle.gitprogram.specs.declared.opening.Extent.{Extent}
 use Rattle.gitprogram.specs.declared.opening.Extent.TheVariants as extent
 
--- the server of a repository, in either case: the whole history was read, or only the objects that refs point to
+-- the server for a repository, whether the whole history was read or only the objects that refs point to
 abbrev pub server_in : Extent → Server Global
 server_in (extent.Whole server) = server
 server_in (extent.Tips server) = server

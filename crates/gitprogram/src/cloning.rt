@@ -31,9 +31,10 @@ const SPECS: [&[u8]; 2] = [b"+refs/heads/*:refs/heads/*", b"+refs/tags/*:refs/ta
 // The ref prefixes that a clone sends in its ls-refs request.
 const PREFIXES: [&[u8]; 3] = [b"HEAD", b"refs/heads/", b"refs/tags/"];
 
-// The temporary ref for a detached HEAD during the fetch, and its refspec.
+// The temporary ref for a detached HEAD during the fetch.
 const HEAD_REF: &[u8] = b"refs/clone/HEAD";
 
+// The refspec that fetches a detached HEAD into the temporary ref.
 const HEAD_SPEC: &[u8] = b"+HEAD:refs/clone/HEAD";
 
 // The prefix of branch names.
@@ -42,7 +43,7 @@ const BRANCHES: &[u8] = b"refs/heads/";
 // The branch for HEAD if the server does not report its HEAD.
 const DEFAULT_BRANCH: &[u8] = b"refs/heads/main";
 
-// The HEAD for the clone of a server.
+// The HEAD of a clone, which depends on the server's reply to ls-refs.
 #[derive(Drop)]
 enum ServerHead {
     // A HEAD that points at this branch, which may be unborn.
@@ -51,15 +52,15 @@ enum ServerHead {
     Detached,
 }
 
-// The HEAD for the clone of a server, and the ids of the server's refs.
+// The HEAD of a clone, and the ids of the server's refs.
 #[derive(Drop)]
 struct ServerRefs {
     head: ServerHead,
     tips: Tips<Global>,
 }
 
-/// Clones a server's repository into a new or empty directory, as a bare repository. A failed clone
-/// removes all files that it created.
+/// Clones a server's repository into a new or empty directory, as a bare repository. If the clone
+/// fails, all files that it created are removed.
 pub(crate) fn clone_remote<R, E>(rt: &R, args: &CloneArgs<'_>, errors: &mut E) -> Result<(), Fault>
 where
     R: Files + AllocGlobal + Net,
@@ -149,7 +150,8 @@ fn head_of(alloc: Global, reply: &LsReply<Global>) -> Result<ServerHead, Fault>
     }
 }
 
-// Returns the HEAD for the clone of a server whose HEAD points at an unborn branch of this name.
+// Returns the HEAD for the clone of a server whose HEAD is unborn and points at this name. If the
+// name is not a branch name, the result points at the default branch.
 fn unborn_head(alloc: Global, name: &RefName<Global>) -> Result<ServerHead, Fault>
     ensures { IfOk result (IsUnbornHead name.now) }
 {
@@ -174,8 +176,8 @@ fn listed_head(alloc: Global, reply: &LsReply<Global>) -> Result<ServerHead, Fau
     }
 }
 
-// Returns the HEAD for the clone of a server whose HEAD is a symbolic ref to this name. Git
-// detaches the HEAD of a clone if the name is not a branch.
+// Returns the HEAD for the clone of a server whose HEAD is a symbolic ref to this name. As in
+// Git, the result is detached if the name is not a branch name.
 fn symref_of(alloc: Global, name: &RefName<Global>) -> Result<ServerHead, Fault>
     ensures { IfOk result (IsSymrefOf (Some name.now)) }
 {
@@ -265,7 +267,8 @@ fn make_fault(alloc: Global, dir: &str, fault: &RepositoryFault<Global>) -> Faul
     }
 }
 
-// Creates the repository, with a HEAD that points at a branch.
+// Creates the repository, with a HEAD that points at a branch. The outer result fails only if out
+// of memory.
 fn make<'r, R: Files + AllocGlobal>(
     rt: &'r R,
     dir: &'r str,
@@ -317,8 +320,8 @@ fn keep<'r, R: Files>(
     }
 }
 
-// Returns the branches and tags of the clone, and its HEAD if HEAD is detached. A HEAD that is
-// detached at a tag is peeled to the tag's commit.
+// Returns the branches and tags of the clone, and its HEAD if HEAD is detached, or `Head::None`
+// otherwise. A HEAD that is detached at a tag is peeled to the tag's commit.
 fn kept_refs(alloc: Global, repo: &Repo<Global>) -> Result<(Refs<Global>, Head<Global>), Fault> {
     let mut kept = Refs::new(alloc);
     let mut head = Head::None;

@@ -79,7 +79,7 @@ fn add_asks(
     Ok(true)
 }
 
-// Adds the ref update for a server's ref, if the refspec matches it. Returns `false` if the
+// Adds the ref update for a server's ref, if the refspec matches the ref. Returns `false` if the
 // destination is not a ref name.
 fn add_ask(
     alloc: Global,

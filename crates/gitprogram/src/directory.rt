@@ -69,13 +69,13 @@ impl Directories {
         }
     }
 
-    /// Returns the refs of the repository.
+    /// Returns access to the ref files of the repository.
     pub(crate) fn refs<'r, R: Files>(&'r self, alloc: Global, rt: &'r R) -> GitDirectory<'r, R> {
-        GitDirectory::linked_worktree(alloc, rt, self.common.as_str(), self.own.as_str())
+        GitDirectory::with_common_directory(alloc, rt, self.common.as_str(), self.own.as_str())
     }
 }
 
-/// Returns the repository at a path, which is a bare repository or a work tree
+/// Returns the repository at a path, which names a bare repository or a work tree
 /// (git-upload-pack(1)).
 pub(crate) fn find_repository<R>(rt: &R, path: &str) -> Result<Directories, Fault>
 where

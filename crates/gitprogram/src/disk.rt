@@ -34,10 +34,11 @@ pub(crate) trait Disk {
     /// Returns the modification time of the pack directory, or `None` if the time is unknown.
     fn change_time(&self, found: &Directories) -> Option<SystemTime>;
 
-    /// Opens the objects of a repository.
+    /// Opens the objects of a repository, and returns a ticket for them.
     fn open_objects(&self, found: &Directories) -> Result<Ticket, NotOpened>;
 
     /// Opens the objects of a repository, and reads the history of the refs and HEAD in `tips`.
+    /// Returns a server with this history, and a ticket for the objects.
     fn open_history(
         &self,
         found: &Directories,
@@ -72,6 +73,6 @@ pub(crate) trait Disk {
             (λ fault. gives_rest parts.old [] (Some fault)) };
 
     /// Removes and returns the detailed fault of the last call with this ticket that failed with
-    /// `Other`.
+    /// `Other`. Returns `None` if no fault is stored.
     fn take_fault(&self, ticket: &Ticket, found: &Directories) -> Option<Fault>;
 }

@@ -33,8 +33,8 @@ impl fmt::Display for Fault {
     }
 }
 
-// Writes a text with a question mark for each control character, so that the text is safe on a
-// terminal.
+// Writes a text with a question mark in place of each control character, so that the text is safe
+// on a terminal.
 fn write_shown<W: fmt::Write>(text: &str, f: &mut fmt::Formatter<W>) -> fmt::Result {
     for letter in text.chars() {
         f.write_char(if letter.is_control() { '?' } else { letter })?;

@@ -1,4 +1,4 @@
-//! The command `gitrepo fetch`, and the code that `gitrepo clone` also uses.
+//! The command `gitrepo fetch`, and the code that it shares with `gitrepo clone`.
 
 use crate::current::fetched_already;
 use crate::directory::{Directories, find_repository};
@@ -35,8 +35,9 @@ use std::rt::Files;
 // The size of a connection buffer.
 const BUFFER: usize = 65_536;
 
-// The maximum number of new ids in a request. Git's batches double up to 16,384 ids. A server of
-// `gitv2` accepts 4,096 haves, so this maximum leaves room for common ids.
+// The maximum number of new haves in a request. Git doubles the number of new haves from request to
+// request, up to 16,384. `gitv2` as a server accepts at most 4,096 haves in a request, so this
+// maximum leaves room for common ids.
 const MAX_BATCH: usize = 2_048;
 
 // The prefix of branch names.
@@ -85,7 +86,7 @@ pub(crate) struct Fetch<'r, R: Files> {
     pub(crate) client: Client,
     /// The report of the fetch.
     pub(crate) fetched: Fetched<Global>,
-    /// The received pack.
+    /// The received pack, or `None` if no pack was received.
     pub(crate) received: Option<StoredReceived<'r, R>>,
 }
 
@@ -149,8 +150,8 @@ where
     conclude(rt, found, report, outcome)
 }
 
-// Returns those refs of the server that could match the refspecs. Fails if a refspec names a ref
-// that the server does not have.
+// Returns the server's refs whose names begin with a prefix of a refspec. The server may also list
+// other refs. Fails if a refspec names a ref that the server does not have.
 fn list_sources<R>(
     rt: &R,
     remote: &Remote,
@@ -236,7 +237,8 @@ pub(crate) fn progress_of<E: Write + IsTerminal>(
     Progress::new(alloc, errors, is_shown)
 }
 
-// Fails at the first refspec for a single ref that the server does not have (git-fetch(1)).
+// Fails if a refspec that is not a pattern names a ref that the server does not have
+// (git-fetch(1)).
 fn check_sources(
     alloc: Global,
     remote: &Remote,

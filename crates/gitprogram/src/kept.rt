@@ -13,7 +13,7 @@ const MAX_REPOSITORIES: usize = 64;
 #[derive(Drop)]
 struct CachedRepository {
     loaded: Rc<Loaded, Global>,
-    // A weak handle to the open objects, which close when no connection uses them.
+    // A weak handle to the ticket for the objects, which stay open while a connection uses them.
     objects: Weak<u64, Global>,
     // The modification time of the pack directory, read before the objects were opened, or `None`
     // if the time is unknown.

@@ -27,7 +27,8 @@
 //!   `GIT_PROTOCOL` (`specs/Versions.antt`).
 //! - `serve` and `upload-pack` run each connection as a `Dialogue`, so the proofs of `gserver`
 //!   apply to each connection. `serve` runs the dialogues in an event loop of `gevents`, and
-//!   `upload-pack` runs one dialogue by `gtalk::drive`. A pack that is sent to its end is complete.
+//!   `upload-pack` runs one dialogue by `gtalk::drive`. If no fault ends the sending of a pack, the
+//!   pack is complete.
 //!
 //! # Only tested
 //!
@@ -37,12 +38,13 @@
 //!
 //! # Differences from Git
 //!
-//! - `clone` fetches only HEAD, branches and tags. If the server's HEAD is detached at a tag, the
-//!   clone's HEAD is detached at the tag's commit. Git refuses to clone from a server whose HEAD is
-//!   detached at a tag.
-//! - `fetch` fast-forwards a tag without force, like any other ref. If a destination is a symbolic
-//!   ref, `fetch` fails. `fetch` refuses to update the checked-out branch of a work tree, unless
-//!   the branch is checked out only in another worktree. If `core.bare` is not set in the file
+//! - `clone` fetches only HEAD, branches and tags. If the server's HEAD holds the id of a tag
+//!   object, the clone's HEAD holds the id of the tag's commit. Git refuses to clone from such a
+//!   server.
+//! - A refspec without `+` allows `fetch` to fast-forward a tag. In Git, only a refspec with `+`
+//!   allows a tag to move. `fetch` fails if a destination is a symbolic ref. `fetch` refuses to
+//!   update the branch that is checked out in the work tree of its argument DIR. A branch that is
+//!   checked out only in another worktree can be updated. If `core.bare` is not set in the file
 //!   `config`, a repository has a work tree if its directory is named `.git`.
 //! - By default, `serve` accepts at most 1,024 connections at once, and at most 64 from one
 //!   address. A client must send its first line within 10 seconds, the first byte of a request
@@ -51,17 +53,16 @@
 //!   second for each 8,192 bytes sent to the client. No client waits for the input or output of
 //!   another client. All clients wait while the server reads a history, or looks up or deflates
 //!   objects, for one client. At most 16 object stores are open at once, and `serve` refuses a
-//!   client that needs the objects of another repository. In Git, `--max-connections=0` means no
+//!   client that needs the objects of a 17th repository. In Git, `--max-connections=0` means no
 //!   limit; `serve` refuses this value. `upload-pack` waits for its client without a time limit.
 //! - `core.sharedRepository` and `core.logAllRefUpdates` are ignored: new files have the default
 //!   permissions, and no reflog is written.
 //! - `serve` and `upload-pack` serve only protocol version 2. `upload-pack` does not check
 //!   who owns a repository.
 //! - A request has at most 65,537 wants, 65,536 haves and 1,024 ref prefixes. If a client connects
-//!   while 64 others are connected, its requests have at most 1,024 wants, 4,096 haves and 64
-//!   prefixes. All these clients may be at one address. A repository has at most 65,536 refs. A
-//!   sent or received pack has less than 4 GiB. A received pack has at most 1,048,576 objects, and
-//!   entries of at most 128 MiB.
+//!   while 64 others are connected, even from one address, its requests have at most 1,024 wants,
+//!   4,096 haves and 64 prefixes. A repository has at most 65,536 refs. A sent or received pack has
+//!   less than 4 GiB. A received pack has at most 1,048,576 objects, and at most 128 MiB per entry.
 //! - The progress line shows the object count from the pack header, and the number of received
 //!   bytes.
 //! - `ls` and `fetch` print ref names as the server sent them, unless standard output is a
@@ -70,24 +71,24 @@
 //! # What the contracts do not rule out
 //!
 //! No contract covers any behaviour that "Proved" does not list. Most behaviour depends on files,
-//! streams and sockets, which contracts cannot describe. No contract says how many repositories are
-//! cached, or that an object store is ever closed. A cached repository lists its refs even if their
-//! objects have since been removed. No contract rules out that `Repositories` finds a wrong
-//! repository or reports a wrong text. No contract rules out that a packer fails with any fault, or
-//! that a pack has objects of another repository. No contract rules out that a failed command exits
-//! with any status. No contract rules out that output is lost before it is written, or that a call
-//! fails.
+//! streams and sockets, which contracts cannot describe. No contract rules out any of the
+//! following:
 //!
-//! No contract rules out that a client sees the refs or objects of an earlier connection, or that
-//! `serve` serves a repository without `git-daemon-export-ok`. No contract rules out that a client
-//! that does not request version 2 is served, or that a connection has other limits. No contract
-//! rules out that the log omits a fault, or that `fetch` reports refs as up to date that are not.
-//!
-//! No contract rules out that control bytes are written to a terminal. No contract rules out that
-//! `upload-pack` passes other bytes to the dialogue than it reads. No contract rules out that a
-//! client whose first packet is malformed gets no error packet. No contract rules out that a server
-//! ends its replies with a response-end packet. No contract rules out that a pack lacks entries,
-//! since the contract of `gitrepository` allows any pack.
+//! - No contract says how many repositories are cached, or that an object store is ever closed. A
+//!   cached repository lists its refs even if their objects have since been removed.
+//! - `Repositories` may find a wrong repository or report a wrong error text. A packer may fail
+//!   with a wrong fault, and a pack may have objects of another repository, or lack entries.
+//! - A failed command may exit with a wrong status. Output may be lost before it is written, and a
+//!   call may fail without a reason.
+//! - A client may see the refs or objects of an earlier connection. `serve` may serve a repository
+//!   without `git-daemon-export-ok`. A client that does not request version 2 may be served, and a
+//!   connection may have limits other than those above.
+//! - The log may omit a fault, and `fetch` may report that refs are up to date although they are
+//!   not.
+//! - Control bytes may be written to a terminal.
+//! - `upload-pack` may pass bytes to the dialogue that differ from the bytes it reads. A client
+//!   whose first packet is malformed may get no error packet. A server may end its replies with a
+//!   response-end packet.
 //!
 //! # Dependencies
 //!

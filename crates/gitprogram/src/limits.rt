@@ -8,7 +8,7 @@ pub(crate) const MAX_FETCHED_PACK: usize = MAX_STREAM;
 
 /// The limits on requests and replies.
 ///
-/// A request that reaches every limit uses less than 5 MiB of memory. With the default limits, a
+/// A request that reaches every limit uses less than 5 MiB of memory. With `Limits::default()`, a
 /// request uses less than 256 KiB.
 pub(crate) const LIMITS: Limits = Limits {
     prefixes: 1_024,
@@ -19,7 +19,8 @@ pub(crate) const LIMITS: Limits = Limits {
 // The maximum number of connections with the limits `LIMITS`.
 const LARGE: usize = 64;
 
-/// Returns the limits on the requests of a new connection, while `others` connections are open.
+/// Returns the limits on the requests of a new connection, while `others` other connections are
+/// open.
 pub(crate) fn limits_beside(others: usize) -> Limits {
     if others < LARGE {
         LIMITS

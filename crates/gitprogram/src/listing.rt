@@ -39,8 +39,8 @@ fn prefixes_to_ask(prefixes: &[Prefix<Global>]) -> &[Prefix<Global>] {
     }
 }
 
-// Returns a line for each ref that begins with one of these prefixes, or for each ref if there are
-// no prefixes.
+// Returns the lines of each ref whose name begins with one of these prefixes, or of each ref if
+// there are no prefixes.
 fn reply_text(
     alloc: Global,
     reply: &LsReply<Global>,
@@ -55,8 +55,8 @@ fn reply_text(
     Ok(text)
 }
 
-// Appends the lines of the ref at this position if the name of the ref begins with one of the
-// prefixes.
+// Appends the lines of the ref at this position if its name begins with one of the prefixes, or if
+// there are no prefixes.
 fn put_at(
     text: &mut Vec<u8>,
     reply: &LsReply<Global>,

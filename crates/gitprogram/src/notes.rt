@@ -29,7 +29,7 @@ impl Notes {
         }
     }
 
-    /// Records the path in the first line of a connection.
+    /// Records the path in the first line of a connection. Fails only if out of memory.
     pub(crate) fn note_path(&self, path: &[u8]) -> Result<(), AllocError> {
         let mut copy = Vec::new(self.alloc);
         copy.extend_from_slice(path)?;
@@ -52,7 +52,7 @@ impl Notes {
         self.is_first.get()
     }
 
-    /// Removes and returns the recorded path.
+    /// Removes and returns the recorded path, which is empty if no path was recorded.
     pub(crate) fn take_path(&self) -> Vec<u8> {
         match self.path.try_replace(Vec::new(self.alloc)) {
             Ok(path) => path,
@@ -60,7 +60,7 @@ impl Notes {
         }
     }
 
-    /// Removes and returns the recorded fault.
+    /// Removes and returns the recorded fault, or returns `None` if no fault was recorded.
     pub(crate) fn take_fault(&self) -> Option<Fault> {
         match self.fault.try_replace(None) {
             Ok(fault) => fault,

@@ -134,7 +134,7 @@ pub(crate) fn open_for_ls_refs<F: ObjectFiles>(
     }
 }
 
-// A repository opened to answer ls-refs.
+// A repository that was opened to answer ls-refs.
 #[derive(Drop)]
 enum Opened {
     // Only the objects that refs point to.
@@ -265,9 +265,9 @@ fn make_server(
     }
 }
 
-/// Opens a repository to fetch from a server whose refs have the ids in `tips`. Puts extra refs to
-/// the newest objects before all other refs, so that the client sends these objects as its first
-/// haves.
+/// Opens a repository to fetch from a server whose refs have the ids in `tips`. Adds refs that
+/// point to the newest objects, before all other refs, so that the client sends these objects as
+/// its first haves.
 pub(crate) fn open_client<'f, R: Files, F: ObjectFiles>(
     alloc: Global,
     rt: &R,
@@ -309,7 +309,7 @@ fn open<'f, R: Files, F: ObjectFiles>(
     Ok((repository, reader))
 }
 
-/// Opens the objects of a repository.
+/// Returns a reader of the objects of the Git directory at `path`.
 pub(crate) fn open_reader<'f, F: ObjectFiles>(
     alloc: Global,
     files: &'f F,

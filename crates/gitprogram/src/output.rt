@@ -6,10 +6,10 @@ use gitwords::{Shown, clean_byte};
 use std::io;
 use std::io::Write;
 
-// The maximum number of bytes that one write to a terminal copies.
+// The maximum number of bytes that one write to a terminal accepts.
 const PIECE: usize = 512;
 
-/// A writer of standard output, which replaces non-printable bytes on a terminal.
+/// A writer of standard output, which replaces non-printable bytes if `is_terminal` is set.
 #[derive(Drop)]
 pub(crate) struct Output<W> {
     writer: W,
@@ -49,8 +49,8 @@ pub(crate) fn print<R: Print + AllocGlobal>(rt: &R, text: &[u8]) -> Result<(), F
     print_peer(rt, false, text)
 }
 
-/// Writes a text that contains bytes from a peer to standard output. On a terminal, unsafe bytes
-/// are replaced.
+/// Writes a text that contains bytes from a peer to standard output. On a terminal, non-printable
+/// bytes are replaced.
 pub(crate) fn print_peer<R: Print + AllocGlobal>(
     rt: &R,
     is_terminal: bool,

@@ -1,7 +1,7 @@
 //! Finding the pack and the messages in the bytes of a server's reply.
 
-// The payload of the packet before a pack (gitprotocol-v2(5), "fetch"). A server may omit the line
-// feed.
+// The payload of the packet that precedes a pack (gitprotocol-v2(5), "fetch"). A server may omit
+// the line feed.
 const PACKFILE: &[u8] = b"packfile\n";
 
 /// The meaning of a part of a server's reply.
@@ -20,11 +20,12 @@ pub(crate) enum Seen<'b> {
 // The current position in a packet.
 #[derive(Clone, Copy)]
 enum PacketPosition {
-    // Among the four length digits of a packet: the number of digits read, and their value.
+    // The parser is among the four length digits of a packet. `count` digits were read, and encode
+    // `number`.
     Digits { count: u8, number: u16 },
-    // In a payload: the number of bytes read, and the number of bytes left.
+    // The parser is in a payload, after `before` bytes and before the last `left` bytes.
     Payload { before: u16, left: u16 },
-    // After a malformed packet: all further bytes are ignored.
+    // The parser found a malformed packet, and ignores all further bytes.
     Lost,
 }
 
@@ -132,7 +133,7 @@ impl Packets {
         (count, self.show_packet(seen))
     }
 
-    // Skips `count` bytes of a payload.
+    // Moves past `count` bytes of a payload.
     fn skip(&mut self, before: u16, left: u16, count: u16) {
         if count < left {
             self.position = PacketPosition::Payload {
@@ -147,7 +148,7 @@ impl Packets {
         }
     }
 
-    // Compares bytes of a payload with the `packfile` packet.
+    // Clears `matches_packfile` if bytes of a payload differ from `PACKFILE` at offset `before`.
     fn compare(&mut self, bytes: &[u8], before: u16) {
         let rest = PACKFILE.get(before as usize..).unwrap_or(&[]);
         if !rest.starts_with(bytes) {

@@ -19,6 +19,7 @@ use std::{env, io};
 // The exit status for a failed command.
 const FAILED: u8 = 1;
 
+// The exit status for wrong arguments.
 const WRONG_USAGE: u8 = 2;
 
 /// Runs `gitrepo` with the arguments, files, standard streams and sockets of the runtime. Error

@@ -73,7 +73,7 @@ impl<'e, E: Write> Progress<'e, E> {
         self.is_shown
     }
 
-    // Updates the displayed progress after more bytes from the server. If out of memory, some
+    // Updates the displayed progress after more bytes from the server. If memory runs out, some
     // output is left out.
     fn watch(&mut self, bytes: &[u8]) {
         if !self.is_shown {

@@ -52,8 +52,8 @@ impl Remote {
         }
     }
 
-    /// Returns the refs that begin with one of these prefixes, or all refs if there are no
-    /// prefixes. The server may list further refs.
+    /// Returns the refs whose names begin with one of these prefixes, or all refs if there are no
+    /// prefixes. The server may also list other refs.
     pub(crate) fn list<N: Net>(
         &self,
         net: &N,

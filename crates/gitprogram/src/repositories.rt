@@ -46,7 +46,7 @@ impl<'d, D> Repositories<'d, D> {
         }
     }
 
-    // Returns a handle to the cached repository in these directories, if there is one.
+    // Returns a handle to the cached repository in these directories, or `None` if there is none.
     fn find_cached(&self, found: &Directories) -> Result<Option<Shared<'d, D>>, AllocError> {
         match self.cache.try_borrow() {
             Ok(cache) => cache.get(self.alloc, self.disk, found.own.as_str()),
@@ -54,7 +54,7 @@ impl<'d, D> Repositories<'d, D> {
         }
     }
 
-    // Returns the cached repository if its refs equal those of `repo`, and `repo` otherwise.
+    // Returns the cached repository if it has the refs and HEAD of `repo`, and `repo` otherwise.
     fn find_same(&self, repo: &Shared<'d, D>) -> Result<Shared<'d, D>, AllocError> {
         let server = repo.server();
         if let Some(cached) = self.find_cached(&repo.loaded.found)? {
@@ -65,7 +65,7 @@ impl<'d, D> Repositories<'d, D> {
         repo.handle()
     }
 
-    // Returns whether the refs of the cached repository differ from those of `opened`.
+    // Returns whether the repository is cached with other refs or another HEAD than `opened` has.
     fn differs_from_cache(&self, opened: &Shared<'d, D>) -> Result<bool, AllocError> {
         let server = opened.server();
         match self.find_cached(&opened.loaded.found)? {
@@ -113,7 +113,8 @@ impl<'d, D: Disk> Repositories<'d, D> {
         Err(text)
     }
 
-    // Returns the repository in these directories. Its refs and HEAD are read again.
+    // Reads the refs and HEAD in these directories. Returns the cached repository if it has these
+    // refs and this HEAD. Otherwise opens the repository for ls-refs, and adds it to the cache.
     fn find_and_list(&self, found: Directories) -> Result<Shared<'d, D>, NotOpened> {
         let listed = self.disk.list(&found)?;
         if let Some(shared) = self.find_cached(&found)? {

@@ -119,7 +119,7 @@ pub(crate) enum Sentence<'a> {
     Busy,
     /// The client did not send its first line or a request in time.
     ClientSilent,
-    /// The client received no byte in time.
+    /// The client accepted no byte in time.
     ClientStalled,
     /// The connection exceeded its time limit.
     ClientSlow,
@@ -210,8 +210,8 @@ fn write_refused<W: fmt::Write>(
     write_reason(error, f)
 }
 
-// Writes the reason for a failed system call: the kind of the error, or the error itself if the
-// kind is unknown.
+// Writes the reason for a failed system call: a text for the kind of the error, or the error itself
+// if the kind is unknown.
 fn write_reason<W: fmt::Write>(error: &io::Error, f: &mut fmt::Formatter<W>) -> fmt::Result {
     match error.kind() {
         ErrorKind::Other | ErrorKind::Uncategorized => fmt::Display::fmt(error, f),

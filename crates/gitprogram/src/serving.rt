@@ -115,8 +115,8 @@ where
     served
 }
 
-// Serves clients until the allowed number of connections was accepted and all of them have ended.
-// Fails if no further connection can be accepted.
+// Serves clients until the allowed number of connections was accepted and every connection has
+// ended. Fails if no further connection can be accepted.
 fn serve_each<'h, R, H, K, E>(
     rt: &R,
     host: &'h H,
@@ -212,7 +212,7 @@ fn check_base<R: Files + AllocGlobal>(rt: &R, base: &str) -> Result<(), Fault> {
     }
 }
 
-// Resolves `address`, a text HOST:PORT, and listens on the first usable result.
+// Resolves `address`, a text HOST:PORT, and listens on the first usable IP address.
 fn listen<R: Net>(rt: &R, address: &str) -> io::Result<TcpListener> {
     let mut last = io::Error::from(ErrorKind::AddrNotAvailable);
     for address in address.to_socket_addrs(rt)? {

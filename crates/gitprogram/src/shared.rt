@@ -28,7 +28,7 @@ pub(crate) struct Loaded {
 
 /// A handle that records the fault of its last failed call.
 pub(crate) trait RecordsFault {
-    /// Removes and returns the recorded fault.
+    /// Removes and returns the recorded fault, or returns `None` if no fault was recorded.
     fn take_fault(&self) -> Option<Fault>;
 }
 
@@ -74,7 +74,7 @@ impl<'d, D> Shared<'d, D> {
     }
 
     /// Returns whether the objects are open, and the pack directory has not changed since they were
-    /// opened. Returns false if the modification time `changed` is unknown.
+    /// opened. Returns `false` if the modification time `changed` is unknown.
     pub(crate) fn is_open_since(&self, changed: Option<SystemTime>) -> bool {
         self.objects.is_some() && changed.is_some() && self.changed == changed
     }

@@ -19,8 +19,8 @@ const ROW: u64 = 4;
 /// The maximum number of repositories whose objects are open at once.
 pub(crate) const MAX_OPEN: u64 = 16;
 
-// The content of a slot: no object store, or an open object store and a weak handle that counts
-// its tickets.
+// The content of a slot: no object store, or an open object store with a weak handle to its
+// tickets.
 #[derive(Drop)]
 enum SlotContent<'f, F: ObjectFiles> {
     Vacant,
@@ -74,8 +74,8 @@ impl<'f, F: ObjectFiles> Slot<'f, F> {
         }
     }
 
-    /// Puts an object store with its tickets into the slot. Returns `false` if the slot is
-    /// borrowed.
+    /// Puts an object store with its tickets into the slot. Returns `false`, and changes nothing,
+    /// if the slot is borrowed.
     pub(crate) fn fill(&self, tickets: Weak<u64, Global>, packer: ObjectPacker<'f, F>) -> bool {
         match self.content.try_borrow_mut() {
             Ok(mut content) => {
@@ -126,7 +126,8 @@ impl<'f, F: ObjectFiles> Slot<'f, F> {
         }
     }
 
-    /// Removes and returns the detailed fault of the last call that failed with `Other`.
+    /// Removes and returns the detailed fault of the last call that failed with `Other`. Returns
+    /// `None` if no fault is stored.
     pub(crate) fn take_fault(&self) -> Option<RepositoryFault<Global>> {
         match self.content.try_borrow() {
             Ok(content) => content.packer()?.take_fault(),

@@ -47,7 +47,7 @@ impl<'f, 'r, R: Files + AllocGlobal, F: ObjectFiles> Stored<'f, 'r, R, F> {
         }
     }
 
-    // Returns the number of a free slot.
+    // Returns the number of a free slot. Fails if no slot is free.
     fn free(&self) -> Result<u64, NotOpened> {
         for number in 0..MAX_OPEN {
             if self.slots.at(number).is_free() {
@@ -57,7 +57,7 @@ impl<'f, 'r, R: Files + AllocGlobal, F: ObjectFiles> Stored<'f, 'r, R, F> {
         Err(NotOpened::busy(self.rt.alloc()))
     }
 
-    // Stores a packer in a slot, and returns a ticket for it.
+    // Stores a packer in the slot with this number, and returns a ticket for its object store.
     fn keep(&self, number: u64, packer: ObjectPacker<'f, F>) -> Result<Ticket, AllocError> {
         let Ok(ticket) = Rc::new(self.rt.alloc(), number) else {
             return Err(AllocError);

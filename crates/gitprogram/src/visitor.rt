@@ -35,8 +35,8 @@ impl<'n, S> Visitor<'n, S> {
         }
     }
 
-    /// Returns the side, the requested path, and the fault that was recorded for the log. The path
-    /// is empty if the client sent no path.
+    /// Returns the side, the requested path, and the fault to log. The path is empty if the client
+    /// sent no path, and the fault is `None` if no call failed.
     pub(crate) fn into_parts(self) -> (S, Vec<u8>, Option<Fault>)
     where
         S: Drop,
@@ -50,7 +50,7 @@ impl<'n, S> Visitor<'n, S> {
         (side, path, fault)
     }
 
-    // Moves the recorded details of the last call from `notes` into this visitor.
+    // Moves the details that the last call recorded from `notes` into this visitor.
     fn take_notes(&mut self)
         ensures { self.new.side ≡ self.old.side }
     {
@@ -98,7 +98,7 @@ where
         answer
     }
 
-    // A client may end the connection between two requests without an error.
+    // Sends no error packet to a client that ended the connection between two requests.
     fn refuse(&mut self, fault: MessageFault) -> ServerReply<Global, K, K::Parts> {
         if self.has_path && fault.frame == 0 && matches!(fault.why, Why::Ended) {
             return ServerReply::Speech(Speech::silent());

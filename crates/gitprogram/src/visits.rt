@@ -61,8 +61,8 @@ where
         ..
     } = ended;
     let visitor = connection.into_conversation().into_side();
-    let (side, path, refused) = visitor.into_parts();
-    let fault = fault_of(alloc, &side, refused, end);
+    let (side, path, noted) = visitor.into_parts();
+    let fault = fault_of(alloc, &side, noted, end);
     let line = Line {
         address,
         path: path.as_slice(),
@@ -85,19 +85,20 @@ where
     K: ServedRepository<Global> + PartPacker<Global> + RecordsFault + Drop,
 {
     let visitor = connection.into_conversation().into_side();
-    let (side, _path, refused) = visitor.into_parts();
-    fault_of(alloc, &side, refused, end)
+    let (side, _path, noted) = visitor.into_parts();
+    fault_of(alloc, &side, noted, end)
 }
 
-// Returns the fault of a failed connection, or `None` if the connection ended without a fault.
+// Returns the fault of a failed connection, or `None` if the connection ended without a fault. If
+// the connection recorded the fault `noted` for its log line, returns this fault.
 fn fault_of<H, K: RecordsFault>(
     alloc: Global,
     side: &ServerSide<'_, Global, H, K>,
-    refused: Option<Fault>,
+    noted: Option<Fault>,
     end: End,
 ) -> Option<Fault> {
-    if refused.is_some() {
-        return refused;
+    if noted.is_some() {
+        return noted;
     }
     if let Some(fault) = fault_of_side(alloc, side) {
         return Some(fault);
@@ -113,7 +114,8 @@ fn fault_of<H, K: RecordsFault>(
     Some(Fault::of(alloc, sentence))
 }
 
-// Returns the fault of a refused request, or `None` if no request was refused.
+// Returns the recorded fault of the repository, or the fault of a refused request if the repository
+// recorded none. Returns `None` if there is neither fault.
 fn fault_of_side<H, K: RecordsFault>(
     alloc: Global,
     side: &ServerSide<'_, Global, H, K>,

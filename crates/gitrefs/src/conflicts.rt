@@ -3,8 +3,8 @@
 use gname::RefName;
 use std::alloc::{AllocError, Allocator};
 
-/// Returns the first name that begins with another name in the list and a slash. For example,
-/// `refs/a/b` conflicts with `refs/a`. The caller must sort the names.
+/// Returns the first name that begins with another name in the list and a slash, or `None` if there
+/// is no such name. For example, `refs/a/b` conflicts with `refs/a`. The names must be sorted.
 ///
 /// In sorted order, a prefix of a name comes before the name, and all names between the two begin
 /// with the prefix. So each name is compared only with its prefixes among the earlier names. Fails

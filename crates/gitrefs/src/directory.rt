@@ -67,7 +67,7 @@ impl<'r, R: Files, A: Allocator + Copy> GitDirectory<'r, R, A> {
 
     /// Returns the Git directory of a linked worktree (git-worktree(1)), without opening anything.
     /// HEAD is in the directory `own`, and all refs below `refs/` are in the directory `common`.
-    pub fn linked_worktree(
+    pub fn with_common_directory(
         alloc: A,
         files: &'r R,
         common: &'r str,
@@ -90,9 +90,9 @@ impl<'r, R: Files, A: Allocator + Copy> GitDirectory<'r, R, A> {
         }
     }
 
-    /// Creates a repository without objects or refs (git-init(1)). HEAD points at `branch`, and the
-    /// file `config` contains `config`. An existing directory must be empty. A missing directory is
-    /// created with its parents. All files and directories are synced.
+    /// Creates a repository without objects or refs (git-init(1)). HEAD points at `branch`, and
+    /// `config` is the text of the configuration file. An existing directory must be empty. A
+    /// missing directory is created with its parents. All files and directories are synced.
     ///
     /// Fails with `Exists` and changes nothing if the directory is not empty, or if the path is not
     /// a directory. Fails with `Exists` if another process creates a repository there at the same
@@ -286,7 +286,7 @@ impl<'r, R: Files, A: Allocator + Copy> GitDirectory<'r, R, A> {
         packed.replace(text.as_slice())
     }
 
-    // Checks that `HEAD` exists, as in every Git directory.
+    // Checks that `HEAD` exists, as in every Git directory. Fails with `Missing` if not.
     pub(crate) fn check_repository(&self) -> Result<(), RefFault<A>> {
         let path = self.path_of(&RefName::head(self.alloc)?)?;
         match self.files.symlink_metadata(path.as_str()) {
@@ -332,7 +332,7 @@ impl<'r, R: Files, A: Allocator + Copy> GitDirectory<'r, R, A> {
     }
 }
 
-// Returns whether a path names something other than a file or a directory.
+// Returns whether a path names something that is neither a regular file nor a directory.
 fn is_special<R: Files>(files: &R, path: &str) -> bool {
     match files.metadata(path) {
         Ok(metadata) => !metadata.is_file() && !metadata.is_dir(),

@@ -1,6 +1,6 @@
 //! Files of a Git directory that can be locked and replaced.
 //!
-//! Unlike `StoredFile` of `glockfile`, this storage allows a missing file, refuses a symbolic link,
+//! Unlike a `StoredFile` of `glockfile`, a `GitFile` may be missing, must not be a symbolic link,
 //! and keeps the cause of a failure.
 
 ghost use Rattle.std.specs.Prelude.{◌≡◌, IfOk, None};
@@ -108,8 +108,8 @@ impl<'r, R: Files, A: Allocator + Copy> GitFile<'r, R, A> {
         }
     }
 
-    // Removes a directory at the path of the file. Fails with the cause `Conflict` if the directory
-    // is not empty.
+    // Removes the directory at the path of the file. Fails with the cause `Conflict` if the
+    // directory cannot be removed, for example because it is not empty.
     fn clear_directory(&mut self) -> Result<(), StorageFault>
         ensures { self.new ≡ self.old }
     {

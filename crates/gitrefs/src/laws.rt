@@ -14,7 +14,7 @@ use gname::laws::{
 pub fn written_refs_read_back()
     ensures { WrittenRefsReadBack }
 {
-    // Laws.
+    // Laws that the proof uses.
     ids_have_one_format();
     ids_have_texts();
     names_are_clean();
@@ -26,6 +26,6 @@ pub fn written_refs_read_back()
 pub fn names_descend()
     ensures { NamesDescend }
 {
-    // Laws.
+    // Laws that the proof uses.
     components_are_parts();
 }

@@ -11,7 +11,8 @@
 //!   file, but might refuse a valid file.
 //! - [`packed_refs_text`] and [`peeled_refs_text`] write a header and a line for each ref, sorted
 //!   by name. If all ids are SHA-1, parsing the text returns the same refs ([`laws`]).
-//! - If the crate writes a HEAD that points at a branch, parsing the text returns the branch.
+//! - If the crate writes a HEAD that points at a branch, parsing the written text returns the
+//!   branch.
 //! - [`prepare_ref`] writes an id to the lockfile of a ref file, with any `Storage` of `glockfile`,
 //!   and leaves the ref file unchanged. The function [`commit_file`] replaces the file atomically,
 //!   and always releases the lock. After `Ok`, the file has the new text.
@@ -70,7 +71,7 @@
 //! Name conflicts are checked before files are locked, so a conflict with a ref that Git packs at
 //! the same time is missed. If two lines of `packed-refs` have the same name, the first line wins.
 //!
-//! No contract says when a call that allocates fails with out-of-memory. A killed process can leave
+//! No contract says when a call that allocates runs out of memory. A killed process can leave
 //! its lockfile on disk. The crate does not notice that two paths name the same Git directory, for
 //! example through symbolic links.
 //!

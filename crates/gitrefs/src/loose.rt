@@ -30,7 +30,7 @@ pub fn parse_loose_ref<A: Allocator + Copy>(alloc: A, text: &[u8]) -> Result<Loo
     ensures { MatchResult result (λ value. LooseRefOf text.now value)
         (IsTextFault (IsLooseRefFile text.now)) }
 {
-    // Laws.
+    // Laws that the proof uses.
     texts_have_one_reading();
     if let Some(target) = strip(b"ref:", text) {
         return match parse_target(alloc, target) {
@@ -48,12 +48,13 @@ pub fn parse_loose_ref<A: Allocator + Copy>(alloc: A, text: &[u8]) -> Result<Loo
     }
 }
 
-// Returns the ref name in a text, without the surrounding white space.
+// Returns the ref name in a text, without the surrounding white space. Fails with `Malformed` if
+// there is no valid ref name, or with `Memory` if out of memory.
 fn parse_target<A: Allocator + Copy>(alloc: A, text: &[u8]) -> Result<RefName<A>, TextFault>
     ensures { MatchResult result (λ name. IsTarget text.now name)
         (IsTextFault ((name : Name) × IsTarget text.now name)) }
 {
-    // Laws.
+    // Laws that the proof uses.
     names_are_clean();
     let (_, padded) = skip_blank(text);
     let (word, rest) = cut_word(padded);

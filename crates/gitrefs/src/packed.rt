@@ -72,7 +72,8 @@ fn after_header(text: &[u8]) -> Option<&[u8]>
     }
 }
 
-// Returns the refs in the lines of `packed-refs`.
+// Returns the refs in the lines of `packed-refs`. Fails with `Malformed` if a line is malformed, or
+// with `Memory` if out of memory.
 fn parse_lines<A: Allocator + Copy>(
     alloc: A,
     text: &[u8],
@@ -131,7 +132,8 @@ fn cut_ref(text: &[u8]) -> Option<(Line<'_>, &[u8])>
 }
 
 // Parses a line of `^` and a peeled id at the start of the text, if the text begins with `^`.
-// Returns the id and the rest of the text, or `None` if the line is malformed.
+// Returns the id and the rest of the text, or `None` if the line is malformed. If the text does not
+// begin with `^`, the id is `None` and the rest is the whole text.
 fn cut_peeled(text: &[u8]) -> Option<(Option<Oid>, &[u8])>
     ensures line { MatchOption result
         ((peeled : Option Id) (rest : List ℕ) → ¬ (BeginsWithPeeled text.now peeled rest))

@@ -24,7 +24,7 @@ enum RefEntry<A: Allocator + Copy = Global> {
     Empty,
     // A directory of refs.
     Directory,
-    // A ref file with its value, or `None` if the file is malformed.
+    // A ref file, with the value of the ref. The value is `None` if the file is malformed.
     Ref(Option<LooseRef<A>>),
 }
 
@@ -257,7 +257,8 @@ impl<R: Files, A: Allocator + Copy> GitDirectory<'_, R, A> {
         }
     }
 
-    // Returns the target of a symbolic link if the target is a ref name below `refs/`.
+    // Returns the target of a symbolic link, or `None` if the target is not a ref name below
+    // `refs/`.
     fn link_target(&self, path: &FilePath<A>) -> Result<Option<RefName<A>>, RefFault<A>> {
         match self.files.read_link(self.alloc, path.as_str()) {
             Ok(target) if target.as_str().starts_with("refs/") => {
@@ -267,8 +268,8 @@ impl<R: Files, A: Allocator + Copy> GitDirectory<'_, R, A> {
         }
     }
 
-    // Returns the directory or the ref file at a path that has this metadata. The path must not be
-    // a symbolic link to a ref name.
+    // Returns `Directory` if this is the metadata of a directory, and otherwise reads the ref file
+    // at the path. The path must not be a symbolic link to a ref name.
     fn look_at(&self, path: &FilePath<A>, metadata: &Metadata) -> Result<RefEntry<A>, RefFault<A>> {
         if metadata.is_dir() {
             return Ok(RefEntry::Directory);

@@ -36,7 +36,8 @@ impl<A: Allocator + Copy> Values<A> {
         Ok(())
     }
 
-    /// Sorts the refs by name. A caller must call `sort` before any function except `push`.
+    /// Sorts the refs by name, and keeps only the first ref of each name. A caller must call `sort`
+    /// before any function except `push`.
     pub(crate) fn sort(&mut self) -> Result<(), AllocError> {
         if self.values.is_sorted_by(|one, next| one.0 < next.0) {
             return Ok(());

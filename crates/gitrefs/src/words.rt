@@ -39,7 +39,7 @@ pub(crate) fn cut_id(text: &[u8]) -> Option<(Oid, &[u8])>
         ((id : Id) (rest : List ℕ) → ¬ (BeginsWithId text.now id rest))
         (λ parts. BeginsWithId text.now parts.0 parts.1.now) }
 {
-    // Laws.
+    // Laws that the proof uses.
     texts_have_one_reading();
     let Some((digits, rest)) = split_front(ID_TEXT, text) else {
         return None;
@@ -91,7 +91,8 @@ fn space_at(text: &[u8]) -> Option<usize>
     text.iter().position(|byte| is_space(*byte))
 }
 
-// Returns the position of the first byte that is not white space, or `None` if there is none.
+// Returns the position of the first byte that is not white space, or `None` if there is no such
+// byte.
 fn other_at(text: &[u8]) -> Option<usize>
     ensures { result ≡ position is_other text.now }
 {

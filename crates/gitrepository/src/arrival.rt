@@ -24,17 +24,20 @@ use std::marker::Model;
 // MiB. Without this limit, a small pack of deltas could use up all memory.
 const MAX_KEPT: usize = 117_440_512;
 
-// The numbers of bytes of memory that are counted for each named id, for each commit or tag, and
-// for each parent. Spare table slots and allocator overhead are included.
+// The number of bytes of memory that are counted for each named id. Spare table slots and allocator
+// overhead are included.
 const NEED_BYTES: usize = 56;
 
+// The number of bytes of memory that are counted for each commit or tag.
 const ENTRY_BYTES: usize = 96;
 
+// The number of bytes of memory that are counted for each parent.
 const PARENT_BYTES: usize = 34;
 
-// The lengths of the tree line and of a parent line of a commit.
+// The length of the tree line of a commit.
 const TREE_LINE: usize = 46;
 
+// The length of a parent line of a commit.
 const PARENT_LINE: usize = 48;
 
 // The maximum size of a commit, a tree or a tag: 64 MiB. A tree of this size has about two
@@ -305,8 +308,8 @@ fn is_parent_line(commit: &[u8], number: usize) -> bool {
     }
 }
 
-// Returns the entry of the tree or blob that a tag names, or `None` if the tag names a commit or a
-// tag.
+// Returns the graph entry for the tree or blob that a tag names, or `None` if the tag names a
+// commit or a tag.
 fn named_leaf<A: Allocator + Copy>(alloc: A, tag: &[u8]) -> Option<Entry<A>>
     ensures { IfSome result (λ entry. (entries : List (Entry A))
         → Holds entries (id_of types.Tag tag.now) → IsRead entries entry) }

@@ -35,9 +35,9 @@ pub struct Checked {
 /// fault.
 ///
 /// Fails with `Ref` at the first malformed ref file, or at the first missing or malformed object.
-/// The fault names the object and the ref. Refs are checked in the order of their names. Fails with
-/// `Repository` if the refs cannot be read. Fails with `Repository` or `Ref` if there are too many
-/// commits and tags, or if out of memory.
+/// The fault names the ref, and the file or object. Refs are checked in the order of their names.
+/// Fails with `Repository` if the refs cannot be read. Fails with `Repository` or `Ref` if there
+/// are too many commits and tags, or if out of memory.
 pub fn check_repository<R: Files, F: ObjectFiles, A: Allocator + Copy>(
     directory: &GitDirectory<'_, R, A>,
     reader: &mut ObjectReader<'_, F, A>,
@@ -89,7 +89,7 @@ pub fn check_refs<F: ObjectFiles, A: Allocator + Copy>(
     }
 }
 
-// Checks the objects that a detached HEAD reaches, except objects that refs reach.
+// Checks the objects that a detached HEAD reaches, except objects that `history` already has.
 fn check_head<F: ObjectFiles, A: Allocator + Copy>(
     history: &mut History<'_, A>,
     gathering: &mut Gathering<'_, '_, F, A>,
@@ -103,7 +103,7 @@ fn check_head<F: ObjectFiles, A: Allocator + Copy>(
     }
 }
 
-// Checks the objects that this id reaches, except objects that earlier refs reach.
+// Checks the objects that this id reaches, except objects that `history` already has.
 fn check_ref<F: ObjectFiles, A: Allocator + Copy>(
     history: &mut History<'_, A>,
     gathering: &mut Gathering<'_, '_, F, A>,

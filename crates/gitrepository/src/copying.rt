@@ -80,16 +80,16 @@ struct ToDeflate {
     number: usize,
 }
 
-// The progress through the packs: the number of the current pack, and how many of its entries were
-// examined.
+// The progress through the stored packs: the index of the current pack, and how many of its entries
+// were examined.
 #[derive(Clone, Copy, Drop)]
 struct Progress {
     pack: usize,
     number: usize,
 }
 
-/// The objects to send, entry by entry. Copied pack entries are first, in pack order, followed by
-/// objects that are deflated again.
+/// The entries of an outgoing pack, built one by one. Copied entries are first, in the order of the
+/// stored packs, followed by objects that are deflated again.
 #[derive(Drop)]
 pub(crate) struct Copying<A: Allocator + Copy> {
     alloc: A,
@@ -100,16 +100,18 @@ pub(crate) struct Copying<A: Allocator + Copy> {
     // The new offset of each entry of the current pack, by the entry's position in the pack index.
     // The offset is 0 if the entry was not copied.
     starts: Vec<usize, A>,
-    // The objects to deflate again, how many of them are already deflated, and a window of the most
-    // recently deflated objects. The list `to_deflate` is sorted once all packs have been examined.
+    // The objects to deflate again.
     to_deflate: Vec<ToDeflate, A>,
+    // The number of objects of `to_deflate` that were deflated so far.
     deflated: usize,
+    // Whether `to_deflate` is sorted, which happens once all packs have been examined.
     is_sorted: bool,
+    // The most recently deflated objects, which can be bases of new deltas.
     window: Window<A>,
 }
 
 impl<A: Allocator + Copy> Copying<A> {
-    /// Returns the objects to send, with no entry sent yet.
+    /// Returns a `Copying` of the objects to send, which has built no entry yet.
     pub(crate) fn new(alloc: A, fates: Fates<A>) -> Result<Copying<A>, AllocError> {
         Ok(Copying {
             alloc,
@@ -188,25 +190,25 @@ impl<A: Allocator + Copy> Copying<A> {
         }
     }
 
-    // Returns a stored entry to be written at this offset. If the entry cannot be copied, returns
-    // `None`, and its object is deflated again later.
+    // Returns a stored entry, to be copied to this offset of the new pack. If the entry cannot be
+    // copied, returns `None`, and its object is deflated again later.
     fn copy_entry<F: ObjectFiles>(
         &mut self,
         reader: &mut ObjectReader<'_, F, A>,
         pack: usize,
         object: Packed,
-        position: usize,
+        offset: usize,
     ) -> Result<Option<NextEntry<A>>, RepositoryFault<A>> {
         let Some(entry) = intact_entry(reader, pack, object.place)? else {
             self.deflate_later(object)?;
             return Ok(None);
         };
-        let Some(form) = self.form_of(reader, pack, &entry, position) else {
+        let Some(form) = self.form_of(reader, pack, &entry, offset) else {
             self.deflate_later(object)?;
             return Ok(None);
         };
         if let Some(slot) = self.starts.get_mut(object.place) {
-            *slot = position;
+            *slot = offset;
         }
         Ok(Some(self.reuse_entry(form, entry)))
     }
@@ -305,8 +307,8 @@ impl<A: Allocator + Copy> Copying<A> {
         Ok(())
     }
 
-    // Sorts the objects to deflate again, so that objects whose paths have the same ending are
-    // adjacent. A delta between two such objects is probably small.
+    // Sorts the list `to_deflate` by the hashes of the objects' paths. Objects whose paths have the
+    // same ending are then adjacent, and a delta between two of them is probably small.
     fn sort_to_deflate(&mut self) {
         self.to_deflate
             .sort_unstable_by_key(|object| (object.path, object.number));

@@ -1,4 +1,4 @@
-//! The fates of objects. The fate of an object says whether it is sent in a pack.
+//! The fates of objects. The fate of an object states whether the object is sent in a pack.
 
 use crate::fault::RepositoryFault;
 use crate::path_hash::PathHash;
@@ -51,7 +51,7 @@ pub(crate) struct Fates<A: Allocator + Copy> {
 }
 
 impl<A: Allocator + Copy> Fates<A> {
-    /// Returns a `Fates` in which every object is undecided.
+    /// Returns a `Fates` in which the fate of every object is undecided.
     pub(crate) fn new(alloc: A) -> Fates<A> {
         Fates {
             alloc,
@@ -77,8 +77,8 @@ impl<A: Allocator + Copy> Fates<A> {
         }
     }
 
-    /// Returns the fate of an object that was found loose. The result is the same if Git packs the
-    /// object later.
+    /// Returns the fate that was set for this object while the object was loose, or `Undecided` if
+    /// none was set. Git may have packed the object since then.
     pub(crate) fn of_loose(&self, id: &Oid) -> Fate {
         // This early return avoids hashing the id if there are no loose objects.
         if self.loose.is_empty() {

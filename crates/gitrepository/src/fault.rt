@@ -43,7 +43,7 @@ pub enum FormFault {
     Config,
 }
 
-/// The faults of calls that read a repository, pack its objects or receive a pack.
+/// The fault of a call that reads a repository, packs its objects or receives a pack.
 #[derive(Drop)]
 pub enum RepositoryFault<A: Allocator + Copy> {
     /// Out of memory.
@@ -83,10 +83,10 @@ pub enum RepositoryFault<A: Allocator + Copy> {
     Busy,
 }
 
-/// The reason why a repository is not intact.
+/// The reason why the check of a repository failed.
 #[derive(Drop)]
 pub enum CheckFault<A: Allocator + Copy> {
-    /// The repository cannot be read, or out of memory.
+    /// The repository cannot be read, or memory ran out.
     Repository(RepositoryFault<A>),
     /// An object that a ref or HEAD reaches is missing or refused, or a ref file is malformed.
     Ref {
@@ -116,12 +116,13 @@ impl<A: Allocator + Copy> CheckFault<A> {
 }
 
 impl<A: Allocator + Copy> RepositoryFault<A> {
-    /// Returns whether the spool of a received pack failed. In this case, the pack is not refused.
+    /// Returns whether this is a failure of the spool that stores a received pack. A pack whose
+    /// spool fails is not refused.
     pub fn is_of_spool(&self) -> bool {
         matches!(self, RepositoryFault::Pack(PackFileFault::Spool(_)))
     }
 
-    /// Converts the fault of parsing the object with this id.
+    /// Converts the fault of parsing the object with this id to a `RepositoryFault`.
     pub(crate) fn of_object(id: &Oid, fault: ObjectFault) -> RepositoryFault<A> {
         match fault {
             ObjectFault::Malformed => RepositoryFault::object_fault(id, ObjectCause::Malformed),

@@ -64,7 +64,7 @@ impl<S: Spool + Drop, A: Allocator + Copy> StoreFeed<S, A> {
         feed_pack(&mut self.pack, piece, &mut inspector)
     }
 
-    /// Indexes the complete pack. Returns the pack and the graph entries of its commits and tags.
+    /// Indexes the complete pack. Returns the pack, its index and its graph entries.
     pub(crate) fn finish<F: ObjectFiles>(
         self,
         reader: &mut ObjectReader<'_, F, A>,

@@ -24,7 +24,7 @@ pub enum PackFileStage {
     PackNamed,
     /// Both files have their final names.
     Done,
-    /// A call of the folder failed.
+    /// A call on the folder failed.
     Failed,
 }
 
@@ -43,7 +43,7 @@ pub trait PackFolder {
     // The progress of writing the current pack.
     ghost stage: { Self → PackFileStage };
 
-    /// Takes the temporary file of the pack.
+    /// Takes ownership of the pack, which its spool has already stored in a temporary file.
     fn take_pack(&mut self, pack: Self::Pack) -> Result<(), Self::Fault>
         requires { stage self.old ≡ Start }
         ensures stage { MatchResult result (λ _. stage self.new ≡ PackWritten)

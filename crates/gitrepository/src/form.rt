@@ -9,7 +9,7 @@ use std::alloc::{AllocError, Allocator};
 const MAX_CONFIG: usize = 1_048_576;
 
 // The names of the extensions that do not affect this crate.
-const KNOWN_EXTENSIONS: [&[u8]; 5] = [
+const IGNORED_EXTENSIONS: [&[u8]; 5] = [
     b"noop",
     b"noop-v1",
     b"preciousobjects",
@@ -25,7 +25,8 @@ const FALSE_VALUES: [&[u8]; 5] = [b"", b"false", b"no", b"off", b"0"];
 /// refuses a repository whose configuration names an unknown version, or an unknown extension of
 /// version 1 (git-config(1), "core.repositoryFormatVersion", "extensions").
 ///
-/// Fails with `Form` if the format is unsupported. Other faults are those of [`ObjectStore::open`].
+/// Fails with `Form` if the format is unsupported. Also fails for the same reasons as
+/// [`ObjectStore::open`].
 pub fn open_store<'f, F: ObjectFiles, A: Allocator + Copy>(
     files: &'f F,
     alloc: A,
@@ -162,7 +163,7 @@ fn check_shallow<F: ObjectFiles, A: Allocator + Copy>(
     }
 }
 
-// Refuses a partial clone, which has packs of promised objects (git-index-pack(1), `--promisor`).
+// Refuses a partial clone, which has promisor packs (git-index-pack(1), `--promisor`).
 fn check_promisors<F: ObjectFiles, A: Allocator + Copy>(
     files: &F,
     alloc: A,
@@ -248,12 +249,12 @@ fn extension_fault<A: Allocator + Copy>(
         b"refstorage" if has_value(setting, b"files") => None,
         b"refstorage" => Some(FormFault::RefStorage),
         b"partialclone" => Some(FormFault::PartialClone),
-        name if !is_version_1 || is_known(name) => None,
+        name if !is_version_1 || is_ignorable(name) => None,
         _ => Some(FormFault::Extension),
     }
 }
 
-// Returns whether the extension with this name does not affect this crate.
-fn is_known(name: &[u8]) -> bool {
-    KNOWN_EXTENSIONS.iter().any(|known| *known == name)
+// Returns whether the extension with this name can be ignored.
+fn is_ignorable(name: &[u8]) -> bool {
+    IGNORED_EXTENSIONS.iter().any(|ignored| *ignored == name)
 }

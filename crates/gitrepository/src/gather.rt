@@ -42,7 +42,7 @@ pub(crate) struct Gathering<'r, 'f, F: ObjectFiles, A: Allocator + Copy> {
 }
 
 impl<'r, 'f, F: ObjectFiles, A: Allocator + Copy> Gathering<'r, 'f, F, A> {
-    /// Returns a `Gathering` in which every object is undecided. If `is_strict` is set, the id and
+    /// Returns a `Gathering` in which no fate is decided. If `is_strict` is set, the id and
     /// the type of each object are checked.
     pub(crate) fn new(
         reader: &'r mut ObjectReader<'f, F, A>,
@@ -81,8 +81,8 @@ impl<'r, 'f, F: ObjectFiles, A: Allocator + Copy> Gathering<'r, 'f, F, A> {
         Ok(())
     }
 
-    // Marks the unlisted parents of listed commits, and the trees and blobs that they reach, as not
-    // sent. The peer has all of them.
+    // Marks the unlisted parents of listed commits, and the trees and blobs that these parents
+    // reach, as not sent, because the peer has them.
     fn leave_out_parents(&mut self, entries: &[Entry<A>]) -> Result<(), RepositoryFault<A>> {
         for entry in entries {
             self.leave_out(entry.node.parents.as_slice())?;
@@ -152,7 +152,7 @@ impl<'r, 'f, F: ObjectFiles, A: Allocator + Copy> Gathering<'r, 'f, F, A> {
         self.walk_trees(trees)
     }
 
-    // Checks the object that a tag names, if `is_strict` is set.
+    // Checks the id and the type of the object that a tag names, if `is_strict` is set.
     fn check_tag(&mut self, id: &Oid, body: &[u8]) -> Result<(), RepositoryFault<A>> {
         if !self.is_strict {
             return Ok(());

@@ -16,7 +16,8 @@ use gname::Oid;
 use std::alloc::Allocator;
 use std::marker::Model;
 
-// A parent to visit, and the kind of its child.
+// A parent to visit, and the kind of its child. An object that a ref points to counts as the parent
+// of a tag, because refs and tags may point to objects of any type.
 #[derive(Clone, Copy, Drop)]
 struct Parent {
     id: Oid,
@@ -31,11 +32,11 @@ pub(crate) struct History<'g, A: Allocator + Copy> {
     // The commit-graph, which lists the parents of commits. Commits that the commit-graph lists
     // need not be read.
     commits: &'g CommitGraph<A>,
-    // The objects whose whole ancestry was read.
+    // The objects whose whole ancestry was visited.
     graph: Graph<A>,
-    // A path of objects, in which each object is a parent of the previous object. For each object
-    // of the path, `visited` has the number of parents visited so far.
+    // A path of objects, in which each object is a parent of the previous object.
     path: Vec<Entry<A>, A>,
+    // For each object of the path, the number of its parents that were visited so far.
     visited: Vec<usize, A>,
 }
 
@@ -109,7 +110,7 @@ impl<'g, A: Allocator + Copy> History<'g, A> {
     }
 
     // Visits the next parent of the last object on the path. If no parent remains, moves the last
-    // object to the graph. Returns false if the path was empty.
+    // object to the graph. Returns `false` if the path was empty.
     fn step<F: ObjectFiles>(
         &mut self,
         reader: &mut ObjectReader<'_, F, A>,
@@ -125,7 +126,7 @@ impl<'g, A: Allocator + Copy> History<'g, A> {
         }
     }
 
-    // Moves the last object on the path to the graph. Returns false if the path was empty.
+    // Moves the last object on the path to the graph. Returns `false` if the path was empty.
     fn insert_last(&mut self) -> Result<bool, RepositoryFault<A>>
         ensures { self.new.commits ≡ self.old.commits }
     {
@@ -138,7 +139,7 @@ impl<'g, A: Allocator + Copy> History<'g, A> {
         }
     }
 
-    // Removes and returns the last object on the path.
+    // Removes and returns the last object on the path, or returns `None` if the path is empty.
     fn pop(&mut self) -> Option<Entry<A>>
         ensures same { self.new ≡ self.old }
         ensures known { IfSome result (λ entry. IsKnown self.old.commits entry) }
@@ -159,7 +160,7 @@ impl<'g, A: Allocator + Copy> History<'g, A> {
         }
     }
 
-    // Returns the next parent of the last object on the path.
+    // Returns the next parent of the last object on the path, or `None` if no parent remains.
     fn next_parent(&mut self) -> Option<Parent>
         ensures { self.new ≡ self.old }
     {
@@ -171,8 +172,8 @@ impl<'g, A: Allocator + Copy> History<'g, A> {
         Some(Parent { id, child })
     }
 
-    // Adds a parent to the path, unless the graph holds it. Fails with `Objects` if the path is too
-    // long, as in a cycle of parents.
+    // Adds a parent to the path, unless the graph already holds the parent. Fails with `Objects` if
+    // the path is too long, as in a cycle of parents.
     #[tactic(auto, using(crate::proofs::HistoryLemmas::known_pushed))]
     fn reach<F: ObjectFiles>(
         &mut self,
@@ -193,8 +194,7 @@ impl<'g, A: Allocator + Copy> History<'g, A> {
         Ok(())
     }
 
-    // Returns the graph entry of an object. If the commit-graph lacks the object, the object is
-    // read.
+    // Returns the graph entry of an object. Reads the object if [`known_entry`] returns `None`.
     fn find<F: ObjectFiles>(
         &self,
         reader: &mut ObjectReader<'_, F, A>,
@@ -222,8 +222,8 @@ impl<'g, A: Allocator + Copy> History<'g, A> {
     }
 }
 
-// Reads an object, checks its id, and returns its graph entry. The parents of a commit must be
-// commits.
+// Reads an object, checks its id, and returns its graph entry. Fails if the object is a parent of a
+// commit, but is not a commit.
 fn read_entry<F: ObjectFiles, A: Allocator + Copy>(
     alloc: A,
     reader: &mut ObjectReader<'_, F, A>,

@@ -14,7 +14,7 @@ use gname::Oid;
 use std::alloc::Allocator;
 use std::cell::RefCell;
 
-/// An indexer of packs that a Git directory receives. The indexer keeps the last received pack.
+/// An indexer of packs that a Git directory receives. The indexer keeps the last accepted pack.
 ///
 /// Each object is inflated, and its id is computed. Each object named by an object of the pack must
 /// be in the pack or in the store, with the expected type. If the store already has an object with
@@ -94,7 +94,8 @@ where
         }
     }
 
-    // Returns the type of an object of the last pack, or `None` if the pack lacks the object.
+    // Returns the type of an object of the last accepted pack, or `None` if the pack lacks the
+    // object.
     fn received_kind(&self, id: &Oid) -> Option<ObjectType> {
         match self.received.try_borrow() {
             Ok(received) => match &*received {

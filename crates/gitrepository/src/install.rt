@@ -17,7 +17,7 @@ use std::fs::Files;
 /// Both files are written and synced before either is renamed. The pack is renamed before the
 /// index.
 ///
-/// Fails if a call of the folder fails. After a failure the folder has neither file, only the pack,
+/// Fails if a call on the folder fails. After a failure the folder has neither file, only the pack,
 /// or both.
 pub fn install_files<P: PackFolder>(
     folder: &mut P,

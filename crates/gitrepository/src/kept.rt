@@ -7,8 +7,8 @@ use std::fs::{File, Files};
 use std::io::ErrorKind;
 
 /// The file `pack-SUM.keep` of a received pack (git-index-pack(1), "--keep"). While this file
-/// exists, `git gc` does not remove the pack, even if no ref reaches its objects yet. The file is
-/// removed when the `KeptPack` is dropped.
+/// exists, `git gc` does not remove the pack, even if no ref reaches its objects yet. When the
+/// `KeptPack` is dropped, it removes the file, unless the file existed before.
 pub struct KeptPack<'r, R: Files, A: Allocator + Copy> {
     files: &'r R,
     // The path of the file, or `None` if the file already existed or there is no pack.

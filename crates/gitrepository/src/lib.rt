@@ -1,5 +1,5 @@
-//! A Git directory as a repository: its commit graph, refs and HEAD, the packs it sends and the
-//! packs it receives (gitrepository-layout(5), gitformat-pack(5)).
+//! A Git directory as a repository: its graph of commits and tags, its refs and HEAD, and the packs
+//! that it sends and receives (gitrepository-layout(5), gitformat-pack(5)).
 //!
 //! - [`open_repository`] returns the graph of everything the refs reach. The function
 //!   [`read_commit_graph`] reads the commit-graph, which lists the parents of commits. A commit
@@ -56,7 +56,7 @@
 //! - A graph holds at most 1,048,576 commits and tags, with at most 64 parents each.
 //! - A copied delta names its base by offset if the base was already copied, even if the client
 //!   does not request `ofs-delta`. A new delta names its base by id.
-//! - Git looks for signs of a SHA-1 attack when it computes an id. This crate does not.
+//! - Git looks for signs of a SHA-1 collision attack when it computes an id. This crate does not.
 //! - A received pack has a file `.keep` until refs reach its objects, as in Git.
 //! - The commit-graph of an alternate is not read. `core.commitGraph` is read only from the file
 //!   `config` of the repository.
@@ -67,54 +67,54 @@
 //!
 //! # What the contracts do not rule out
 //!
-//! - No contract rules out that the packer sends unwanted objects, leaves out listed commits and
-//!   tags, or sends one object's entry in place of another's. No contract says which trees and
-//!   blobs are sent.
-//! - No contract rules out that the header of a sent entry states the wrong type or size. No
-//!   contract rules out that the header has a wrong offset of its base, or a base of another type.
-//! - No contract rules out that the stream of a sent entry is arbitrary bytes, or that a delta
-//!   names a base that is not sent. The reader compares the CRC-32 of each copied entry with the
-//!   index, but no contract covers this comparison.
-//! - No contract rules out that a wrong commit-graph leads to a wrong graph. The commit-graph is
-//!   used only for commits in the store. No contract covers which commits are looked up in the
-//!   commit-graph, or from which file it is read.
-//! - No contract rules out that the graph contains objects that no ref reaches. No contract rules
-//!   out that a ref is left out, or points to another object of the graph. No contract covers HEAD.
-//! - No contract rules out that [`open_tips`] finds objects other than those of the refs, or peels
-//!   a tag to the wrong object. The function trusts the peeled ids in `packed-refs`, as Git does.
-//! - No contract rules out that [`lead_with_newest`] leaves refs out or puts other refs first.
-//! - No contract rules out that [`check_refs`] accepts a repository whose objects are missing or
-//!   malformed, or counts the nodes of another graph. No contract covers the number of objects that
-//!   it returns. The function [`check_repository`] has no contract.
-//! - No contract rules out that [`Tips`] loses an id or has other ids, or that [`add_leaves`] adds
-//!   or removes other nodes. No contract covers the result of [`Tips::contains`]. No contract says
-//!   which repository formats are opened or refused. No contract covers the result of [`is_bare`],
-//!   or the names and ids of peeled refs in a new repository.
-//! - No contract rules out that the indexer leaves out an entry, or returns an entry for an object
-//!   that the pack does not have. No contract rules out that it accepts a pack with a malformed
-//!   object. The indexer looks up the named objects, and compares objects that the store already
-//!   has. No contract covers these look-ups and comparisons, or states when the indexer reads an
-//!   object. The indexer can miss a loose object that is added while a pack arrives.
-//! - No contract rules out that a parent of a commit in the graph is a tag, tree or blob. The types
-//!   of parents are checked, but no contract covers this check.
+//! No contract rules out any of the following:
+//!
+//! - The packer may send unwanted objects, leave out listed commits and tags, or send one object's
+//!   entry in place of another's. No contract says which trees and blobs are sent.
+//! - The header of a sent entry may state a wrong type or size, or a wrong offset of its base. The
+//!   base may have another type.
+//! - The stream of a sent entry may be arbitrary bytes, and a delta may name a base that is not
+//!   sent. The reader compares the CRC-32 of each copied entry with the index, but no contract
+//!   covers this comparison.
+//! - A wrong commit-graph may lead to a wrong graph. The commit-graph is used only for commits in
+//!   the store. No contract covers which commits are looked up in the commit-graph, or from which
+//!   file it is read.
+//! - The graph may contain objects that no ref reaches. A ref may be left out, or may point to
+//!   another object of the graph. No contract covers HEAD.
+//! - [`open_tips`] may find objects other than those of the refs, or may peel a tag to the wrong
+//!   object. The function trusts the peeled ids in `packed-refs`, as Git does.
+//! - [`lead_with_newest`] may leave refs out, or put other refs first.
+//! - [`check_refs`] may accept a repository whose objects are missing or malformed, and may count
+//!   the nodes of another graph. No contract covers the number of objects that it returns. The
+//!   function [`check_repository`] has no contract.
+//! - [`Tips`] may lose an id or have other ids, and [`add_leaves`] may add or remove other nodes.
+//!   No contract covers the result of [`Tips::contains`].
+//! - No contract says which repository formats are opened or refused. No contract covers the result
+//!   of [`is_bare`], or the names and ids of peeled refs in a new repository.
+//! - The indexer may leave out an entry, or return an entry for an object that the pack does not
+//!   have. It may accept a pack with a malformed object.
+//! - The indexer looks up the named objects, and compares objects that the store already has. No
+//!   contract covers these look-ups and comparisons, or states when the indexer reads an object.
+//!   The indexer can miss a loose object that is added while a pack arrives.
+//! - A parent of a commit in the graph may be a tag, a tree or a blob. The types of parents are
+//!   checked, but no contract covers this check.
 //! - [`PackCounts`] and [`StorePacker::counts`] have no contract, because they serve only
 //!   measurements.
-//! - No contract rules out that [`StoreIndexer::kind_of`] returns the wrong type. No contract rules
-//!   out that [`StoreIndexer::take_received`] returns `None`, or a pack that was not received.
-//! - No contract rules out that a [`NewRepository`] lacks its configuration, its pack, its refs or
-//!   HEAD. No contract rules out that it is removed once it is finished, or remains after a fault.
-//! - No contract can describe the contents of a system file: only the order of the calls in
-//!   [`install_pack`] is proved. No contract rules out that [`install_pack`] installs nothing, or
-//!   does not create the file `.keep`. No contract rules out that the folder of [`install_pack`]
-//!   does not write, sync or rename a file, gives a file a wrong name, or leaves temporary files.
-//! - No contract rules out that a dropped [`KeptPack`] does not remove the file `.keep`, or removes
-//!   a file that [`install_pack`] did not create. No contract rules out that a [`StoredSpool`]
-//!   writes or returns wrong bytes, does not remove its file, or creates its file in the wrong
-//!   folder.
-//! - No contract rules out that `MemoryFolder::clean` keeps the bytes of the pack and the index.
-//! - No contract rules out that a call fails although nothing is wrong. The contracts do not cover
-//!   which fault is returned, the text of a fault, running time, or memory use. No contract covers
-//!   the result of [`RepositoryFault::is_of_spool`].
+//! - [`StoreIndexer::kind_of`] may return the wrong type. [`StoreIndexer::take_received`] may
+//!   return `None`, or a pack that was not received.
+//! - A [`NewRepository`] may lack its configuration, its pack, its refs or HEAD. Its files may be
+//!   removed by `finish`, or may remain after a fault.
+//! - A contract cannot describe the contents of a system file, so only the order of the calls in
+//!   [`install_pack`] is proved. The function may install nothing, or may not create the file
+//!   `.keep`. The folder of packs may fail to write, sync or rename a file, may give a file a wrong
+//!   name, or may leave temporary files.
+//! - A dropped [`KeptPack`] may leave its file `.keep`, or may remove another file.
+//! - A [`StoredSpool`] may write or return wrong bytes, may leave its file, or may create its file
+//!   in the wrong folder.
+//! - `MemoryFolder::clean` may keep the bytes of the pack and the index.
+//! - A call may fail without a reason. The contracts do not cover which fault is returned, the text
+//!   of a fault, running time, or memory use. No contract covers the result of
+//!   [`RepositoryFault::is_of_spool`].
 //!
 //! This crate has no tests.
 //!

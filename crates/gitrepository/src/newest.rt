@@ -72,7 +72,7 @@ fn is_taken<A: Allocator + Copy>(refs: &Refs<A>, prefix: &str) -> bool {
         .any(|pair| pair.0.as_bytes().starts_with(prefix.as_bytes()))
 }
 
-// Adds refs to the newest objects, with names that begin with the prefix.
+// Adds refs that point to the newest objects, with names that begin with the prefix.
 fn put_newest<A: Allocator + Copy>(
     graph: &Graph<A>,
     leading: &mut Refs<A>,
@@ -91,7 +91,7 @@ fn put_newest<A: Allocator + Copy>(
     Ok(())
 }
 
-// Adds a ref with this name to an object.
+// Adds a ref with this name that points to an object.
 fn put_named<A: Allocator + Copy>(
     graph: &Graph<A>,
     refs: &mut Refs<A>,
@@ -107,7 +107,7 @@ fn put_named<A: Allocator + Copy>(
     }
 }
 
-// Adds a ref to an object, if the graph holds the object.
+// Adds a ref that points to an object, if the graph holds the object.
 fn put<A: Allocator + Copy>(
     graph: &Graph<A>,
     refs: &mut Refs<A>,

@@ -75,8 +75,8 @@ fn graph_of<F: ObjectFiles, A: Allocator + Copy>(
     history.into_graph()
 }
 
-// Returns whether an object exists. Reading a missing object lists the packs again, because Git may
-// have packed the object meanwhile.
+// Returns whether an object exists. If the object is not found at first, `read` lists the packs
+// again, because Git may have packed the object meanwhile.
 fn is_stored<F: ObjectFiles, A: Allocator + Copy>(
     reader: &mut ObjectReader<'_, F, A>,
     id: &Oid,

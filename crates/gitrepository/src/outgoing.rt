@@ -17,17 +17,19 @@ const TRAILER: usize = 20;
 /// memory.
 #[derive(Drop)]
 pub(crate) struct Outgoing<A: Allocator + Copy> {
-    // The most recently built bytes, and how many of them were already returned.
+    // The most recently built bytes.
     bytes: Vec<u8, A>,
+    // The number of bytes at the front of `bytes` that were already returned.
     given: usize,
-    // The total number of built bytes, and the number of bytes that can still be returned within
-    // the limit `MAX_PARTS`.
+    // The total number of built bytes.
     made: usize,
+    // The number of bytes that can still be returned within the limit `MAX_PARTS`.
     left: usize,
     // The SHA-1 of all built bytes, except the trailer.
     sum: Sha1,
-    // The entry count in the header, and the number of entries built so far.
+    // The entry count in the header.
     count: u32,
+    // The number of entries built so far.
     put: u32,
     // Whether the last entry is complete. This is also true before the first entry.
     is_between_entries: bool,

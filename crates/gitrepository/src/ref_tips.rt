@@ -29,8 +29,8 @@ struct Tag {
 /// directly to that object.
 ///
 /// Returns `None` if an object is missing or unreadable, if there are too many objects, or if
-/// `packed-refs` contradicts itself or a tag that was read. The caller must then open the
-/// repository. Fails only if out of memory.
+/// `packed-refs` contradicts itself or a tag that was read. The caller must then call
+/// [`crate::open_repository`] or [`crate::open_refs`]. Fails only if out of memory.
 pub fn open_tips<F: ObjectFiles, A: Allocator + Copy>(
     reader: &mut QuickReader<'_, F, A>,
     peels: &PackedPeels<A>,
@@ -64,7 +64,7 @@ pub fn open_tips<F: ObjectFiles, A: Allocator + Copy>(
 #[derive(Drop)]
 struct HeldPeels<A: Allocator + Copy> {
     peels: Vec<(Oid, Peel), A>,
-    // The first eight bytes of each object's id, as a number.
+    // The first eight bytes of each object's id as a number, in the order of `peels`.
     prefixes: Vec<u64, A>,
 }
 
@@ -86,8 +86,8 @@ impl<A: Allocator + Copy> HeldPeels<A> {
     }
 }
 
-// Returns the peeled ids of objects in the store. Looks up the objects in the order of their ids,
-// so that each part of a pack index is read once.
+// Returns those entries of `peels` whose objects are in the store. Looks up the objects in the
+// order of their ids, so that each part of a pack index is read once.
 fn held_peels<F: ObjectFiles, A: Allocator + Copy>(
     reader: &mut QuickReader<'_, F, A>,
     peels: &PackedPeels<A>,
@@ -113,7 +113,8 @@ fn prefix_of(id: &Oid) -> u64 {
     }
 }
 
-// Adds the object with this id, and its peeled object. Returns whether the objects were found.
+// Adds the object with this id, and its peeled object. Returns `false` if an object is missing or
+// malformed, or cannot be added.
 fn add_tip<F: ObjectFiles, A: Allocator + Copy>(
     graph: &mut Graph<A>,
     reader: &mut QuickReader<'_, F, A>,
@@ -138,7 +139,7 @@ fn add_tip<F: ObjectFiles, A: Allocator + Copy>(
     }
 }
 
-// Returns the peeled object of a tag, or `None` if the object is not a tag.
+// Returns the id of a tag's peeled object, or `None` if the object with this `Peel` is not a tag.
 fn peel_target(peel: &Peel) -> Option<Oid> {
     match peel {
         Peel::Itself => None,
@@ -146,8 +147,8 @@ fn peel_target(peel: &Peel) -> Option<Oid> {
     }
 }
 
-// Adds an object and its peeled object. Reads the object, because `packed-refs` does not determine
-// the peeled object.
+// Adds an object, the tags that it leads to, and its peeled object. Reads these objects. Returns
+// `false` if an object is missing or malformed, or cannot be added.
 fn add_read<F: ObjectFiles, A: Allocator + Copy>(
     graph: &mut Graph<A>,
     reader: &mut QuickReader<'_, F, A>,
@@ -174,7 +175,7 @@ fn add_read<F: ObjectFiles, A: Allocator + Copy>(
     Ok(false)
 }
 
-// Returns the object that a tag names, or `None` if the tag cannot be read or is malformed.
+// Returns the id of the object that a tag names, or `None` if the tag is unreadable or malformed.
 fn target_of<F: ObjectFiles, A: Allocator + Copy>(
     reader: &mut QuickReader<'_, F, A>,
     id: &Oid,
@@ -188,7 +189,8 @@ fn target_of<F: ObjectFiles, A: Allocator + Copy>(
     }
 }
 
-// Adds a chain of tags, from the last tag to the first.
+// Adds these tags to the graph, the last tag first, so that each tag follows its target. Returns
+// `false` if a tag cannot be added.
 fn add_tags<A: Allocator + Copy>(
     graph: &mut Graph<A>,
     tags: Vec<Tag, A>,
@@ -202,8 +204,7 @@ fn add_tags<A: Allocator + Copy>(
     Ok(true)
 }
 
-// Adds a tag. Returns false if the graph already has another node for its id, or cannot hold the
-// tag.
+// Adds a tag. Returns `false` if the graph already has another node for the tag's id, or is full.
 fn add_tag<A: Allocator + Copy>(
     graph: &mut Graph<A>,
     tag: Tag,
@@ -213,8 +214,8 @@ fn add_tag<A: Allocator + Copy>(
     add(graph, &tag.id, Node { kind, parents })
 }
 
-// Adds an object that is not a tag. Returns false if the graph already has another node for its id,
-// or cannot hold the object.
+// Adds an object that is not a tag. Returns `false` if the graph already has another node for the
+// object's id, or is full.
 fn add_leaf<A: Allocator + Copy>(
     graph: &mut Graph<A>,
     id: &Oid,

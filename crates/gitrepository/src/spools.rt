@@ -7,7 +7,7 @@ use gitpack::Spool;
 use std::alloc::Allocator;
 use std::fs::Files;
 
-/// A source of spools. A spool stores the bytes of a received pack.
+/// A type that opens spools. A spool stores the bytes of a received pack.
 pub trait PackSpools {
     /// The spool of a pack.
     type Spool: Spool + Drop;
@@ -33,14 +33,14 @@ pub struct StoredSpools<'r, R: Files, A: Allocator + Copy> {
 }
 
 impl<A: Allocator + Copy> MemorySpools<A> {
-    /// Returns spools in the memory of this allocator.
+    /// Returns a `MemorySpools` whose spools use this allocator.
     pub fn new(alloc: A) -> MemorySpools<A> {
         MemorySpools { alloc }
     }
 }
 
 impl<'r, R: Files, A: Allocator + Copy> StoredSpools<'r, R, A> {
-    /// Returns spools in the folder of packs of this Git directory.
+    /// Returns a `StoredSpools` for the folder of packs of this Git directory.
     pub fn new(alloc: A, files: &'r R, git_dir: &'r str) -> StoredSpools<'r, R, A> {
         StoredSpools {
             alloc,

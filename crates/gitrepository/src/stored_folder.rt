@@ -20,8 +20,9 @@ pub(crate) struct StoredFolder<'r, R: Files, A: Allocator + Copy> {
     path: String<A>,
     // The trailer of the pack in hexadecimal digits.
     stem: String<A>,
-    // The paths of the pack and of the index.
+    // The path of the pack.
     pack_path: String<A>,
+    // The path of the index.
     index_path: String<A>,
     pack: Option<Temporary<'r, R, A>>,
     index: Option<Temporary<'r, R, A>>,

@@ -6,14 +6,16 @@ use gitpack::DeltaBase;
 use gname::Oid;
 use std::alloc::{AllocError, Allocator};
 
-// The maximum number of objects in the window, and their maximum total size.
+// The maximum number of objects in the window.
 const MAX_BASES: usize = 10;
 
+// The maximum total size of the objects in the window: 32 MiB.
 const MAX_BYTES: usize = 33_554_432;
 
-// The minimum and maximum size of an object in the window: 50 bytes, and 8 MiB.
+// The minimum size of an object in the window, in bytes.
 const MIN_SIZE: usize = 50;
 
+// The maximum size of an object in the window: 8 MiB.
 const MAX_SIZE: usize = 8_388_608;
 
 // The maximum length of a delta chain.
@@ -100,8 +102,8 @@ impl<A: Allocator + Copy> Window<A> {
     }
 
     /// Adds an object that was sent as this delta, or that was sent whole if `delta` is `None`. An
-    /// object of unsuitable size, or with a chain of maximum length, is not added. The oldest
-    /// objects are removed until the new object fits into the window.
+    /// object of unsuitable size, or with a chain of maximum length, is not added. The least
+    /// recently used objects are removed until the new object fits into the window.
     pub(crate) fn push(
         &mut self,
         id: &Oid,
@@ -125,15 +127,15 @@ impl<A: Allocator + Copy> Window<A> {
         Ok(())
     }
 
-    // Removes the oldest objects until an object of this size fits into the window.
+    // Removes the least recently used objects until an object of this size fits into the window.
     fn make_room(&mut self, size: usize) {
         for _base in 0..MAX_BASES {
             let has_room = self.bytes.saturating_add(size) <= MAX_BYTES;
             if self.bases.is_empty() || (has_room && self.bases.len() < MAX_BASES) {
                 return;
             }
-            let first = self.bases.remove(0);
-            self.bytes = self.bytes.saturating_sub(first.body.len());
+            let removed = self.bases.remove(0);
+            self.bytes = self.bytes.saturating_sub(removed.body.len());
         }
     }
 

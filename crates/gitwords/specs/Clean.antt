@@ -9,7 +9,7 @@ abbrev pub keeps_return : Shown → Bool
 keeps_return Lines = false
 keeps_return Progress = true
 
--- printable ASCII, a line feed, a tab, and in progress lines also a carriage return
+-- whether a terminal may show the byte: printable ASCII, a line feed, a tab, and in progress lines a carriage return
 abbrev pub is_shown : Shown → ℕ → Bool
 is_shown shown b = (nat_le 32 b && nat_le b 126) || b == 10 || b == 9 || (b == 13 && keeps_return shown)
 

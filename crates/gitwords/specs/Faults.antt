@@ -19,6 +19,6 @@ cause_text cause.BadHost = codes "has a malformed host: write a name, an IPv4 ad
 cause_text cause.BadPort = codes "has a malformed port: write a number from 1 to 65535"
 cause_text cause.BadPath = codes "has a malformed path: write at most 1000 printable ASCII characters, and no %"
 
--- the URL in quotes, followed by the sentence of the cause
+-- the sentence: the URL in quotes, followed by the text for the cause
 abbrev pub url_fault_text : UrlFault → List ℕ
 url_fault_text fault = codes "'" ++ fault.url.now ++ codes "' " ++ cause_text fault.cause

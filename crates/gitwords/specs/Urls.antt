@@ -10,13 +10,13 @@ use Rattle.gitwords.specs.declared.fault.Cause.TheVariants.{Transport, NoPath, B
 
 -- ---- hosts
 
--- a letter, a digit, a dash, a dot or an underscore
+-- a byte of a host name: a letter, a digit, a dash, a dot or an underscore
 abbrev pub is_name_byte : ℕ → Bool
 is_name_byte b =
     (nat_le 65 b && nat_le b 90) || (nat_le 97 b && nat_le b 122) || (nat_le 48 b && nat_le b 57)
     || b == 45 || b == 46 || b == 95
 
--- the maximum length of a host in bytes; the first line of a `git://` connection has the same limit
+-- the maximum length of a host in bytes, in URLs and in the first line of a `git://` connection
 abbrev pub max_host : ℕ
 max_host = 255
 
@@ -60,11 +60,11 @@ pub record IsListenAddress (text : List ℕ) : Type 0 where
 abbrev pub is_path_byte : ℕ → Bool
 is_path_byte b = nat_le 32 b && nat_le b 126 && not (b == 37)
 
--- the maximum length of a path in bytes; the first line of a `git://` connection has the same limit
+-- the maximum length of a path in bytes, in URLs and in the first line of a `git://` connection
 abbrev pub max_path : ℕ
 max_path = 1000
 
--- at most 1,000 bytes of printable ASCII without percent signs
+-- whether a text has at most 1,000 bytes, all of which are printable ASCII without percent signs
 abbrev pub is_path_text : List ℕ → Bool
 is_path_text text = nat_le (length text) max_path && list_all is_path_byte text
 

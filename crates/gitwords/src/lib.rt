@@ -1,5 +1,5 @@
-//! The command line of the program `gitrepo`, `git://` URLs, paths from clients, and the bytes from
-//! a peer that a terminal shows. The crate opens no files and no sockets.
+//! The command line of the program `gitrepo`, `git://` URLs, the paths that clients request, and
+//! texts from a peer that a terminal shows. The crate opens no files and no sockets.
 //!
 //! # Proved
 //!
@@ -7,14 +7,14 @@
 //!   returns their parts. A text has at most one host, port and path
 //!   ([`urls_have_one_reading`](laws::urls_have_one_reading)). Any other text is refused, and the
 //!   reported cause is correct for the text. The printed text of a fault is the sentence for its
-//!   cause (`specs/Faults.antt`).
+//!   cause in `specs/Faults.antt`.
 //! - [`ServedPath::parse`] accepts exactly the paths of `specs/Served.antt`. No component of an
 //!   accepted path is empty or begins with a dot, but the path may end with one slash. A path names
 //!   at most one directory ([`paths_have_one_reading`](laws::paths_have_one_reading)).
-//! - [`ServedPath::candidate`] returns the path without its first slash and an optional slash at
-//!   its end, followed by an [`Ending`] such as `.git`. No component of the result is empty, `.` or
-//!   `..`, so the result can't leave the base directory.
-//! - [`Ending::in_order`] returns the endings in Git's order.
+//! - [`ServedPath::candidate`] removes the first slash of the path and a slash at its end, and
+//!   appends an [`Ending`] such as `.git`. No component of the result is empty, `.` or `..`, so the
+//!   result can't leave the base directory.
+//! - [`Ending::in_order`] returns the endings in the order in which Git tries them.
 //! - [`clean`] and [`push_clean`] keep printable ASCII, line feeds and tabs. Progress lines also
 //!   keep carriage returns. Any other byte becomes a question mark. Cleaning a text piece by piece
 //!   gives the same result as cleaning the whole text
@@ -22,7 +22,7 @@
 //! - [`read_words`] returns only well-formed commands (`specs/Commands.antt`). The URL of a command
 //!   is valid, and a fetch has at least one refspec. The address of a server has the form
 //!   HOST:PORT. Each given limit on connections is from 1 to 1,000,000.
-//! - [`Verbosity::shows_progress`] follows the rule of git-fetch(1).
+//! - [`Verbosity::shows_progress`] follows the rule of git-fetch(1) for `--quiet` and `--progress`.
 //! - An [`Answer`] with help or the version is printed on standard output with status 0. Any other
 //!   answer is printed on standard error with another status.
 //! - No call panics, overflows or reads out of bounds, and every call returns.
@@ -31,8 +31,8 @@
 //!
 //! - Git decodes `%` and two hexadecimal digits in a URL. This crate refuses a `%` in the path.
 //!   This crate also refuses any host that is not a name, an IPv4 address or an IPv6 address.
-//! - A path has only printable ASCII, and at most 1,000 bytes. A host has at most 255 bytes. The
-//!   first line of a `git://` connection has the same limits.
+//! - A path has only printable ASCII, and at most 1,000 bytes. A host has at most 255 bytes. In
+//!   the first line of a `git://` connection, paths and hosts have the same limits.
 //! - Git drops the slash before `~user` in the path of a URL. This crate keeps the slash.
 //! - Git treats an empty port as the default port. This crate refuses an empty port.
 //! - git-daemon(1) refuses the components `.` and `..` of a path. This crate refuses each component

@@ -18,8 +18,8 @@ pub(crate) fn connections_of(text: &str) -> Option<u32>
     }
 }
 
-/// Returns the number that a text of decimal digits denotes, if the number is less than 2^32. A
-/// leading `+` is refused, although `str::parse` accepts it.
+/// Returns the number below 2^32 that a text of decimal digits denotes, or `None` for any other
+/// text. A leading `+` is refused, although `str::parse` accepts it.
 pub(crate) fn number_of(digits: &str) -> Option<u32>
     ensures { MatchOption result
         ((number : ℕ) → number < 2 ^ 32 → ¬ (IsNumber 10 digits.now number))

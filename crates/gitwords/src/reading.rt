@@ -32,18 +32,19 @@ enum ArgFault<'a> {
     Address(&'a str),
     // This argument is not a number of connections from 1 to 1,000,000.
     Connections(&'a str),
+    // Out of memory.
     Memory,
 }
 
 /// Parses the arguments, the first of which is the program name, into a command. The returned
 /// command is well-formed (`specs/Commands.antt`).
 ///
-/// Fails with the answer to print: the requested help or version, a mistake in the arguments, or
-/// out of memory.
-pub fn read_words<'a>(alloc: Global, words: &'a [String]) -> Result<GitrepoCommand<'a>, Answer>
+/// Fails with the answer to print if the arguments request help or the version, if the arguments
+/// are wrong, or if out of memory.
+pub fn read_words<'a>(alloc: Global, arguments: &'a [String]) -> Result<GitrepoCommand<'a>, Answer>
     ensures { IfOk result IsCommand }
 {
-    let matches = match parse(alloc, words) {
+    let matches = match parse(alloc, arguments) {
         Ok(matches) => matches,
         Err(error) => return Err(answer_of_clap(alloc, error)),
     };
@@ -56,8 +57,8 @@ pub fn read_words<'a>(alloc: Global, words: &'a [String]) -> Result<GitrepoComma
     }
 }
 
-fn parse<'a>(alloc: Global, words: &'a [String]) -> Result<ArgMatches<'a>, clap::Error> {
-    program(alloc)?.try_get_matches_from(words)
+fn parse<'a>(alloc: Global, arguments: &'a [String]) -> Result<ArgMatches<'a>, clap::Error> {
+    program(alloc)?.try_get_matches_from(arguments)
 }
 
 // Returns the answer for an error of `clap`: wrong arguments, help or the version.
@@ -103,10 +104,10 @@ fn read_command<'a>(
         "ls" => ls_command(alloc, args),
         "serve" => serve_command(args),
         "upload-pack" => Ok(GitrepoCommand::UploadPack {
-            dir: required(args, "DIR")?,
+            dir: required_arg(args, "DIR")?,
         }),
         "check" => Ok(GitrepoCommand::Check {
-            dir: required(args, "DIR")?,
+            dir: required_arg(args, "DIR")?,
         }),
         _ => Err(ArgFault::Missing("COMMAND")),
     }
@@ -118,7 +119,7 @@ fn clone_command<'a>(args: &ArgMatches<'a>) -> Result<GitrepoCommand<'a>, ArgFau
     Ok(GitrepoCommand::Clone(CloneArgs {
         verbosity: verbosity(args),
         url: url(args)?,
-        dir: required(args, "DIR")?,
+        dir: required_arg(args, "DIR")?,
     }))
 }
 
@@ -130,7 +131,7 @@ fn fetch_command<'a>(
 {
     Ok(GitrepoCommand::Fetch(FetchArgs {
         verbosity: verbosity(args),
-        dir: required(args, "DIR")?,
+        dir: required_arg(args, "DIR")?,
         url: url(args)?,
         specs: specs(alloc, args)?,
     }))
@@ -154,12 +155,12 @@ fn serve_command<'a>(args: &ArgMatches<'a>) -> Result<GitrepoCommand<'a>, ArgFau
         max_connections: connections(args, "max-connections")?,
         max_per_address: connections(args, "max-per-address")?,
         export_all: args.get_flag("export-all"),
-        base: required(args, "BASE")?,
+        base: required_arg(args, "BASE")?,
     }))
 }
 
 // Returns the argument with this name. Fails with `Missing` if the argument is absent.
-fn required<'a>(args: &ArgMatches<'a>, name: &'static str) -> Result<&'a str, ArgFault<'a>> {
+fn required_arg<'a>(args: &ArgMatches<'a>, name: &'static str) -> Result<&'a str, ArgFault<'a>> {
     match args.get_str(name) {
         Some(text) => Ok(text),
         None => Err(ArgFault::Missing(name)),
@@ -169,7 +170,7 @@ fn required<'a>(args: &ArgMatches<'a>, name: &'static str) -> Result<&'a str, Ar
 fn url<'a>(args: &ArgMatches<'a>) -> Result<GitUrl<'a>, ArgFault<'a>>
     ensures { IfOk result IsUrl }
 {
-    match GitUrl::parse(required(args, "URL")?) {
+    match GitUrl::parse(required_arg(args, "URL")?) {
         Ok(url) => Ok(url),
         Err(fault) => Err(ArgFault::Url(fault)),
     }
@@ -178,7 +179,7 @@ fn url<'a>(args: &ArgMatches<'a>) -> Result<GitUrl<'a>, ArgFault<'a>>
 fn listen<'a>(args: &ArgMatches<'a>) -> Result<&'a str, ArgFault<'a>>
     ensures { IfOk result (λ address. IsListenAddress address.now) }
 {
-    let address = required(args, "listen")?;
+    let address = required_arg(args, "listen")?;
     if is_listen_address(address) {
         Ok(address)
     } else {

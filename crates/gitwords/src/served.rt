@@ -47,7 +47,8 @@ impl Ending {
     }
 }
 
-/// The path of a request, each component of which may be the name of a directory (git-daemon(1)).
+/// The path of a repository in a request (git-daemon(1)). No component of the path is empty or
+/// begins with a dot.
 #[derive(Debug, Drop)]
 pub struct ServedPath<'a> {
     relative: &'a str,
@@ -96,7 +97,7 @@ impl<'a> ServedPath<'a> {
     }
 }
 
-// Returns the text without the last slash if it ends with a slash, or the unchanged text otherwise.
+// Returns the text without the slash at its end, or the whole text if it does not end with a slash.
 fn without_last_slash(text: &str) -> &str
     ensures { (text.now ≡ result.now ++ 47 ∷ [])
         ⊎ ((text.now ≡ result.now) × ((front : List ℕ) → text.now ≢ front ++ 47 ∷ [])) }
@@ -107,7 +108,7 @@ fn without_last_slash(text: &str) -> &str
     }
 }
 
-// Returns whether each component of the path may be the name of a directory.
+// Returns whether no component of the path is empty or begins with a dot.
 fn has_names(relative: &str) -> bool
     ensures { result ≡ list_all is_name (components relative.now) }
 {

@@ -14,12 +14,10 @@ use std::net::Ipv6Addr;
 /// The default port of `git://`.
 pub const DEFAULT_PORT: u16 = 9418;
 
-// The maximum length of a host in bytes. The first line of a `git://` connection has the same
-// limit.
+// The maximum length of a host in bytes, in URLs and in the first line of a `git://` connection.
 const MAX_HOST: usize = 255;
 
-// The maximum length of a path in bytes. The first line of a `git://` connection has the same
-// limit.
+// The maximum length of a path in bytes, in URLs and in the first line of a `git://` connection.
 const MAX_PATH: usize = 1_000;
 
 // The highest port.
@@ -142,7 +140,8 @@ fn is_path_byte(byte: u8) -> bool
     (b' '..=b'~').contains(&byte) && byte != b'%'
 }
 
-// Returns the host and the port of a text of the form HOST[:PORT].
+// Returns the host and the port of a text of the form HOST[:PORT]. Fails with `BadHost` or
+// `BadPort` if the text does not have this form.
 fn read_authority(text: &str) -> Result<(&str, u16), Cause>
     ensures { MatchResult result (λ parts. IsAuthority text.now parts.0.now parts.1)
         (IsAuthorityCause text.now) }

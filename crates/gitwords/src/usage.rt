@@ -14,13 +14,13 @@ pub(crate) struct CommandRow {
 }
 
 // An argument of a command. The first field is the name of the argument, and the last field is its
-// help text. The middle field of an option is the name of its value.
+// help text. The middle field of `Required` and `Optional` is the name of the option's value.
 #[derive(Clone, Copy)]
 enum Argument {
     // `--NAME`
     Flag(&'static str, &'static str),
     // `--NAME VALUE`, a required option.
-    Valued(&'static str, &'static str, &'static str),
+    Required(&'static str, &'static str, &'static str),
     // `--NAME VALUE`, an option that may be omitted.
     Optional(&'static str, &'static str, &'static str),
     // An argument that must be given exactly once.
@@ -124,7 +124,7 @@ line after an annotated tag has a name that ends in ^{}, and the id of the peele
         about: "Serve every repository below a directory over git://",
         usage: "gitrepo serve --listen ADDR [OPTION]... BASE",
         args: &[
-            Argument::Valued(
+            Argument::Required(
                 "listen",
                 "ADDR",
                 "Accept connections at HOST:PORT, or at any free port if PORT is 0",
@@ -215,7 +215,7 @@ fn arg<'a>(alloc: Global, argument: Argument) -> Arg<'a> {
             .long(name)
             .action(ArgAction::SetTrue)
             .help(help),
-        Argument::Valued(name, value, help) => Arg::new(alloc, name)
+        Argument::Required(name, value, help) => Arg::new(alloc, name)
             .long(name)
             .value_name(value)
             .required(true)

@@ -7,8 +7,8 @@
 //!
 //! # Proved
 //!
-//! - [`open_file`] returns the text of the file, and does not change the file. The run holds the
-//!   lockfile exactly when [`open_file`] returns `Ok`.
+//! - [`open_file`] returns the text of the file, and does not change the file. After the call, the
+//!   run holds the lockfile exactly if the call returned `Ok`.
 //! - [`replace_file`] replaces the text of the file by the new text, or leaves the file unchanged
 //!   if both texts are equal (`specs/Storing.antt`). During and after the call the file has the old
 //!   text or the whole new text. After `Ok` the file has the new text. When the call returns, the

@@ -23,7 +23,7 @@ pub struct MemoryFile<A: Allocator + Copy = Global> {
     calls: usize,
 }
 
-// The calls that fail. Calls are numbered from 1, over all functions of `Storage`.
+// The calls that fail. The calls of all functions of `Storage` are numbered together, from 1.
 #[derive(Clone, Copy)]
 enum FailurePlan {
     None,

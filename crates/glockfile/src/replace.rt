@@ -9,8 +9,8 @@ use std::alloc::Allocator;
 
 /// Locks the file, and then reads its text.
 ///
-/// Fails with `Failed` if the lockfile already exists or a call fails, and with `Memory` if out of
-/// memory. After a failure this run holds no lockfile.
+/// Fails with `Failed` if the lockfile already exists or another call of the [`Storage`] fails, and
+/// with `Memory` if out of memory. After a failure this run holds no lockfile.
 pub fn open_file<A: Allocator + Copy, T: Storage>(
     alloc: A,
     file: &mut T,

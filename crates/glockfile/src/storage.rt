@@ -16,7 +16,7 @@ use std::{fmt, io};
 pub enum StorageFault {
     /// Out of memory.
     Memory,
-    /// The lockfile already exists, the file is not a regular file, or the system refused a call.
+    /// The lockfile already exists, the file is not a regular file, or a system call failed.
     Failed,
 }
 

@@ -1,5 +1,5 @@
 //! Laws about ls-refs replies. Each function does nothing at run time, and its contract states the
-//! law. A proof can use a law after it calls the function.
+//! law. The proof of a function that calls a law can use this law.
 
 ghost use Rattle.std.specs.Prelude.{◌≡◌, ◌+◌, List, length};
 ghost use Rattle.gname.specs.declared.formats.Format.{Format};
@@ -35,8 +35,8 @@ pub fn says_whole()
     ensures { (format : Format) (ends : Ends) → SaysWhole (judge format ends) (Says format ends) }
 {}
 
-/// Proves that no reply is a prefix of another reply with the same object format and ending, as
-/// packets or as bytes.
+/// Proves that no reply is a prefix of another reply with the same object format and the same
+/// [`Ends`](ggrammar::Ends), as packets or as bytes.
 pub fn prefix_free()
     ensures packets { (format : Format) (ends : Ends) → IsPrefixFree (judge format ends) }
     ensures spellings { (format : Format) (ends : Ends) → SpellingsPrefixFree (judge format ends) }
@@ -45,8 +45,8 @@ pub fn prefix_free()
     messages_are_read();
 }
 
-/// Proves that every list of packets that `judge` accepts as incomplete is a prefix of some reply.
-/// A refused packet is the first packet that fits no reply.
+/// Proves that every list of packets that the grammar accepts as incomplete is a prefix of some
+/// reply. A refused packet is the first packet that fits no reply.
 pub fn endings()
     ensures endings { (format : Format) (ends : Ends) → HasEndings (judge format ends) }
     ensures first { (format : Format) (ends : Ends) → RefusesFirstMisfits (judge format ends) }
@@ -54,7 +54,7 @@ pub fn endings()
     grammars_are_exact();
 }
 
-/// Proves that `judge` refuses a packet only because of the packet's contents. Any input either
+/// Proves that the grammar refuses a packet only because of the packet's contents. Any input either
 /// begins with a reply or is refused because of its bytes.
 pub fn every_input()
     ensures packets { (format : Format) (ends : Ends) → RefusesPackets (judge format ends) }
@@ -102,7 +102,8 @@ pub fn last_frame()
     manual();
 }
 
-// The kind of message "ls-refs reply", for an object format and an ending.
+// The kind of message "ls-refs reply". Its parameters are the object format and the packets that
+// end the reply.
 struct Replies;
 
 impl MessageKind for Replies {

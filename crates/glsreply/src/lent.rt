@@ -24,9 +24,9 @@ pub struct LentLine<'a, A: Allocator + Copy> {
     pub id: Oid,
     /// The name of the ref.
     pub name: &'a RefName<A>,
-    /// The name that a symbolic ref points at.
+    /// The value of `symref-target:`, if present: the name that the symbolic ref points at.
     pub symref: Option<&'a RefName<A>>,
-    /// The id of the object that a tag peels to.
+    /// The value of `peeled:`, if present: the id of the object that the tag peels to.
     pub peeled: Option<Oid>,
 }
 

@@ -1,16 +1,16 @@
-//! The ls-refs reply (gitprotocol-v2(5), "ls-refs"): the refs of a repository with their ids. If
-//! the client requests it, the reply also contains the targets of symbolic refs, the peeled objects
-//! of tags, and the target of an unborn `HEAD`. Ids are SHA-1 or SHA-256.
+//! The ls-refs reply (gitprotocol-v2(5), "ls-refs"): the refs of a repository with their ids. On
+//! request, the reply also contains the targets of symbolic refs, the peeled objects of tags, and
+//! the target of an unborn `HEAD`. Ids are SHA-1 or SHA-256.
 //!
 //! # Proved
 //!
 //! - [`read_ls_reply`] and [`read_ls_reply_in`] read one reply exactly to its end, however its
-//!   bytes are split into pieces, and return the value that the packets encode. They refuse any
-//!   other input at the first packet that does not fit, with the fault that the grammar gives
-//!   (`judge` in `specs/LsReplies.antt`). They check a line from left to right, and report out of
-//!   memory only at a line that the grammar accepts.
-//! - Every reply that was read can be written. It has ids of the requested format, valid ref names,
-//!   and at most 65,537 lines.
+//!   bytes are split into pieces, and return the value that the packets encode. Both functions
+//!   refuse any other input at the first packet that does not fit, with the fault that the grammar
+//!   gives (`judge` in `specs/LsReplies.antt`). Both functions check a line from left to right, and
+//!   report out of memory only at a line that the grammar accepts.
+//! - Every reply that was read can be written. The reply has ids of the requested format, valid ref
+//!   names, and at most 65,537 lines.
 //! - All ids of an [`LsReply`] have the same format, and an [`LsReply`] has at most 65,537 lines. A
 //!   call that would violate these invariants fails and leaves the reply unchanged.
 //!   [`LsReply::last_frame`] is the position of the last packet of the reply.
@@ -19,7 +19,7 @@
 //!   returns the same reply. A caller without an [`LsReply`] can write a reply line by line, with
 //!   [`write_unborn`], [`write_ref`] and [`write_end`]. The names in a line may be borrowed. Each
 //!   written line is valid in a reply whose ids have the same format as the ids of the line.
-//! - [`RefText`] holds the text of a ref's line.
+//! - [`RefText`] stores the text of a ref's line.
 //! - [`laws`] proves laws about the grammar. A list of packets encodes at most one reply. No reply
 //!   is a prefix of another, as packets or as bytes. Every accepted prefix can be completed, and a
 //!   refused packet is the first that fits no reply. The grammar accepts exactly the replies of

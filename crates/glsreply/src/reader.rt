@@ -59,7 +59,7 @@ pub fn read_ls_reply_in<S: Source, A: Allocator + Copy, B: Allocator + Copy>(
     ensures loans { S.loans reader.new.source ≡ S.loans reader.old.source }
     ensures reader { LeavesReader S.is_down reader.old reader.new result }
 {
-    // Laws.
+    // Laws that the proof uses.
     texts_have_one_reading();
     let mut message = LsReplyReader::new(alloc, format, ends);
     match read_message(reader, &mut message) {

@@ -26,9 +26,9 @@ pub struct RefLine<A: Allocator + Copy> {
     pub id: Oid,
     /// The name of the ref.
     pub name: RefName<A>,
-    /// The name that a symbolic ref points at.
+    /// The value of `symref-target:`, if present: the name that the symbolic ref points at.
     pub symref: Option<RefName<A>>,
-    /// The id of the object that a tag peels to.
+    /// The value of `peeled:`, if present: the id of the object that the tag peels to.
     pub peeled: Option<Oid>,
 }
 
@@ -106,7 +106,7 @@ impl<A: Allocator + Copy> LsReply<A> {
     {
         let most = match &unborn {
             Some(target) => {
-                // Laws.
+                // Laws that the proof uses.
                 target.laws();
                 MAX_LINES - 1
             }
@@ -125,7 +125,7 @@ impl<A: Allocator + Copy> LsReply<A> {
         ensures sets { SetsUnborn self.old target self.new result }
         ensures full { IfErr result (λ fault. fault.why ≡ Limit) }
     {
-        // Laws.
+        // Laws that the proof uses.
         target.laws();
         if self.unborn.is_none() && !self.has_room() {
             return Err(MessageFault::of_value(Why::Limit));
@@ -140,7 +140,7 @@ impl<A: Allocator + Copy> LsReply<A> {
     pub fn push(&mut self, line: RefLine<A>) -> Result<(), MessageFault>
         ensures { Pushes self.old line self.new result }
     {
-        // Laws.
+        // Laws that the proof uses.
         ids_have_one_format();
         line.lend().laws();
         if !has_one_format(self.lines(), &line) {
@@ -225,7 +225,7 @@ fn are_ref_lines<A: Allocator + Copy>(format: Format, lines: &[RefLine<A>]) -> b
 fn is_ref_line<A: Allocator + Copy>(format: Format, line: &RefLine<A>) -> bool
     ensures { IsTrue result ↔ IsRefLine format line.now }
 {
-    // Laws.
+    // Laws that the proof uses.
     line.lend().laws();
     if line.id.format() != format {
         return false;

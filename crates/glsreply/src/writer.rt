@@ -26,9 +26,9 @@ use std::alloc::Allocator;
 /// response-end if `ends` requires one (gitprotocol-v2(5), "ls-refs"). Allocates nothing.
 ///
 /// Fails with `Io` if the sink fails; a prefix of the reply may then have been written. Fails with
-/// `Failed` if the writer had failed before. Never fails with `Payload`. A written reply reads back
-/// ([`reads_back`](crate::laws::reads_back)), since every reply meets the conditions of that law in
-/// the format of its ids.
+/// `Failed` if the writer had failed before. Never fails with `Payload`, since no payload is too
+/// long. A reader for the format of the ids returns the same reply
+/// ([`reads_back`](crate::laws::reads_back)).
 pub fn write_ls_reply<A: Allocator + Copy, W: Sink>(
     reply: &LsReply<A>,
     ends: Ends,
@@ -39,7 +39,7 @@ pub fn write_ls_reply<A: Allocator + Copy, W: Sink>(
     ensures form { (format : Format) → BeginsIn format reply.now.lines
         → IsLsReplyIn format reply.now }
 {
-    // Laws.
+    // Laws that the proof uses.
     writes_packets::<W>();
     ids_have_one_format();
     let lines = reply.lines();
@@ -61,7 +61,7 @@ pub fn write_unborn<A: Allocator + Copy, W: Sink>(
         result (unborn_packets (option_copied target.entry)) }
     ensures form { IfSome (option_copied target.entry) IsRefName }
 {
-    // Laws.
+    // Laws that the proof uses.
     writes_packets::<W>();
     match target {
         None => Ok(()),
@@ -78,7 +78,7 @@ fn write_refs<A: Allocator + Copy, W: Sink>(
     ensures { WritesPackets W.contents W.passed_on W.is_down W.loans writer.old writer.new result
         (map ref_packet lines.now ++ Flush ∷ ends_with ends) }
 {
-    // Laws.
+    // Laws that the proof uses.
     writes_packets::<W>();
     let mut text = RefText::new();
     for line in lines {
@@ -104,7 +104,7 @@ pub fn write_ref<A: Allocator + Copy, W: Sink>(
     ensures form { (format : Format) → HasIdsOf format (lent_view line.now)
         → IsRefLine format (lent_view line.now) }
 {
-    // Laws.
+    // Laws that the proof uses.
     writes_packets::<W>();
     line.laws();
     text.set(line);
@@ -117,7 +117,7 @@ pub fn write_end<W: Sink>(ends: Ends, writer: &mut PacketWriter<W>) -> Result<()
     ensures { WritesPackets W.contents W.passed_on W.is_down W.loans writer.old writer.new result
         (Flush ∷ ends_with ends) }
 {
-    // Laws.
+    // Laws that the proof uses.
     writes_packets::<W>();
     match ends {
         Ends::Plain => writer.flush_pkt(),

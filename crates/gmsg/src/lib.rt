@@ -9,8 +9,8 @@
 //!   bytes. Within the limits, the readers of advertisements, requests and replies accept exactly
 //!   the messages that Git's manual defines. The packets written for a message encode that message,
 //!   and each payload fits into a packet. No byte string begins with both an ls-refs reply and a
-//!   fetch reply. In the first four crates below, `laws` proves that reading a written message
-//!   returns the same message.
+//!   fetch reply. The modules `laws` of `ghello`, `grequest`, `glsreply` and `gfetchreply` prove
+//!   that reading a written message returns the same message.
 //!
 //! The following crates define the messages, and prove further properties:
 //!

@@ -58,7 +58,7 @@ impl NameFault {
         self.fault_row().1
     }
 
-    /// Returns the fault's row in the table of faults: the number and the name of the fault.
+    /// Returns the number and the name of the fault.
     pub fn fault_row(&self) -> (u32, &'static str)
         ensures { (result.0, result.1.now) ≡ name_fault_row self.now }
     {

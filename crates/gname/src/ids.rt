@@ -138,7 +138,8 @@ impl Oid {
         }
     }
 
-    /// Proves that an id has the length of its format.
+    /// Proves that the id has the number of bytes that its format requires: 20 for SHA-1, or 32 for
+    /// SHA-256.
     pub fn laws(&self)
         ensures { IsId self.now }
     {
@@ -228,7 +229,7 @@ impl OidFault {
         self.fault_row().1
     }
 
-    // Returns the fault's row in the table of faults: the number and the name of the fault.
+    // Returns the number and the name of the fault.
     fn fault_row(&self) -> (u32, &'static str)
         ensures { (result.0, result.1.now) ≡ id_fault_row self.now }
     {

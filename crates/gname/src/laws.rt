@@ -29,7 +29,8 @@ pub fn texts_spell_one_id()
     ensures { TextsSpellOneId }
 {}
 
-/// Proves that an id of a format is a valid id, and has only that format.
+/// Proves that if bytes are an id of a format, they are a valid id, and
+/// [`Oid::format`](crate::Oid::format) returns that format.
 #[tactic(auto, using(crate::proofs::IdLemmas::ids_have_one_format))]
 pub fn ids_have_one_format()
     ensures { IdsHaveOneFormat }
@@ -60,20 +61,20 @@ pub fn prefixes_are_clean()
     ensures { PrefixesAreClean }
 {}
 
-/// Proves that the constants for limits equal the limits of the specs.
+/// Proves that the constants for limits equal the limits in the specs.
 pub fn limits_are_the_constants()
     ensures id_text { MAX_ID_TEXT ≡ id_text_length Sha256 }
     ensures name { MAX_NAME ≡ max_name }
     ensures pack { MAX_PACK ≡ max_pack }
 {}
 
-/// Proves that the rules of names and prefixes never report out of memory.
+/// Proves that the rules for names and prefixes in the specs never give the fault `Memory`.
 pub fn rules_never_report_memory()
     ensures { RulesNeverReportMemory }
 {}
 
-/// Proves that `first_place` of the specs finds the first position that passes a test. The faults
-/// `Component`, `DoubleDot` and `AtBrace` report the position that `first_place` finds.
+/// Proves that `first_place`, which the specs define, finds the first position that passes a test.
+/// The faults `Component`, `DoubleDot` and `AtBrace` report the position that `first_place` finds.
 #[tactic(auto, using(crate::proofs::PlaceLemmas::first_places_are_first))]
 pub fn first_places_are_first()
     ensures { FirstPlacesAreFirst }

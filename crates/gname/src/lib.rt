@@ -38,8 +38,8 @@
 //! # What the contracts do not rule out
 //!
 //! The contracts allow a call that stores a name or a prefix to report out of memory at any time.
-//! No contract rules out that formatting a fault fails for no reason. No contract bounds the time
-//! that a call takes or the memory that it uses.
+//! No contract rules out that formatting a fault returns `fmt::Error` even if every write succeeds.
+//! No contract bounds the time that a call takes or the memory that it uses.
 //!
 //! # Dependencies
 //!

@@ -144,8 +144,8 @@ fn check_braces(text: &[u8]) -> Result<(), NameFault>
     }
 }
 
-// Returns the first position of a pair of bytes. Most names do not contain the first byte of the
-// pair, and the search for one byte is quick.
+// Returns the first position of a pair of bytes, or `None` if the text does not contain the pair.
+// The function first searches for only the first byte of the pair, which most names do not contain.
 #[tactic(auto, using(crate::proofs::PlaceLemmas::no_pair))]
 fn find_pair(text: &[u8], pair: &[u8; 2]) -> Option<usize>
     ensures { FindsNeedle text.now pair.now 0 result }

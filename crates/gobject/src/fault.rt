@@ -37,7 +37,8 @@ impl PackFault {
         self.fault_row().1
     }
 
-    // Returns the number and the name of the fault. All variants have the same number and name.
+    // Returns the number and the name of the fault. All variants have the same number and name, but
+    // different texts.
     fn fault_row(&self) -> (u32, &'static str)
         ensures { (result.0, result.1.now) ≡ pack_fault_row self.now }
     {
@@ -86,7 +87,8 @@ impl IndexFault {
         self.fault_row().1
     }
 
-    /// Returns the number and the name of the fault. All variants have the same number and name.
+    /// Returns the number and the name of the fault. All variants have the same number and name,
+    /// but different texts.
     pub fn fault_row(&self) -> (u32, &'static str)
         ensures { (result.0, result.1.now) ≡ index_fault_row self.now }
     {

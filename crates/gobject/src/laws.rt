@@ -1,5 +1,6 @@
 //! The laws of plain packs. Each function does nothing at run time, and its contract states the
-//! law.
+//! law. The bad line of a sequence of bytes is the first line that is malformed or missing if the
+//! bytes are read as a plain pack.
 
 ghost use Rattle.std.specs.Prelude.{◌≡◌};
 ghost use Rattle.gobject.specs.Laws.{BadLinesHaveOnePlace, PacksHaveNoBadLine, PacksHaveOneReading};
@@ -9,7 +10,7 @@ use crate::MAX_PARENTS;
 use gname::laws::{id_texts_are_digits, texts_spell_one_id};
 use std::alloc::Allocator;
 
-/// Proves that [`MAX_PARENTS`] equals the limit of the specs, `max_parents`.
+/// Proves that [`MAX_PARENTS`] equals `max_parents`, the limit in the specs.
 pub fn limits_are_the_constants()
     ensures { MAX_PARENTS ≡ max_parents }
 {}
@@ -30,8 +31,8 @@ pub fn packs_have_no_bad_line<A: Allocator + Copy>()
     texts_spell_one_id();
 }
 
-/// Proves that a sequence of bytes has at most one bad line. So the line that an indexer reports
-/// does not depend on how the bytes are split into pieces.
+/// Proves that a sequence of bytes has at most one bad line. Therefore an indexer reports the same
+/// line however the bytes are split into pieces.
 pub fn bad_lines_have_one_place<A: Allocator + Copy>()
     ensures { BadLinesHaveOnePlace A }
 {

@@ -15,7 +15,8 @@
 //!   and the id of one more entry was read.
 //! - The contracts of [`Indexer`] specify how an indexer reads a pack in pieces. The contract of
 //!   `index`, which reads a whole pack, follows from the contracts of the other calls.
-//! - A sequence of bytes has at most one bad line, and a plain pack has none ([`laws`]).
+//! - A sequence of bytes has at most one bad line, which is the first malformed or missing line. A
+//!   plain pack has no bad line ([`laws`]).
 //! - [`Faithful`] specifies a lossless pair of packer and indexer. A plain pack of a list with
 //!   distinct ids reads back as that list.
 //! - Each fault has the number, the name and the text of its row in the table
@@ -37,7 +38,7 @@
 //!
 //! # Dependencies
 //!
-//! The crate uses `gname` for ids, `memchr` to find spaces and line feeds,  `arrayvec` for a word
+//! The crate uses `gname` for ids, `memchr` to find spaces and line feeds, `arrayvec` for a part
 //! that is split between pieces, and `itoa` to format numbers. The proofs use `hex`.
 #![tactic(auto)]
 

@@ -19,7 +19,8 @@ use std::alloc::Allocator;
 ///
 /// The first line is `GPK1`. Each entry has a line: `c` for a commit or `t` for a tag, the id of
 /// the entry, and the ids of the parents. The last line is `end` and the number of entries, in
-/// decimal without leading zeros. One space separates parts, and a line feed ends each line.
+/// decimal without leading zeros. One space separates the parts of a line, and a line feed ends
+/// each line.
 ///
 /// `pack` writes the entries in the given order, with ids in lower case. `pack` fails with
 /// `TooLarge` if the text has more than `gname::MAX_PACK` bytes.

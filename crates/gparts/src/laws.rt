@@ -6,7 +6,7 @@ ghost use Rattle.gparts.specs.Parts.{max_parts};
 
 use crate::parts::MAX_PARTS;
 
-/// Proves that [`MAX_PARTS`](crate::MAX_PARTS) equals the limit of the specs, `max_parts`.
+/// Proves that [`MAX_PARTS`](crate::MAX_PARTS) equals `max_parts`, the limit in the specs.
 pub fn limits()
     ensures { MAX_PARTS ≡ max_parts }
 {}

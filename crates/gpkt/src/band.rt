@@ -57,7 +57,8 @@ pub fn band_of(payload: &[u8]) -> Result<Band<'_>, BandFault>
     }
 }
 
-// Returns the band with the number `first` and the given bytes.
+// Returns the band with the number `first` and the given bytes. Fails unless the number is 1, 2 or
+// 3.
 fn band_at(first: u8, bytes: &[u8]) -> Result<Band<'_>, BandFault>
     ensures { band_read result ≡ band_at first bytes.now }
 {

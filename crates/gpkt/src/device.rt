@@ -29,7 +29,7 @@ impl Error for Down {}
 ///
 /// After any error, every later call to the source also fails.
 pub trait Source {
-    // The bytes still to be read, if they are known.
+    // The bytes still to be read, or `None` if the contracts do not state them.
     ghost remaining: { Self → Option (List ℕ) };
 
     // Whether the source has failed.
@@ -52,10 +52,10 @@ pub trait Source {
 ///
 /// After any error, every later call to the sink also fails.
 pub trait Sink {
-    // The bytes written so far, if they are known.
+    // The bytes written so far, or `None` if the contracts do not state them.
     ghost contents: { Self → Option (List ℕ) };
 
-    // The bytes that were flushed, if they are known.
+    // The bytes that were flushed, or `None` if the contracts do not state them.
     ghost passed_on: { Self → Option (List ℕ) };
 
     // Whether the sink has failed.

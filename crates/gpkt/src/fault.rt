@@ -100,8 +100,8 @@ pub enum WriteFault {
     /// The payload, with its line feed if any, has more than 65,516 bytes. Nothing is written, and
     /// the writer stays usable.
     Payload,
-    /// The sink failed in this call. A call that writes a packet has written only a part of the
-    /// packet.
+    /// The sink failed in this call. If the call was writing a packet, only a part of the packet
+    /// was written.
     Io,
 }
 

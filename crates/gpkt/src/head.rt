@@ -44,7 +44,8 @@ fn fill<S: Source>(source: &mut S, buf: &mut [u8]) -> Result<usize, Down>
     Ok(at)
 }
 
-// Returns the number that four hexadecimal digits encode.
+// Returns the number that four hexadecimal digits encode, or `None` if one of the bytes is not a
+// hexadecimal digit.
 fn number(digits: &[u8]) -> Option<u16>
     requires { length digits.now ≡ digit_count }
     ensures { result ≡ number_of digits.now }
@@ -56,7 +57,8 @@ fn number(digits: &[u8]) -> Option<u16>
     }
 }
 
-// Returns the kind of packet that four digits announce.
+// Returns the kind of packet that four digits announce. Fails if no packet begins with these
+// digits.
 fn classify(digits: &[u8]) -> Result<Head, PacketFault>
     requires { length digits.now ≡ digit_count }
     ensures { Classifies digits.now result }
@@ -114,8 +116,8 @@ fn read_payload<S: Source>(source: &mut S, payload: &mut [u8]) -> Result<(), Pac
     }
 }
 
-/// Reads one packet, and its payload into the front of `buffer`. Returns `None` at the end of the
-/// input.
+/// Reads one packet, stores its payload at the front of `buffer`, and returns its kind. Returns
+/// `None` at the end of the input.
 pub(crate) fn read_into<S: Source>(
     source: &mut S,
     buffer: &mut [u8],

@@ -8,21 +8,22 @@ ghost use Rattle.gpkt.specs.Packets.{max_packet, max_payload};
 use crate::device::Sink;
 use crate::{MAX_BAND, MAX_PACKET, MAX_PAYLOAD};
 
-/// Proves that the public constants equal the limits in the specifications.
+/// Proves that the public constants equal the limits in the specs.
 pub fn limits_are_the_constants()
     ensures packet { MAX_PACKET ≡ max_packet }
     ensures payload { MAX_PAYLOAD ≡ max_payload }
     ensures band { MAX_BAND ≡ max_band }
 {}
 
-/// Proves that bytes begin with at most one encoded packet, which ends at only one position.
+/// Proves that a sequence of bytes begins with at most one encoded packet, which ends at only one
+/// position.
 #[tactic(auto, using(crate::proofs::Readings::one_reading_lem))]
 pub fn one_reading()
     ensures { OneReading }
 {}
 
-/// Proves that bytes that a reader rejects do not begin with an encoded packet, and that a reader
-/// can reject them for only one reason.
+/// Proves that a sequence of bytes that a reader rejects does not begin with an encoded packet. A
+/// reader can reject the sequence for only one reason.
 #[tactic(auto, using(crate::proofs::Readings::refused_lem, crate::proofs::Fronts::one_fault_lem))]
 pub fn refused_front()
     ensures no_packet { RefusedIsNoPacket }
@@ -71,7 +72,8 @@ pub fn one_begins()
     ensures { OneBegins }
 {}
 
-/// Proves that reading a text packet returns the text that was written.
+/// Proves that `text_of` returns the text of a payload that consists of a text and a line feed.
+/// From any other payload `text_of` removes at most a final line feed.
 pub fn text_reads_back()
     ensures line { TextOfLine }
     ensures nothing_else { TextOrLine }
@@ -87,8 +89,7 @@ pub fn bands_are_read()
     ensures fits { BandFits }
 {}
 
-/// Proves that consecutive reads of packets have the effect of one read of the list of all the
-/// packets.
+/// Proves that consecutive reads of packets consume the encodings of all the packets, in sequence.
 #[tactic(auto, using(crate::proofs::Joins::reads_none, crate::proofs::Joins::reads_next, crate::proofs::Joins::reads_join))]
 pub fn reads_join()
     ensures none { ReadsNone }
@@ -96,8 +97,8 @@ pub fn reads_join()
     ensures join { ReadsJoin }
 {}
 
-/// Proves that consecutive writes have the effect of one write of all the bytes, and that a push
-/// flushes all the bytes.
+/// Proves that consecutive writes have the effect of a single write of all the bytes, and that a
+/// push flushes all the written bytes.
 #[tactic(auto, using(crate::proofs::Joins::writes_join, crate::proofs::Joins::fails_of_more, crate::proofs::Joins::pushes_written))]
 pub fn writes_join<W: Sink>()
     ensures join { WritesJoin W.contents W.passed_on W.is_down W.loans }

@@ -10,11 +10,11 @@
 //!
 //! # Proved
 //!
-//! - If the input is known, the consumed bytes encode the packet that is read. The reader consumes
-//!   no byte after the packet, however the source splits the input. The reader reports the end only
-//!   if no byte is left. For each fault, the contract states when the reader may report it and
-//!   which bytes are consumed (`HasRead` in `specs/PacketReading.antt`, which uses `Spells` and
-//!   `NoPacket`).
+//! - The bytes of a source or sink are known if its contract states them. If the input is known,
+//!   the consumed bytes encode the packet that is read. The reader consumes no byte after the
+//!   packet, however the source splits the input. The reader reports the end only if no byte is
+//!   left. For each fault, the contract states when the reader may report it and which bytes are
+//!   consumed (`HasRead` in `specs/PacketReading.antt`).
 //! - For any source, a reader that has failed returns `Failed` and reads nothing. After any fault,
 //!   the reader has failed. If the reader had not failed before a call, the call reports `Io`
 //!   exactly when the source has failed after the call. A payload has at most 65,516 bytes. Only
@@ -30,14 +30,14 @@
 //!   one of std's writers fails exactly when a call to the writer fails, or a write accepts no byte
 //!   of a nonempty slice. The contracts of two private functions, which receive the result of the
 //!   call, state these conditions.
-//! - Bytes begin with at most one encoded packet, which ends at only one position. Bytes that a
-//!   reader rejects begin with no encoded packet, and there is only one possible reason to reject
-//!   them. The canonical form of a packet is one of its encodings. If the same bytes begin with the
-//!   encodings of two lists of packets, one list is a prefix of the other. Every byte sequence is
-//!   empty, or begins with an encoded packet, or is rejected by a reader with a fault. Consecutive
-//!   reads have the effect of one read, and consecutive writes the effect of one write. A payload
-//!   decodes to a band exactly when it consists of the band byte followed by the bytes of that band
-//!   ([`laws`]).
+//! - A sequence of bytes begins with at most one encoded packet, which ends at only one position. A
+//!   sequence that a reader rejects begins with no encoded packet, and there is only one possible
+//!   reason to reject it. The canonical form of a packet is one of its encodings. If the same bytes
+//!   begin with the encodings of two lists of packets, one list is a prefix of the other. Every
+//!   byte sequence is empty, or begins with an encoded packet, or is rejected by a reader with a
+//!   fault. Consecutive reads consume the encodings of all their packets, in sequence. Consecutive
+//!   writes have the effect of a single write of all the bytes. A payload decodes to a band exactly
+//!   when it consists of the band byte followed by the bytes of that band ([`laws`]).
 //! - Each fault has the number, the name and the text that `specs/Faults.antt` states.
 //!
 //! # Only tested

@@ -22,7 +22,7 @@ where
     }
 }
 
-// Runs a simulation whose server has the repository that this text describes.
+// Runs a simulation whose server has the repository that the text `server` describes.
 fn simulate_server<R, E>(rt: &R, args: &Simulate, server: &[u8], errors: &mut E) -> u8
 where
     R: Files + Print + AllocGlobal,

@@ -1,4 +1,4 @@
-//! The faults of calls on refs.
+//! The faults of setting a ref.
 
 ghost use Rattle.std.specs.Prelude.{◌≡◌, Some};
 ghost use Rattle.grefs.specs.Faults.{refs_fault_row, refs_fault_text};
@@ -33,7 +33,7 @@ impl RefsFault {
         self.fault_row().1
     }
 
-    /// Returns the fault's row in the table of faults: the number and the name of the fault.
+    /// Returns the number and the name of the fault.
     pub fn fault_row(&self) -> (u32, &'static str)
         ensures { (result.0, result.1.now) ≡ refs_fault_row self.now }
     {

@@ -6,12 +6,14 @@ ghost use Rattle.grefs.specs.RefLists.{max_refs};
 
 use crate::MAX_REFS;
 
-/// Proves that [`MAX_REFS`] equals the limit of the specs, `max_refs`.
+/// Proves that [`MAX_REFS`] equals `max_refs`, the limit in the specs.
 pub fn limits_are_the_constants()
     ensures { MAX_REFS ≡ max_refs }
 {}
 
-/// Proves that each ref of a list could be appended to the refs before it.
+/// Proves that each ref in a valid list of refs could be appended to a list of the refs before it.
+/// The name of the ref is below `refs/` and sorts after the earlier names, and there are fewer than
+/// [`MAX_REFS`] earlier refs.
 #[tactic(auto, using(crate::proofs::RefLemmas::refs_come_in_order))]
 pub fn refs_come_in_order()
     ensures { RefsComeInOrder }

@@ -14,8 +14,9 @@
 //!   (`specs/Faults.antt`).
 //! - No call panics, overflows or reads out of bounds, and every call returns.
 //!
-//! [`laws`] proves that each ref of a list could be appended to the refs before it. The module also
-//! proves that two lists of refs are equal if every name has the same id in both lists.
+//! [`laws`] proves that each ref of a list could be appended to a list of the refs before it with
+//! [`Refs::push`]. The module also proves that two lists of refs are equal if every name has the
+//! same id in both lists.
 //!
 //! # Only tested
 //!

@@ -126,7 +126,8 @@ impl<A: Allocator + Copy> Refs<A> {
         are_below(self.refs.as_slice(), name)
     }
 
-    /// Appends a ref. If memory runs out, the call fails and leaves the refs unchanged.
+    /// Appends a ref. Its name must be below `refs/` and sort after the names of all refs in the
+    /// list. If memory runs out, the call fails and leaves the refs unchanged.
     pub fn push(&mut self, name: RefName<A>, id: Oid) -> Result<(), AllocError>
         requires name { IsBelowRefs name }
         requires above { AreBelow self.old name }
@@ -217,7 +218,7 @@ fn place_of<A: Allocator + Copy>(
     requires { IsRefs refs.now }
     ensures { MatchResult result (IsFound refs.now name.now) (IsGap refs.now name.now) }
 {
-    // A fast path: callers usually set refs in the order of their names.
+    // Callers usually set refs in the order of their names, so most new names sort last.
     if are_below(refs, name.as_bytes()) {
         return Err(refs.len());
     }

@@ -368,7 +368,8 @@ fn has_room(arguments: u32, len: usize, limit: usize) -> bool
     arguments < MAX_ARGUMENTS && len < limit
 }
 
-// Appends the id if it has this format and `has_room` is true.
+// Appends the id. Fails if the id has another format, if `has_room` is false, or if memory runs
+// out.
 fn keep_id<A: Allocator + Copy>(
     format: Format,
     ids: &mut Vec<Oid, A>,
@@ -406,7 +407,7 @@ fn id_in(format: Format, text: &[u8]) -> Option<Oid>
     ensures id { result ≡ id_of_text format text.now }
     ensures same { IfSome result (λ id. has_format format id ≡ true) }
 {
-    // Laws.
+    // Laws that the proof uses.
     texts_have_one_reading();
     id_of_text(format, text)
 }

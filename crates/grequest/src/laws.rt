@@ -29,8 +29,8 @@ pub fn limits_are_the_constants()
 {}
 
 /// Proves that a list of packets is read as a request exactly if Git's manual and the limits allow
-/// the list. The request that is read is the request that the manual states (gitprotocol-v2(5),
-/// "Command Request", "ls-refs" and "fetch").
+/// the list. The request has the contents that the manual states (gitprotocol-v2(5), "Command
+/// Request", "ls-refs" and "fetch").
 pub fn manual()
     ensures { (limits : Limits) (format : Format)
         → AsInManual (Says limits format) (IsRequest limits format) }

@@ -4,12 +4,12 @@
 //! # Proved
 //!
 //! - [`read_request_within`] reads a request exactly to its end, however its bytes are split into
-//!   pieces. It returns the request that the packets encode, or `None` if the input ends before the
-//!   first packet. The request has the limits of the call. Any other input is rejected at the first
-//!   packet that does not fit, with the fault that the grammar gives (`judge` in
+//!   pieces. The function returns the request that the packets encode, or `None` if the input ends
+//!   before the first packet. The request has the limits of the call. Any other input is rejected
+//!   at the first packet that does not fit, with the fault that the grammar gives (`judge` in
 //!   `specs/Requests.antt`). An error packet from the peer takes precedence over a malformed text,
-//!   which takes precedence over an exceeded limit. Out of memory is reported only at an agent, a
-//!   prefix, a want or a have.
+//!   which takes precedence over an exceeded limit. Out of memory is reported only at a packet with
+//!   an agent, a prefix, a want or a have.
 //! - A request to a SHA-256 repository must name the object format, and its ids have this format.
 //! - Every [`LsRefsRequest`] and every [`FetchRequest`] is well-formed and within its limits. `new`
 //!   gives the default limits of 64 prefixes, 1,024 wants and 4,096 haves. `within` takes other
@@ -19,11 +19,12 @@
 //!   packet position 0, and the request is unchanged.
 //! - [`FetchRequest::is_direct`] returns whether the request has `done` or no haves. The reply to
 //!   such a request starts with the pack.
-//! - A copy of a request has the same contents and limits, and its ids have the same format.
-//!   `asks_as` returns true exactly if both requests have the same contents.
+//! - A copy of a request has the same contents and limits, and its ids have the same format. The
+//!   methods `asks_as` return true exactly if both requests have the same contents.
 //! - [`write_request`] writes the canonical list of packets of a request
-//!   (`specs/RequestWriting.antt`), or a prefix of it if the sink fails. The caller must pass the
-//!   format of a fetch request's ids. Reading the written packets then returns the same request.
+//!   (`specs/RequestWriting.antt`), or a prefix of it if the sink fails. For a fetch request, the
+//!   caller must pass the format of the request's ids. Reading the written packets returns the same
+//!   request.
 //! - The [`laws`] hold for all limits. A list of packets is read as a request exactly if Git's
 //!   manual and the limits allow the list (`specs/Manual.antt`). A list of packets encodes at most
 //!   one request. No request is a prefix of another, as packets or as bytes. The packets accepted

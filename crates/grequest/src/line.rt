@@ -16,7 +16,7 @@ use ggrammar::{Capability, after_word, capability_of, is_word_value};
 pub(crate) enum CapabilityForm<'a> {
     Agent(&'a [u8]),
     ObjectFormat(&'a [u8]),
-    /// A capability with any other key.
+    /// A capability whose key is neither `agent` nor `object-format`.
     Unknown,
     /// A text that is not a valid capability.
     Bad,
@@ -28,6 +28,7 @@ pub(crate) enum LsArgument<'a> {
     Flag(LsRefsFlag),
     /// The text after `ref-prefix `, which may be malformed.
     RefPrefix(&'a [u8]),
+    /// A text of any other form.
     Unknown,
 }
 
@@ -39,6 +40,7 @@ pub(crate) enum FetchArgument<'a> {
     Want(&'a [u8]),
     /// The text after `have `, which may be malformed.
     Have(&'a [u8]),
+    /// A text of any other form.
     Unknown,
 }
 

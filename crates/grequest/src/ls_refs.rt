@@ -227,7 +227,8 @@ impl<A: Allocator + Copy> LsRefsRequest<A> {
         Ok(())
     }
 
-    // Appends a prefix if it is well-formed and `has_room` is true.
+    // Appends a prefix. Fails if the prefix is malformed, if `has_room` is false, or if memory runs
+    // out.
     fn keep_prefix(&mut self, has_room: bool, prefix: &[u8]) -> Result<(), NotKept>
         requires { has_room ≡ true
             → length self.old.asked.prefixes < max_prefixes self.old.limits }
@@ -237,7 +238,7 @@ impl<A: Allocator + Copy> LsRefsRequest<A> {
                   { prefixes = self.old.asked.prefixes ++ prefix.now ∷ [] };
             }) result }
     {
-        // Laws.
+        // Laws that the proof uses.
         rules_never_report_memory();
         match Prefix::new(*self.prefixes.allocator(), prefix) {
             Ok(prefix) if has_room => match self.prefixes.push(prefix) {

@@ -58,10 +58,10 @@ pub fn read_request_in<S: Source, A: Allocator + Copy, B: Allocator + Copy>(
 /// A fault contains the reason, and the position of the first packet that does not fit, counted
 /// from zero. A fault of the packet reader ([`Why::Line`]) takes precedence. The end of the input
 /// after the first packet ([`Why::Ended`]) comes second, and a fault of the grammar third. The
-/// fault [`Why::Memory`] is reported only at an agent, a prefix, a want or a have. All packets that
-/// were read, even a rejected packet, are consumed from the source. After a fault, the packet
-/// reader has failed exactly if the fault is [`Why::Line`]. If the reader had failed before the
-/// call, the call fails at once, and the fault reports packet position 0.
+/// fault [`Why::Memory`] is reported only at a packet with an agent, a prefix, a want or a have.
+/// All packets that were read, even a rejected packet, are consumed from the source. After a fault,
+/// the packet reader has failed exactly if the fault is [`Why::Line`]. If the reader had failed
+/// before the call, the call fails at once, and the fault reports packet position 0.
 pub fn read_request_within<S: Source, A: Allocator + Copy, B: Allocator + Copy>(
     reader: &mut PacketReader<S, A>,
     format: Format,
@@ -76,7 +76,7 @@ pub fn read_request_within<S: Source, A: Allocator + Copy, B: Allocator + Copy>(
     ensures reader { LeavesReader S.is_down reader.old reader.new result }
     ensures not_ended { IfErr result (λ fault. fault.why ≡ Why.Ended → 0 < fault.frame) }
 {
-    // Laws.
+    // Laws that the proof uses.
     manual();
     let mut reading = RequestReader::within(alloc, format, limits);
     match read_message(reader, &mut reading) {

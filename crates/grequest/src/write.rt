@@ -43,7 +43,7 @@ pub fn write_request<A: Allocator + Copy, W: Sink>(
     ensures form { (limits : Limits) → HasLimits limits request.now
         → IsAsked limits format (asked_by_request request.now) }
 {
-    // Laws.
+    // Laws that the proof uses.
     writes_packets::<W>();
     request.laws();
     match request {
@@ -61,7 +61,7 @@ fn write_ls_refs<A: Allocator + Copy, W: Sink>(
     ensures { WritesPackets W.contents W.passed_on W.is_down W.loans writer.old writer.new result
         (canonical_request format (Ls request.now.asked)) }
 {
-    // Laws.
+    // Laws that the proof uses.
     writes_packets::<W>();
     write_head(Command::LsRefs, request.agent(), format, writer)?;
     write_flags(LS_REFS_FLAGS, request.flags(), writer)?;
@@ -77,7 +77,7 @@ fn write_fetch<A: Allocator + Copy, W: Sink>(
     ensures { WritesPackets W.contents W.passed_on W.is_down W.loans writer.old writer.new result
         (canonical_request format (Fetches request.now.asked)) }
 {
-    // Laws.
+    // Laws that the proof uses.
     writes_packets::<W>();
     write_head(Command::Fetch, request.agent(), format, writer)?;
     write_flags(FETCH_FLAGS, &request.early_flags(), writer)?;
@@ -99,7 +99,7 @@ fn write_head<W: Sink>(
         (command_packet command
         ∷ (agent_packets (option_copied agent.entry) ++ format_packets format ++ Delim ∷ [])) }
 {
-    // Laws.
+    // Laws that the proof uses.
     writes_packets::<W>();
     write_text(b"command=", command.name().as_bytes(), writer)?;
     write_agent(agent, writer)?;
@@ -115,7 +115,7 @@ fn write_agent<W: Sink>(
     ensures { WritesPart W.contents W.passed_on W.is_down W.loans writer.old writer.new result
         (agent_packets (option_copied agent.entry)) }
 {
-    // Laws.
+    // Laws that the proof uses.
     writes_packets::<W>();
     match agent {
         Some(agent) => write_text(b"agent=", agent, writer),
@@ -127,7 +127,7 @@ fn write_format<W: Sink>(format: Format, writer: &mut PacketWriter<W>) -> Result
     ensures { WritesPart W.contents W.passed_on W.is_down W.loans writer.old writer.new result
         (format_packets format) }
 {
-    // Laws.
+    // Laws that the proof uses.
     writes_packets::<W>();
     match format {
         Format::Sha1 => Ok(()),
@@ -145,7 +145,7 @@ fn write_flags<F: Flag, W: Sink>(
     ensures { WritesPart W.contents W.passed_on W.is_down W.loans writer.old writer.new result
         (flags_packets (table_in table.now) (flags_at F.number (table_in table.now) flags.now)) }
 {
-    // Laws.
+    // Laws that the proof uses.
     writes_packets::<W>();
     for (flag, word) in table {
         write_flag(word.as_bytes(), flags[flag.number()], writer)?;
@@ -162,7 +162,7 @@ fn write_flag<W: Sink>(
     ensures { WritesPart W.contents W.passed_on W.is_down W.loans writer.old writer.new result
         (flag_packets word.now is_set) }
 {
-    // Laws.
+    // Laws that the proof uses.
     writes_packets::<W>();
     if is_set {
         write_text(b"", word, writer)
@@ -178,7 +178,7 @@ fn write_prefixes<A: Allocator + Copy, W: Sink>(
     ensures { WritesPart W.contents W.passed_on W.is_down W.loans writer.old writer.new result
         (map prefix_packet prefixes.now) }
 {
-    // Laws.
+    // Laws that the proof uses.
     writes_packets::<W>();
     for prefix in prefixes {
         write_text(b"ref-prefix ", prefix.as_bytes(), writer)?;
@@ -196,7 +196,7 @@ fn write_ids<W: Sink>(
     ensures { WritesPart W.contents W.passed_on W.is_down W.loans writer.old writer.new result
         (map (id_packet word.now) ids.now) }
 {
-    // Laws.
+    // Laws that the proof uses.
     writes_packets::<W>();
     for id in ids {
         write_id(word, id, writer)?;
@@ -225,7 +225,7 @@ fn write_text<W: Sink>(
     ensures { WritesPackets W.contents W.passed_on W.is_down W.loans writer.old writer.new result
         (text_packet (word.now ++ rest.now) ∷ []) }
 {
-    // Laws.
+    // Laws that the proof uses.
     writes_packets::<W>();
     writer.text2(word, rest)
 }

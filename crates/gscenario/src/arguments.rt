@@ -152,7 +152,7 @@ fn client_ref<A: Allocator + Copy>(alloc: A, tail: &[u8]) -> Result<Option<Event
 
 // ---- arguments that several kinds of event share
 
-// Returns the number that is the only argument, or `None` otherwise.
+// Returns the number if `tail` is exactly one number, or `None` otherwise.
 fn number_alone(tail: &[u8]) -> Option<usize>
     ensures { MatchOption result (((number : ℕ) → IsOneNumber (words_after tail.now) number → ⊥))
         (IsOneNumber (words_after tail.now)) }
@@ -163,7 +163,8 @@ fn number_alone(tail: &[u8]) -> Option<usize>
     }
 }
 
-// Returns the two arguments: the index of a reply, and the count of bytes to deliver.
+// Returns the index of a reply and the number of bytes to deliver. Returns `None` if `tail` is not
+// exactly these two arguments.
 fn number_and_count(tail: &[u8]) -> Option<(usize, usize)>
     ensures { MatchOption result
         (((number count : ℕ) → AreNumberAndCount (words_after tail.now) number count → ⊥))
@@ -181,7 +182,7 @@ fn number_and_count(tail: &[u8]) -> Option<(usize, usize)>
     }
 }
 
-// Returns the bytes of the argument, if there is exactly one argument.
+// Returns the bytes that the only argument encodes, or `None` if `tail` has any other form.
 fn bytes_alone<A: Allocator + Copy>(alloc: A, tail: &[u8]) -> Result<Option<Vec<u8, A>>, AllocError>
     ensures { MatchResult result
         (λ found. MatchOption found (((bytes : List ℕ) → AreOneBytes (words_after tail.now) bytes
@@ -195,7 +196,8 @@ fn bytes_alone<A: Allocator + Copy>(alloc: A, tail: &[u8]) -> Result<Option<Vec<
     }
 }
 
-// Returns the refspecs that the arguments encode.
+// Returns the refspecs in `tail`. Returns `None` if there are no arguments, or if an argument is
+// not a refspec.
 fn specs_of<A: Allocator + Copy>(
     alloc: A,
     tail: &[u8],
@@ -222,7 +224,7 @@ fn specs_of<A: Allocator + Copy>(
     Ok(Some(specs))
 }
 
-// Returns the object that the arguments describe.
+// Returns the object that the arguments describe, or `None` if they are malformed.
 fn entry_of<A: Allocator + Copy>(alloc: A, tail: &[u8]) -> Result<Option<Entry<A>>, AllocError>
     ensures { MatchResult result
         (λ found. MatchOption found (((entry : Entry A) → IsEntry (words_after tail.now) entry
@@ -239,7 +241,8 @@ fn entry_of<A: Allocator + Copy>(alloc: A, tail: &[u8]) -> Result<Option<Entry<A
     }
 }
 
-// Returns the object of this kind. The arguments are the object's id and the ids of its parents.
+// Returns the object of this kind, or `None` if the arguments are malformed. The arguments are the
+// object's id and the ids of its parents.
 fn entry_of_kind<A: Allocator + Copy>(
     alloc: A,
     kind: Kind,
@@ -267,7 +270,7 @@ fn entry_of_kind<A: Allocator + Copy>(
     }
 }
 
-// Returns the ids that the arguments encode.
+// Returns the ids of an object's parents, or `None` if an argument is not an id.
 fn parents_of<A: Allocator + Copy>(alloc: A, tail: &[u8]) -> Result<Option<Parents<A>>, AllocError>
     ensures { MatchResult result
         (λ found. MatchOption found (((ids : List Id) → AllZip IsIdText (words_after tail.now) ids
@@ -287,7 +290,7 @@ fn parents_of<A: Allocator + Copy>(alloc: A, tail: &[u8]) -> Result<Option<Paren
     Ok(Some(parents))
 }
 
-// Returns the ref name and the new id that the arguments encode.
+// Returns the ref name and the new id that the arguments encode, or `None` if they are malformed.
 fn ref_of<A: Allocator + Copy>(
     alloc: A,
     tail: &[u8],

@@ -3,7 +3,7 @@
 ghost use Rattle.std.specs.Prelude.{◌≡◌, ◌≢◌, MatchOption};
 ghost use Rattle.gscenario.specs.ScenarioText.{command_text};
 
-/// The first word of a line, which names the kind of its event.
+/// The first word of a line, which names the kind of event that the line describes.
 #[derive(Clone, Copy, Drop)]
 pub(crate) enum EventWord {
     Begin,
@@ -22,7 +22,7 @@ pub(crate) enum EventWord {
 }
 
 impl EventWord {
-    /// Returns the command that the word names, or `None` if the word is not a command.
+    /// Returns the kind of event that the word names, or `None` if the word names no kind.
     pub(crate) fn of(word: &[u8]) -> Option<EventWord>
         ensures { MatchOption result (((c : EventWord) → word.now ≢ command_text c))
             (λ c. word.now ≡ command_text c) }

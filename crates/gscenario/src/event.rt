@@ -7,8 +7,8 @@ use std::alloc::{Allocator, Global};
 
 /// An event that happens to a server, or to a client that fetches from it.
 ///
-/// No event represents a lost message, because a message that is never delivered is lost. Messages
-/// can also be delivered twice, late or truncated.
+/// A lost message needs no event, because a message is lost if no event delivers it. Messages can
+/// also be delivered twice, late or truncated.
 #[derive(Debug, Drop)]
 pub enum Event<A: Allocator + Copy = Global> {
     /// The client begins a session with these refspecs, at most 16, and reads the server's
@@ -20,8 +20,9 @@ pub enum Event<A: Allocator + Copy = Global> {
     /// The server replies to the request at this index in the list of sent requests. The reply is
     /// appended to the list of kept replies.
     Serve(usize),
-    /// The client receives the first `count` bytes of the kept reply at index `reply` as the reply
-    /// to its open request. If the reply has fewer bytes, the complete reply arrives.
+    /// The client receives the first `count` bytes of the kept reply at index `reply`, as the reply
+    /// to its open request. A request is open until its reply arrives. If the kept reply has fewer
+    /// bytes, the complete reply arrives.
     Deliver { reply: usize, count: usize },
     /// The client receives these bytes as the reply to its open request, although the server did
     /// not send them.

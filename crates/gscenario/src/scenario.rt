@@ -86,7 +86,8 @@ fn read_line<A: Allocator + Copy>(alloc: A, line: &[u8]) -> Result<Option<Event<
     }
 }
 
-// Returns the first line without its line feed, and the text after the line feed.
+// Returns the first line without its line feed, and the text after the line feed. Returns `None` if
+// the text has no line feed.
 fn split_line(text: &[u8]) -> Option<(&[u8], &[u8])>
     ensures { MatchOption result (IsInLine text.now) (λ pair.
         (text.now ≡ line pair.0.now ++ pair.1.now) × IsInLine pair.0.now) }

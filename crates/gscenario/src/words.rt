@@ -49,7 +49,7 @@ pub(crate) fn no_word(tail: &[u8]) -> bool
     }
 }
 
-/// Returns the next word, if `tail` has exactly one word.
+/// Returns the only word of `tail`, or `None` if `tail` does not have exactly one word.
 pub(crate) fn one_word(tail: &[u8]) -> Option<&[u8]>
     ensures { MatchOption result (((word : List ℕ) → words_after tail.now ≡ word ∷ [] → ⊥))
         (λ word. words_after tail.now ≡ word.now ∷ []) }
@@ -60,7 +60,7 @@ pub(crate) fn one_word(tail: &[u8]) -> Option<&[u8]>
     }
 }
 
-/// Returns the next two words, if `tail` has exactly two words.
+/// Returns the two words of `tail`, or `None` if `tail` does not have exactly two words.
 pub(crate) fn two_words(tail: &[u8]) -> Option<(&[u8], &[u8])>
     ensures { MatchOption result (((first second : List ℕ)
         → words_after tail.now ≡ first ∷ second ∷ [] → ⊥))
@@ -75,8 +75,8 @@ pub(crate) fn two_words(tail: &[u8]) -> Option<(&[u8], &[u8])>
     }
 }
 
-/// Returns the number that a word encodes, if the number is below 2^63 and the word has no leading
-/// zeros.
+/// Returns the number that a word encodes in decimal. Returns `None` if the word is not a number,
+/// has leading zeros, or encodes a number of 2^63 or more.
 pub(crate) fn number_of(text: &[u8]) -> Option<usize>
     ensures { MatchOption result (((number : ℕ) → IsNumber text.now number → ⊥))
         (IsNumber text.now) }
@@ -94,8 +94,8 @@ pub(crate) fn number_of(text: &[u8]) -> Option<usize>
     }
 }
 
-// Returns the number below 2^64 that the text encodes in decimal. The text may have leading zeros
-// or a sign.
+// Returns the number below 2^64 that the text encodes in decimal, or `None` for any other text. The
+// text may have leading zeros or a sign.
 fn parse(text: &[u8]) -> Option<usize>
     ensures { MatchOption result (((number : ℕ) → number < 2 ^ 64 → text.now ≡ decimal number → ⊥))
         (λ found. ((number : ℕ) → number < 2 ^ 64 → text.now ≡ decimal number → number ≡ found)) }
@@ -109,7 +109,8 @@ fn parse(text: &[u8]) -> Option<usize>
     }
 }
 
-/// Parses a byte count: a decimal number, or `all` for `usize::MAX`.
+/// Parses a byte count: a decimal number, or `all` for `usize::MAX`. Returns `None` for any other
+/// text.
 pub(crate) fn count_of(text: &[u8]) -> Option<usize>
     ensures { MatchOption result (((count : ℕ) → IsCount text.now count → ⊥)) (IsCount text.now) }
 {
@@ -120,7 +121,8 @@ pub(crate) fn count_of(text: &[u8]) -> Option<usize>
     }
 }
 
-/// Returns the bytes that a word encodes in hexadecimal, or no bytes for `-`.
+/// Returns the bytes that a word encodes in hexadecimal, or no bytes for `-`. Returns `None` for
+/// any other word.
 pub(crate) fn bytes_of<A: Allocator + Copy>(
     alloc: A,
     text: &[u8],
@@ -143,11 +145,11 @@ pub(crate) fn bytes_of<A: Allocator + Copy>(
     }
 }
 
-/// Returns the object id that a word encodes in hexadecimal.
+/// Returns the object id that a word encodes in hexadecimal, or `None` for any other word.
 pub(crate) fn id_of(text: &[u8]) -> Option<Oid>
     ensures { MatchOption result (NoId text.now) (IsIdText text.now) }
 {
-    // Laws.
+    // Laws that the proof uses.
     id_texts_are_digits();
     ids_have_one_format();
     let format = if text.len() == Format::Sha256.id_text_length() {
@@ -170,7 +172,7 @@ pub(crate) fn name_of<A: Allocator + Copy>(
         (λ found. MatchOption found (¬ (IsRefName text.now))
         (λ name. (name ≡ text.now) × IsRefName text.now)) (λ _. ⊤) }
 {
-    // Laws.
+    // Laws that the proof uses.
     rules_never_report_memory();
     match RefName::new(alloc, text) {
         Ok(name) => Ok(Some(name)),
@@ -179,7 +181,8 @@ pub(crate) fn name_of<A: Allocator + Copy>(
     }
 }
 
-/// Returns the kind of object for the word: `c` for a commit, `t` for a tag.
+/// Returns the kind of object that the word names: `c` for a commit, `t` for a tag. Returns `None`
+/// for any other word.
 pub(crate) fn kind_of(text: &[u8]) -> Option<Kind>
     ensures { MatchOption result (((kind : Kind) → text.now ≡ letter kind ∷ [] → ⊥))
         (λ kind. text.now ≡ letter kind ∷ []) }

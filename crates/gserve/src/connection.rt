@@ -36,10 +36,10 @@ pub enum End {
     WriteFailed,
 }
 
-/// The number of replies on a connection, and how the connection ended.
+/// The number of requests that were answered on a connection, and how the connection ended.
 #[derive(Debug, Drop)]
 pub struct Served {
-    /// The number of replies written and flushed.
+    /// The number of requests whose replies were written and flushed.
     pub requests: u32,
     /// How the connection ended.
     pub end: End,
@@ -165,7 +165,7 @@ fn answer_each<S: Source, W: Sink, A: Allocator + Copy, K: Packer<A>>(
     ensures source_loans { S.loans reader.new.source ≡ S.loans reader.old.source }
     ensures sink_loans { W.loans writer.new.sink ≡ W.loans writer.old.sink }
 {
-    // Laws.
+    // Laws that the proof uses.
     canonical_spells();
     reads_join();
     for requests in 0..MAX_REQUESTS {

@@ -31,7 +31,7 @@ fn send_to<W: Sink>(text: &[u8], writer: &mut PacketWriter<W>) -> Result<(), Wri
         writer.new.sink) result (error_packets text.now) }
     ensures loans { W.loans writer.new.sink ≡ W.loans writer.old.sink }
 {
-    // Laws.
+    // Laws that the proof uses.
     writes_join::<W>();
     write_error(text, writer)?;
     writer.push()
@@ -42,7 +42,7 @@ fn write_error<W: Sink>(text: &[u8], writer: &mut PacketWriter<W>) -> Result<(),
     ensures { WritesPackets W.contents W.passed_on W.is_down W.loans writer.old writer.new result
         (error_packets text.now) }
 {
-    // Laws.
+    // Laws that the proof uses.
     writes_packets::<W>();
     writer.text2(b"ERR ", text)
 }

@@ -25,7 +25,7 @@ pub struct Export<'a, A: Allocator + Copy> {
     pub server: &'a Server<A>,
     /// The path that a client must request, byte for byte.
     pub path: &'a [u8],
-    /// The packet that ends each reply.
+    /// The packets that end each reply.
     pub ends: Ends,
 }
 
@@ -52,7 +52,7 @@ pub enum GitEnd {
 /// the `ERR` packet reports out of memory.
 ///
 /// The packer is used only if the client requests the served path. Faults of the packer are
-/// reported in the same manner as by [`serve`].
+/// reported as [`serve`] reports them.
 pub fn serve_git<S: Source, W: Sink, A: Allocator + Copy, K: Packer<A>>(
     export: &Export<'_, A>,
     packer: &mut OnePack<'_, K>,

@@ -1,4 +1,5 @@
-//! Laws about conversations: each function does nothing, and its contract proves a law.
+//! Laws about conversations. Each function does nothing at run time, and its contract states the
+//! law.
 
 ghost use Rattle.std.specs.Prelude.{◌≡◌};
 ghost use Rattle.gobject.specs.Packs.{MayPack};
@@ -21,8 +22,9 @@ pub fn limits_are_the_constants()
 {}
 
 /// Proves that each connection satisfies `Talks` (`specs/Talks.antt`), a relation between the
-/// client's bytes, the output and the end of the connection. The premises are that the bytes are
-/// known, and that neither the source nor the sink fails. All output of the connection is flushed.
+/// client's bytes, the output and the end of the connection. The law requires that the client's
+/// bytes are known, and that neither the source nor the sink fails. All output of the connection is
+/// then flushed.
 pub fn serving_is_talking<A: Allocator + Copy, K: Packer<A>>()
     ensures { (packer : K) → ServingIsTalking A (MayPack (K.packs packer)) (K.pack_fails packer) }
 {}

@@ -15,8 +15,8 @@ use gpkt::{PacketWriter, Sink, WriteFault};
 /// The maximum length in bytes of a refusal's text.
 pub const MAX_ERR_TEXT: usize = 128;
 
-/// Writes the text of a refusal at the start of the buffer, and returns its length. The rest of the
-/// buffer is unchanged. Allocates nothing.
+/// Writes the text of a refusal at the start of the buffer, and returns the length of the text. The
+/// rest of the buffer is unchanged. Allocates nothing.
 pub fn err_text(fault: &ServeFault, out: &mut [u8; MAX_ERR_TEXT]) -> usize
     ensures few { result ≤ max_err_text }
     ensures text { take result out.new ≡ err_text fault.now }
@@ -71,7 +71,7 @@ pub(crate) fn write_refusal<W: Sink>(
     ensures { WritesPackets W.contents W.passed_on W.is_down W.loans writer.old writer.new result
         (err_packets fault.now) }
 {
-    // Laws.
+    // Laws that the proof uses.
     writes_packets::<W>();
     let text = text_of(fault);
     writer.text2(b"ERR ", text.as_slice())

@@ -1,5 +1,5 @@
-//! Writing and flushing a reply, the advertisement, and the error packet. A writer fails in these
-//! calls only if its sink fails.
+//! Writing and flushing a reply, the advertisement, and the error packet. These calls fail only if
+//! the sink fails.
 
 ghost use Rattle.std.specs.Prelude.{◌≡◌, false, OnOk};
 ghost use Rattle.gpkt.specs.Sending.{output_of};
@@ -36,7 +36,7 @@ pub(crate) fn send_ls_answer<W: Sink, A: Allocator + Copy>(
     ensures goes_on { OnOk result (writer.new.failed ≡ false) }
     ensures loans { W.loans writer.new.sink ≡ W.loans writer.old.sink }
 {
-    // Laws.
+    // Laws that the proof uses.
     ls_requests_have_one_answer::<A>();
     writes_join::<W>();
     server.write_ls_answer(asked, ends, writer)?;
@@ -55,7 +55,7 @@ pub(crate) fn send_fetch_reply<W: Sink, A: Allocator + Copy>(
     ensures goes_on { OnOk result (writer.new.failed ≡ false) }
     ensures loans { W.loans writer.new.sink ≡ W.loans writer.old.sink }
 {
-    // Laws.
+    // Laws that the proof uses.
     writes_join::<W>();
     write_fetch_reply(reply, ends, writer)?;
     writer.push()
@@ -72,7 +72,7 @@ pub(crate) fn send_advert<W: Sink, A: Allocator + Copy>(
     ensures goes_on { OnOk result (writer.new.failed ≡ false) }
     ensures loans { W.loans writer.new.sink ≡ W.loans writer.old.sink }
 {
-    // Laws.
+    // Laws that the proof uses.
     writes_join::<W>();
     write_advert(advert, writer)?;
     writer.push()
@@ -88,7 +88,7 @@ pub(crate) fn send_refusal<W: Sink>(
         writer.new.sink) result (err_packets fault.now) }
     ensures loans { W.loans writer.new.sink ≡ W.loans writer.old.sink }
 {
-    // Laws.
+    // Laws that the proof uses.
     writes_join::<W>();
     write_refusal(fault, writer)?;
     writer.push()

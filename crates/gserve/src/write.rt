@@ -14,7 +14,7 @@ use std::alloc::Allocator;
 /// The reply to a lone flush packet has no packets.
 ///
 /// Fails with `Io` if the sink fails, after writing a prefix of the reply. Fails with `Failed` if
-/// the writer failed before the call. Never fails with `Payload`.
+/// the writer failed before the call. Never fails with `Payload`, since no payload is too long.
 pub fn write_reply<W: Sink, A: Allocator + Copy>(
     reply: &Reply<A>,
     ends: Ends,

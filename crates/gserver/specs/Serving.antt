@@ -26,7 +26,7 @@ use Rattle.gserver.specs.declared.heard.Heard.{Heard}
 use Rattle.gserver.specs.Listings.{SaysLsAnswer}
 use Rattle.gserver.specs.declared.side.ServerSide.{ServerSide}
 
--- the number of requests after which a connection accepts only one more request
+-- the maximum of the count of requests; after this number of requests, a connection accepts only one more
 abbrev pub max_requests : ℕ
 max_requests = 4294967295
 
@@ -34,7 +34,7 @@ max_requests = 4294967295
 abbrev pub goes_on_after : ℕ → Bool
 goes_on_after requests = nat_lt requests max_requests
 
--- the maximum number of further messages, the first line and requests, that are answered without ending the connection
+-- the maximum number of further messages (the first line and requests) whose answers do not end the connection
 abbrev pub messages_of : {R : Type 0} → Option R → ℕ → ℕ
 messages_of None requests = max_requests + 1
 messages_of (Some repo) requests = max_requests - requests
@@ -190,7 +190,7 @@ pub record RefusesMessage {A H R : Type 0} (says : H → ServeFault → Bytes �
   pub words : IsFault says old.host.now (λ it. it ≡ serve.Request fault) new.fault text
   pub all : said ≡ text_packets text
 
--- whether a packet of the next message has contents to store
+-- whether the grammar of the next message (the first line or a request) stores the contents of a packet
 abbrev pub side_brings : {R : Type 0} → Option R → List Packet → Packet → Bool
 side_brings None = hello.brings
 side_brings (Some repo) = request.brings

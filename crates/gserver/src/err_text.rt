@@ -36,7 +36,7 @@ impl ErrText {
         }
     }
 
-    /// Appends the bytes of `words`, or as many of them as fit.
+    /// Appends the bytes of `words`, or only the first bytes that fit.
     pub fn add(&mut self, words: &[u8])
         ensures { self.new ≡ take max_text (self.old ++ words.now) }
     {

@@ -71,7 +71,8 @@ fn fill<A: Allocator + Copy, K: PartPacker<A>>(
     Ok(count)
 }
 
-// Writes the next part of a pack into a buffer, after the bytes that the buffer already contains.
+// Writes the next part of a pack into a buffer, after the first `from` bytes. Returns the number of
+// bytes written.
 fn put_part<A: Allocator + Copy, K: PartPacker<A>>(
     packer: &K,
     parts: &mut K::Parts,

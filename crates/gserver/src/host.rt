@@ -11,10 +11,10 @@ use std::alloc::{AllocError, Allocator};
 pub trait ServedRepository<A: Allocator + Copy> {
     ghost use Rattle.ganswer.specs.Servers.{Server};
 
-    // The history, refs and HEAD of the repository.
+    // The graph, refs and HEAD of the repository.
     ghost server: { Self → Server A };
 
-    /// Returns the history, refs and HEAD of the repository.
+    /// Returns the graph, refs and HEAD of the repository.
     fn server(&self) -> &Server<A>
         ensures { result.now ≡ server self.now };
 
@@ -26,7 +26,7 @@ pub trait ServedRepository<A: Allocator + Copy> {
 /// The owner of the repositories, shared by all connections of a server.
 ///
 /// The specification members `finds`, `opens` and `says` restrict the results of the three methods.
-/// By default they allow every result.
+/// By default, these members allow every result.
 pub trait Host<A: Allocator + Copy, R> {
     ghost use Rattle.std.specs.Prelude.{Result, ⊤};
     ghost use Rattle.gpkt.specs.Packets.{Bytes};

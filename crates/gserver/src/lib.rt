@@ -17,7 +17,8 @@
 //!   the opened repository (`SendsFrom`, and `SaysFetch` in `specs/Fetching.antt`). The packer
 //!   produces the pack, which is sent in packets of the maximum size.
 //! - If a packer fails while a pack is sent, the last packet carries the text of the fault on side
-//!   band 3. The packer's contract permits this fault for these objects. The connection then ends.
+//!   band 3. The packer's contract permits this fault for the objects of the pack. The connection
+//!   then ends.
 //! - An empty request gets no reply, and ends the connection.
 //! - An error packet with the host's text can replace a reply. The connection then ends. The server
 //!   side rejects a first line only if there is not enough memory, or if the host finds no
@@ -29,11 +30,11 @@
 //!   fault is stored if the host can't find or open a repository. While the connection accepts
 //!   messages, no fault is stored.
 //! - A connection begins with no repository, no request and no fault (`OpensFresh`).
-//!   [`ServerSide::within`] receives the host, the packets that end each reply, and the limits on
-//!   each request. The server side uses these values for all messages. [`ServerSide::new`] gives
-//!   the default limits of 64 prefixes, 1,024 wants and 4,096 haves. Each ls-refs or fetch request
-//!   is counted. A connection ends only after an error packet, an empty request, a failed pack or
-//!   the last permitted request.
+//!   [`ServerSide::within`] receives the host, the limits on each request, and whether each reply
+//!   ends with a response-end packet. The server side uses these values for all messages.
+//!   [`ServerSide::new`] gives the default limits of 64 prefixes, 1,024 wants and 4,096 haves. Each
+//!   ls-refs or fetch request is counted. A connection ends only after an error packet, an empty
+//!   request, a failed pack or the last permitted request.
 //! - [`ServerSide::repo`], [`ServerSide::limits`], [`ServerSide::requests`] and
 //!   [`ServerSide::fault`] return the state of the server side.
 //! - Each call to [`Reply::say`](gdialogue::Reply) decreases the number of remaining steps, so
@@ -46,10 +47,8 @@
 //! - No contract restricts the results of a host, except the host's own `finds`, `opens` and
 //!   `says`. By default, these members allow every result. In that case, no contract requires the
 //!   server side to call the host.
-//! - No contract rules out that an error packet for a failed allocation replaces any reply. The
-//!   connection then ends.
-//! - No contract rules out that a call queues few packets, or takes as long as the packer or the
-//!   host needs.
+//! - An error packet for a failed allocation may replace any reply. The connection then ends.
+//! - A call may queue few packets, and may take as long as the packer or the host needs.
 //! - No contract restricts the pack data that the server side sends before a packet on side band 3.
 //!
 //! # Only tested

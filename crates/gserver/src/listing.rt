@@ -103,7 +103,7 @@ impl<A: Allocator + Copy, R: ServedRepository<A>> Listing<A, R> {
             (steps_of_listing (R.server self.new.repo) self.new.next) out.old out.new result }
     {
         let server = self.repo.server();
-        // Laws.
+        // Laws that the proof uses.
         server.laws();
         if say_ref(server, &self.asked, at, &mut self.text, out) {
             self.next = NextLine::Ref(at + 1);

@@ -28,7 +28,7 @@ pub(crate) fn say_unborn<A: Allocator + Copy, B: Allocator + Copy>(
 {
     match server.unborn(asked) {
         Some(target) => {
-            // Laws.
+            // Laws that the proof uses.
             target.laws();
             out.put_text(b"unborn HEAD symref-target:", target.as_bytes());
         }

@@ -20,19 +20,25 @@ use std::alloc::Allocator;
 /// The next packet of a reply, and the data for all later packets.
 #[derive(Drop)]
 pub(crate) enum Rest<A: Allocator + Copy, R, P> {
+    /// No packet is left to send.
     Nothing,
     /// An error packet.
     Refusal(ErrText),
+    /// The heading of the acknowledgments.
     AckHeading(Acks<A>, Option<(R, P)>),
     /// The acknowledgment of the id at this position, or the packet after the last acknowledgment.
     Ack(Acks<A>, usize, Option<(R, P)>),
+    /// The packet `NAK`.
     Nak,
     /// The delimiter packet before the section of the pack.
     Delim(R, P),
+    /// The heading of the pack.
     PackHeading(R, P),
     /// The next piece of a pack, or the end of the pack.
     Pack(R, P),
+    /// The flush packet at the end of the reply.
     Flush,
+    /// The response-end packet after the flush packet.
     ResponseEnd,
 }
 

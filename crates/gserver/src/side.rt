@@ -32,7 +32,8 @@ use gpkt::Packet;
 use grequest::{FetchRequest, LsRefsRequest, Request, RequestReader};
 use std::alloc::Allocator;
 
-/// The number of requests after which a connection accepts only one more request.
+/// The maximum of [`ServerSide::requests`]. After this number of requests, a connection accepts
+/// only one more request.
 pub const MAX_REQUESTS: u32 = u32::MAX;
 
 /// The server's end of a connection. The server receives a first line, which names a repository,
@@ -303,7 +304,7 @@ fn count(requests: &mut u32) -> bool
     goes_on
 }
 
-// Returns an error packet as the last answer.
+// Returns an answer that is an error packet with this text, and ends the connection.
 fn refusal_of<A: Allocator + Copy, R: ServedRepository<A> + PartPacker<A>>(
     text: ErrText,
 ) -> Answer<ServerReply<A, R, R::Parts>>
@@ -378,7 +379,7 @@ where
     }
 
     fn laws() {
-        // Laws.
+        // Laws that the proof uses.
         grammars_are_exact();
     }
 }

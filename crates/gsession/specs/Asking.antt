@@ -1,6 +1,6 @@
 -- The ref updates that a session requests (`Ask`), and the objects that it wants. The session matches each refspec, in
--- order, against the refs of the reply, in order. If several requested updates are for the same ref, the first one
--- counts. Git's manuals specify neither the order nor that the first update counts.
+-- order, against the refs of the reply, in order. If several updates would be for the same ref, the session requests
+-- only the first. Git's manuals specify neither the order of matching nor this rule.
 use Rattle.std.specs.Prelude.{Bool, List, [], ◌∷◌, map, filter, All, if◌then◌else◌, Option, None}
 use Rattle.std.specs.List.{flat_map, list_any}
 use Rattle.std.specs.Str.{bytes_eq}

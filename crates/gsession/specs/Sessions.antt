@@ -161,7 +161,7 @@ BeginsWith r refspecs limit ends options (Err fault) = Begins r refspecs limit e
 
 -- ---- the advertisement
 
--- the session has made no request yet
+-- the session has just begun: it has made no request yet
 abbrev pub IsBegun : {A : Type 0} → SessionState A → Type 0
 IsBegun s = (s.stage ≡ Listing) × (s.pending ≡ None)
 

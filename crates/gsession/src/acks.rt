@@ -12,8 +12,8 @@ use gname::Oid;
 use indexmap::IndexSet;
 use std::alloc::{AllocError, Allocator};
 
-/// Returns the first acknowledged id that is not a have. Looks up each acknowledged id in a set of
-/// the haves. If there is not enough memory for the set, searches the list of haves instead.
+/// Returns the first acknowledged id that is not a have, if any. Looks up each acknowledged id in a
+/// set of the haves. If there is not enough memory for the set, searches the list of haves instead.
 pub(crate) fn first_strange<A: Allocator + Copy>(
     alloc: A,
     haves: &[Oid],
@@ -28,8 +28,8 @@ pub(crate) fn first_strange<A: Allocator + Copy>(
     }
 }
 
-// Returns the first acknowledged id that is not a have. Searches the list of haves if there is no
-// set.
+// Returns the first acknowledged id that is not a have, if any. Searches the list of haves if there
+// is no set.
 fn first_unoffered<A: Allocator + Copy>(
     offered: &Option<IndexSet<Oid, IdHasher, A>>,
     haves: &[Oid],

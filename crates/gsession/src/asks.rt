@@ -100,8 +100,8 @@ fn ask_of_line<A: Allocator + Copy>(
     Ok(())
 }
 
-// Returns the local ref to which the refspec maps this ref. Fails if out of memory, or if the name
-// of the local ref would be invalid.
+// Returns the local ref to which the refspec maps this ref, or `None` if the refspec does not match
+// this ref. Fails if out of memory, or if the name of the local ref would be invalid.
 fn destination_of<A: Allocator + Copy>(
     alloc: A,
     spec: &Spec<A>,
@@ -127,7 +127,7 @@ pub(crate) fn wants_of<A: Allocator + Copy>(
         → All (IsIdOf format) wants.items) }
     ensures fault { IfErr result (λ fault. fault ≡ Memory) }
 {
-    // Laws.
+    // Laws that the proof uses.
     distinct_are_once();
     let alloc = repo.graph().allocator();
     let asked = asks.ids(alloc)?;
@@ -160,7 +160,7 @@ fn is_connected<A: Allocator + Copy>(repo: &Repo<A>, id: &Oid) -> Result<bool, G
 fn is_known<A: Allocator + Copy>(repo: &Repo<A>, id: &Oid) -> bool
     ensures { result ≡ true → IsConnected repo.now.graph.entries id.now }
 {
-    // Laws.
+    // Laws that the proof uses.
     positions_are_nodes::<A>();
     repo.laws();
     match repo.graph().position(id) {
@@ -169,7 +169,8 @@ fn is_known<A: Allocator + Copy>(repo: &Repo<A>, id: &Oid) -> bool
     }
 }
 
-/// Returns the target of an unborn HEAD, if a refspec fetches HEAD.
+/// Returns the target of an unborn HEAD, or `None` if no refspec fetches HEAD or the reply has no
+/// unborn HEAD. Fails only if out of memory.
 pub(crate) fn unborn_of<A: Allocator + Copy>(
     alloc: A,
     specs: &[Spec<A>],

@@ -25,7 +25,8 @@ pub enum ClientFault<A: Allocator + Copy = Global> {
     Index(IndexFault),
     /// Fault 82: there are more than `MAX_SPECS` refspecs.
     TooManySpecs,
-    /// Fault 83: the call does not fit the stage of the session. The session is unchanged.
+    /// Fault 83: the session does not allow this call at its current stage, for example because no
+    /// request is open. The session is unchanged.
     NoOpenRequest,
     /// Fault 84: the server acknowledged this id, which is not a have of the request.
     StrangeAck { id: Oid },

@@ -23,16 +23,16 @@ pub fn limits_are_the_constants()
 
 // ---- the number of a session's requests for objects
 
-/// Proves that `BeganOn` holds for a new session on a connected repository, with the graph of that
-/// repository. The session's tips are then connected in the graph.
+/// Proves that a new session on a connected repository satisfies `BeganOn` with the repository's
+/// graph: its tips are connected in the graph, and it has offered only ids that the tips reach.
 pub fn began_begins<A: Allocator + Copy>()
     ensures { BeganBegins A }
 {
     distinct_are_once();
 }
 
-/// Proves that `BeganOn` still holds after a session's next request, if the graph only gained
-/// objects. The session thus offers only ids that its tips reached when it began.
+/// Proves that a session that satisfies `BeganOn` still satisfies it after the next request, if the
+/// graph only gained objects. The session thus offers only ids that its tips reached when it began.
 pub fn began_stays<A: Allocator + Copy>()
     ensures { BeganStays A }
 {
@@ -41,8 +41,8 @@ pub fn began_stays<A: Allocator + Copy>()
     connected_stays_connected::<A>();
 }
 
-/// Proves that `BeganOn` still holds after every call, successful or not, if the graph only gained
-/// objects.
+/// Proves that a session that satisfies `BeganOn` still satisfies it after every call, successful
+/// or not, if the graph only gained objects.
 pub fn began_stays_on<A: Allocator + Copy, K: Indexer<A>>()
     ensures { (k : K) → BeganStaysOn (K.indexes k) (K.index_fails k) }
 {
@@ -98,8 +98,9 @@ pub fn rounds_are_few<A: Allocator + Copy>()
     reached_are_counted::<A>();
 }
 
-/// Proves that a session that satisfies `IsCounted` makes at most N + 1 requests for objects, if
-/// its tips reach N ids in the graph with which it began.
+/// Proves that a session makes at most N + 1 requests for objects, if it satisfies the bound of
+/// [`requests_are_counted`] (`IsCounted`), and its tips reach N ids in the graph with which it
+/// began.
 pub fn counted_are_few<A: Allocator + Copy>()
     ensures { CountedAreFew A }
 {

@@ -5,8 +5,8 @@
 //! # Proved
 //!
 //! - [`Session::begin`] stores the refspecs and the distinct ids of the local refs, in the order of
-//!   their names. The call fails for more than 16 refspecs. [`Session::hear`] stores whether the
-//!   server reports an unborn `HEAD`.
+//!   the refs' names. The call fails for more than 16 refspecs. [`Session::hear`] stores whether
+//!   the server can report an unborn `HEAD`.
 //! - [`Session::request`] makes the next request. A request for refs has the source of each refspec
 //!   as a prefix, and has `unborn` exactly when the server offers to report an unborn `HEAD`. A
 //!   request for objects has the wants, and its haves are the common ids and a batch of new ids. A

@@ -45,8 +45,8 @@ impl Default for PackOptions {
 /// The parameters of a session's fetch.
 #[derive(Clone, Copy)]
 pub struct FetchPlan<'a, A: Allocator + Copy = Global> {
-    /// The refspecs, at most 16. If several refspecs map to the same local ref, the first one
-    /// counts.
+    /// The refspecs, at most 16. If several refspecs map to the same local ref, only the first of
+    /// them applies.
     pub specs: &'a [Spec<A>],
     /// The maximum size of a pack in bytes.
     pub limit: StreamLimit,

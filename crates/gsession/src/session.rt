@@ -79,7 +79,7 @@ impl<A: Allocator + Copy> Session<A> {
     ghost use Rattle.gsession.specs.SettlingRefs.{SettlesSession};
 
     /// Begins a session that fetches the refs that match these refspecs. The call sends nothing to
-    /// the server. The session stores the distinct ids of the local refs, in the order of their
+    /// the server. The session stores the distinct ids of the local refs, in the order of the refs'
     /// names, and offers these ids and their ancestors as haves. A session without refspecs
     /// requests no ref updates.
     ///
@@ -138,8 +138,8 @@ impl<A: Allocator + Copy> Session<A> {
     }
 
     /// Reads from the advertisement whether the server can report an unborn `HEAD`
-    /// (gitprotocol-v2(5), "ls-refs"). If the method is called several times, only the last
-    /// advertisement counts.
+    /// (gitprotocol-v2(5), "ls-refs"). If the method is called several times, the session uses only
+    /// the last advertisement.
     ///
     /// Fails with `NoOpenRequest` after the first request, and leaves the session unchanged.
     pub fn hear(&mut self, advert: &Advert<A>) -> Result<(), ClientFault<A>>
@@ -152,7 +152,7 @@ impl<A: Allocator + Copy> Session<A> {
         Ok(())
     }
 
-    // Returns whether the session has made no request yet.
+    // Returns whether the session has just begun: it has made no request yet.
     fn is_begun(&self) -> bool
         ensures { MatchBool result (IsBegun self.now) (¬ (IsBegun self.now)) }
     {
@@ -325,7 +325,7 @@ fn tips_of<A: Allocator + Copy>(alloc: A, repo: &Repo<A>) -> Result<Vec<Oid, A>,
     ensures tips { IfOk result (λ tips. tips.items ≡ distinct_of (values_of repo.now.refs)) }
     ensures ids { IfOk result (λ tips. All (IsIdOf repo.now.graph.format) tips.items) }
 {
-    // Laws.
+    // Laws that the proof uses.
     distinct_are_once();
     positions_are_nodes::<A>();
     repo.laws();

@@ -4,7 +4,7 @@ use gclientrepo::{Asks, RefUpdate};
 use gname::RefName;
 use std::alloc::{Allocator, Global};
 
-/// The content of an accepted ls-refs reply.
+/// The result of accepting an ls-refs reply.
 #[derive(Debug, Drop)]
 pub struct LsTaken<A: Allocator + Copy = Global> {
     /// The number of requested updates of local refs.
@@ -15,7 +15,7 @@ pub struct LsTaken<A: Allocator + Copy = Global> {
     pub unborn: Option<RefName<A>>,
 }
 
-/// The content of an accepted fetch reply.
+/// The result of accepting a fetch reply.
 #[derive(Clone, Copy, Debug, PartialEq, Eq, Drop)]
 pub enum Taken {
     /// The reply had only acknowledgments. The session now has `common` common ids.

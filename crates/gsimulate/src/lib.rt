@@ -25,11 +25,11 @@
 //!
 //! # What the contracts do not rule out
 //!
-//! No contract rules out that a simulation reports out of memory for a file, the scenario or an
-//! event whenever `gcmd`, `gscenario` or `gworld` can do so. No contract rules out that a
-//! simulation reports out of memory for the output, even if the output is empty. The contracts do
-//! not limit how often the sinks are called, or how long a call takes. No contract rules out that
-//! formatting a fault returns `fmt::Error` without a failure of the formatter.
+//! A simulation may report out of memory for a file, the scenario or an event whenever the
+//! contracts of `gcmd`, `gscenario` or `gworld` allow it. A simulation may report out of memory for
+//! the output, even if the output is empty. The contracts do not limit how often the sinks are
+//! called, or how long a call takes. Formatting a fault may return `fmt::Error` even if every write
+//! succeeds.
 //!
 //! # Dependencies
 //!

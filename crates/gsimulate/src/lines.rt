@@ -87,8 +87,8 @@ fn put_taken<A: Allocator + Copy>(
     put_count(text, b" wants=", wants)
 }
 
-// Appends the number of refs that moved, the number of refs that already had their ids, and the
-// number of refs whose update was not a fast-forward.
+// Appends three numbers: the refs that moved, the refs that already had their ids, and the refs
+// whose update was not a fast-forward.
 fn put_settled<A: Allocator + Copy>(
     text: &mut Vec<u8, A>,
     moved: usize,

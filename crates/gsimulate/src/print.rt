@@ -21,10 +21,10 @@ use std::alloc::Allocator;
 /// and of the digits of an id or a number.
 const MAX_LINE: usize = 128;
 
-/// The line of a fault that reports out of memory for an event or for the scenario.
+/// The printed line if memory for an event or for the scenario ran out.
 const MEMORY_LINE: &[u8] = b"gitv2: fault 91 Memory\n";
 
-/// Ends a simulation: prints the fault of its outcome, if any, and returns the exit status.
+/// Ends a simulation: prints the fault in `ending`, if any, and returns the exit status.
 pub(crate) fn finish<A: Allocator + Copy, E: Sink>(
     ending: Result<(), SimulationFault<A>>,
     errors: &mut E,

@@ -92,8 +92,8 @@ fn load_ends<A: Allocator + Copy>(
     Ok((server, repo))
 }
 
-// Reads the scenario before the world starts, because a fault of the scenario is reported before a
-// fault of the world.
+// Returns the world and the events of the scenario. The scenario is read before the world is made,
+// because a fault of the scenario is reported before a fault of the world.
 fn begin_between<A: Allocator + Copy>(
     alloc: A,
     server: Server<A>,

@@ -1,4 +1,4 @@
-//! A conversation over bytes.
+//! A connection: a conversation whose packets are received and sent as bytes.
 
 ghost use Rattle.gtalk.specs.Partial.{IsPartial};
 
@@ -20,9 +20,10 @@ use std::alloc::{Allocator, Global};
 pub struct Connection<C, A: Allocator + Copy = Global> {
     pub(crate) conversation: C,
     pub(crate) alloc: A,
+    // The reason why no more packets arrive, or `None` while packets may arrive.
     pub(crate) stopped: Option<Stop>,
     pub(crate) incoming: Incoming<A>,
-    // The send queue, or `None` until the conversation first speaks.
+    // The send queue, or `None` while the queue is not allocated.
     pub(crate) outgoing: Option<Outgoing<A>>,
     // The number of bytes of the send queue that have been sent.
     pub(crate) sent: usize,

@@ -93,7 +93,7 @@ fn speak<C: Conversation, A: Allocator + Copy, W: Sink>(
     }
 }
 
-// Asks the conversation once to queue packets, and sends the queued packets.
+// Makes the conversation queue packets once, and sends the queued packets.
 fn say_some<C: Conversation, A: Allocator + Copy, W: Sink>(
     connection: &mut Connection<C, A>,
     sink: &mut W,

@@ -70,8 +70,8 @@ impl<C: Conversation, A: Allocator + Copy> Connection<C, A> {
         }
     }
 
-    /// Returns the maximum number of bytes to receive in the next call. The limit is 0 only if no
-    /// more packets arrive.
+    /// Returns the maximum number of bytes to pass to the next call of
+    /// [`receive`](Connection::receive). The result is 0 only if no more packets arrive.
     pub fn receive_limit(&self) -> usize
         ensures lacks { Lacks (partial_of self.now) result }
         ensures some { has_stopped self.now ≡ None → 0 < result }
@@ -141,7 +141,8 @@ impl<C: Conversation, A: Allocator + Copy> Connection<C, A> {
         self.conversation.stop(Stop::Failed);
     }
 
-    /// Queues the next packets of the conversation. All packets queued earlier must have been sent.
+    /// Makes the conversation queue its next packets. All packets queued earlier must have been
+    /// sent.
     ///
     /// Fails only with [`TalkFault::Memory`], and only in a call that allocates the send queue: the
     /// first call, or the first call after [`give_back`](Connection::give_back). After a failure

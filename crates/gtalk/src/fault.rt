@@ -9,7 +9,8 @@ use std::fmt;
 /// The reason why a conversation was aborted.
 #[derive(Clone, Copy, Debug, PartialEq, Eq)]
 pub enum TalkFault {
-    /// The sink failed. A prefix of the queued packets was written, perhaps all of them.
+    /// The sink failed. A prefix of the bytes of the queued packets was written, perhaps all of
+    /// them.
     Io,
     /// There was not enough memory for the packets to send. The failed call queued no packet, and
     /// left the conversation unchanged.

@@ -60,7 +60,8 @@ impl<A: Allocator + Copy> Incoming<A> {
         self.bytes.extend_from_slice(bytes)
     }
 
-    /// Returns the packet, or `None` if the packet is incomplete.
+    /// Returns the packet, or `None` if the packet is incomplete. Fails if no packet begins with
+    /// the stored bytes.
     pub(crate) fn line(&self) -> Result<Option<Packet<'_>>, PacketFault>
         ensures found { IsFound self.now (read_of result) }
         ensures fault { IfErr result (λ fault. IsByBytes (Some (Stop.Refused fault))) }
@@ -113,7 +114,8 @@ fn lacks_after(bytes: &[u8]) -> usize
     }
 }
 
-// Returns the number of bytes missing from a packet that announces `announced` bytes.
+// Returns the number of bytes that are missing from a packet whose digits announce `announced`
+// bytes.
 #[tactic(auto, using(crate::proofs::Partials::lacks_payload, crate::proofs::Partials::lacks_none, crate::proofs::Partials::partial_long, crate::proofs::Partials::partial_more))]
 fn lacks_of(bytes: &[u8], announced: usize) -> usize
     requires within { IsWithinPacket bytes.now }
@@ -128,7 +130,8 @@ fn lacks_of(bytes: &[u8], announced: usize) -> usize
     }
 }
 
-// Returns the number that four hexadecimal digits encode.
+// Returns the number that four hexadecimal digits encode, or `None` if one of the bytes is not a
+// hexadecimal digit.
 fn number(digits: &[u8]) -> Option<u16>
     requires { length digits.now ≡ digit_count }
     ensures { result ≡ number_of digits.now }
@@ -140,7 +143,8 @@ fn number(digits: &[u8]) -> Option<u16>
     }
 }
 
-// Returns the packet that these bytes encode, or `None` if the packet is incomplete.
+// Returns the packet that these bytes encode, or `None` if the packet is incomplete. Fails if no
+// packet begins with these bytes.
 fn packet_within(bytes: &[u8]) -> Result<Option<Packet<'_>>, PacketFault>
     requires { IsWithinPacket bytes.now }
     ensures found { IsFound bytes.now (read_of result) }
@@ -159,7 +163,8 @@ fn packet_within(bytes: &[u8]) -> Result<Option<Packet<'_>>, PacketFault>
     }
 }
 
-// Returns the data packet that announces `announced` bytes, or `None` if the packet is incomplete.
+// Returns the data packet whose digits announce `announced` bytes, or `None` if the packet is
+// incomplete. Fails if the announced length is too large.
 #[tactic(auto, using(crate::proofs::Partials::whole_data))]
 fn data_in(bytes: &[u8], announced: usize) -> Result<Option<Packet<'_>>, PacketFault>
     requires within { IsWithinPacket bytes.now }

@@ -1,10 +1,11 @@
 //! A conversation of packets as a value. The value receives packets and queues packets to send, but
 //! does no I/O itself.
 //!
-//! A [`Conversation`] is one end of a protocol. A [`Connection`] is a conversation over bytes. The
-//! bytes arrive in pieces of any size, and the caller sends as many pending bytes as it can.
-//! [`drive`] moves the bytes between a connection, a blocking source and a blocking sink. An event
-//! loop can instead move the bytes of many connections, each when its socket is ready.
+//! A [`Conversation`] is one end of a protocol. A [`Connection`] converts between the packets of a
+//! conversation and bytes. The bytes arrive in pieces of any size, and the caller sends as many
+//! pending bytes as it can. [`drive`] moves the bytes between a connection, a blocking source and a
+//! blocking sink. An event loop can instead move the bytes of many connections, each when its
+//! socket is ready.
 //!
 //! # Proved
 //!
@@ -19,9 +20,9 @@
 //!   its end (`LeavesSource`). Bytes are refused only if they are not a packet, or if there is no
 //!   memory for them.
 //! - [`drive`] returns if all calls to its source and its sink return. The connection receives all
-//!   bytes that are read, and writes all bytes that it sends, in order. [`drive`] succeeds only if
-//!   the conversation is done, or if no more packets arrive. After success all queued packets are
-//!   sent and flushed.
+//!   bytes that are read, in order. The sink receives all bytes that the connection sends, in
+//!   order. [`drive`] succeeds only if the conversation is done, or if no more packets arrive.
+//!   After success all queued packets are sent and flushed.
 //! - [`drive`] fails with `Io` only if the sink has failed, and with `Memory` only if there is not
 //!   enough memory. After a failure, all packets of earlier turns are flushed, and a prefix of the
 //!   packets of the last turn is written (`BreaksOff`).

@@ -44,7 +44,7 @@ impl Model for TimeLeft {
 }
 
 impl TimeLeft {
-    /// Returns the time for a first line that starts now.
+    /// Returns the full time for a client's first line, which starts at `now`.
     pub(crate) fn for_first_line(now: Instant) -> TimeLeft
         ensures { result ≡ (first_line_time, instant_nanos now) }
     {
@@ -54,7 +54,7 @@ impl TimeLeft {
         }
     }
 
-    /// Returns the time for a request that starts now.
+    /// Returns the full time for a client's request, which starts at `now`.
     pub(crate) fn for_request(now: Instant) -> TimeLeft
         ensures { result ≡ (request_time, instant_nanos now) }
     {
@@ -64,7 +64,8 @@ impl TimeLeft {
         }
     }
 
-    /// Returns the time that remains now, or `None` if no time remains or the clock went backwards.
+    /// Returns the time that remains at `now`. Returns `None` if no time remains, or if the clock
+    /// went backwards.
     pub(crate) fn until(self, now: Instant) -> Option<TimeLeft>
         ensures { LeavesOf self (instant_nanos now) result }
     {
@@ -76,7 +77,7 @@ impl TimeLeft {
         Some(TimeLeft { left, at: now })
     }
 
-    /// Returns the maximum duration of a read that ends before the deadline.
+    /// Returns the maximum duration of the next read, which is the remaining time.
     pub(crate) fn wait(&self) -> Duration
         ensures wait { as_nanos result ≡ self.now.0 }
         ensures most { as_nanos result ≤ longest_wait }

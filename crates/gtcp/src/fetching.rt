@@ -27,9 +27,9 @@ use std::alloc::Allocator;
 use std::io::{BufReader, BufWriter, Read, Write};
 use std::net::OpenStream;
 
-/// Fetches with the refspecs from the server at the other end of the stream. Writes the first line
-/// of a `git://` connection (gitprotocol-pack(5), "Git Transport"), which names the host and the
-/// path, and then fetches like `gclient::fetch_over`.
+/// Fetches from the server at the other end of the stream, with these refspecs. Writes the first
+/// line of a `git://` connection (gitprotocol-pack(5), "Git Transport"), which names the host and
+/// the path, and then fetches like `gclient::fetch_over`.
 ///
 /// Fails with `BadText` (42) if the host or the path is not well-formed. The fault reports packet
 /// position 0. Fails with `Memory` (53) if out of memory for the first line, and with `NoBuffer`
@@ -64,7 +64,7 @@ where
         → CountsReached repo.old.graph.entries (tips_of repo.old) held parents
         → fetched.requests ≤ held + 1) }
 {
-    // Laws.
+    // Laws that the proof uses.
     repo.laws();
     let hello = match Hello::new(repo.graph().allocator(), path, host) {
         Ok(hello) => hello,
@@ -108,7 +108,7 @@ where
     fetch_from(&Peer::new(stream, Silence), repo, indexer, fetch)
 }
 
-/// Fetches like [`fetch_git_on`] from a peer.
+/// Fetches like [`fetch_git_on`], over the stream to a peer.
 pub(crate) fn fetch_from<A, K, S>(
     peer: &Peer<S, Silence>,
     repo: &mut Repo<A>,
@@ -131,7 +131,7 @@ where
         → CountsReached repo.old.graph.entries (tips_of repo.old) held parents
         → fetched.requests ≤ held + 1) }
 {
-    // Laws.
+    // Laws that the proof uses.
     repo.laws();
     let alloc = repo.graph().allocator();
     let Ok(mut reader) = BufReader::new(alloc, peer) else {
@@ -180,7 +180,7 @@ fn fetch_between<A: Allocator + Copy, K: Indexer<A>, R: Read, W: Write>(
 ///
 /// Fails with `Limit` (48) if there are more than 64 prefixes. Fails with `BadText` (42) if the
 /// host or the path is not well-formed. Both faults report packet position 0. Fails with `Memory`
-/// (53) if out of memory for the request or the first line, and with `NoBuffer` (28) if out of
+/// (53) if out of memory for the request or the first line. Fails with `NoBuffer` (28) if out of
 /// memory for the buffers of the stream. After these faults nothing was read or written. Otherwise
 /// fails with the faults of `gclient::list_git`. A read fails if the server sends no byte for
 /// [`MAX_SILENCE`](crate::MAX_SILENCE) seconds, and a write fails if the server accepts no byte for

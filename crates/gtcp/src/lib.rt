@@ -3,10 +3,10 @@
 //! process.
 //!
 //! The caller provides the network, its streams and the clock. The contracts can't state which
-//! bytes a socket sends or receives. For a call over a socket, the contracts state only that the
-//! call holds the conversation that `gserve` or `gclient` specifies, over some input and some
-//! output (`specs/Sockets.antt`). Inside the crate, the contracts of a conversation over a reader
-//! and a writer state the bytes that were read and written.
+//! bytes a socket sends or receives. The contract of a function that uses a socket states only
+//! this: the function holds the conversation that `gserve` or `gclient` specifies, over some input
+//! and some output (`specs/Sockets.antt`). Inside the crate, the contracts of a conversation over a
+//! reader and a writer state the bytes that were read and written.
 //!
 //! # Proved
 //!
@@ -34,9 +34,10 @@
 //!   outcome of each ref update, is written only after the new text. At the end the program holds
 //!   no lockfile (`specs/Remote.antt`, and `Stored.antt` of `gcmd`).
 //! - [`cmd_pair`] fetches inside one process and writes the same report, but stores nothing.
-//! - [`cmd_serve`] shows the number of its port. Then the program serves the repository that its
-//!   file describes, with the guarantees of [`serve_listener`]. [`cmd_serve`] serves no client if
-//!   the file is refused, the socket can't be opened or the port can't be shown.
+//! - [`cmd_serve`] shows the number of the port at which it listens. Then the program serves the
+//!   repository that its file describes, with the guarantees of [`serve_listener`]. No
+//!   client is served if the file is refused, the socket can't be opened or the port can't be
+//!   shown.
 //! - Each program exits with status 0 or 1. With status 0 the program reports no fault of its own.
 //!   With status 1 the program prints the line that reports its fault, or a prefix of this line.
 //!   The fault is a refused file, a failed conversation, a missing socket, lack of memory, or a
@@ -70,7 +71,7 @@
 //!
 //! The contracts allow any conversation whose bytes fit the result, even if the peer did not send
 //! the bytes. The contracts do not state that a connection is opened, accepted, read or written,
-//! nor what the server of a pair does. So no contract rules out any result that some peer could
+//! nor what the server of a pair does. A call could therefore have any result that some peer could
 //! cause: any reply, any added objects, or any served connection. A call could also send any bytes,
 //! report out of memory, or fail with `Socket` although a connection can be accepted or opened. In
 //! a pair, any failed fetch could be reported as a message that is too long. A message that is too
@@ -78,16 +79,16 @@
 //! the file. The program could also report that the file can't be locked, read or replaced, even if
 //! each of these steps would succeed.
 //!
-//! No contract rules out that [`serve_listener`] accepts further connections between the served
-//! connections. The program of [`cmd_serve`] could listen at a different address, and could show a
-//! different port or show the port later. A call could ignore a deadline or the clock. No contract
-//! rules out that [`Location::new`] returns `None`, or that [`connect_to`] fails or connects to
-//! another address. A [`Peer`] could read and write bytes that differ from the bytes of its stream.
+//! [`serve_listener`] could accept further connections between the served connections. The program
+//! of [`cmd_serve`] could listen at a different address, and could show a different port or show
+//! the port later. A call could ignore a deadline or the clock. [`Location::new`] could return
+//! `None` for any arguments. [`connect_to`] could fail, or connect to another address. A [`Peer`]
+//! could read and write bytes that differ from the bytes of its stream.
 //!
-//! No contract rules out that a [`MessageSink`] never flushes the inner sink, or that a flush that
-//! fails writes some of the held bytes. If the inner sink does not record its bytes, the contracts
-//! do not state when the inner sink receives bytes. No contract rules out that `is_too_long` and
-//! `bytes_written` ignore the effect of a `write` or a flush.
+//! A [`MessageSink`] could never flush the inner sink, and a failed flush could write some of the
+//! held bytes. If the inner sink does not record its bytes, the contracts do not state when the
+//! inner sink receives bytes. `is_too_long` and `bytes_written` could ignore the effect of a
+//! `write` or a flush.
 //!
 //! # Dependencies
 //!

@@ -73,7 +73,7 @@ fn put_refs<A: Allocator + Copy>(
     Ok(())
 }
 
-// Appends the line of the ref at an index.
+// Appends the line of the ref at this index of the reply.
 fn put_ref<A: Allocator + Copy>(
     text: &mut Vec<u8, A>,
     reply: &LsReply<A>,

@@ -109,7 +109,7 @@ impl<W, A: Allocator + Copy> MessageSink<W, A> {
 }
 
 impl<W: Sink, A: Allocator + Copy> MessageSink<W, A> {
-    /// Holds more bytes of a message, without writing any to the inner sink.
+    /// Appends bytes to the held message, and writes nothing to the inner sink.
     ///
     /// Fails if the message would have more than [`MAX_MESSAGE`] bytes, or if out of memory. After
     /// a fault the held bytes are unchanged, and the sink has failed.
@@ -157,8 +157,8 @@ impl<W: Sink, A: Allocator + Copy> MessageSink<W, A> {
     }
 }
 
-// Writes the bytes in order, and returns the number of written bytes: all of them, unless the sink
-// failed.
+// Writes the bytes in order. Returns the number of written bytes, and an error if the sink failed
+// before all bytes were written.
 fn write_front<W: Sink>(bytes: &[u8], sink: &mut W) -> (usize, Result<(), Down>)
     ensures bound { result.0 ≤ length bytes.now }
     ensures all { OnOk result.1 (result.0 ≡ length bytes.now) }

@@ -111,8 +111,8 @@ impl<N: Source, F: Source, W: Sink, A: Allocator + Copy> Source for ClientInput<
         if self.far_sink.has_failed() {
             return self.fail();
         }
-        let room = buf.len().min(self.bytes_left());
-        match self.near.read(&mut buf[..room]) {
+        let max = buf.len().min(self.bytes_left());
+        match self.near.read(&mut buf[..max]) {
             Ok(count) => {
                 self.read = self.read.saturating_add(count);
                 Ok(count)
@@ -124,14 +124,18 @@ impl<N: Source, F: Source, W: Sink, A: Allocator + Copy> Source for ClientInput<
 
 // Acts as the server: reads the client's first line, and writes the advertisement or the reason to
 // refuse the line.
-fn greet<A: Allocator + Copy, F: Source, W: Sink>(server: &Server<A>, far: &mut F, sink: &mut W) {
-    match hear(far, server.graph().allocator()) {
+fn greet<A: Allocator + Copy, S: Source, W: Sink>(
+    server: &Server<A>,
+    source: &mut S,
+    sink: &mut W,
+) {
+    match hear(source, server.graph().allocator()) {
         Ok(_hello) => advertise(server, sink),
         Err(fault) => refuse(&fault, sink),
     }
 }
 
-// Writes only the advertisement. The server finds no request in the empty source.
+// Writes only the advertisement: the server reads an empty source, and so finds no request.
 fn advertise<A: Allocator + Copy, W: Sink>(server: &Server<A>, sink: &mut W) {
     let mut nothing = SliceSource::new(b"");
     let mut packer = OnePack::new(&PlainPack);
@@ -155,8 +159,8 @@ struct Joined<S> {
     far: S,
 }
 
-// The maximum number of connections to accept until the client's own connection arrives. All other
-// connections come from other processes.
+// The maximum number of connections to accept until the client's own connection arrives. Other
+// processes may also connect to the listener.
 const MAX_ACCEPTS: usize = 16;
 
 // The address at which the server listens, with any free port. `HOST` and `PATH` are the host and
@@ -172,7 +176,8 @@ fn connect<N: Net>(net: &N) -> Option<Joined<N::Stream>> {
     join(net, &listener)
 }
 
-// Opens a connection to the listener, and accepts this connection as the server.
+// Opens a connection to the listener, and accepts this connection as the server. Returns `None` if
+// the connection can't be opened or accepted.
 fn join<N: Net>(net: &N, listener: &N::Listener) -> Option<Joined<N::Stream>> {
     let address = listener.local_addr().ok()?;
     let near = TcpStream::connect(net, address).ok()?;
@@ -180,7 +185,8 @@ fn join<N: Net>(net: &N, listener: &N::Listener) -> Option<Joined<N::Stream>> {
     Some(Joined { near, far })
 }
 
-// Accepts connections until the connection of this client arrives.
+// Accepts connections until the connection of this client arrives. Returns `None` if it does not
+// arrive within `MAX_ACCEPTS` connections, or if a connection can't be accepted.
 fn accept_from<L: OpenListener>(listener: &L, client: SocketAddr) -> Option<L::Stream> {
     for _ in 0..MAX_ACCEPTS {
         let (stream, peer) = listener.accept().ok()?;
@@ -191,8 +197,8 @@ fn accept_from<L: OpenListener>(listener: &L, client: SocketAddr) -> Option<L::S
     None
 }
 
-/// Fetches with the refspecs from the server into the repository, over a connection inside this
-/// process and with plain packs.
+/// Fetches from the server into the repository, over a connection inside this process and with
+/// plain packs. The refspecs select the refs.
 ///
 /// Fails with `PairLimit` if a message would have more than [`MAX_MESSAGE`](crate::MAX_MESSAGE)
 /// bytes. In that case no byte of the message is written, and client and server stop. Fails with

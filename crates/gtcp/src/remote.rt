@@ -271,9 +271,9 @@ pub struct RemoteFetch<'a, A: Allocator + Copy> {
 }
 
 /// `gitv2 fetch --tcp ADDR --path PATH [--limit N] [--response-end] FILE SPEC...`: locks and reads
-/// the client's file, connects to the server, and fetches with the refspecs into the repository
-/// that the file describes. If the conversation succeeds, the program replaces the whole file, and
-/// then writes the report to `report`. A fault is printed as one line on `errors`.
+/// the client's file, connects to the server, and fetches into the repository that the file
+/// describes. If the conversation succeeds, the program replaces the whole file, and then writes
+/// the report to `report`. A fault is printed as one line on `errors`.
 ///
 /// Returns exit status 0 if the report is written and flushed, and 1 after a fault. The fault is
 /// `File` or `Memory` if the file can't be locked, read or replaced. The program opens no
@@ -398,7 +398,8 @@ where
 
 // ---- pairs
 
-/// The parameters of a pair: the server, the text of the client's repository, and the refspecs.
+/// The parameters of a fetch between a client and a server in one process: the server, the text of
+/// the client's repository, and the refspecs.
 #[derive(Drop)]
 pub struct Pair<'a, A: Allocator + Copy> {
     pub server: &'a Server<A>,
@@ -406,11 +407,10 @@ pub struct Pair<'a, A: Allocator + Copy> {
     pub specs: &'a [Spec<A>],
 }
 
-/// `gitv2 pair SERVERFILE CLIENTFILE SPEC...`, after the server is loaded: fetches with the
-/// refspecs from the server into the client's repository, over a connection inside this process.
-/// Writes the same report as `fetch` to `output`. A message has at most
-/// [`MAX_MESSAGE`](crate::MAX_MESSAGE) bytes. No file is written. A fault is printed as one line on
-/// `errors`.
+/// `gitv2 pair SERVERFILE CLIENTFILE SPEC...`, after the server is loaded: fetches from the server
+/// into the client's repository, over a connection inside this process. Writes the same report as
+/// `fetch` to `output`. A message has at most [`MAX_MESSAGE`](crate::MAX_MESSAGE) bytes. No file is
+/// written. A fault is printed as one line on `errors`.
 ///
 /// Returns exit status 0 if the report is written and flushed, and 1 after a fault.
 pub fn cmd_pair<A: Allocator + Copy, N, W: Sink, E: Sink>(

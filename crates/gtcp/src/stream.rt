@@ -12,8 +12,8 @@ use std::time::Duration;
 /// The capacity in bytes of a write buffer, which collects a message for a single write.
 pub(crate) const MESSAGE_BUFFER: usize = 65_536;
 
-// The maximum number of bytes in one read of input to discard. `MAX_DROPS` limits the number of
-// such reads.
+// The maximum number of bytes in one read that discards input. `MAX_DROPS` is the maximum number of
+// these reads.
 const DROPPED_BYTES: usize = 4_096;
 
 const MAX_DROPS: usize = 1_024;
@@ -34,19 +34,19 @@ const WRITE_WAIT: u64 = 5;
 /// connection, fails with the error of the last address.
 pub fn connect_to<N: Net>(net: &N, address: &str) -> io::Result<N::Stream> {
     let limit = Duration::from_secs(MAX_CONNECT);
-    let mut last = io::Error::from(ErrorKind::AddrNotAvailable);
+    let mut last_error = io::Error::from(ErrorKind::AddrNotAvailable);
     for address in address.to_socket_addrs(net)? {
         match TcpStream::connect_timeout(net, &address, limit) {
             Ok(stream) => return Ok(stream),
-            Err(error) => last = error,
+            Err(error) => last_error = error,
         }
     }
-    Err(last)
+    Err(last_error)
 }
 
 /// The stream to a peer, shared by a reader and a writer: `&Peer` reads and writes. A read fails if
 /// the peer sends nothing within the time limit of the timer. A write fails if the peer accepts
-/// nothing for [`MAX_SILENCE`] seconds. Both calls fail if the system refuses a time limit, or if
+/// nothing for [`MAX_SILENCE`] seconds. Either call fails if the system refuses a time limit, or if
 /// another call on the peer is active.
 #[derive(Drop)]
 pub struct Peer<S, T> {

@@ -34,7 +34,7 @@ pub fn missing<A: Allocator + Copy>(
     ensures sure { IsOrdered graph.now.entries → IsTrue (is_ok result) }
     ensures fault { IfErr result (λ fault. fault ≡ Memory) }
 {
-    // Laws.
+    // The proof uses these laws.
     gdag::laws::ordered_is_closed::<A>();
     gdag::laws::closed_is_connected::<A>();
     if graph.is_ordered() {

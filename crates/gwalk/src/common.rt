@@ -92,7 +92,8 @@ fn all_reach<A: Allocator + Copy>(
     Ok(true)
 }
 
-/// Returns the state of a walk that has met exactly the given ids. Fails only if out of memory.
+/// Returns the state of a walk that starts at exactly the given ids, and that has not visited any
+/// id. Fails only if out of memory.
 pub fn met_of<A: Allocator + Copy>(graph: &Graph<A>, ids: &[Oid]) -> Result<Walk<A>, AllocError>
     ensures { IfOk result (λ walk. HasMet graph.now.entries (new_ids [] ids.now)
         walk.marks.items walk.met.items walk.missing walk.parent_count) }

@@ -22,9 +22,9 @@ pub fn covering_stays<A: Allocator + Copy>()
     growing_keeps::<A>();
 }
 
-/// Proves that a walk that does not continue past marked objects is equivalent to a walk in the
-/// graph in which marked objects have no parents. Both walks reach the same ids, and both have the
-/// counts of `missing_known`.
+/// Proves that a walk that does not continue past marked objects is equivalent to a full walk in a
+/// changed graph. In the changed graph, marked objects have no parents. Both walks reach the same
+/// ids, and both have the counts of `missing_known`.
 pub fn stops_at_marks<A: Allocator + Copy>()
     ensures { StopsAtMarks A }
 {}

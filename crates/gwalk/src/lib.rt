@@ -1,5 +1,5 @@
 //! Walks over the graph of a repository's commits and tags. The walks find the objects that the
-//! given ids reach, the missing objects, the objects to send, and the ids to offer.
+//! given ids reach, the missing objects, the objects to send, and the ids to offer as haves.
 //!
 //! # Proved
 //!

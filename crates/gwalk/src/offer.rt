@@ -101,7 +101,7 @@ impl<A: Allocator + Copy> Offers<A> {
             × AreOffers graph.now.entries tips commons.now (sent ++ ids.items) self.new) }
         ensures fault { IfErr result (λ fault. fault ≡ Memory) }
     {
-        // Laws.
+        // The proof uses these laws.
         graph.laws();
         self.hear(graph, commons)?;
         let known = self.known.as_slice();
@@ -120,7 +120,7 @@ impl<A: Allocator + Copy> Offers<A> {
             → AreOffers graph.now.entries tips first sent self.old
             → AreOffers graph.now.entries tips commons.now sent self.new) }
     {
-        // Laws.
+        // The proof uses this law.
         stops_at_marks::<A>();
         if self.marked_commons >= commons.len() {
             return Ok(());
@@ -164,7 +164,7 @@ fn first_untold<A: Allocator + Copy>(
         → All (λ a. ¬ (MayBeOffered graph.now.entries commons others a)) front
         → GoesOn graph.now.entries tips commons others n list.items tour.new) }
 {
-    // Laws.
+    // The proof uses these laws.
     levels_are_distances::<A>();
     graph.laws();
     let mut list = Vec::new(graph.allocator());

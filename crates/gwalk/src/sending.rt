@@ -36,7 +36,7 @@ pub fn send_list<A: Allocator + Copy>(
         IsGraph (record { format = graph.now.format; entries = list.items })) }
     ensures fault { IfErr result (λ fault. fault ≡ Memory) }
 {
-    // Laws.
+    // The proof uses this law.
     sent_are_entries::<A>();
     Ok(list_to_send(graph, wants, commons, &[])?)
 }
@@ -58,7 +58,7 @@ pub fn send_list_tags<A: Allocator + Copy>(
         IsGraph (record { format = graph.now.format; entries = list.items })) }
     ensures fault { IfErr result (λ fault. fault ≡ Memory) }
 {
-    // Laws.
+    // The proof uses this law.
     sent_are_entries::<A>();
     let tips = refs.ids(graph.allocator())?;
     Ok(list_to_send(graph, wants, commons, tips.as_slice())?)

@@ -14,7 +14,8 @@ use gname::Oid;
 use std::alloc::{AllocError, Allocator};
 
 /// The state of a walk. The walk meets the starting ids, and then the parents of each id that it
-/// visits. The walk visits each id of the graph at most once.
+/// visits. The walk visits each id of the graph at most once. A walk can be limited by marks of
+/// known ids: it does not continue to the parents of a known id.
 #[derive(Drop)]
 pub struct Walk<A: Allocator + Copy> {
     /// Marks at the positions of all ids of the graph that the walk has met.

@@ -167,7 +167,7 @@ module _ {A : Type 0} where
 
 -- ---- the server
 
--- the number of bytes that the server wrote, or the number of its fault if it ran out of memory
+-- the number of bytes that the server wrote, or the number of the server's fault if memory ran out
 abbrev pub stranger_outcome : ℕ → End → Outcome
 stranger_outcome written (end.Refused fault) =
     if lacks_memory fault then outcomes.Fault (serve_fault_row fault).code else outcomes.StrangerServed written
@@ -228,7 +228,7 @@ module _ {A : Type 0} (indexes : Indexes A) (index_fails : IndexFails) where
       (answered : Bool) × (IsTrue answered ↔ IsFullAnswer kept asked count outcome)
       × BytesCome w s asked (take count (reply_bytes kept.reply)) w.forged answered outcome new
 
-  -- `Forge`: the bytes arrive as a reply, unless no request is open. Afterwards the world is marked as forged.
+  -- `Forge`: the bytes arrive as a reply, unless no request is open; afterwards the flag `forged` of the world is set
   abbrev pub Forges : WorldState A → Bytes → Option (SessionState A × Asked) → Outcome → WorldState A → Type 0
   Forges w bytes None outcome new = (outcome ≡ outcomes.Fault out_of_turn) × (new ≡ record w { forged = true })
   Forges w bytes (Some (s, asked)) outcome new = BytesCome w s asked bytes true false outcome new

@@ -19,7 +19,7 @@ disagreement = 90
 abbrev pub no_such : ℕ
 no_such = 93
 
--- the event needs the client's session in a certain stage, but there is no session, or it is in another stage
+-- the event needs the client's session at a certain stage, but there is no session, or the session is at another stage
 abbrev pub out_of_turn : ℕ
 out_of_turn = 83
 

@@ -10,18 +10,19 @@ use std::alloc::{Allocator, Global};
 use std::error::Error;
 use std::fmt;
 
-/// The number of the fault of an event that would give the same id different objects at the server
-/// and at the client.
+/// The number of the fault for an event that adds an object, if the other end holds a different
+/// object under the same id.
 pub(crate) const DISAGREE: u32 = 90;
 
-/// The number of the fault of an event with an invalid index of a sent request or of a kept reply.
+/// The number of the fault for an event whose index is outside the list of sent requests or the
+/// list of kept replies.
 pub(crate) const NO_SUCH_INDEX: u32 = 93;
 
-/// The number of the fault of an event that needs a session in a certain stage. There is no
-/// session, or the session is in another stage.
+/// The number of the fault for an event that needs a session, if there is no session or the session
+/// is at the wrong stage.
 pub(crate) const NO_OPEN_REQUEST: u32 = 83;
 
-/// The reason why a server and a repository can't form a world.
+/// The reason why a server and a client's repository can't form a world.
 #[derive(Clone, Copy, Debug, PartialEq, Eq, Drop)]
 pub enum WorldFault {
     /// Fault 97: server and client have different object formats.

@@ -1,4 +1,5 @@
-//! Bytes that arrive as the reply to the open request, the request whose reply the session awaits.
+//! Bytes that arrive as the reply to the open request. The open request is the request whose reply
+//! the session awaits.
 
 ghost use Rattle.std.specs.Prelude.{◌≡◌, IsOkUnless, IsSome, MatchResult, alloc_error, take, Some};
 ghost use Rattle.gworld.specs.steps.Bringing.{IsAwaited, TakesIfOpen, objects_outcome, refs_outcome};
@@ -91,7 +92,7 @@ fn refs_outcome<A: Allocator + Copy>(taking: Result<LsTaken<A>, ClientFault<A>>)
     }
 }
 
-/// Returns the outcome of a fault.
+/// Returns the outcome of an event that fails with this fault.
 pub(crate) fn outcome_of_fault<A: Allocator + Copy>(fault: ClientFault<A>) -> Outcome
     ensures { result ≡ outcome.Fault (code_of fault) }
 {
@@ -127,7 +128,7 @@ fn objects_outcome<A: Allocator + Copy>(taking: Result<Taken, ClientFault<A>>) -
     }
 }
 
-// Returns a buffer for packets.
+// Returns an empty buffer for packets. Fails only if out of memory.
 fn line_buffer<A: Allocator + Copy>(alloc: A) -> Result<PacketBuffer<A>, AllocError>
     ensures { IsOkUnless result alloc_error }
 {

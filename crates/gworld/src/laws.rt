@@ -1,4 +1,5 @@
-//! Laws of worlds. Each function does nothing, and its contract states a proved property. A world
+//! Laws of worlds. Each function does nothing, and its contract states a proved property. A run is
+//! a list of events and their outcomes, and a step is the effect of one event on a world. A world
 //! is sound if it satisfies the invariants of `IsSound` (`specs/Sound.antt`).
 
 ghost use Rattle.std.specs.Prelude.{◌≡◌, false};
@@ -86,7 +87,7 @@ pub fn faithful_lose_nothing<A: Allocator + Copy, K: Faithful<A>>(tools: &K)
     tools.loses_nothing();
 }
 
-/// Proves that the events and their outcomes form a run (`Run`) if each step keeps its promises.
+/// Proves that events and their outcomes form a run (`Run`) if each step keeps its promises.
 pub fn promises_are_runs<A: Allocator + Copy, K: Packer<A> + Indexer<A>>()
     ensures { (k : K) → PromisesAreRuns (tools_of (K.packs k) (K.pack_fails k) (K.indexes k)
         (K.index_fails k)) }
@@ -99,8 +100,9 @@ pub fn refs_stay_connected<A: Allocator + Copy, K: Packer<A> + Indexer<A>>()
         (K.index_fails k)) }
 {}
 
-/// Proves that any run preserves a bound. The session has made at most N + 1 requests for objects
-/// if its tips reach N ids. The tips are the ids of the client's refs when the session began.
+/// Proves that a run preserves this bound: if the session's tips reach N ids, the session has made
+/// at most N + 1 requests for objects. The tips are the ids of the client's refs when the session
+/// began.
 pub fn requests_stay_few<A: Allocator + Copy, K: Packer<A> + Indexer<A>>()
     ensures { (k : K) → RequestsStayFew (tools_of (K.packs k) (K.pack_fails k) (K.indexes k)
         (K.index_fails k)) }
@@ -129,7 +131,7 @@ pub fn refs_are_always_connected<A: Allocator + Copy, K: Packer<A> + Indexer<A>>
         (K.index_fails k)) }
 {}
 
-/// Proves that over any run the graphs of both ends only grow: no object is lost or changed.
+/// Proves that a run only adds objects to the graphs of both ends: no object is lost or changed.
 pub fn graphs_only_grow<A: Allocator + Copy, K: Packer<A> + Indexer<A>>()
     ensures { (k : K) → GraphsOnlyGrow (tools_of (K.packs k) (K.pack_fails k) (K.indexes k)
         (K.index_fails k)) }
@@ -200,9 +202,9 @@ pub fn runs_keep_promises<A: Allocator + Copy, K: Packer<A> + Indexer<A>>()
 }
 
 /// Proves that a new session whose tips reach N ids can settle after at most N + 2 rounds. The
-/// premises are that no bytes were forged, and that the packer and the indexer are faithful. In a
-/// round the reply arrives complete, and no event fails. After these rounds the event `Settle`
-/// makes every allowed update of refs, unless there would be too many refs or the client is out of
+/// premises are that no bytes were forged, that the packer and the indexer are faithful, that each
+/// reply of these rounds arrives complete, and that no event fails. The event `Settle` then makes
+/// every allowed update of refs, unless there would be too many refs or the client is out of
 /// memory.
 pub fn fetches_complete<A: Allocator + Copy, K: Packer<A> + Indexer<A>>()
     ensures { (k : K) → FetchesComplete (tools_of (K.packs k) (K.pack_fails k) (K.indexes k)

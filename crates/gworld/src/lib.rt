@@ -6,17 +6,17 @@
 //!
 //! # Proved
 //!
-//! - [`World::new`] returns a world of exactly the given server, client repository, packer and
+//! - [`World::new`] returns a world with exactly the given server, client repository, packer and
 //!   indexer. A new world has no session, no messages and no forged bytes. `World::new` fails with
 //!   `TwoFormats` exactly when the two repositories have different object formats. Otherwise
 //!   `World::new` fails with `Disagree` exactly when both repositories hold different objects under
 //!   the same id. The fault gives the first such id, in the order of the server's objects.
 //! - [`World::run`] executes the events in order, and returns the outcome of each event. `Step`
-//!   (specs/Events.antt) defines the effect and the outcome of an event. If the world's own lists
-//!   or buffers can't grow, the run stops before an event, and returns the earlier outcomes. The
-//!   run stops only before an event that needs memory (`NeedsMemory`, specs/Runs.antt). An event
-//!   that fails at once with fault 83 (`NoOpenRequest`), 90 (`Disagree`) or 93 (no such index)
-//!   needs no memory.
+//!   (specs/Events.antt) defines the effect and the outcome of an event. If there is no memory for
+//!   the world's own lists or buffers, the run stops before an event, and returns the earlier
+//!   outcomes. The run stops only before an event that needs memory (`NeedsMemory`,
+//!   specs/Runs.antt). An event that fails at once with fault 83 (`NoOpenRequest`), 90 (`Disagree`)
+//!   or 93 (no such index) needs no memory.
 //! - **Each ref of the client is connected, for any outcomes, any forged bytes, and any packer and
 //!   indexer.** A ref is connected if the client holds its whole history. The session makes at most
 //!   N + 1 requests for objects, if the client's refs reached N ids when the session began. If no
@@ -43,11 +43,11 @@
 //! - **Honest runs** ([`laws::honest_runs_keep_all`]): each step keeps all promises if no event
 //!   forges bytes and the packer and the indexer are faithful.
 //! - **A fetch completes** ([`laws::fetches_complete`]): a session makes at most N + 2 requests,
-//!   and can then settle, if the client's refs reached N ids when the session began. Settling makes
-//!   every allowed update of refs, unless there would be too many refs or the client is out of
-//!   memory. This law has the premises of the promises above. The law also assumes that each reply
-//!   arrives complete, and that no event fails. An event of a fetch fails only because of a limit,
-//!   for lack of memory, or because the name of a local ref would be invalid
+//!   and can then settle. N is the number of ids that the client's refs reached when the session
+//!   began. Settling makes every allowed update of refs, unless there would be too many refs or the
+//!   client is out of memory. This law has the premises of the promises above. The law also assumes
+//!   that each reply arrives complete, and that no event fails. An event of a fetch fails only
+//!   because of a limit, for lack of memory, or because the name of a local ref would be invalid
 //!   ([`laws::only_limits_refuse`]).
 //! - The promises follow from the definition of a step ([`laws::runs_keep_promises`]). The only
 //!   premise about the worlds of a run is an invariant of their types: refs are sorted by name, and
@@ -61,12 +61,11 @@
 //!
 //! # What the contracts do not rule out
 //!
-//! No contract rules out that a run stops with `Memory` although memory is available, before its
-//! first event or before any event that needs memory. Nor do the contracts rule out that an event
-//! that allocates reports out of memory although memory is available. The contracts do not state
-//! which end's allocator the lists of requests and replies use. The contracts limit neither the
-//! time of a call nor the memory that a call takes. Formatting a fault may return `fmt::Error` even
-//! if every write succeeds.
+//! A run may stop with `Memory` although memory is available, before its first event or before any
+//! event that needs memory. An event that allocates may report out of memory although memory is
+//! available. The lists of requests and replies may use the allocator of either end. The contracts
+//! limit neither the time of a call nor the memory that a call takes. Formatting a fault may return
+//! `fmt::Error` even if every write succeeds.
 //!
 //! # Dependencies
 //!

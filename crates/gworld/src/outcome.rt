@@ -5,29 +5,29 @@
 pub enum Outcome {
     /// The event succeeded.
     Done,
-    /// The client sent a request, with this index in the list of sent requests.
+    /// The client sent the request at index `request` in the list of sent requests.
     Asked {
         request: usize,
     },
-    /// The server made a reply, with this index in the list of kept replies.
+    /// The server made the reply at index `reply` in the list of kept replies.
     Served {
         reply: usize,
     },
-    /// The server wrote this many bytes to the unknown client.
+    /// The server wrote `written` bytes to the unknown client.
     StrangerServed {
         written: u128,
     },
-    /// The client accepted an ls-refs reply, which led to this many requested ref updates and this
-    /// many wants.
+    /// The client accepted an ls-refs reply. The session now has `asks` requested ref updates and
+    /// `wants` wants.
     LsTaken {
         asks: usize,
         wants: usize,
     },
-    /// The client accepted acknowledgments, and the session now has this many common ids.
+    /// The client accepted acknowledgments, and the session now has `common` common ids.
     Round {
         common: usize,
     },
-    /// The client accepted a pack, and gained this many new objects.
+    /// The client accepted a pack, and gained `added` new objects.
     PackTaken {
         added: usize,
     },

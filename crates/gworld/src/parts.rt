@@ -83,7 +83,8 @@ impl<A: Allocator + Copy> Model for Parts<A> {
     } };
 }
 
-// Returns the flag `answered` after a fault. A fault that ends the session clears the flag.
+// Returns the value of the flag `answered` after a fault. `mark` is its value before the fault. A
+// fault that ends the session clears the flag.
 fn mark_after<A: Allocator + Copy>(fault: &ClientFault<A>, mark: bool) -> bool
     ensures { result ≡ mark_after fault.now mark }
 {
@@ -99,14 +100,14 @@ fn refuse<A: Allocator + Copy>(fault: ClientFault<A>, mark: &mut bool) -> Outcom
     Outcome::Fault { code: fault.code() }
 }
 
-// Returns the sent request at this index.
+// Returns the sent request at this index, or `None` if the index is too large.
 fn sent_at<A: Allocator + Copy>(sent: &Vec<Sent<A>, A>, number: usize) -> Option<&Sent<A>>
     ensures { option_copied result ≡ slice_get sent.now.items number }
 {
     sent.get(number)
 }
 
-// Returns the kept reply at this index.
+// Returns the kept reply at this index, or `None` if the index is too large.
 fn kept_at<A: Allocator + Copy>(kept: &Vec<KeptReply<A>, A>, number: usize) -> Option<&KeptReply<A>>
     ensures { option_copied result ≡ slice_get kept.now.items number }
 {

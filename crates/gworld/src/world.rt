@@ -79,9 +79,9 @@ impl<K: Packer<A> + Indexer<A> + Drop, A: Allocator + Copy> World<K, A> {
     ///   the packer fails. Fault 74 occurs only after forged bytes. The world is unchanged.
     /// - `Deliver`: 93 (no such index) if no kept reply has this index. The other faults are the
     ///   same as for `Forge`.
-    /// - `Forge`: 83 (`NoOpenRequest`) if no request is open. Otherwise the fault of reading or
-    ///   accepting the reply, which ends the session and leaves the refs unchanged. In all cases
-    ///   the flag `forged` of the world is set.
+    /// - `Forge`: 83 (`NoOpenRequest`) if no request is open. Otherwise the fault with which the
+    ///   client rejects the reply. This fault ends the session and leaves the refs unchanged. In
+    ///   all cases the world counts as a world with forged bytes.
     /// - `StrangeRequest`: 28 (`NoBuffer`), 53 (`Memory`), 64 (`Memory`) or 65 (`Pack`) if the
     ///   server ran out of memory. The world is unchanged.
     /// - `Settle`: 83 (`NoOpenRequest`) if there is no session, or the session cannot settle yet.
@@ -118,7 +118,7 @@ impl<K: Packer<A> + Indexer<A> + Drop, A: Allocator + Copy> World<K, A> {
             self.old.world events.now (outcomes_before fault) self.new.world) }
     {
         let result = self.parts.run_events(events, &self.tools);
-        // Laws.
+        // Laws that the proof uses.
         self.parts.laws();
         result
     }

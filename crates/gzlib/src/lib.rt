@@ -20,8 +20,8 @@
 //! - Only tests check that inflating a deflated stream returns the original bytes. `gitcases`
 //!   inflates deflated streams with this crate, and `examples/with-git.sh` inflates them with Git.
 //! - In manual tests, this crate and zlib accepted the same altered streams. Both accept a header
-//!   with any window size up to 32 KiB. Both accept an incomplete code only if the code has a
-//!   single symbol of one bit. Both accept an empty distance code.
+//!   with any window size up to 32 KiB. Both accept an incomplete prefix code only if it has a
+//!   single code of one bit. Both also accept a distance code without symbols.
 //!
 //! # What the contracts do not rule out
 //!

@@ -7,7 +7,7 @@ use ggraph::{Order, PlainPack, load};
 use gpkt::{Sink, Source};
 use std::alloc::Allocator;
 
-/// Parses the client's repository from `text`, fetches the refs that `specs` match from a server
+/// Parses the client's repository from `text`, fetches those refs of a server that match `specs`
 /// (gitprotocol-v2(5)), and returns the repository.
 ///
 /// Fails with `Text` if `text` is not a valid repository. Fails with `Fetch` if an object that a

@@ -77,7 +77,7 @@ impl<A: Allocator + Copy> Indexer<A> for Records {
     }
 }
 
-/// Fetches the refs that `specs` match from a server that sends packs of [`Records`]. After the
+/// Fetches refs from a server that sends packs of [`Records`]. `specs` selects the refs. After the
 /// call, the repository has every object that its refs reach, even if the server is malicious.
 ///
 /// Fails for the same reasons as `fetch_over`. A failed call leaves the refs unchanged.

@@ -12,7 +12,7 @@ use Rattle.gclient.specs.Conversations.{Advertises, RefusesToRead}
 use Rattle.gclient.specs.Listings.{FitsNone}
 use Rattle.gclient.specs.declared.listing.Heard.{Heard}
 
--- a client of this object format supports the server, or no client supports the server, for any object format
+-- a client of this object format supports the server, or no client of either object format supports the server
 abbrev pub FitsFormat : List Capability → Result Format MessageFault → Type 0
 FitsFormat capabilities (Ok format) = check_fault format capabilities ≡ None
 FitsFormat capabilities (Err cause) =

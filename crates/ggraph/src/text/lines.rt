@@ -68,7 +68,7 @@ pub(crate) fn ref_parts(format: Format, text: &[u8]) -> Option<RawRef<'_>>
     ensures { MatchOption result (BeginsWithNoRefId format text.now) (λ it.
         (text.now ≡ id_text it.id ++ (codes " " ++ it.name.now)) × IsIdOf format it.id) }
 {
-    // Laws.
+    // The proof uses these laws.
     text_laws();
     let Some(first) = take_id(format, text) else {
         return None;
@@ -110,7 +110,7 @@ fn head_at<A: Allocator + Copy>(format: Format, digits: &[u8]) -> Option<Head<A>
     ensures { MatchOption result (IsNoIdText format digits.now)
         (λ head. IsHeadAt format digits.now head) }
 {
-    // Laws.
+    // The proof uses these laws.
     text_laws();
     match take_id(format, digits) {
         Some(found) => {

@@ -41,7 +41,7 @@ pub fn load<A: Allocator + Copy>(
     ensures refused { IfErr result (StopsAt A order text.now) }
     ensures accepts { AcceptsText A order text.now result }
 {
-    // Laws.
+    // The proof uses these laws.
     text_laws();
     let mut reading = Reading::new(alloc);
     let mut room = Room::new(expected_nodes(text));

@@ -41,7 +41,7 @@ fn front_id(format: Format, text: &[u8]) -> Option<FrontId<'_>>
         (text.now ≡ id_text found.id ++ found.rest.now) × (found.digits.now ≡ id_text found.id)
         × IsIdOf format found.id) }
 {
-    // Laws.
+    // The proof uses these laws.
     text_laws();
     let length = format.id_text_length();
     if text.len() < length {
@@ -138,7 +138,7 @@ fn read_parents(
         (text.now ≡ ids_text (take count ids.new)) × All (IsIdOf format) (take count ids.new)
         × (count ≤ max_parents)) }
 {
-    // Laws.
+    // The proof uses these laws.
     text_laws();
     let mut rest = text;
     let mut count = 0;
@@ -166,7 +166,7 @@ pub(crate) fn name_of<A: Allocator + Copy>(
         (λ found. MatchOption found (¬ (IsBelowRefs text.now))
         (λ name. (name ≡ text.now) × IsBelowRefs text.now)) (λ _. IsBelowRefs text.now) }
 {
-    // Laws.
+    // The proof uses these laws.
     text_laws();
     if !text.starts_with(b"refs/") {
         return Ok(None);

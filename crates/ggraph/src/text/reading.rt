@@ -128,7 +128,7 @@ impl<A: Allocator + Copy> Reading<A> {
         ensures refused { IfErr result
             (RefusesLine order self.old (letter line.entry.kind ∷ line.entry.ids.now) number) }
     {
-        // Laws.
+        // The proof uses these laws.
         text_laws();
         let format = self.graph.format();
         let Some(first) = take_spaced(format, line.ids) else {
@@ -155,7 +155,7 @@ impl<A: Allocator + Copy> Reading<A> {
         ensures refused { ((order : Order)
             → IfErr result (RefusesLine order self.old line.now number)) }
     {
-        // Laws.
+        // The proof uses these laws.
         text_laws();
         let Some(text) = line.strip_prefix(b"r ") else {
             return self.take_head(line, number);

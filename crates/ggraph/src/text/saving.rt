@@ -32,7 +32,7 @@ pub fn save<A: Allocator + Copy>(
         (SaveRefuses graph.now.format refs.now head.now) }
     ensures loadable { IfOk result (λ text. IsLoadable Order.Any graph.now refs.now head.now) }
 {
-    // Laws.
+    // The proof uses these laws.
     gdag::laws::entries_come_in_order::<A>();
     grefs::laws::refs_come_in_order();
     if let Some(id) = other_id(graph.format(), refs.as_slice(), head) {
@@ -43,7 +43,7 @@ pub fn save<A: Allocator + Copy>(
 }
 
 // Returns the first id that does not have the format, among the ids of the refs and then the id of
-// a detached HEAD.
+// a detached HEAD. Returns `None` if all these ids have the format.
 fn other_id<A: Allocator + Copy>(
     format: Format,
     refs: &[(RefName<A>, Oid)],
@@ -72,7 +72,7 @@ fn other_ref<A: Allocator + Copy>(format: Format, refs: &[(RefName<A>, Oid)]) ->
     None
 }
 
-// Returns the id of a detached HEAD if that id does not have the format.
+// Returns the id of a detached HEAD if that id does not have the format, and otherwise `None`.
 fn other_head<A: Allocator + Copy>(format: Format, head: &Head<A>) -> Option<Oid>
     ensures { MatchOption result (All (IsIdOf format) (head_ids head.now))
         (IsFirstOther format (head_ids head.now)) }
@@ -110,7 +110,7 @@ fn text_of_repository<A: Allocator + Copy>(
     ensures head { IfOk result (λ _. PointsBelowRefs head.now) }
     ensures text { IfOk result (λ text. text.items ≡ repository_text graph.now refs.now head.now) }
 {
-    // Laws.
+    // The proof uses these laws.
     graph.laws();
     head.laws();
     let mut text = Vec::new(alloc);

@@ -13,7 +13,7 @@ abbrev pub is_word : List ℕ → Bool
 is_word [] = false
 is_word (b ∷ word) = is_ascii_lowercase b && list_all is_ascii_lowercase word
 
--- if a text with other items follows this text, both texts together have these items and then the other items
+-- if a text of other items is appended to this text, the result consists of these items and then the other items
 abbrev pub HoldsItems : List Item → List ℕ → Type 0
 HoldsItems items text = (rest : List ℕ) (more : List Item) → HasItems rest more → HasItems (text ++ rest) (items ++ more)
 

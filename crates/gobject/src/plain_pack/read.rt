@@ -135,7 +135,7 @@ fn new_entry<A: Allocator + Copy>(alloc: A, kind: Kind, id: Oid) -> Entry<A>
     }
 }
 
-/// Returns the entry with one more parent.
+/// Returns the entry with one more parent. Fails only if out of memory.
 fn push_parent<A: Allocator + Copy>(mut entry: Entry<A>, id: Oid) -> Result<Entry<A>, AllocError>
     ensures { IfOk result (λ longer. longer ≡ with_parent entry id) }
 {

@@ -33,7 +33,7 @@ impl SpecFault {
         self.fault_row().1
     }
 
-    // Returns the fault's row in the table of faults: the number and the name of the fault.
+    // Returns the number and the name of the fault.
     fn fault_row(&self) -> (u32, &'static str)
         ensures { (result.0, result.1.now) ≡ spec_fault_row self.now }
     {

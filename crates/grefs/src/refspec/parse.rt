@@ -34,7 +34,7 @@ fn read_rest<A: Allocator + Copy>(alloc: A, forced: bool, text: &[u8]) -> Result
     }
 }
 
-// Returns the position of the first `:`.
+// Returns the position of the first `:`, or `None` if the text has no `:`.
 fn first_colon(text: &[u8]) -> Option<usize>
     ensures place { result ≡ position is_colon text.now }
     ensures within { IfSome result (λ at. at < length text.now) }
@@ -62,7 +62,8 @@ fn read_sides<A: Allocator + Copy>(
     }
 }
 
-// Returns the refspec with this source and this destination, which must be ref names.
+// Returns the refspec with this source and this destination. Fails with `BadSpec` unless both are
+// ref names and the destination is below `refs/`.
 fn names<A: Allocator + Copy>(
     alloc: A,
     forced: bool,
@@ -77,7 +78,8 @@ fn names<A: Allocator + Copy>(
     Err(SpecFault::BadSpec)
 }
 
-// Returns the pattern refspec with this source and this destination, given without their `*`.
+// Returns the pattern refspec with this source and this destination, both given without their `*`.
+// Fails with `BadSpec` unless both may precede a `*`.
 fn patterns<A: Allocator + Copy>(
     alloc: A,
     forced: bool,

@@ -188,7 +188,7 @@ impl<A: Allocator + Copy> Session<A> {
             (AreOffers repo.now.graph.entries self.now.tips self.now.commons
             (self.now.sent ++ batch.items))) }
     {
-        // Laws.
+        // Laws that the proof uses.
         offers_are_exact::<A>();
         positions_are_nodes::<A>();
         ids_have_one_format();

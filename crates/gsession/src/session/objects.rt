@@ -178,7 +178,7 @@ impl<A: Allocator + Copy> Session<A> {
         }
     }
 
-    // Applies the content of a complete reply.
+    // Updates the session and the repository with the content of a complete reply.
     fn take_head<K: Indexer<A>>(
         &mut self,
         repo: &mut Repo<A>,
@@ -201,7 +201,7 @@ impl<A: Allocator + Copy> Session<A> {
         }
     }
 
-    // Applies a reply with only acknowledgments.
+    // Updates the session after a reply with only acknowledgments.
     fn take_acks(&mut self, acks: &[Oid]) -> Result<Taken, ClientFault<A>>
         requires { (asked : FetchAsked) × Awaits self.old asked × (is_direct asked ≡ false) }
         ensures goes { IfOk result (HasTaken self.old self.new) }
@@ -220,7 +220,8 @@ impl<A: Allocator + Copy> Session<A> {
         Ok(Taken::Round { common })
     }
 
-    // Applies a reply with a pack, with or without acknowledgments.
+    // Updates the session and the repository after a reply with a pack, with or without
+    // acknowledgments.
     fn take_pack<K: Indexer<A>>(
         &mut self,
         repo: &mut Repo<A>,
@@ -256,7 +257,7 @@ impl<A: Allocator + Copy> Session<A> {
         ensures commons { OnOk result (AreCommons self.now.options.limits self.now.format
             (distinct_of (self.now.commons ++ acks.now))) }
     {
-        // Laws.
+        // Laws that the proof uses.
         distinct_are_once();
         self.laws();
         match first_strange(self.allocator(), self.open_haves(), acks) {

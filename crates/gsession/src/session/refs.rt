@@ -31,8 +31,8 @@ impl<A: Allocator + Copy> Session<A> {
     /// Reads the ls-refs reply, and nothing after it. Stores the requested updates and the wants,
     /// and returns the target of an unborn `HEAD`. For each ref that matches a refspec, the session
     /// requests an update of the local ref to which the refspec maps that ref. If several updates
-    /// are for the same local ref, the first one counts. The wants are the requested ids that are
-    /// not connected.
+    /// would be for the same local ref, the session requests only the first. The wants are the
+    /// requested ids that are not connected.
     ///
     /// Fails with `NoOpenRequest` if no request for refs is open, and reads nothing. Any other
     /// fault ends the session. Fails with `Message` if a packet of the reply is unreadable or
@@ -124,7 +124,7 @@ impl<A: Allocator + Copy> Session<A> {
         }
     }
 
-    // Applies the refs of a complete reply.
+    // Updates the session with the refs of a complete reply.
     fn take_refs(
         &mut self,
         repo: &Repo<A>,

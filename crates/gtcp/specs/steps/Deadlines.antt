@@ -13,8 +13,8 @@ request_time = 60_000_000_000
 
 -- ---- remainders
 
--- The time that remains `now`: the time that remained at the moment `at`, minus the time since `at`. No time remains if
--- the remaining time has elapsed, or if the clock went backwards.
+-- The time that remains at the moment `now`: the time that remained at the moment `at`, minus the time since `at`. No
+-- time remains if the remaining time has elapsed, or if the clock went backwards.
 abbrev pub LeavesOf : ℕ × ℕ → ℕ → Option (ℕ × ℕ) → Type 0
 LeavesOf (left, at) now (Some (rest, moment)) =
     (moment ≡ now) × (at ≤ now) × (rest + (now - at) ≡ left) × (0 < rest)

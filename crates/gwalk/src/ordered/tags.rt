@@ -12,7 +12,8 @@ use gname::Oid;
 use gobject::Kind;
 use std::alloc::Allocator;
 
-// Returns marks at the positions of the tags in the chains from tips to commits at open positions.
+// Returns, for each position, whether it has a tag to send: a tag on the chain from a tip to a
+// commit whose position is open.
 pub(crate) fn tags_of<A: Allocator + Copy>(
     graph: &Graph<A>,
     pass: &Pass<A>,

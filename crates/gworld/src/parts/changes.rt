@@ -81,7 +81,7 @@ impl<A: Allocator + Copy> Parts<A> {
         requires { AgreesWith self.old.server.graph.entries entry }
         ensures { AddsAtClient self.old entry result self.new }
     {
-        // Laws.
+        // Laws that the proof uses.
         refusals_change_nothing::<A>();
         match self.repo.add_local(entry) {
             Ok(_) => Outcome::Done,

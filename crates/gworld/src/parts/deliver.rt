@@ -144,8 +144,8 @@ fn bring<A: Allocator + Copy, K: Indexer<A>>(
         });
     }
     let bytes = delivery.kept.bytes(repo.graph().allocator())?;
-    let same = delivery.kept.answers_open(session);
-    let all = bytes.len() <= delivery.count;
+    let matches_open = delivery.kept.answers_open(session);
+    let is_complete = bytes.len() <= delivery.count;
     match take_bytes(
         session,
         repo,
@@ -153,16 +153,17 @@ fn bring<A: Allocator + Copy, K: Indexer<A>>(
         indexer,
     )? {
         Some(outcome) => {
-            *mark = same && all && is_pack_taken(outcome);
+            *mark = matches_open && is_complete && is_pack_taken(outcome);
             Ok(outcome)
         }
+        // The session awaits no reply, because its open request is empty.
         None => Ok(Outcome::Fault {
             code: NO_OPEN_REQUEST,
         }),
     }
 }
 
-// Returns whether the outcome is an accepted pack.
+// Returns whether the outcome reports an accepted pack.
 fn is_pack_taken(outcome: Outcome) -> bool
     ensures { IsTrue result ↔ IsPackTaken outcome }
 {

@@ -74,11 +74,11 @@ impl<A: Allocator + Copy> Parts<A> {
             self.old event.now outcome self.new)
             (λ _. (self.new ≡ self.old) × NeedsMemory self.old event.now) }
     {
-        // Laws.
+        // Laws that the proof uses.
         steps_keep::<A, K>();
         self.laws();
         let outcome = self.happen(event, tools)?;
-        // Laws.
+        // Laws that the proof uses.
         self.laws();
         Ok(outcome)
     }

@@ -96,7 +96,7 @@ fn talk<A: Allocator + Copy, K: Packer<A>>(
         (K.pack_fails packer.now)
         bytes.now) }
 {
-    // Laws.
+    // Laws that the proof uses.
     serving_is_talking::<A, K>();
     let mut source = SliceSource::new(bytes);
     let mut sink = VecSink::new(alloc);

@@ -121,7 +121,7 @@ impl<A: Allocator + Copy> Parts<A> {
         }
     }
 
-    /// Restarts the client without a session.
+    /// Restarts the client, which keeps its repository and loses its session.
     pub(crate) fn restart_client(&mut self) -> Outcome
         ensures { Restarts self.old result self.new }
     {

@@ -83,12 +83,12 @@ fn have_one_format<A: Allocator + Copy>(server: &Server<A>, repo: &Repo<A>) -> b
 }
 
 // Returns the first of the server's ids, in insertion order, under which the client holds a
-// different object.
+// different object. Returns `None` if there is no such id.
 fn first_disagreement<A: Allocator + Copy>(server: &Graph<A>, client: &Graph<A>) -> Option<Oid>
     ensures { MatchOption result (Agree server.now.entries client.now.entries)
         (IsFirstDisagreement server.now.entries client.now.entries) }
 {
-    // Laws.
+    // Laws that the proof uses.
     positions_are_nodes::<A>();
     for place in 0..server.len() {
         if let Some(id) = disagreement_at(server, client, place) {
@@ -98,8 +98,8 @@ fn first_disagreement<A: Allocator + Copy>(server: &Graph<A>, client: &Graph<A>)
     None
 }
 
-// Returns the id at this index of the server's graph if the client holds a different object under
-// that id, or `None` otherwise.
+// Returns the id at position `place` of the server's graph if the client holds a different object
+// under that id, or `None` otherwise.
 fn disagreement_at<A: Allocator + Copy>(
     server: &Graph<A>,
     client: &Graph<A>,
