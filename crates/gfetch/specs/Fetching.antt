@@ -21,7 +21,8 @@ use Rattle.gsession.specs.TakingRefs.{IsRefsFault}
 use Rattle.gsession.specs.TakingReplies.{IsReplyFault, reading_for}
 use Rattle.gsession.specs.declared.fault.ClientFault.{ClientFault}
 use Rattle.gsession.specs.declared.fault.ClientFault.TheVariants as client
-use Rattle.gsession.specs.declared.stage.Stage.TheVariants.{Settling}
+use Rattle.gsession.specs.declared.stage.Stage.{Stage}
+use Rattle.gsession.specs.declared.stage.Stage.TheVariants.{Listing, Fetching, Settling}
 use Rattle.gdialogue.specs.Sides.{SaysNothing}
 use Rattle.gfetch.specs.Starts.{Advertises, Start, begin_session, start_for}
 use Rattle.gfetch.specs.Turns.{AsksNext, ClientState, Takes}
@@ -164,11 +165,12 @@ OpensFresh side said goes = IsFresh side × SaysNothing said goes
 
 -- A bound on the number of further messages that the client answers with a request: the advertisement, the ls-refs
 -- reply, and one message for each further request for objects. The session counts these requests in 64 bits.
-abbrev pub messages_after : Option Asked → ℕ → ℕ
-messages_after None rounds = 2 ^ 64 + 2
-messages_after (Some Empty) rounds = 2 ^ 64 + 2
-messages_after (Some (Ls asked)) rounds = 2 ^ 64 + 1
-messages_after (Some (Fetches asked)) rounds = 2 ^ 64 - rounds
+abbrev pub messages_after : Stage → Option Asked → ℕ → ℕ
+messages_after Listing None rounds = 2 ^ 64 + 3
+messages_after Fetching None rounds = (2 ^ 64 + 1) - rounds
+messages_after stage (Some (Ls asked)) rounds = 2 ^ 64 + 2
+messages_after stage (Some (Fetches asked)) rounds = (2 ^ 64 + 1) - rounds
+messages_after _ _ rounds = 0
 
 abbrev pub messages_of : {A : Type 0} → SessionState A → ℕ
-messages_of session = messages_after session.pending session.rounds
+messages_of session = messages_after session.stage session.pending session.rounds

@@ -147,7 +147,7 @@ impl<'k, A: Allocator + Copy, K> ClientSide<'k, A, K> {
             → reader.format ≡ self.old.session.format → reader.ends ≡ self.old.session.ends
             → Holds reader lines
             → IsWhole (ls.judge self.old.session.format self.old.session.ends) lines
-            → AcceptsRefs (client_of self.old) lines (client_of self.new) result }
+            → AcceptsRefs asked (client_of self.old) lines (client_of self.new) result }
         ensures ready { IfOk result (λ done. IsReady self.old.session self.new.session) }
         ensures stays { KeepsRest self.old self.new }
         ensures fault { self.new.fault ≡ self.old.fault }

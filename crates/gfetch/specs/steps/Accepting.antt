@@ -1,5 +1,5 @@
 -- The effect of a complete message on the client, before the client sends its answer.
-use Rattle.std.specs.Prelude.{◌≡◌, ◌≢◌, ◌<◌, ℕ, List, Some, None, Result, Ok, Err}
+use Rattle.std.specs.Prelude.{◌≡◌, ◌≢◌, ◌≤◌, List, Some, None, Result, Ok, Err}
 use Rattle.gpkt.specs.Packets.{Packet}
 use Rattle.ggrammar.specs.Capabilities.{Capability}
 use Rattle.ghello.specs.Offers.{check_fault}
@@ -17,12 +17,11 @@ use Rattle.gfetch.specs.declared.side.ClientSide.{ClientSide}
 abbrev pub KeepsRest : {A K : Type 0} → ClientSide A K → ClientSide A K → Type 0
 KeepsRest old new = new.indexer.now ≡ old.indexer.now
 
--- the session can make its next request or end, and fewer messages remain after its next request
+-- the session is ready for its next request or for its end, and not more messages remain than before
 pub record IsReady {A : Type 0} (old new : SessionState A) : Type 0 where
   pub pending : new.pending ≡ None
   pub stage : new.stage ≢ Over
-  pub waits : old.pending ≢ None
-  pub rounds : new.rounds ≡ old.rounds
+  pub fewer : messages_of new ≤ messages_of old
 
 -- the result of applying an advertisement
 abbrev pub AcceptsAdvert : {A : Type 0} → SessionState A → List Capability → SessionState A
@@ -60,7 +59,7 @@ pub record DeclinesRefs {A : Type 0} (asked : LsRefsAsked) (old : ClientState A)
   pub unborn : new.unborn ≡ old.unborn
 
 -- the result of applying a complete reply to an ls-refs request
-abbrev pub AcceptsRefs : {A : Type 0} → ClientState A → List Packet → ClientState A
+abbrev pub AcceptsRefs : {A : Type 0} → LsRefsAsked → ClientState A → List Packet → ClientState A
     → Result (Unit {0}) (ClientFault A) → Type 0
-AcceptsRefs old lines new (Ok done) = TakesRefs old.session old lines new
-AcceptsRefs old lines new (Err cause) = (asked : LsRefsAsked) × DeclinesRefs asked old lines new cause
+AcceptsRefs asked old lines new (Ok done) = TakesRefs old.session old lines new
+AcceptsRefs asked old lines new (Err cause) = DeclinesRefs asked old lines new cause
