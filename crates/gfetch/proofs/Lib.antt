@@ -1,0 +1,2 @@
+pub mod SideLemmas
+pub mod HeardLemmas

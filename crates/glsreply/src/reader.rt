@@ -1,14 +1,15 @@
 //! Reading an ls-refs reply.
 
-ghost use Rattle.std.specs.Prelude.{◌≡◌, ◌<◌, true, false, [], IfOk, List, MatchOption, Ok};
+ghost use Rattle.std.specs.Prelude.{◌≡◌, ◌<◌, true, false, [], IfOk, IfSome, List, Ok};
 ghost use Rattle.gpkt.specs.Packets.{Data, Flush, Packet, ResponseEnd, packet_of, text};
 ghost use Rattle.gpkt.specs.Change.{change_of};
 ghost use Rattle.ggrammar.specs.Kinds.{ReadsOrRefuses};
 ghost use Rattle.ggrammar.specs.MessageReading.{LeavesReader, TakesAs, TakesPacket};
-ghost use Rattle.glsreply.specs.LsReplies.{Says, judge, judge_at, judge_text, judge_line, max_lines, within_limit, brings};
+ghost use Rattle.glsreply.specs.LsReplies.{IsRead, Says, judge, judge_at, judge_text, judge_line, max_lines, within_limit, brings};
 ghost use Rattle.glsreply.specs.RefTexts.{line_of};
 ghost use Rattle.glsreply.specs.steps.LineViews.{parts_view};
-ghost use Rattle.ggrammar.specs.Grammar.{IsOpen, Open};
+ghost use Rattle.ggrammar.specs.Grammar.{IsOpen, IsWhole, Open};
+ghost use Rattle.ggrammar.specs.declared.ends.Ends.{Ends};
 ghost use Rattle.glsreply.specs.steps.ReplyState.{Holds, KeepsKind, state_in, state_of, with_packet, with_text, with_line, with_unborn, with_flush};
 ghost use Rattle.glsreply.specs.WellFormed.{IsLsReplyIn, IsReplyValue};
 ghost use Rattle.gname.specs.declared.formats.Format.TheVariants as format;
@@ -112,10 +113,12 @@ impl<A: Allocator + Copy> LsReplyReader<A> {
     /// Returns the reply that the accepted packets encode. Returns `None` if that reply has too many
     /// lines, or an id of another format, which never happens after a complete reply.
     pub fn into_reply(self, format: Format) -> Option<LsReply<A>>
-        ensures { MatchOption result
-            (¬ (IsLsReplyIn format (state_in self).reply))
-            (λ reply. (reply ≡ (state_in self).reply) × IsLsReplyIn format reply) }
+        ensures read { (ends : Ends) (lines : List Packet) → IsWhole (judge format ends) lines
+            → Holds self lines → IsRead format ends lines result }
+        ensures formed { IfSome result (IsLsReplyIn format) }
     {
+        // Laws that the proof uses.
+        texts_have_one_reading();
         let LsReplyReader { unborn, lines, .. } = self;
         LsReply::checked(format, unborn, lines)
     }
