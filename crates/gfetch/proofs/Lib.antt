@@ -1,2 +1,3 @@
 pub mod SideLemmas
 pub mod HeardLemmas
+pub mod TalkLemmas

@@ -11,7 +11,7 @@ use Rattle.gobject.specs.Packs.{Indexes, IndexFails}
 use Rattle.grequest.specs.Asked.{Asked}
 use Rattle.grequest.specs.RequestWriting.{canonical_request}
 use Rattle.gdialogue.specs.Dialogues.{Answered}
-use Rattle.gfetch.specs.Fetching.{AnswersMessage, OpensFresh, RefusesMessage, client_of, start_of_side}
+use Rattle.gfetch.specs.Fetching.{AnswersMessage, IsFresh, OpensFresh, RefusesMessage, client_of, start_of_side}
 use Rattle.gfetch.specs.Heard.{session_brings, session_judge}
 use Rattle.gfetch.specs.Starts.{Advertises, hear_advert}
 use Rattle.gfetch.specs.Turns.{AreTurns, AsksNext, ClientState, Turn}
@@ -40,14 +40,15 @@ module _ {A K : Type 0} (indexes : K → Indexes A) (index_fails : K → IndexFa
     pub asked : Asked
     pub asks : AsksNext last asked now.session
     pub all_said : said ≡ asked_packets first.repo.graph.format turns ++ canonical_request first.repo.graph.format asked
+    pub format : now.session.format ≡ first.repo.graph.format
     pub repo : now.repo ≡ last.repo
     pub unborn : now.unborn ≡ last.unborn
     pub indexer : now.indexer.now ≡ first.indexer.now
 
   -- the client has received no message and sent no packet, or it has completed turns
   pub data IsTalk (first : ClientSide A K) : List Packet → List Packet → ClientSide A K → Type 0 where
-    begun : IsTalk first [] [] first
-    talked : (heard said : List Packet) (now : ClientSide A K) → HasTalked first heard said now
+    begun : IsFresh first → IsTalk first [] [] first
+    talked : (heard said : List Packet) (now : ClientSide A K) → IsFresh first → HasTalked first heard said now
         → IsTalk first heard said now
 
   -- a client's dialogue so far is a conversation of turns

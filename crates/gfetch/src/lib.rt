@@ -33,6 +33,7 @@
 
 mod asking;
 mod heard;
+pub mod laws;
 mod side;
 
 pub use crate::asking::{Asking, ClientReply};
