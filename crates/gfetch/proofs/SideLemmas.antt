@@ -25,8 +25,15 @@ use Rattle.gsession.specs.declared.fault.ClientFault.TheVariants as client
 use Rattle.gsession.specs.declared.taken.LsTaken.{LsTaken}
 use Rattle.gsession.specs.declared.taken.Taken.{Taken}
 use Rattle.gsession.specs.declared.taken.Taken.TheVariants.{Round, PackTaken}
-use Rattle.gfetch.specs.Fetching.{IsDeclined, messages_after, messages_of}
-use Rattle.gfetch.specs.Turns.{ClientState, TakesObjects, TakesRefs}
+use Rattle.gdialogue.specs.Sides.{MayAnswer, SaysExactly}
+use Rattle.gdialogue.specs.declared.side.Answer.{Answer}
+use Rattle.gdialogue.specs.declared.side.Answer.TheVariants as answer
+use Rattle.gfetch.specs.Fetching.{AcceptsReply, DeclinesReply, Fails, GoesOn, IsDeclined, LacksMemory, client_of, messages_after, messages_of}
+use Rattle.gfetch.specs.Saying.{reply_rest}
+use Rattle.gfetch.specs.Turns.{ClientState, Takes, TakesObjects, TakesRefs}
+use Rattle.gfetch.specs.declared.asking.ClientReply.{ClientReply}
+use Rattle.gfetch.specs.declared.asking.ClientReply.TheVariants as reply
+use Rattle.gfetch.specs.declared.side.ClientSide.{ClientSide}
 use Rattle.gfetch.specs.steps.Accepting.{AcceptsAdvert, AcceptsObjects, AcceptsRefs, Declines, DeclinesRefs, IsReady}
 
 module _ {A : Type 0} where
@@ -180,3 +187,47 @@ module _ {A : Type 0} where
   request_fault old new g client.NoOpenRequest due fails = absurd (cc (sym due ∙ fails.0))
   request_fault old new g (client.Repo (repo.Graph graph.Memory)) due fails = (refl, fails)
   request_fault old new g _ due fails = absurd fails
+
+-- ---- answers
+
+-- an answer without a packet ends the dialogue
+pub silent : {A : Type 0} (result : Answer (ClientReply A)) (said : List Packet) (goes : Bool) → result ≡ answer.Last reply.Silence
+    → MayAnswer (SaysExactly reply_rest) result said goes → (said ≡ []) × (goes ≡ false)
+silent {A} result said goes is may =
+    let m = subst (λ (a : Answer (ClientReply A)). MayAnswer (SaysExactly reply_rest) a said goes) is may in (m.1.1.0, m.0)
+
+module _ {A K : Type 0} (old mid new : ClientSide A K) (result : Answer (ClientReply A)) (cause : ClientFault A) (said : List Packet) (goes : Bool)
+    (is : result ≡ answer.Last reply.Silence) (may : MayAnswer (SaysExactly reply_rest) result said goes) (stored : new.fault ≡ Some cause)
+    (session : new.session ≡ mid.session) (kept : new.repo ≡ mid.repo) (target : new.unborn ≡ mid.unborn) where
+  -- the client rejects a message, after which the session is over
+  pub failed : mid.session ≡ over old.session → mid.repo ≡ old.repo → mid.unborn ≡ old.unborn → Fails old new cause said goes
+  failed over repo unborn =
+      let s = silent result said goes is may in
+      record { session = session ∙ over; repo = kept ∙ repo; unborn = target ∙ unborn; fault = stored; all = s.0; ended = s.1 }
+
+  -- the client does not have enough memory for the next request
+  pub lacked : Requests old.session old.repo.graph.entries mid.session (Err no_memory) → cause ≡ no_memory → mid.repo ≡ old.repo → mid.unborn ≡ old.unborn
+      → LacksMemory (client_of old) old.fault new said goes
+  lacked fails same repo unborn =
+      let s = silent result said goes is may in
+      record {
+        fails = subst (λ (t : SessionState A). Requests old.session old.repo.graph.entries t (Err no_memory)) (sym session) fails;
+        all = s.0;
+        ended = s.1;
+        repo = kept ∙ repo;
+        unborn = target ∙ unborn;
+        fault = stored ∙ ap (λ (f : ClientFault A). Some f) same;
+      }
+
+module _ {A K : Type 0} (indexes : Indexes A) (index_fails : IndexFails) (old mid new : ClientSide A K) (asked : Asked) (lines said : List Packet) (goes : Bool) where
+  pub reply_answered : Takes indexes index_fails old.session asked (client_of old) lines (client_of mid) → mid.fault ≡ old.fault
+      → GoesOn (client_of mid) mid.fault new said goes → AcceptsReply indexes index_fails asked old new lines said goes
+  reply_answered takes fault goes_on = record {
+    now = client_of mid;
+    takes = takes;
+    goes_on = subst (λ (f : Option (ClientFault A)). GoesOn (client_of mid) f new said goes) fault goes_on;
+  }
+
+  pub reply_declined : (cause : ClientFault A) → IsDeclined indexes index_fails old.session asked old.repo lines cause → Fails old new cause said goes
+      → DeclinesReply indexes index_fails asked old new lines said goes
+  reply_declined cause declined fails = record { cause = cause; declined = declined; fails = fails }

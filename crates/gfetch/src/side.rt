@@ -1,24 +1,25 @@
 //! The client's end of a dialogue (gitprotocol-v2(5), "Initial Client Request" and "Command
 //! Request").
 
-ghost use Rattle.std.specs.Prelude.{◌≡◌, ◌≢◌, ◌<◌, Bool, IfOk, List, None, Some};
+ghost use Rattle.std.specs.Prelude.{◌≡◌, ◌≢◌, ◌<◌, ◌⊎◌, Bool, IfOk, List, None, Some};
 ghost use Rattle.std.specs.Option.{option_copied};
 ghost use Rattle.gpkt.specs.Packets.{Packet};
 ghost use Rattle.ggrammar.specs.Grammar.{IsWhole};
+ghost use Rattle.ghello.specs.Adverts as adverts;
 ghost use Rattle.glsreply.specs.LsReplies as ls;
 ghost use Rattle.glsreply.specs.steps.ReplyState.{Holds};
 ghost use Rattle.gfetchreply.specs.FetchReplies as fetch;
 ghost use Rattle.gfetchreply.specs.Views.{reading_in};
 ghost use Rattle.gfetchreply.specs.steps.ReplyState.{HoldsReply, kept_in};
 ghost use Rattle.grequest.specs.Asked.{Fetches, FetchAsked, Ls, LsRefsAsked};
+ghost use Rattle.gsession.specs.Sessions.{IsBegun};
 ghost use Rattle.gsession.specs.TakingReplies.{reading_for};
 ghost use Rattle.gsession.specs.steps.Calls.{MayHaveFed};
 ghost use Rattle.gsession.specs.declared.stage.Stage.TheVariants.{Over};
 ghost use Rattle.gdialogue.specs.Sides.{MayAnswer, SaysExactly};
-ghost use Rattle.gfetch.specs.Fetching.{Fails, GoesOn, IsFresh, client_of, messages_of, start_of_side};
+ghost use Rattle.gfetch.specs.Fetching.{AcceptsReply, AnswersAdvert, DeclinesReply, GoesOn, MismatchesAdvert, client_of, messages_of};
 ghost use Rattle.gfetch.specs.Saying.{reply_rest};
-ghost use Rattle.gfetch.specs.Starts.{begin_session};
-ghost use Rattle.gfetch.specs.steps.Accepting.{AcceptsAdvert, AcceptsRefs, AcceptsObjects, IsReady, KeepsRest};
+ghost use Rattle.gfetch.specs.steps.Accepting.{AcceptsAdvert, AcceptsObjects, AcceptsRefs, IsReady, KeepsRest};
 
 use crate::asking::ClientReply;
 use crate::heard::Heard;
@@ -143,9 +144,7 @@ impl<'k, A: Allocator + Copy, K> ClientSide<'k, A, K> {
     // Applies the reply to an ls-refs request.
     fn accept_refs(&mut self, reader: LsReplyReader<A>) -> Result<(), ClientFault<A>>
         ensures accepts { (asked : LsRefsAsked) (lines : List Packet)
-            → self.old.session.pending ≡ Some (Ls asked)
-            → reader.format ≡ self.old.session.format → reader.ends ≡ self.old.session.ends
-            → Holds reader lines
+            → self.old.session.pending ≡ Some (Ls asked) → Holds reader lines
             → IsWhole (ls.judge self.old.session.format self.old.session.ends) lines
             → AcceptsRefs asked (client_of self.old) lines (client_of self.new) result }
         ensures ready { IfOk result (λ done. IsReady self.old.session self.new.session) }
@@ -191,6 +190,72 @@ impl<'k, A: Allocator + Copy, K: Indexer<A>> ClientSide<'k, A, K> {
         match self.session.accept_objects(&mut self.repo, head, feed) {
             Ok(_taken) => Ok(()),
             Err(fault) => Err(fault),
+        }
+    }
+
+    // Answers the advertisement.
+    fn answer_advert(&mut self, advert: &Advert<A>) -> Answer<ClientReply<A>>
+        ensures answers { (lines said : List Packet) (goes : Bool)
+            → adverts.Says lines advert.now → IsBegun self.old.session
+            → MayAnswer (SaysExactly reply_rest) result said goes
+            → AnswersAdvert self.old self.new lines said goes
+            ⊎ MismatchesAdvert self.old self.new lines said goes }
+        ensures fewer { (reply : ClientReply A) → result ≡ Answer.GoesOn reply
+            → messages_of self.new.session < messages_of self.old.session }
+        ensures stays { KeepsRest self.old self.new }
+    {
+        match self.accept_advert(advert) {
+            Ok(()) => self.ask_next(),
+            Err(fault) => self.fail(fault),
+        }
+    }
+
+    // Answers the reply to an ls-refs request.
+    fn answer_refs(&mut self, reader: LsReplyReader<A>) -> Answer<ClientReply<A>>
+        ensures answers { (asked : LsRefsAsked) (lines said : List Packet) (goes : Bool)
+            → self.old.session.pending ≡ Some (Ls asked) → Holds reader lines
+            → IsWhole (ls.judge self.old.session.format self.old.session.ends) lines
+            → MayAnswer (SaysExactly reply_rest) result said goes
+            → AcceptsReply (K.indexes self.old.indexer.now) (K.index_fails self.old.indexer.now)
+            (Ls asked) self.old self.new lines said goes
+            ⊎ DeclinesReply (K.indexes self.old.indexer.now) (K.index_fails self.old.indexer.now)
+            (Ls asked) self.old self.new lines said goes }
+        ensures fewer { (reply : ClientReply A) → result ≡ Answer.GoesOn reply
+            → messages_of self.new.session < messages_of self.old.session }
+        ensures stays { KeepsRest self.old self.new }
+    {
+        match self.accept_refs(reader) {
+            Ok(()) => self.ask_next(),
+            Err(fault) => self.fail(fault),
+        }
+    }
+
+    // Answers the reply to a fetch request.
+    fn answer_objects(
+        &mut self,
+        reader: FetchReader<PackFeed<'k, K, A>, A>,
+    ) -> Answer<ClientReply<A>>
+        ensures answers { (asked : FetchAsked) (lines said : List Packet) (goes : Bool)
+            → self.old.session.pending ≡ Some (Fetches asked)
+            → reading_in reader.reading ≡ reading_for self.old.session asked
+            → reader.sink.indexer.now ≡ self.old.indexer.now
+            → HoldsReply (λ feed bytes. MayHaveFed (K.fed feed.indexer.now)
+            (K.index_fails feed.indexer.now) feed.feed bytes)
+            (λ one other. one.indexer.now ≡ other.indexer.now) (reading_in reader.reading)
+            (kept_in reader.sections) reader.sink lines
+            → IsWhole (fetch.judge (reading_for self.old.session asked)) lines
+            → MayAnswer (SaysExactly reply_rest) result said goes
+            → AcceptsReply (K.indexes self.old.indexer.now) (K.index_fails self.old.indexer.now)
+            (Fetches asked) self.old self.new lines said goes
+            ⊎ DeclinesReply (K.indexes self.old.indexer.now) (K.index_fails self.old.indexer.now)
+            (Fetches asked) self.old self.new lines said goes }
+        ensures fewer { (reply : ClientReply A) → result ≡ Answer.GoesOn reply
+            → messages_of self.new.session < messages_of self.old.session }
+        ensures stays { KeepsRest self.old self.new }
+    {
+        match self.accept_objects(reader) {
+            Ok(()) => self.ask_next(),
+            Err(fault) => self.fail(fault),
         }
     }
 
@@ -261,14 +326,10 @@ impl<'k, A: Allocator + Copy, K: Indexer<A>> Side<Heard<A, PackFeed<'k, K, A>>, 
     }
 
     fn answer(&mut self, message: Heard<A, PackFeed<'k, K, A>>) -> Answer<ClientReply<A>> {
-        let accepted = match message {
-            Heard::Advert(reader) => self.accept_advert(&reader.finish()),
-            Heard::Refs(reader) => self.accept_refs(reader),
-            Heard::Objects(reader) => self.accept_objects(reader),
-        };
-        match accepted {
-            Ok(()) => self.ask_next(),
-            Err(fault) => self.fail(fault),
+        match message {
+            Heard::Advert(reader) => self.answer_advert(&reader.finish()),
+            Heard::Refs(reader) => self.answer_refs(reader),
+            Heard::Objects(reader) => self.answer_objects(reader),
         }
     }
 
