@@ -20,26 +20,36 @@ flags_of Empty = []
 flags_of (Ls asked) = flags_packets ls_flags asked.flags
 flags_of (Fetches asked) = flags_packets fetch_flags (fetch_with asked Done false).flags
 
--- the packets of the prefixes or of the wants
-abbrev pub firsts_of : Asked → List Packet
-firsts_of Empty = []
-firsts_of (Ls asked) = map prefix_packet asked.prefixes
-firsts_of (Fetches asked) = map (id_packet (codes "want ")) asked.wants
+-- the packets of the prefixes or of the wants, from this position
+abbrev pub firsts_from : Asked → ℕ → List Packet
+firsts_from Empty at = []
+firsts_from (Ls asked) at = map prefix_packet (drop at asked.prefixes)
+firsts_from (Fetches asked) at = map (id_packet (codes "want ")) (drop at asked.wants)
 
-abbrev pub haves_of : Asked → List Packet
-haves_of (Fetches asked) = map (id_packet (codes "have ")) asked.haves
-haves_of _ = []
+abbrev pub first_count : Asked → ℕ
+first_count Empty = 0
+first_count (Ls asked) = length asked.prefixes
+first_count (Fetches asked) = length asked.wants
+
+-- the packets of the haves, from this position
+abbrev pub haves_from : Asked → ℕ → List Packet
+haves_from Empty at = []
+haves_from (Ls asked) at = []
+haves_from (Fetches asked) at = map (id_packet (codes "have ")) (drop at asked.haves)
+
+abbrev pub have_count : Asked → ℕ
+have_count Empty = 0
+have_count (Ls asked) = 0
+have_count (Fetches asked) = length asked.haves
 
 abbrev pub done_of : Asked → List Packet
+done_of Empty = []
+done_of (Ls asked) = []
 done_of (Fetches asked) = flag_packets (codes "done") (fetch_has asked Done)
-done_of _ = []
 
 module _ (format : Format) (asked : Asked) where
-  abbrev pub from_done : List Packet
-  from_done = done_of asked ++ Flush ∷ []
-
   abbrev pub from_flags : List Packet
-  from_flags = flags_of asked ++ firsts_of asked ++ haves_of asked ++ from_done
+  from_flags = flags_of asked ++ firsts_from asked 0 ++ haves_from asked 0 ++ done_of asked ++ Flush ∷ []
 
   -- the packets of the request, from this part to the end
   abbrev pub rest_of : NextPart → List Packet
@@ -48,22 +58,22 @@ module _ (format : Format) (asked : Asked) where
   rest_of part.Format = format_packets format ++ Delim ∷ from_flags
   rest_of part.Delim = Delim ∷ from_flags
   rest_of part.Flags = from_flags
-  rest_of (part.First at) = drop at (firsts_of asked) ++ haves_of asked ++ from_done
-  rest_of (part.Have at) = drop at (haves_of asked) ++ from_done
-  rest_of part.Done = from_done
+  rest_of (part.First at) = firsts_from asked at ++ haves_from asked 0 ++ done_of asked ++ Flush ∷ []
+  rest_of (part.Have at) = haves_from asked at ++ done_of asked ++ Flush ∷ []
+  rest_of part.Done = done_of asked ++ Flush ∷ []
   rest_of part.Flush = Flush ∷ []
 
 -- the maximum number of further calls that do not complete the request
 abbrev pub steps_of : Asked → NextPart → ℕ
 steps_of asked part.Flush = 0
 steps_of asked part.Done = 1
-steps_of asked (part.Have at) = (length (haves_of asked) - at) + 2
-steps_of asked (part.First at) = (length (firsts_of asked) - at) + length (haves_of asked) + 3
-steps_of asked part.Flags = length (firsts_of asked) + length (haves_of asked) + 4
-steps_of asked part.Delim = length (firsts_of asked) + length (haves_of asked) + 5
-steps_of asked part.Format = length (firsts_of asked) + length (haves_of asked) + 6
-steps_of asked part.Agent = length (firsts_of asked) + length (haves_of asked) + 7
-steps_of asked part.Command = length (firsts_of asked) + length (haves_of asked) + 8
+steps_of asked (part.Have at) = (have_count asked - at) + 2
+steps_of asked (part.First at) = (first_count asked - at) + have_count asked + 3
+steps_of asked part.Flags = first_count asked + have_count asked + 4
+steps_of asked part.Delim = first_count asked + have_count asked + 5
+steps_of asked part.Format = first_count asked + have_count asked + 6
+steps_of asked part.Agent = first_count asked + have_count asked + 7
+steps_of asked part.Command = first_count asked + have_count asked + 8
 
 -- the call queues the packets of this part, and another part or no part follows
 abbrev pub SaysPart : Format → Asked → NextPart → Bytes → Option NextPart → Type 0
