@@ -2,6 +2,7 @@
 
 ghost use Rattle.std.specs.Prelude.{◌≡◌, ◌+◌, ◌≤◌, ◌++◌, ◌∷◌, [], IfSome, length};
 ghost use Rattle.std.specs.Option.{option_copied};
+ghost use Rattle.gname.specs.declared.formats.Format.{Format};
 ghost use Rattle.gpkt.specs.Packets.{canonical_all, max_packet};
 ghost use Rattle.ggrammar.specs.Capabilities.{max_capability};
 ghost use Rattle.gtalk.specs.Talks.{queue_room};
@@ -111,7 +112,7 @@ fn say_part<A: Allocator + Copy, B: Allocator + Copy>(
     ensures { SaysPart format (asked_by_request request.now) next out.new result }
 {
     match next {
-        NextPart::Command => say_command(request, format, out),
+        NextPart::Command => say_command(request, out),
         NextPart::Agent => {
             say_agent(agent_of(request), out);
             Some(NextPart::Format)
@@ -128,8 +129,8 @@ fn say_part<A: Allocator + Copy, B: Allocator + Copy>(
             say_flags(request, out);
             Some(NextPart::First(0))
         }
-        NextPart::First(at) => say_first(request, format, at, out),
-        NextPart::Have(at) => say_have(request, format, at, out),
+        NextPart::First(at) => say_first(request, at, out),
+        NextPart::Have(at) => say_have(request, at, out),
         NextPart::Done => {
             say_done(request, out);
             Some(NextPart::Flush)
@@ -144,11 +145,11 @@ fn say_part<A: Allocator + Copy, B: Allocator + Copy>(
 // Queues the command of a request, or the lone flush packet of an empty request.
 fn say_command<A: Allocator + Copy, B: Allocator + Copy>(
     request: &Request<A>,
-    _format: Format,
     out: &mut Outgoing<B>,
 ) -> Option<NextPart>
     requires { out.old ≡ [] }
-    ensures { SaysPart _format (asked_by_request request.now) part.Command out.new result }
+    ensures { (format : Format)
+        → SaysPart format (asked_by_request request.now) part.Command out.new result }
 {
     match request {
         Request::Empty => {
@@ -253,12 +254,12 @@ fn say_flag<B: Allocator + Copy>(word: &[u8], is_set: bool, out: &mut Outgoing<B
 // Queues the prefix or the want at this position, or nothing after the last one.
 fn say_first<A: Allocator + Copy, B: Allocator + Copy>(
     request: &Request<A>,
-    _format: Format,
     at: usize,
     out: &mut Outgoing<B>,
 ) -> Option<NextPart>
     requires { out.old ≡ [] }
-    ensures { SaysPart _format (asked_by_request request.now) (part.First at) out.new result }
+    ensures { (format : Format)
+        → SaysPart format (asked_by_request request.now) (part.First at) out.new result }
 {
     match request {
         Request::Empty => {}
@@ -281,12 +282,12 @@ fn say_first<A: Allocator + Copy, B: Allocator + Copy>(
 // Queues the have at this position, or nothing after the last have.
 fn say_have<A: Allocator + Copy, B: Allocator + Copy>(
     request: &Request<A>,
-    _format: Format,
     at: usize,
     out: &mut Outgoing<B>,
 ) -> Option<NextPart>
     requires { out.old ≡ [] }
-    ensures { SaysPart _format (asked_by_request request.now) (part.Have at) out.new result }
+    ensures { (format : Format)
+        → SaysPart format (asked_by_request request.now) (part.Have at) out.new result }
 {
     if let Request::Fetch(asked) = request {
         if let Some(id) = asked.haves().get(at) {
