@@ -46,8 +46,6 @@ impl<T: PackSink, A: Allocator + Copy> FetchReader<T, A> {
 
     /// Returns the reply without its pack, and the sink, which has accepted the pack.
     pub fn finish(self) -> (FetchHead<A>, T)
-    where
-        T: Drop,
         ensures read { (lines : List Packet) → IsWhole (judge (reading_in self.reading)) lines
             → HoldsReply T.taken T.same (reading_in self.reading) (kept_in self.sections) self.sink lines
             → HasRead T.taken (reading_in self.reading) lines (head_in result.0) result.1 }

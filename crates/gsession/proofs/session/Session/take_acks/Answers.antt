@@ -1,5 +1,7 @@
 use Rattle.std.proofs.Common.{◌≡◌, ◌++◌, ◌∙◌, List, ℕ, None, length, ap, sym, subst, refl, arith}
+use Rattle.std.specs.Option.{option_map}
 use Rattle.std.proofs.lemmas.Result.{err_from_is_err_and}
+use Rattle.grequest.specs.RequestValues.{asked_by_request}
 use Rattle.gdag.specs.Levels.{distinct_of}
 use Rattle.gsession.specs.Sessions.{AreCommons, SessionState}
 use Rattle.gsession.specs.steps.Fields.{session_of}
@@ -49,3 +51,19 @@ invariant_of-self g c =
     (subst (λ (s : SessionState g.row.A.Denot). AreCommons s.options.limits s.format commons) back
     (subst (λ (l : List (List ℕ)). AreCommons c.args.self.now.options.limits c.args.self.now.format l) (sym is)
     c.in_ok-check_acks.ensures.commons))) tt tt
+
+pub returns-in_err-check_acks-clause-goes : goal.returns-in_err-check_acks-clause-goes
+returns-in_err-check_acks-clause-goes g c =
+    let p = err_from_is_err_and c.from_residual.result c.from_residual.ensures.1 in rw (p.1, p.2) tt
+
+pub returns-in_err-joined-clause-goes : goal.returns-in_err-joined-clause-goes
+returns-in_err-joined-clause-goes g c =
+    let p = err_from_is_err_and c.from_residual-in_err-joined.result c.from_residual-in_err-joined.ensures.1 in rw (p.1, p.2) tt
+
+pub returns-clause-goes : goal.returns-clause-goes
+returns-clause-goes g c = record {
+  waits = (c.requires.0, c.requires.1);
+  pending = ap (option_map asked_by_request) c.set_pending.ensures;
+  stage = refl;
+  rounds = ap (λ (s : SessionState g.row.A.Denot). s.rounds) c.self.view_is;
+}
