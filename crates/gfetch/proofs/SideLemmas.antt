@@ -188,6 +188,28 @@ module _ {A : Type 0} where
   request_fault old new g (client.Repo (repo.Graph graph.Memory)) due fails = (refl, fails)
   request_fault old new g _ due fails = absurd fails
 
+  -- a session that can make its next request has no open request
+  due_none : (stage : Stage) (pending : Option Asked) → is_due stage pending ≡ true → pending ≡ None
+  due_none stage None due = refl
+  due_none Listing (Some asked) due = absurd (cc due)
+  due_none Fetching (Some asked) due = absurd (cc due)
+  due_none Settling (Some asked) due = absurd (cc due)
+  due_none Over (Some asked) due = absurd (cc due)
+
+  -- fewer messages remain after a request
+  pub request_fewer : (old new : SessionState A) (g : List (Entry A)) (asked : Asked) → new.rounds < 2 ^ 64 → Requests old g new (Ok asked)
+      → messages_of new < messages_of old
+  request_fewer old new g Empty few made = absurd made.1.1
+  request_fewer old new g (Ls asked) few made =
+      let was : messages_of old ≡ 2 ^ 64 + 3 = messages_left old Listing old.rounds (due_none old.stage old.pending made.0) made.1.1.0 refl in
+      let is : messages_of new ≡ 2 ^ 64 + 2 = ap messages_of made.1.2 ∙ awaited_refs old.stage asked old.rounds in
+      omega (arith, was, is)
+  request_fewer old new g (Fetches asked) few made =
+      let was : messages_of old ≡ (2 ^ 64 + 1) - old.rounds = messages_left old Fetching old.rounds (due_none old.stage old.pending made.0) made.1.1.0 refl in
+      let is : messages_of new ≡ (2 ^ 64 + 1) - (old.rounds + 1) = ap messages_of made.1.2 ∙ awaited_objects old.stage asked (old.rounds + 1) in
+      let count : new.rounds ≡ old.rounds + 1 = ap (λ (s : SessionState A). s.rounds) made.1.2 in
+      omega (arith, was, is, count, few)
+
 -- ---- answers
 
 -- an answer without a packet ends the dialogue
