@@ -273,7 +273,11 @@ impl<'k, A: Allocator + Copy, K: Indexer<A>> ClientSide<'k, A, K> {
             return Answer::Last(ClientReply::request(Request::Empty, format));
         }
         match self.session.request(&self.repo) {
-            Ok(request) => Answer::GoesOn(ClientReply::request(request, format)),
+            Ok(request) => {
+                // Laws that the proof uses.
+                let _rounds = self.session.rounds();
+                Answer::GoesOn(ClientReply::request(request, format))
+            }
             Err(fault) => self.fail(fault),
         }
     }
