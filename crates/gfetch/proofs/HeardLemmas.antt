@@ -1,7 +1,7 @@
 -- A message of the client, with one more packet.
-use Rattle.std.proofs.Common.{◌≡◌, ◌<◌, ◌^◌, ◌∙◌, ℕ, Bool, false, List, [], ◌∷◌, ◌++◌, length, Option, Some, None, Result, Ok, Err, sym, subst, ap}
+use Rattle.std.proofs.Common.{◌≡◌, ◌<◌, ◌^◌, ◌⊎◌, ◌∙◌, refl, ℕ, Bool, false, List, [], ◌∷◌, ◌++◌, length, Option, Some, None, Result, Ok, Err, sym, subst, ap}
 use Rattle.gpkt.specs.Packets.{Bytes, Packet}
-use Rattle.ggrammar.specs.Grammar.{IsOpen, LawsOf, Judge}
+use Rattle.ggrammar.specs.Grammar.{IsOpen, IsWhole, Judge}
 use Rattle.ggrammar.specs.MessageReading.{TakesPacket}
 use Rattle.ggrammar.specs.declared.fault.Why.{Why}
 use Rattle.ggrammar.specs.declared.message.Step.{Step}
@@ -23,9 +23,12 @@ use Rattle.gdialogue.specs.Sides.{HearsPacket}
 use Rattle.ghello.proofs.Manual as advert_proofs
 use Rattle.glsreply.proofs.TableLemmas as ls_proofs
 use Rattle.gfetchreply.proofs.ReplyEndings as fetch_proofs
-use Rattle.grequest.specs.Asked.{Asked, Empty, Ls, Fetches}
-use Rattle.gsession.specs.Sessions.{SessionState}
+use Rattle.grequest.specs.Asked.{Asked, Empty, Ls, Fetches, FetchAsked, LsRefsAsked}
+use Rattle.gobject.specs.Packs.{Indexes, IndexFails}
+use Rattle.gsession.specs.Sessions.{SessionState, IsBegun}
 use Rattle.gsession.specs.TakingReplies.{reading_for}
+use Rattle.gfetch.specs.Fetching.{AcceptsReply, AnswersAdvert, AnswersAfter, DeclinesReply, MismatchesAdvert}
+use Rattle.gfetch.specs.declared.side.ClientSide.{ClientSide}
 use Rattle.gfetch.specs.Heard.{HearsAfter, brings_after, judge_after}
 use Rattle.gfetch.specs.declared.heard.Heard.{Heard}
 use Rattle.gfetch.specs.declared.heard.Heard.TheVariants as heard
@@ -100,3 +103,70 @@ module _ {A T : Type 0} (session : SessionState A) (taken : T → Bytes → Type
       takes_into (fetch.judge (reading_for session asked)) (brings_into false (reading_for session asked)) HoldsIn (λ reader packets. Unit {0})
       (HearsAfter session taken same Uses (Some (Fetches asked))) front packet new (heard.Objects new) result (there goes held.2)
       (λ k. (ap reading_in reading ∙ held.0, uses held.1, k))
+
+-- ---- a message before its first packet
+
+module _ {A T : Type 0} (session : SessionState A) (taken : T → Bytes → Type 0) (same : T → T → Type 0) (Uses : T → Type 0) where
+  pub first_advert : (pending : Option Asked) (reader : AdvertReader A) → ¬ ((asked : LsRefsAsked) × (pending ≡ Some (Ls asked)))
+      → ¬ ((asked : FetchAsked) × (pending ≡ Some (Fetches asked))) → IsKept [] reader.has_version reader.advert
+      → HearsAfter session taken same Uses pending (heard.Advert reader) []
+  first_advert None reader none no_more kept = kept
+  first_advert (Some Empty) reader none no_more kept = kept
+  first_advert (Some (Ls asked)) reader none no_more kept = absurd (none (asked, refl))
+  first_advert (Some (Fetches asked)) reader none no_more kept = absurd (no_more (asked, refl))
+
+  pub first_refs : (pending : Option Asked) (asked : LsRefsAsked) (reader : LsReplyReader A) → pending ≡ Some (Ls asked)
+      → reader.format ≡ session.format → reader.ends ≡ session.ends → Holds reader []
+      → HearsAfter session taken same Uses pending (heard.Refs reader) []
+  first_refs pending asked reader is format ends held =
+      subst (λ (p : Option Asked). HearsAfter session taken same Uses p (heard.Refs reader) []) (sym is) (format, ends, held)
+
+  pub first_objects : (pending : Option Asked) (asked : FetchAsked) (reader : FetchReader T A) → pending ≡ Some (Fetches asked)
+      → reading_in reader.reading ≡ reading_for session asked → Uses reader.sink
+      → HoldsReply taken same (reading_in reader.reading) (kept_in reader.sections) reader.sink []
+      → HearsAfter session taken same Uses pending (heard.Objects reader) []
+  first_objects pending asked reader is reading uses held =
+      subst (λ (p : Option Asked). HearsAfter session taken same Uses p (heard.Objects reader) []) (sym is) (reading, uses, held)
+
+-- ---- a complete message
+
+module _ {A K T : Type 0} (indexes : K → Indexes A) (index_fails : K → IndexFails) (taken : T → Bytes → Type 0) (same : T → T → Type 0) (Uses : T → Type 0)
+    (old new : ClientSide A K) (lines said : List Packet) (goes : Bool) where
+  abbrev Answered : Option Asked → Type 0
+  Answered pending = AnswersAfter indexes index_fails pending old new lines said goes
+
+  abbrev Hears : Option Asked → Heard A T → Type 0
+  Hears pending message = HearsAfter old.session taken same Uses pending message lines
+
+  pub advert_answered : (pending : Option Asked) (reader : AdvertReader A) → IsWhole (judge_after old.session pending) lines
+      → Hears pending (heard.Advert reader)
+      → (advert.Says lines reader.advert → IsBegun old.session → AnswersAdvert old new lines said goes ⊎ MismatchesAdvert old new lines said goes)
+      → Answered pending
+  advert_answered None reader whole held answers = answers (record { whole = whole; says = held.listed })
+  advert_answered (Some Empty) reader whole held answers = tt
+  advert_answered (Some (Ls asked)) reader whole held answers = absurd held
+  advert_answered (Some (Fetches asked)) reader whole held answers = absurd held
+
+  abbrev Replied : Asked → Type 0
+  Replied asked = AcceptsReply (indexes old.indexer.now) (index_fails old.indexer.now) asked old new lines said goes
+      ⊎ DeclinesReply (indexes old.indexer.now) (index_fails old.indexer.now) asked old new lines said goes
+
+  pub refs_answered : (pending : Option Asked) (reader : LsReplyReader A) → old.session.pending ≡ pending
+      → IsWhole (judge_after old.session pending) lines → Hears pending (heard.Refs reader)
+      → ((asked : LsRefsAsked) → old.session.pending ≡ Some (Ls asked) → Holds reader lines → IsWhole (ls.judge old.session.format old.session.ends) lines → Replied (Ls asked))
+      → Answered pending
+  refs_answered None reader is whole held answers = absurd held
+  refs_answered (Some Empty) reader is whole held answers = absurd held
+  refs_answered (Some (Ls asked)) reader is whole held answers = answers asked is held.2 whole
+  refs_answered (Some (Fetches asked)) reader is whole held answers = absurd held
+
+  pub objects_answered : (pending : Option Asked) (reader : FetchReader T A) → old.session.pending ≡ pending
+      → IsWhole (judge_after old.session pending) lines → Hears pending (heard.Objects reader)
+      → ((asked : FetchAsked) → old.session.pending ≡ Some (Fetches asked) → reading_in reader.reading ≡ reading_for old.session asked → Uses reader.sink
+      → HoldsReply taken same (reading_in reader.reading) (kept_in reader.sections) reader.sink lines
+      → IsWhole (fetch.judge (reading_for old.session asked)) lines → Replied (Fetches asked))
+      → Answered pending
+  objects_answered None reader is whole held answers = absurd held
+  objects_answered (Some Empty) reader is whole held answers = absurd held
+  objects_answered (Some (Ls asked)) reader is whole held answers = absurd held
+  objects_answered (Some (Fetches asked)) reader is whole held answers = answers asked is held.0 held.1 held.2 whole
