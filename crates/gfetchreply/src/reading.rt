@@ -1,17 +1,15 @@
 //! Reading a fetch reply.
 
-ghost use Rattle.std.specs.Prelude.{◌≡◌, ◌≤◌, ◌&&◌, ℕ, List, length, nat_lt, IfOk, OnOk, Ok};
-ghost use Rattle.gpkt.specs.Packets.{Bytes, Data, packet_of};
-ghost use Rattle.gpkt.specs.Bands.{Data as BandData, band_form};
-ghost use Rattle.ggrammar.specs.PeerErrors.{peer_error, unless_error};
+ghost use Rattle.std.specs.Prelude.{◌≡◌, ◌≤◌, ℕ, List, length, IfOk, OnOk};
+ghost use Rattle.gpkt.specs.Packets.{Bytes, packet_of};
 ghost use Rattle.gpkt.specs.Change.{change_of};
 ghost use Rattle.gname.specs.declared.formats.Format.TheVariants.{Sha1};
 ghost use Rattle.ggrammar.specs.Kinds.{ReadsOrRefuses};
 ghost use Rattle.ggrammar.specs.Limits.{profile};
 ghost use Rattle.ggrammar.specs.MessageReading.{LeavesReader};
-ghost use Rattle.gfetchreply.specs.FetchReplies.{Says, band_brings, brings, data_in, judge, judge_at, judge_band, judge_payload, payload_brings};
+ghost use Rattle.gfetchreply.specs.FetchReplies.{Says, brings, judge, judge_at};
 ghost use Rattle.gfetchreply.specs.FetchHeads.{pack_of};
-ghost use Rattle.gfetchreply.specs.steps.ReplyState.{TakesBoth, brings_there, data_there, first_kept, kept_in, place_in, state_in, with_band, with_packet, with_payload};
+ghost use Rattle.gfetchreply.specs.steps.ReplyState.{TakesBoth, brings_there, data_there, first_kept, kept_in, place_in, state_in, with_packet};
 ghost use Rattle.gfetchreply.specs.ReplyReading.{ReadsReply};
 ghost use Rattle.gfetchreply.specs.Views.{AreAcksOf, IsHeadOf, IsReplyOf, head_result, reading_in, reply_in, reply_result, sha1_reading};
 ghost use Rattle.gfetchreply.specs.steps.Views.{head_after, reading_with};
