@@ -9,5 +9,5 @@ use std::alloc::Allocator;
 /// Proves that the messages and answers of a client's dialogue are a conversation: the
 /// advertisement, the requests of turns, the replies of these turns, and another request.
 pub fn dialogues_are_turns<A: Allocator + Copy, K: Indexer<A>>()
-    ensures { DialoguesAreTurns {A = A} {K = K} K.indexes K.index_fails }
+    ensures { DialoguesAreTurns K.indexes K.index_fails }
 {}
