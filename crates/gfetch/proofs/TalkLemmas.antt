@@ -46,7 +46,7 @@ module _ {A : Type 0} (g : List (Entry A)) (old waiting : SessionState A) where
   waits_for (Ls asked) batch = refl
   waits_for (Fetches asked) batch = refl
 
-  -- the open request is the request that the session made
+  -- the opened request is the request that the session made
   waits : (asked : Asked) → Requests old g waiting (Ok asked) → waiting.pending ≡ Some asked
   waits asked made = ap (λ (s : SessionState A). s.pending) made.1.2 ∙ waits_for asked made.1.0
 
@@ -175,10 +175,10 @@ module _ {A K : Type 0} (indexes : K → Indexes A) (index_fails : K → IndexFa
       → HasTalked indexes index_fails first (heard ++ lines) (said ++ reply) now
   more_talk heard said lines reply mid now h answers =
       let g = h.last.repo.graph.entries in
-      let open = waits g h.last.session mid.session h.asked h.asks in
+      let opened = waits g h.last.session mid.session h.asked h.asks in
       let format = first.repo.graph.format in
       let a = accepted h.asked g h.last.session mid now lines reply h.asks
-      (subst (λ (p : Option Asked). AnswersAfter indexes index_fails p mid now lines reply true) open answers.answers) in
+      (subst (λ (p : Option Asked). AnswersAfter indexes index_fails p mid now lines reply true) opened answers.answers) in
       let asks = goes_asks a.now mid.fault now reply a.goes_on in
       let turn : Turn = record { asked = h.asked; reply = lines } in
       let is : IsTurn (indexes mid.indexer.now) (index_fails mid.indexer.now) h.last turn a.now = record {
