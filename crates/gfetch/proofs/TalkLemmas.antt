@@ -46,7 +46,7 @@ module _ {A : Type 0} (g : List (Entry A)) (old waiting : SessionState A) where
   waits_for (Ls asked) batch = refl
   waits_for (Fetches asked) batch = refl
 
-  -- the opened request is the request that the session made
+  -- the open request is the request that the session made
   waits : (asked : Asked) → Requests old g waiting (Ok asked) → waiting.pending ≡ Some asked
   waits asked made = ap (λ (s : SessionState A). s.pending) made.1.2 ∙ waits_for asked made.1.0
 

@@ -200,10 +200,7 @@ fn say_format<B: Allocator + Copy>(format: Format, out: &mut Outgoing<B>)
 }
 
 // Queues the flags of a request, without `done`.
-fn say_flags<A: Allocator + Copy, B: Allocator + Copy>(
-    request: &Request<A>,
-    out: &mut Outgoing<B>,
-)
+fn say_flags<A: Allocator + Copy, B: Allocator + Copy>(request: &Request<A>, out: &mut Outgoing<B>)
     requires { out.old ≡ [] }
     ensures { out.new ≡ canonical_all (flags_of (asked_by_request request.now)) }
 {

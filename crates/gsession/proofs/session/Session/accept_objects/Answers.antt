@@ -7,8 +7,12 @@ use Rattle.gsession.proofs.session.Session.accept_objects.Goals as goal
 pub returns-then-not-fits_open-clause-accepts : goal.returns-then-not-fits_open-clause-accepts
 returns-then-not-fits_open-clause-accepts g c = λ asked lines reply waits says same fed.
     absurd (false≢true (sym c.if-not-fits_open.true
-    ∙ c.fits_open.ensures.all (asked, waits, subst (FitsHead asked) (sym same)
-    (head_fits c.args.self.now asked lines reply says))))
+    ∙ c.fits_open.ensures.all (
+      asked,
+      waits,
+      subst (FitsHead asked) (sym same)
+          (head_fits c.args.self.now asked lines reply says),
+    )))
 
 pub returns-in-Err-clause-accepts : goal.returns-in-Err-clause-accepts
 returns-in-Err-clause-accepts g c = λ asked lines reply waits says same fed.
