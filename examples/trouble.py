@@ -645,7 +645,7 @@ def two_clones(folder):
             refused = [one for one in ended if one.status]
             check(f"{what}: one of them is refused", len(refused) == 1, ended)
             for one in refused:
-                checks.refused(what, one, "exists and is not empty")
+                checks.refused(what, one, "exists and is not an empty directory")
             check(f"{what}: the other one is whole", refs_of(clone) == refs_of(f"{base}/r.git") and not faults_of(clone), ended)
 
 

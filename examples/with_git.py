@@ -17,6 +17,7 @@ import threading
 import time
 from concurrent.futures import ThreadPoolExecutor
 
+from bare import write
 from both_ends import (
     BRANCH, ENV, Gitrepo, GitDaemon, add_history, answer_to, attempt, faults_of, git, has_git, hello, left_behind,
     new_repository, objects, packet, refs, stored, tip,
@@ -467,24 +468,23 @@ def large_pack(folder, ours, theirs):
 
 
 def broken_refs(folder, ours):
-    """Refs that are broken: they are left out."""
+    """A repository with a broken ref is not served: if the ref were left out, a fetch that prunes would delete the copy."""
     path = add_history(new_repository(f"{folder}/served/broken-refs.git"), 20, 61)
-    good = refs(path)
-    files = {
-        "broken": b"", "zeros": b"0" * 40 + b"\n", "words": b"no id\n", "missing": b"1" * 40 + b"\n", "short": b"12345\n",
-        "dangling": b"ref: refs/heads/nobody\n", "circle": b"ref: refs/heads/circle\n", "climbs": b"ref: ../../HEAD\n",
-    }
-    for name, text in files.items():
-        with open(f"{path}/refs/heads/{name}", "wb") as file:
-            file.write(text)
-    mirror = f"{folder}/broken-refs"
+    good, mirror = refs(path), f"{folder}/broken-refs"
+    for name, text in {"dangling": b"ref: refs/heads/nobody\n", "circle": b"ref: refs/heads/circle\n"}.items():
+        write(f"{path}/refs/heads/{name}", text)
     done = attempt("git", "clone", "--quiet", "--mirror", ours.url("broken-refs.git"), mirror)
-    check("broken refs are left out of a clone", done and refs(mirror) == good and not faults_of(mirror), done)
-    refuses("gitrepo check of a ref that is broken", gitrepo("check", path), "refs/heads/broken")
-    for name in files:
-        if name != "missing":
-            os.remove(f"{path}/refs/heads/{name}")
-    refuses("gitrepo check of a ref whose object is missing", gitrepo("check", path), "1" * 40)
+    check("symbolic refs to no ref are left out of a clone", done and refs(mirror) == good and not faults_of(mirror), done)
+    broken = {"broken": b"", "zeros": b"0" * 40 + b"\n", "words": b"no id\n", "short": b"12345\n", "climbs": b"ref: ../../HEAD\n"}
+    for name, text in {**broken, "missing": b"1" * 40 + b"\n"}.items():
+        write(f"{path}/refs/heads/{name}", text)
+        done = attempt("git", "-C", mirror, "fetch", "--quiet", "--prune", "origin")
+        check(f"a fetch with --prune, a ref is {name}: refused", done.status and "cannot be read" in done.told, done)
+        check(f"a fetch with --prune, a ref is {name}: nothing is deleted", refs(mirror) == good, refs(mirror))
+        refuses(f"gitrepo check, a ref is {name}", gitrepo("check", path), f"refs/heads/{name}", "1" * 40)
+        os.remove(f"{path}/refs/heads/{name}")
+    done = attempt("git", "-C", mirror, "fetch", "--quiet", "--prune", "origin")
+    check("a fetch with --prune, no ref is broken", done and refs(mirror) == good, done)
 
 
 def change_an_entry(path, id):

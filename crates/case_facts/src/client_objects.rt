@@ -1,7 +1,7 @@
 //! Facts about the objects that a client marks as connected, because its refs reach them. A `known`
-//! fact states the ids of the marked objects. An `unheld` or `counted-past` fact states an ancestor
-//! of the given ids that the graph lacks. A `counted-past` fact also counts the visited objects. A
-//! slash separates lists of ids, and the last list holds the ids of the refs.
+//! fact states the ids of the marked objects. An `unheld` or `counted-past` fact states a missing
+//! id in the ancestry of the given ids, or `none`. A `counted-past` fact also counts the visited
+//! objects. A slash separates lists of ids, and the last list holds the ids of the refs.
 
 use crate::checking::RefusedAllocation;
 use crate::formatting::format_fault;
@@ -15,8 +15,9 @@ use ggraph::{Count, Graph, GraphFault, Order, Refs, missing_known};
 use gname::{Oid, RefName};
 use std::alloc::{Allocator, Global};
 
-/// Makes the call that a fact describes, on a client with this repository text, and returns its
-/// actual result. `refusal` states which allocation of the client to refuse, if any.
+/// Makes the call that a fact describes, on a client with the graph of this repository text.
+/// Returns the actual result of the call. `refusal` states which allocation of the client to
+/// refuse, if any.
 pub(crate) fn actual_result<A: Allocator + Copy>(
     alloc: Global,
     tested_alloc: A,

@@ -2,8 +2,8 @@
 //! pack, a scenario or a payload.
 //!
 //! The result of a valid text is `ok`. For some kinds of texts, counts or parts of the text follow.
-//! The result of an invalid text is the fault's number, name, and position or line. For `name-text`
-//! the result is only the printed text of the fault.
+//! The result of an invalid text is the fault's number and name, and for some faults the position
+//! or the line. For `name-text` the result is only the printed text of the fault.
 
 use crate::formatting::{format_fault, format_fault_at};
 use crate::repository_text::{load_text, save_text};
@@ -18,7 +18,7 @@ use grefs::{Spec, SpecFault};
 use gscenario::{Scenario, ScenarioFault};
 use std::alloc::{Allocator, Global};
 
-/// Returns the result of parsing the fact's text. The text is read in pieces of at most
+/// Returns the result of parsing or writing the fact's text. A read or write transfers at most
 /// `max_per_call` bytes.
 pub(crate) fn actual_result<A: Allocator + Copy>(
     alloc: Global,

@@ -11,7 +11,8 @@ use std::alloc::Global;
 const MAX_PARENTS: usize = 64;
 
 /// Returns the result of adding commits to a graph, or of packing commits. The fact's text states
-/// the number of commits.
+/// the number of commits to add. For a pack, the text states the number of commits with 64 parents,
+/// and the number of parents of one more commit.
 pub(crate) fn actual_result(alloc: Global, fact: &Fact<'_>) -> Result<String, Trouble> {
     let mut words = fact.text.split(|byte| *byte == b' ');
     let count = parse_number(words.next().unwrap_or(b""));

@@ -1,5 +1,5 @@
-//! The files that a launched program uses. Each file records the calls that it receives, and
-//! forwards the calls to a real file.
+//! The files that a launched program uses. Each file records the calls that change or sync it, and
+//! forwards all calls to a real file.
 
 use crate::journal::Journal;
 use std::fs::{Metadata, OpenFile, Permissions};

@@ -30,7 +30,8 @@ impl<'b> InodeNumbers<'b> {
         Ok(InodeNumbers { numbers })
     }
 
-    /// Returns the name of the first file whose inode number has changed, if any.
+    /// Returns the name of the first file that did not exist before the launch, or whose inode
+    /// number has changed, if any.
     pub(crate) fn first_changed<R: System>(&self, rt: &R) -> Option<&'b str> {
         for &(name, number) in self.numbers.as_slice() {
             if number == 0 || inode_of(rt, name) != number {

@@ -19,7 +19,7 @@
 //!
 //! # Dependencies
 //!
-//! `gprogram` is the launched program. `case_text` and `case_tries` define rows and cases, and
+//! `gprogram` is the launched program. `case_text` defines cases, `case_tries` defines rows, and
 //! `gtcp` defines locations.
 #![tactic(auto)]
 

@@ -66,9 +66,9 @@ impl<'a> Peers<'a> {
         Ok(())
     }
 
-    /// Returns a stream to the address. The stream is connected to the program itself if the
-    /// program listens at that address. Otherwise the stream is connected to the next simulated
-    /// server.
+    /// Returns the program's stream for a connection to the address. The stream is connected to the
+    /// program itself if the program listens at that address. Otherwise the stream is connected to
+    /// the next simulated server.
     pub(crate) fn connect<R: System>(&self, rt: &R, address: SocketAddr) -> io::Result<TcpStream> {
         if address.port() == self.program_port() {
             let stream = TcpStream::connect(rt, address)?;

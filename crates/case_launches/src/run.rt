@@ -21,7 +21,8 @@ const PORT_WORD: &str = "PORT";
 const OWNER_READ_WRITE: u32 = 0o600;
 
 /// Runs the program in a separate folder. Returns a description of the unexpected results, or
-/// `None` if all results match the plan.
+/// `None` if all results match the plan. The program does not run, and the result is `None`, if an
+/// item's permissions deny its owner access but this process ignores permissions.
 pub fn launch<R: System>(rt: &R, plan: &Plan<'_>) -> Result<Option<String>, Trouble> {
     enter_folder(rt)?;
     let difference = launch_in_folder(rt, plan);
@@ -45,7 +46,7 @@ fn launch_in_folder<R: System>(rt: &R, plan: &Plan<'_>) -> Result<Option<String>
     compare_files(rt, plan, &inode_numbers)
 }
 
-// Returns whether the permissions of an item deny its owner reading or writing.
+// Returns whether the permissions of an item forbid its owner to read or to write.
 fn denies_owner(initial_items: &[InitialItem<'_>]) -> bool {
     for item in initial_items {
         match item {

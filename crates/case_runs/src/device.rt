@@ -241,8 +241,8 @@ impl Failure {
     }
 }
 
-/// A std reader over a source, or a std writer over a sink. The adapter reports each failure of the
-/// source or sink as its `failure`.
+/// A std reader over a source, or a std writer over a sink. The field `failure` determines how the
+/// adapter reports a failure of the source or sink.
 #[derive(Drop)]
 pub struct StdAdapter<D> {
     device: D,

@@ -1,9 +1,10 @@
-//! A check of the pieces of a pack that an indexer receives. Each piece of the input must arrive
-//! once and in order. No piece may be empty, and no piece may follow a failure.
+//! A check of the pieces of a pack that an indexer receives. Each piece must arrive once and in
+//! order. No piece may be empty, and no piece may follow a failure.
 
 use std::cell::Cell;
 
-/// The state of a check: how far the pack was read and indexed, and whether a rule was broken.
+/// The state of a check: how far the input was read and passed to the indexer, and whether a rule
+/// was broken.
 #[derive(Drop)]
 pub struct IndexerCheck {
     read_count: Cell<usize>,

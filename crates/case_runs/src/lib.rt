@@ -1,7 +1,7 @@
-//! Test runs of the commands in `gcmd`, and of their conversations over the network. The sources
-//! and sinks transfer a limited number of bytes in each call, and fail at a chosen call. An
-//! allocation may be refused. Packers and indexers may break their contracts, and the calls to each
-//! indexer are checked.
+//! Test runs of the commands in `gcmd` and of the network commands of `gitv2`, on sources and sinks
+//! in memory. The sources and sinks transfer a limited number of bytes in each call, and fail at a
+//! chosen call. An allocation may be refused. Packers and indexers may break their contracts, and
+//! the calls to each indexer are checked.
 //!
 //! [`run_command`] runs the command of a [`CommandRun`] on the sources and sinks in [`Devices`].
 //! The function can also serve a connection with its first line, or list refs, as `gitv2` does over
@@ -16,7 +16,7 @@
 //! # What the contracts do not rule out
 //!
 //! No contract states the behavior of a source or sink before its failure. The tests count the
-//! calls to each source and sink and the bytes that it transfers.
+//! calls to each source and sink, and the transferred bytes.
 //!
 //! # Dependencies
 //!

@@ -1,4 +1,5 @@
-//! Runs of the commands in `gcmd`: a command line, the text of a repository, and the input.
+//! Runs of the commands in `gcmd`. A run has a command line, the text of a repository, and an
+//! input.
 
 use crate::indexer_check::IndexerCheck;
 use crate::inputs::parse_specs;

@@ -1,6 +1,6 @@
 //! Runs with a packer or an indexer other than `PlainPack`. The commands of `gcmd` use `PlainPack`
-//! only, so this module replaces them. The result of such a run also holds the final state of the
-//! client's repository.
+//! only, so this module replaces them. The result of a fetch in this module can also hold the final
+//! text of the client's repository.
 
 use crate::checked_tool::CheckedTool;
 use crate::inputs::{parse_client, parse_server};
@@ -33,7 +33,7 @@ pub(crate) fn serve_with_tool<A: Allocator + Copy, I: Source, O: Sink, R: Sink, 
     finish(outcome, &mut devices.errors)
 }
 
-/// Returns the packer or the indexer of a run, whose calls are checked.
+/// Returns the packer or the indexer of a run. The calls to the indexer are checked.
 pub(crate) fn make_checked_tool<'i, 'm, A: Allocator + Copy>(
     run: &CommandRun<'_, 'i, 'm, A>,
     pack_tool: PackTool,

@@ -22,7 +22,7 @@ pub enum Speaker {
 }
 
 impl Speaker {
-    /// Returns whether this is the client or the server.
+    /// Returns whether this speaker is a peer: the client or the server, and not a stream.
     pub fn is_peer(self) -> bool {
         match self {
             Speaker::Client | Speaker::Server => true,
@@ -46,7 +46,7 @@ pub struct Case<'a> {
     /// The number of the line in which the case begins.
     pub line_number: usize,
     pub name: &'a str,
-    /// The command lines, each of which runs one end of the conversation.
+    /// The command lines of the programs to run.
     pub commands: Vec<&'a str>,
     /// The arguments and files of a launch, for a case that launches the program itself.
     pub launch: Option<Launch<'a>>,
@@ -64,8 +64,8 @@ pub struct Case<'a> {
     pub packet_offsets: Vec<usize>,
     /// The expected results when the request is truncated or one of its bytes is changed.
     pub table: Vec<TableLine<'a>>,
-    /// Whether the case is tested only with its unchanged input, which is read at once and in
-    /// pieces.
+    /// Whether the case is tested only with its unchanged input. Some runs read the input at once,
+    /// and others read it in pieces.
     pub is_long: bool,
     /// Whether the tests change each byte of the input to every other value.
     pub is_deep: bool,
@@ -103,7 +103,7 @@ impl<'a> Case<'a> {
         }
     }
 
-    /// Reads a line of the file. Returns `false` if the line does not belong to the case.
+    /// Reads a line about the whole case or about its launch. Returns `false` for any other line.
     pub(crate) fn read_line(
         &mut self,
         alloc: Global,

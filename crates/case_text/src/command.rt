@@ -94,7 +94,8 @@ pub struct Invocation<'a> {
     pub program: Program,
     /// The name of the text block that holds the repository, or an empty string.
     pub repository_name: &'a str,
-    /// The host in the first line of a connection, or an empty string if there is no first line.
+    /// The host that a client names in the first line of a connection. The host is empty if the
+    /// command line names no host.
     pub host: &'a str,
     /// The path in the first line of a connection, or the path that a server serves. The path is
     /// empty if the connection has no first line.

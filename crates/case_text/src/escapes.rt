@@ -169,8 +169,8 @@ fn add_text(texts: &[NamedText<'_>], name: &[u8], bytes: &mut Vec<u8>) -> Result
     }
 }
 
-// Appends a fixed number, or the number of the repetition times a factor plus an offset. The result
-// has the stated number of digits, or as many digits as an id.
+// Appends a fixed number, or the repetition's number multiplied by a factor and increased by an
+// offset. The result has the stated number of digits, or as many digits as an id.
 fn add_number_escape(
     alloc: Global,
     inside: &[u8],

@@ -4,7 +4,7 @@ use crate::command::split_first_word;
 use crate::trouble::Trouble;
 use std::alloc::Global;
 
-/// A file, folder or link that the test creates before a launch.
+/// A file, folder or link that the test creates before a launch, or permissions that the test sets.
 #[derive(Clone, Copy)]
 pub enum InitialItem<'a> {
     /// A file that holds the named text of the test file.
@@ -17,8 +17,8 @@ pub enum InitialItem<'a> {
     Mode { name: &'a str, mode: u32 },
 }
 
-/// An item that is expected in the folder after a launch. A file that existed before the launch
-/// must keep its contents, unless an item names that file.
+/// An expectation about the folder after a launch. A file that existed before the launch must keep
+/// its contents, unless an item states the file's new text or absence.
 #[derive(Clone, Copy)]
 pub enum FinalItem<'a> {
     /// A file that holds the named text of the test file.

@@ -1,4 +1,4 @@
-//! Packers and indexers that fail, or that break their contracts.
+//! Packers and indexers for tests. Most of them fail or break their contracts.
 
 use ggraph::{Entry, IndexFault, Indexer, Kind, Node, PackFault, Packer, Parents, PlainPack};
 use gname::{Format, MAX_ID_TEXT, Oid};
@@ -31,7 +31,7 @@ pub enum PackTool {
     FailingFeedIndexer,
     /// An indexer that fails in `finish`.
     FailingFinishIndexer,
-    /// An indexer that fulfills its contract, and checks the calls that it receives.
+    /// An indexer that fulfills its contract, for tests that check the calls to an indexer.
     CheckingIndexer,
 }
 
@@ -166,7 +166,8 @@ impl<A: Allocator + Copy> ReceivedPack<A> {
     }
 }
 
-// Returns the one invented entry that this indexer reports for every pack.
+// Returns the one invented entry that this indexer reports for every pack. Fails for any other
+// tool.
 fn invented_entries<A: Allocator + Copy>(
     pack_tool: PackTool,
     format: Format,

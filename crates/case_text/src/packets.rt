@@ -49,8 +49,8 @@ pub fn text_packet(alloc: Global, text: &[u8]) -> Result<Vec<u8>, Trouble> {
     }
 }
 
-/// Returns a pkt-line that contains the three parts in order. The length field of an oversized
-/// packet is `ffff`.
+/// Returns a pkt-line that contains the three parts in order. The length field of a packet of more
+/// than 65,535 bytes is `ffff`.
 pub fn packet(alloc: Global, first: &[u8], text: &[u8], last: &[u8]) -> Result<Vec<u8>, Trouble> {
     let len = first
         .len()

@@ -30,7 +30,7 @@ pub struct Script<'a> {
     repetitions: usize,
     // The name of the text block that holds the graph for the facts after the current line.
     graph_name: &'a str,
-    // Whether the cases after the current line run with ids of both formats.
+    // Whether the cases and facts after the current line are tested with ids of both formats.
     runs_both_formats: bool,
     // Whether the following lines are skipped because their case runs only with SHA-1 ids.
     skips_case: bool,
@@ -152,8 +152,8 @@ impl<'a> Script<'a> {
         Ok(())
     }
 
-    // Returns whether this script has SHA-256 ids, and the cases after the current line run only
-    // with SHA-1 ids.
+    // Returns whether this script has SHA-256 ids, but the cases and facts after the current line
+    // are only for SHA-1 ids.
     fn excludes_format(&self) -> bool {
         self.format == Format::Sha256 && !self.runs_both_formats
     }
@@ -247,7 +247,7 @@ impl<'a> Script<'a> {
         repetitions
     }
 
-    // Fails with `RowWithoutProgram` if the last case names no program.
+    // Fails with `RowWithoutProgram` if the last case names no program and has no launch.
     fn check_last_case(&self) -> Result<(), Trouble> {
         match self.cases.last() {
             Some(case) if case.commands.is_empty() && case.launch.is_none() => Err(

@@ -5,7 +5,7 @@
 //! |---|---|
 //! | `cut 1-17 = OUTCOME` | the input ends after 1 to 17 bytes |
 //! | `change 18 2-9 a-f = OUTCOME` | the byte at offset 18 becomes one of the listed bytes |
-//! | `change 18 other = OUTCOME` | the byte at offset 18 becomes any other byte |
+//! | `change 18 other = OUTCOME` | the byte at offset 18 gets a value that no earlier line lists |
 //!
 //! An outcome is `nothing`, `as it stands`, `use NAME`, or `TEXT` and `FAULT` separated by ` | `.
 //! `nothing` means no reply. `as it stands` means the result of the unchanged request. `use NAME`
@@ -95,7 +95,8 @@ pub struct TableLine<'a> {
 }
 
 impl<'a> TableLine<'a> {
-    /// Parses the positions and bytes of a line.
+    /// Returns a line of a table. `offsets` is the text before ` = `: a range of positions and, in
+    /// a `change` line, the new values of the byte.
     pub(crate) fn new(
         is_cut: bool,
         offsets: &'a str,

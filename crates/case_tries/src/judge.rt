@@ -52,8 +52,8 @@ pub struct Row<'b> {
     /// Whether the row is also tested with a peer that sends or accepts bytes late, and over a
     /// socket while each allocation is refused in turn.
     pub is_late: bool,
-    /// Whether the row is tested only with its unchanged input, which is read at once and in
-    /// pieces.
+    /// Whether the row is tested only with its unchanged input. Some runs read the input at once,
+    /// and others read it in pieces.
     pub is_long: bool,
 }
 
@@ -203,8 +203,8 @@ pub fn is_as_expected_after_failed_write(row: &Row<'_>, results: &RunResults) ->
         && results.new_file.is_none()
 }
 
-/// Returns whether the run had all expected results, except that it wrote only a prefix of the
-/// report.
+/// Returns whether the run wrote only a prefix of the report, reported the failed write, and
+/// otherwise had all expected results.
 pub(crate) fn is_as_expected_after_failed_report(row: &Row<'_>, results: &RunResults) -> bool {
     results.status == 1
         && wrote_exactly(

@@ -10,7 +10,7 @@
 //! - Each call to each source and sink fails in turn.
 //! - The input is truncated after each byte, or one of its bytes is changed.
 //! - Each allocation is refused in turn.
-//! Each operation on the client's file fails in turn, or the run stops at that operation.
+//! - Each operation on the client's file fails in turn, or the run stops at that operation.
 //!
 //! A [`RunResults`] holds the results of a run. Most of the checks also apply to runs over sockets.
 //!

@@ -86,7 +86,8 @@ pub struct RunResults {
     /// The number of input bytes that were not read.
     pub(crate) unread_len: usize,
     pub(crate) read_failed: bool,
-    /// Whether a source or sink was called after its failure, or an indexer was called incorrectly.
+    /// Whether a source or sink was called after its failure, a read had an empty buffer, or an
+    /// indexer was called incorrectly.
     pub(crate) was_misused: bool,
     /// Whether the run reached the allocation to refuse.
     pub(crate) was_refused: bool,

@@ -216,7 +216,7 @@ impl<'a, 'b> RowTest<'a, 'b> {
     }
 
     // Tests a fetch with an indexer whose calls are checked. The input is read at once, and also in
-    // pieces if the row is not long. Rows that name another indexer are skipped. If `is_thorough`
+    // pieces if the row is not long. Rows that name an indexer are skipped. If `is_thorough`
     // returns `true`, the input is also truncated, and each allocation is also refused.
     fn test_checked_indexer(&mut self) -> Result<Option<usize>, Trouble> {
         let row = self.row;
@@ -638,8 +638,8 @@ fn failed_run_at(is_right: bool, number: usize) -> Option<usize> {
     if is_right { None } else { Some(number) }
 }
 
-// Returns whether the outcomes of a simulation with a refused allocation are consistent with
-// `unrefused`, the result with enough memory.
+// Runs a simulation with the allocation `number` refused. The run is correct if its outcomes are
+// consistent with `unrefused`, the result with enough memory.
 fn simulate_with_refusal(
     alloc: Global,
     inputs: WorldInputs<'_>,

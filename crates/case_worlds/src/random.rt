@@ -297,8 +297,8 @@ impl<A: Allocator + Copy> RandomEvents<'_, A> {
         }
     }
 
-    // Returns a kind of outcome that never occurred. Returns `None` for runs with a faulty packer
-    // or indexer.
+    // Returns the first required kind of outcome that never occurred, if any. Returns `None` for
+    // runs with a faulty packer or indexer.
     fn missing_kind(&self, outcomes: &[Outcome]) -> Option<&'static str> {
         match self.random_run.inputs.tools.pack_tool {
             Some(_) => None,
@@ -333,8 +333,8 @@ fn run_events_with_refusal<A: Allocator + Copy>(
     Ok(())
 }
 
-// Returns the first kind of outcome that does not occur in `outcomes`, or `None` if all kinds
-// occur. Rounds of acknowledgments are required only if `requires_rounds` is set.
+// Returns the first required kind of outcome that does not occur in `outcomes`, or `None` if all
+// required kinds occur. Rounds of acknowledgments are required only if `requires_rounds` is set.
 fn first_missing_kind(outcomes: &[Outcome], requires_rounds: bool) -> Option<&'static str> {
     for kind in OUTCOME_KINDS {
         let is_required = requires_rounds || kind != ROUND;
@@ -357,7 +357,7 @@ const OUTCOME_KINDS: [&str; 8] = [
 
 const ROUND: &str = "round";
 
-// Returns the kind of an outcome in `OUTCOME_KINDS`, or an empty text for other outcomes.
+// Returns the kind of the outcome if `OUTCOME_KINDS` lists that kind, or an empty text otherwise.
 fn kind_of_outcome(outcome: Outcome) -> &'static str {
     match outcome {
         Outcome::Asked { .. } => "asked",

@@ -55,8 +55,7 @@ impl<A: Allocator + Copy> Indexer<A> for Tools {
 }
 
 impl Tools {
-    // Returns the indexer: `pack_tool`, or an indexer that fulfills its contract if `pack_tool` is
-    // `None`.
+    // Returns the tool that indexes packs: `pack_tool` if it is set, otherwise `CheckingIndexer`.
     fn indexer(&self) -> PackTool {
         match self.pack_tool {
             Some(pack_tool) => pack_tool,

@@ -86,7 +86,7 @@ pub(crate) fn run_in_world_or_fault<A: Allocator + Copy, P: WorldAction<A>>(
 }
 
 // Runs the action and drops the world. No other function drops a world, because the proof of the
-// drop takes long.
+// drop takes a long time.
 fn run_and_drop_world<A: Allocator + Copy, P: WorldAction<A>>(
     world: World<Tools, A>,
     action: &P,

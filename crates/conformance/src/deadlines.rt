@@ -2,8 +2,9 @@
 //!
 //! The constants of this module repeat the deadlines of `gtcp`. A function with the result
 //! `Option<usize>` returns the index of the first late byte in the first failed run. The index is 0
-//! for a failed run with a faulty clock or with two silent clients. The result is `None` if no run
-//! failed.
+//! for a failed run with a faulty clock or with two silent clients. For a client that stops
+//! accepting output, the result is the number of bytes that the client accepts. The result is
+//! `None` if no run failed.
 
 use crate::connection::{ConnectionRun, Endpoint, run_row_on_connections};
 use crate::late_peer::{ClockBehavior, LateConnection, LateListener, PeerBehavior, SimulatedClock};
@@ -28,7 +29,7 @@ const SILENCE_SECONDS: u64 = 60;
 /// The maximum number of seconds until a server answers a prompt client after two silent clients.
 const ANSWER_SECONDS: u64 = 25;
 
-/// The tested delays. With each delay, a slow peer waits this many milliseconds before every byte.
+/// The tested delays in milliseconds. A slow peer waits for one of these delays before every byte.
 /// With some of these delays, a first line or a request is complete before its deadline. With the
 /// other delays, the first line or the request is too late. The last delay equals
 /// `SILENCE_SECONDS`, and the previous delay is one millisecond shorter.
@@ -45,8 +46,8 @@ struct ExpectedTiming {
 
 /// Tests a row that has the keyword `late` with late peers. Each peer becomes silent before some
 /// byte, or slow at the beginning of some message. A client may also stop accepting bytes. After a
-/// late client, a server must serve the next client. Counts the runs in `runs`. Returns the byte
-/// index at which the first failed run had a late peer, if any.
+/// late client, a server must serve the next client. Counts the runs in `runs`. The description of
+/// this module states which index the function returns.
 pub fn first_failure(
     alloc: Global,
     row: &Row<'_>,

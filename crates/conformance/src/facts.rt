@@ -1,5 +1,5 @@
-//! Checks of facts. The text of a fact is read at once and in pieces, and each allocation is
-//! refused in turn.
+//! Checks of facts. The text of a fact is read at once, then in pieces, and then with each
+//! allocation refused in turn.
 
 use crate::command_lines;
 use crate::launches::launch_arguments;
@@ -11,7 +11,7 @@ use case_worlds::simulate_at_random;
 use std::alloc::Global;
 use std::io;
 
-/// Checks a fact of the script's test files, and prints each unexpected result.
+/// Checks a fact of the script's test files, and prints the first unexpected result, if any.
 pub fn check_fact<R: System>(
     rt: &R,
     script: &Script<'_>,

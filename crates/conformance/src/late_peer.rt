@@ -166,7 +166,8 @@ impl<'r> LateConnection<'r> {
     }
 
     // Advances the simulated clock by the delay `time`. If the delay is not shorter than `limit`,
-    // advances the clock by `limit` and fails. If `time` is `None`, the delay never ends.
+    // advances the clock by `limit` and fails. If `time` is `None`, the delay never ends. In
+    // nonblocking mode, fails at once unless the delay is zero.
     fn wait(
         &self,
         clock: &SimulatedClock,

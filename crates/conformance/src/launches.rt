@@ -1,4 +1,4 @@
-//! Test cases that launch the program itself.
+//! Launches of the program itself for rows, cases and facts.
 
 use case_launches::{Plan, System, can_launch, launch, push_arguments};
 use case_text::{Case, Fact, Script, Trouble};

@@ -3,8 +3,8 @@
 //!
 //! The arguments of the command line name test files. `case_text` parses these files. The first
 //! argument may be an option. `--quick` omits the tests that change bytes, and `--once` runs each
-//! case only with its input unchanged. With `--edge`, only the unchanged cases and the tests of
-//! launches, connections and failing files run.
+//! case only with its input unchanged. `--edge` runs only the unchanged cases and the tests of
+//! launches, connections and failing files.
 //!
 //! Each case runs with each of its programs, and with ids of both formats. Cases with replies also
 //! run with response-end packets added. A case may exclude one format or the added packets. A case
@@ -14,10 +14,11 @@
 //!   writers.
 //! - The calls to the indexer are checked.
 //! - The program `gitv2` runs with files, standard streams and sockets.
-//! - A connection with a first line runs over a socket in this process, and both ends take turns.
+//! - A connection with a first line runs over a socket in this process. The peer sends its messages
+//!   at once, in turns, or byte by byte.
 //! - A peer is late, as measured by a simulated clock.
 //! - Each call to each source and sink fails in turn.
-//! Each operation on the client's file fails in turn, or the run stops at that operation.
+//! - Each operation on the client's file fails in turn, or the run stops at that operation.
 //! - The input is truncated after each byte, or one of its bytes is changed.
 //! - The request is changed as the case's table lists.
 //! - Each allocation is refused in turn.
@@ -25,8 +26,8 @@
 //! Facts about texts are also checked with the text read in pieces, and with each allocation
 //! refused in turn. A simulation also runs directly in a world, which is a server and a client in
 //! memory (`gworld`). Random events run in further worlds. Pairs of a server and a client, and
-//! cases that describe a launch, run only by launching the program. The tests print a line for each
-//! failure. The last lines state the number of runs.
+//! cases that describe a launch, are tested only in launches of the program. The tests print a line
+//! for each failure. The last lines state the number of runs.
 //!
 //! # Proved
 //!

@@ -69,8 +69,8 @@ fn applies_to_row(row: &Row<'_>, pace: Pace) -> bool {
         && (ends_well || pace != Pace::AtOnce)
 }
 
-// Tests a row at the pace `Turns`, with each allocation refused in one run. Returns the number of
-// the first run that failed, if any.
+// Tests a row at the pace `Turns`. The first run refuses the first allocation, the second run the
+// second, and so on. Returns the number of the first run that failed, if any.
 fn first_failure_with_refusals<R>(
     rt: &R,
     alloc: Global,

@@ -9,7 +9,7 @@ use std::io;
 pub enum Depth {
     /// Each case runs only with its input unchanged.
     Once,
-    /// Cases are run unchanged, by launching the program, over sockets, with late peers, and with
+    /// Only these tests run: unchanged cases, launches of the program, sockets, late peers and
     /// failing files.
     Edge,
     /// All tests run, except the tests that change bytes and take most of the time.

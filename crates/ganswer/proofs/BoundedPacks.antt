@@ -1,4 +1,4 @@
--- A faithful packer whose packs have a maximum length.
+-- A packer that loses nothing still loses nothing if its packs have a maximum length.
 use Rattle.std.specs.Prelude.{ℕ, List}
 use Rattle.gobject.specs.Packs.{Indexes, IndexFails, LosesNothing, MayPack, PackFails, Packs}
 use Rattle.gobject.specs.declared.node.Entry.{Entry}

@@ -146,7 +146,7 @@ module _ {A : Type 0} (g : List (Entry A)) where
   follow [] a = inr (record { steps = zero; last = a; leads = refl; out = refl })
   follow (entry ∷ h) a = follow_more entry h (λ b. follow h b) a (follow h a)
 
-  -- an id outside the graph is not a tag, so each id peels to a commit or to no commit
+  -- whether an id peels to a commit can be decided, since an id outside the graph is not a tag
   pub peels_or_not : (a : List ℕ) → PeelsOrNot a
   peels_or_not a =
       elim (follow g a) [

@@ -42,7 +42,8 @@ module _ {A : Type 0} where
       (sym (ap parents_in grown ∙ flat_map-append (λ (entry : Entry A). entry.node.parents) (take p g) (e.0 ∷ []) ∙ ap (λ (l : List (List ℕ)). parents_in (take p g) ++ l) last))
       (All-append P (parents_in (take p g)) parents before here)
 
-  -- if no parent of the first `p` objects is missing, the first missing parent of the next object is the first of all
+  -- if no parent of the first `p` objects is missing, the first missing parent of the next object is the first missing
+  -- parent of all objects
   pub first_of_all : (g : List (Entry A)) (p : ℕ) (parents : List (List ℕ)) (id : List ℕ) → option_map (λ entry. entry.node.parents) (slice_get g p) ≡ Some parents
       → All (Holds g) (parents_in (take p g)) → IsFirstAbsent g parents id → IsFirstAbsent g (parents_in g) id
   first_of_all g p parents id at before first =

@@ -25,7 +25,7 @@ BeginsWith limits server asked (begun.Ready commons list) =
 BeginsWith limits server asked (begun.Acks commons) =
     (is_direct asked ≡ false) × (commons ≡ acks_for limits server asked) × ¬ (IsReadyFor server asked)
 
--- the server holds all wants, and `fetch` is the answer to a request with these limits before the objects are packed
+-- the server holds all wants, and `fetch` is the answer, before packing, to a request with these limits
 pub record BeginsFetch {A : Type 0} (limits : Limits) (server : Server A) (asked : FetchAsked)
     (fetch : BegunFetch A) : Type 0 where
   pub can : CanServe server asked

@@ -38,12 +38,12 @@ Adds old entry new (Err fault) = (new ≡ old) × IsNotAdded old entry fault
 
 -- ---- a ref
 
--- the reasons to reject a ref name: the refs reject the name, or the ref is new and memory runs out
+-- the reasons why the refs do not take a name: the name can't be set, or the name is new and memory runs out
 abbrev pub IsNotTaken : RefList → Name → RefsFault → Type 0
 IsNotTaken list name refs.Refs = CannotSet list name
 IsNotTaken list name refs.Memory = (ref_at list name ≡ None) × ¬ (CannotSet list name)
 
--- the reasons to reject a ref update: the server does not hold the id, or the refs reject the name
+-- the reasons to reject a ref update: the server does not hold the id, the name can't be set, or memory runs out
 abbrev pub IsNotSet : {A : Type 0} → Server A → Name → Id → BuildFault A → Type 0
 IsNotSet server name id (build.RefMissing missing) = (missing ≡ name) × (node_at server.graph.entries id ≡ None)
 IsNotSet server name id (build.Refs cause) = Holds server.graph.entries id × IsNotTaken server.refs name cause

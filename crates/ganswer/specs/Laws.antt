@@ -1,4 +1,4 @@
--- Laws about answers and changes, which follow from the definitions of answers and changes.
+-- Laws that follow from the definitions of answers and changes.
 use Rattle.std.specs.Prelude.{◌≡◌, ◌⊎◌, ◌≤◌, true, List, length, codes, All, Contains, None, Result, bytes_eq}
 use Rattle.std.specs.List.{IsDistinct}
 use Rattle.gname.specs.declared.formats.Format.{Format}

@@ -99,7 +99,7 @@ unborn_of server asked =
 
 -- ---- the answer
 
--- the reply lists the requested refs, HEAD first, and the name that an unborn HEAD points at
+-- the reply lists the requested refs, HEAD first, and, if requested, the name that an unborn HEAD points at
 pub record LsAnswer {A : Type 0} (server : Server A) (asked : LsRefsAsked) (reply : LsReply) : Type 0 where
   pub lines : ShowsLines server asked (all_refs server) reply.lines
   pub unborn : reply.unborn ≡ unborn_of server asked

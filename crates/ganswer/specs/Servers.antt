@@ -34,8 +34,8 @@ HoldsHead g heads.None = ⊤
 HoldsHead g (heads.Id id) = Holds g id
 HoldsHead g (heads.Symref target) = ⊤
 
--- a valid server: a valid graph that holds all parents, valid refs and a valid HEAD; the graph holds the id of each ref
--- and of a detached HEAD
+-- a valid server: the graph, the refs and HEAD are valid, and the graph holds all parents, the id of each ref, and the
+-- id of a detached HEAD
 pub record IsServer {A : Type 0} (server : Server A) : Type 0 where
   pub graph : IsGraph server.graph
   pub refs : IsRefs server.refs

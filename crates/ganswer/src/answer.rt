@@ -19,7 +19,8 @@ use std::alloc::Allocator;
 /// The answer of a server to a request.
 #[derive(Drop)]
 pub enum Reply<A: Allocator + Copy> {
-    /// The answer to the empty request, which is a lone flush packet: the server sends nothing.
+    /// The answer to the empty request: the server sends nothing. The empty request is a lone flush
+    /// packet.
     Nothing,
     /// The answer to an ls-refs request: a list of refs.
     Ls(LsReply<A>),
@@ -48,8 +49,8 @@ impl<A: Allocator + Copy> Server<A> {
     /// packer fails.
     ///
     /// The packer is asked for a pack at most once, and only if the answer contains a pack or the
-    /// packer fails. A fault of the packer is always reported, and `Memory` only if the packer was
-    /// not asked for a pack.
+    /// packer fails. A fault of the packer is always reported. `Memory` is reported only if the
+    /// packer was not asked for a pack.
     pub fn answer<K: Packer<A>>(
         &self,
         request: &Request<A>,

@@ -19,11 +19,11 @@ use std::fmt;
 /// The reason that a server could not be created or changed.
 #[derive(Debug, Drop)]
 pub enum BuildFault<A: Allocator + Copy = Global> {
-    /// The graph rejects the object (faults 60 to 64 and 75).
+    /// The graph rejects the object (faults 60 to 63 and 75), or memory runs out (fault 64).
     Graph(GraphFault),
     /// The refs reject the name (fault 69), or memory runs out (fault 64).
     Refs(RefsFault),
-    /// The graph does not hold this parent of an object (fault 70).
+    /// The graph does not hold this parent of one of its objects (fault 70).
     NotClosed { id: Oid },
     /// The graph does not hold the id of this ref (fault 71).
     RefMissing { name: RefName<A> },

@@ -39,8 +39,8 @@ impl<A: Allocator + Copy> Server<A> {
     /// does. The packer is asked for a pack at most once, and only if the answer contains a pack or
     /// the packer fails.
     ///
-    /// The packer's fault is always reported, and `Memory` only if the packer was not asked for a
-    /// pack.
+    /// A fault of the packer is always reported. `Memory` is reported only if the packer was not
+    /// asked for a pack.
     pub fn answer_fetch<K: Packer<A>>(
         &self,
         request: &FetchRequest<A>,
@@ -141,7 +141,7 @@ impl<A: Allocator + Copy> Server<A> {
         ready(self.graph(), request.wants(), commons).map_err(no_memory)
     }
 
-    // Returns the pack of the objects to send.
+    // Returns the pack of the objects to send. Only the contract uses `request`.
     fn pack<K: Packer<A>>(
         &self,
         request: &FetchRequest<A>,
@@ -182,7 +182,7 @@ impl<A: Allocator + Copy> Server<A> {
     }
 }
 
-// Converts a fault of a graph walk to `Memory`, since a graph walk fails only if memory runs out.
+// Returns `Memory` for a fault of a graph walk, since a graph walk fails only if memory runs out.
 fn no_memory(fault: GraphFault) -> ServeFault
     requires { fault ≡ OutOfMemory }
     ensures { result ≡ Memory }

@@ -5,23 +5,23 @@
 //!
 //! - [`Server::new`] returns a server with exactly the given graph, refs and HEAD. The graph of a
 //!   server always holds all parents of its objects, the id of each ref, and the id of a detached
-//!   HEAD. If an object is missing, [`Server::new`] reports the first missing object, in a fixed
-//!   order.
+//!   HEAD. If objects are missing, [`Server::new`] reports the first missing parent, otherwise the
+//!   first ref with a missing id, otherwise a detached HEAD.
 //! - [`Server::add`] adds at most one object, [`Server::set_ref`] sets one ref, and
-//!   [`Server::set_head`] sets HEAD. These calls make no other changes. A call that fails reports
-//!   the first reason and changes nothing.
+//!   [`Server::set_head`] sets HEAD. These calls make no other changes. A failed call changes
+//!   nothing, and reports a missing object before any fault of the graph or of the refs.
 //! - [`Server::answer`] returns an answer that `specs/Answers.antt` allows for the request, with
 //!   any packer. For ls-refs the answer lists the requested refs with the requested attributes:
 //!   HEAD first, then the names in byte order. For fetch the answer is the common ids, the pack of
 //!   the objects to send, or both. A fetch request is refused only if it has no wants, the server
-//!   does not hold a want, the packer fails, or memory runs out. The fault contains the first want
-//!   that the server does not hold. The ids of an answer have the format of the graph, and its
-//!   acknowledgments have the limits of the request. For any limits, no request fails because its
-//!   answer has too many lines or too many ids.
+//!   lacks one of the wants, the packer fails, or memory runs out. The fault `NotOurs` contains the
+//!   first want that the server does not hold. The ids of an answer have the object format of the
+//!   graph. The acknowledgments of an answer have the limits of the request. For any limits, no
+//!   request fails because its answer has too many lines or too many ids.
 //! - [`Server::answer`] uses exactly one result of the packer if the answer contains a pack or the
-//!   packer fails. In all other cases, `answer` uses no result of the packer. A fault of the packer
-//!   is never replaced by out of memory (`specs/OnePack.antt`). After a failure, the packer is not
-//!   asked for another pack ([`OnePack`]).
+//!   packer fails. In all other cases, `answer` uses no result of the packer. If the packer fails,
+//!   its fault is reported, and never an out-of-memory fault of the server (`specs/OnePack.antt`).
+//!   After a failure, the packer is not asked for another pack ([`OnePack`]).
 //! - [`Server::answer_fetch`] has the same contract, but accepts only fetch requests.
 //! - [`Server::begin_fetch`] returns the answer to a fetch request before the objects are packed
 //!   (`specs/BegunFetches.antt`). The caller can then pack the objects in parts.
@@ -29,7 +29,7 @@
 //!   if the sink fails.
 //! - [`Server::advert`] fails only if memory runs out. The advertisement contains `agent=gitv2/1`,
 //!   `ls-refs=unborn`, `fetch`, and the format of the graph's ids.
-//! - By [`laws`], a client of the same object format can read and accept the advertisement. A
+//! - By [`laws`], a client of the server's object format can read and accept the advertisement. A
 //!   server has exactly one answer to each ls-refs request, and holds the id of each line of the
 //!   answer. With a faithful packer, a server has at most one answer to each request of any kind.
 //!   Acknowledged ids are haves of the request that the server holds. Consider a client that holds
@@ -63,7 +63,7 @@
 //!
 //! `ggraph` re-exports graphs, refs, walks and packers from `gobject`, `gdag`, `grefs` and `gwalk`.
 //! `grequest`, `glsreply`, `gfetchreply` and `ghello` define the messages, and `gname` defines ids
-//! and names. The crates of messages share `ggrammar` and `gpkt`.
+//! and names. The four message crates share the code of `ggrammar` and `gpkt`.
 #![tactic(auto)]
 
 mod advert;

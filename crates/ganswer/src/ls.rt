@@ -225,8 +225,8 @@ fn begins_with_any<A: Allocator + Copy>(prefixes: &[Prefix<A>], name: &RefName<A
     prefixes.iter().any(|prefix| name.starts_with(prefix))
 }
 
-// Converts a fault of adding a line to `Memory`. The reply has room for the line, so only memory
-// can run out.
+// Returns `Memory` for the fault of a line that could not be added. The reply has room for the
+// line, so the only possible cause is a lack of memory.
 fn no_memory(fault: MessageFault) -> ServeFault
     requires { fault.why ≡ why.Memory }
     ensures { result ≡ Memory }

@@ -239,8 +239,8 @@ fn first_missing_parent<A: Allocator + Copy>(graph: &Graph<A>) -> Option<Oid>
     None
 }
 
-// Returns the peeled ids of the refs, or fewer ids if memory runs out. Fails with the index of the
-// first ref whose id the graph does not hold.
+// Returns the peeled ids of the refs, or an empty list if memory runs out. Fails with the index of
+// the first ref whose id the graph does not hold.
 fn check_refs<A: Allocator + Copy>(
     graph: &Graph<A>,
     refs: &[(RefName<A>, Oid)],

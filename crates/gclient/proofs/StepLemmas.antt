@@ -126,7 +126,7 @@ module _ {W : Type 0} (contents passed_on : W → Option (List ℕ)) (is_down : 
 -- ---- consecutive parts of the output
 
 module _ {W : Type 0} (contents passed_on : W → Option (List ℕ)) (is_down : W → Bool) where
-  -- if nothing was written from `a` to `b`, the bytes flushed from `b` to `c` are all bytes flushed from `a` to `c`
+  -- if nothing was written from `a` to `b`, exactly the bytes flushed from `b` to `c` are flushed from `a` to `c`
   unwritten_passes : (a b c : W) (xs : List ℕ) → IsUnwritten (output_of contents passed_on is_down a b)
       → Passes (output_of contents passed_on is_down b c) xs → Passes (output_of contents passed_on is_down a c) xs
   unwritten_passes a b c xs still next = record {

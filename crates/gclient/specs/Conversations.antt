@@ -1,5 +1,5 @@
 -- A client's conversation with a server, from the advertisement to the update of the local refs (gitprotocol-v2(5),
--- "Initial Client Request" and "Command Request"). The definitions relate the bytes that the client writes to the bytes
+-- "Initial Client Request" and "Command Request"). The definitions state which bytes the client writes for the bytes
 -- that it reads.
 use Rattle.std.specs.Prelude.{◌≡◌, ◌⊎◌, ℕ, ◌≤◌, false, List, [], ◌∷◌, ◌++◌, length, Option, None, Some, Result, Ok, Err}
 use Rattle.std.specs.List.{flat_map}

@@ -21,7 +21,7 @@ pub enum FetchFault<A: Allocator + Copy = Global> {
     Client(ClientFault<A>),
     /// Fault 28: there is not enough memory for the reader's buffer. Nothing was read.
     NoBuffer,
-    /// Fault 27: the sink failed. A prefix of the requests was written.
+    /// Fault 27: the sink failed. A prefix of the client's output was written.
     WriteFailed,
 }
 

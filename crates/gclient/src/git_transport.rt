@@ -29,8 +29,8 @@ use std::alloc::Allocator;
 pub struct GitFetch<'a, A: Allocator + Copy> {
     /// The first line, which names the requested path.
     pub hello: &'a Hello<A>,
-    /// The refspecs, at most 16. If several refspecs map to the same local ref, only the first of
-    /// them applies.
+    /// The refspecs, at most 16. If several updates would be for the same local ref, the client
+    /// requests only the first.
     pub specs: &'a [Spec<A>],
     /// The maximum size of a pack in bytes.
     pub limit: StreamLimit,
@@ -40,7 +40,7 @@ pub struct GitFetch<'a, A: Allocator + Copy> {
     pub options: PackOptions,
 }
 
-/// Fetches the refs that match the refspecs from a server (gitprotocol-pack(5), "Git Transport").
+/// Fetches those refs of a server that match the refspecs (gitprotocol-pack(5), "Git Transport").
 /// Writes and flushes the first line, which names the requested path, and continues like
 /// [`fetch_over_with`].
 ///

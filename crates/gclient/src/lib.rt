@@ -18,8 +18,8 @@
 //!   the client reads nothing. Later faults are a malformed advertisement, an unsupported server,
 //!   and the faults of requests, replies and ref updates (see `gsession`). The client reports a
 //!   failed source exactly when the source failed.
-//! - If the sink fails, all earlier requests were flushed, and a prefix of the next request was
-//!   written.
+//! - If the sink fails while the client sends a request, all earlier requests were flushed, and a
+//!   prefix of this request was written.
 //! - After every fault the refs are unchanged. In all cases the graph only gains objects, and each
 //!   ref stays connected.
 //! - A conversation has at most N + 1 requests for objects, if the local refs reached N ids at the

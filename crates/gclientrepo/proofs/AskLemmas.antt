@@ -48,7 +48,7 @@ module _ (A : Type 0) where
       ap asks_here (is ∙ insert_entry-new (pointwise nat_eq) m name aim (none_there (lookup (pointwise nat_eq name) m.entries) (asked_pairs m.entries name ∙ absent)))
       ∙ map-append (λ (pair : List ℕ × Aim). ask_of_aim pair) m.entries ((name, aim) ∷ [])
 
-  -- adding a requested update of a ref that the list does not yet have
+  -- adding a requested update of a ref for which the list has no update yet
   pub with_ask_new : (asks : List (Ask A)) (ask : Ask A) → is_asked asks ask.name ≡ false → with_ask asks ask ≡ asks ++ ask ∷ []
   with_ask_new asks ask absent = ap (λ (b : Bool). if b then asks else asks ++ ask ∷ []) absent
 

@@ -55,7 +55,7 @@ found_step other refs ref true e is rest =
     (0, omega arith, ap (λ (n : List ℕ). (n, other.1)) name ∙ ap (λ (i : List ℕ). (ref.0, i)) id)
 found_step other refs ref false e is rest = contains_tail other refs ref (rest (sym (ref_at-skip other refs ref.0 e) ∙ is))
 
--- a ref whose id a look-up finds is in the list
+-- if a look-up finds the id of a ref, the ref is in the list
 found_there : (refs : RefList) (ref : List ℕ × List ℕ) → ref_at refs ref.0 ≡ Some ref.1 → Contains refs ref
 found_there [] ref is = absurd (none-some ref.1 is)
 found_there (other ∷ refs) ref is = found_step other refs ref (bytes_eq other.0 ref.0) refl is (λ rest. found_there refs ref rest)
@@ -82,7 +82,7 @@ module _ {A : Type 0} where
         | inr stays ↦ inl (found_there old ref (sym (settles.others ref.0 stays) ∙ own))
       ]) new (own_look_up law new are)
 
-  -- all marked objects are connected after the objects that connected ids reach are marked
+  -- after the objects that connected ids reach are marked, all marked objects are still connected
   marks_connected : ReachingGoesOn A → (g : List (Entry A)) (ids : List (List ℕ)) (old new : List Bool) → All (IsConnected g) ids → AreConnected g old → MarksReached g ids old new → AreConnected g new
   marks_connected goes_on g ids old new connected were reached place marked = by (slice_get g place) refl
     where

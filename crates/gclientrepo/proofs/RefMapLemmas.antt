@@ -92,7 +92,7 @@ copied_more law refs place ref are inside is =
 
 -- ---- the number of refs
 
--- the number of refs that a set adds: 1 if a look-up finds no id, otherwise 0
+-- the number of refs that setting a ref adds: 1 if a look-up finds no id, otherwise 0
 abbrev pub more_where : Option (List ℕ) → ℕ
 more_where found = if is_some found then 0 else 1
 
@@ -108,7 +108,7 @@ count_there (Some id) some = refl
 abbrev pub CountsSet : RefList → List ℕ → RefList → Type 0
 CountsSet old name new = length new ≡ length old + more_where (lookup (is_at (order name)) old)
 
--- a name that can be set already has a ref, or there is room for one more ref
+-- if a name can be set, the name already has a ref, or there is room for one more ref
 pub room_for : (old : RefList) (name : List ℕ) (there : Option (List ℕ)) → ref_at old name ≡ there → ¬ (CannotSet old name)
     → length old ≤ max_refs → (length old < max_refs) ⊎ (ref_at old name ≢ None)
 room_for old name (Some id) is can few = inr (λ none. none-some id (sym none ∙ is))

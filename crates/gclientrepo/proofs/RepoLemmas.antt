@@ -85,11 +85,12 @@ module _ {A : Type 0} where
   pub needs_walk : (g : List (Entry A)) (ids : List (List ℕ)) (ordered : Bool) → All (Holds g) ids → IsTrue ordered ↔ IsOrdered g → ordered ≡ false → NeedsWalk g ids
   needs_walk g ids ordered held is out = record { held = held; unordered = λ first. false≢true (sym out ∙ is.1 first) }
 
-  -- one of the ids that the graph does not hold is missing
+  -- an id is missing if it is one of `ids` and the graph does not hold it
   pub absent_misses : (g : List (Entry A)) (ids : List (List ℕ)) (a : List ℕ) → Contains ids a → node_at g a ≡ None → Misses g ids (Some a)
   absent_misses g ids a there absent = ((a, there, here), absent)
 
-  -- a repository of connected refs and of marks for every object that the refs reach is connected
+  -- a repository is connected if its refs are connected, its marked objects are connected, and every object that the
+  -- refs reach is marked
   pub connected_opened : (g : History A) (refs : RefList) (known : List Bool) → All (IsConnected g.entries) (values_of refs) → AreConnected g.entries known
       → MarksReached g.entries (values_of refs) [] known → IsConnectedRepo (record { graph = g; refs = refs; known = known })
   connected_opened g refs known connected_refs connected marks = record {

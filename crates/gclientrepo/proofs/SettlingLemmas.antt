@@ -28,7 +28,7 @@ not_new None some = absurd (some refl)
 not_new (Some id) some = refl
 
 module _ {A : Type 0} where
-  -- the state before the first update is settled
+  -- an empty list of requested updates is settled if the refs are unchanged
   pub settles_none : (g : List (Entry A)) (old : RefList) → HasSettled g old [] [] old
   settles_none g old = record {
     settles = record { each = tt; asked = All-nil (λ (ask : Ask A). MayMove g old ask → ref_at old ask.name ≡ Some ask.id); others = λ name all. refl };

@@ -1,3 +1,3 @@
--- The steps: definitions that only private functions and proofs use.
+-- Definitions that only private functions and proofs use.
 pub mod Repos
 pub mod Settling

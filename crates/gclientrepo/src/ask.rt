@@ -17,9 +17,9 @@ pub struct Ask<A: Allocator + Copy = Global> {
 /// The outcome of a requested ref update.
 #[derive(Clone, Copy, Debug, PartialEq, Eq, Drop)]
 pub enum RefUpdate {
-    /// The ref was set to the id: the ref was new, or the update was forced or a fast-forward.
+    /// The ref was set to the new id: the ref was new, or the update was forced or a fast-forward.
     Moved,
-    /// The ref already had this id.
+    /// The ref already had the new id.
     Same,
     /// The ref is unchanged, because the update is not a fast-forward.
     NotForward,

@@ -11,8 +11,8 @@ use std::alloc::{AllocError, Allocator, Global};
 use std::hash::{BuildHasherDefault, DefaultHasher};
 use std::marker::Model;
 
-/// The hasher of ref names. A malicious peer could choose names with equal hashes, which are easy
-/// to find for a fast hasher, but not for `DefaultHasher`.
+/// The hasher of ref names. With a fast hasher, a malicious peer could easily find names with equal
+/// hashes. With `DefaultHasher`, the peer cannot find them easily.
 type NameHasher = BuildHasherDefault<DefaultHasher>;
 
 /// The new id of a ref, and whether the update is forced.

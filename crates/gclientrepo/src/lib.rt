@@ -6,14 +6,15 @@
 //! - [`Repo::new`] returns a repository of exactly the given objects and refs, if each ref is
 //!   connected. Otherwise the call reports the first unconnected ref, in the order of the names.
 //! - After each call every ref and every marked object is connected, and every object that a ref
-//!   reaches is marked. The invariant is a postcondition of [`Repo::format`] and of each method
+//!   reaches is marked. This invariant is a postcondition of [`Repo::format`] and of each method
 //!   that changes a repository.
 //! - [`Repo::add_local`] adds an object exactly when the repository holds its parents and the graph
 //!   accepts the object. The first missing parent is reported before any fault of the graph.
 //! - [`Repo::insert_all`] adds all objects of a pack or no objects, and accepts objects whose
 //!   parents are missing. The call leaves marks and refs unchanged.
-//! - [`Repo::set_local_ref`] sets a ref exactly when the new id is connected and the ref can be
-//!   set. This call checks both conditions before it allocates memory for the ref.
+//! - [`Repo::set_local_ref`] sets a ref only if the new id is connected, the ref is not HEAD, and
+//!   there would not be too many refs. The call checks these conditions before it allocates memory
+//!   for the ref. If the conditions hold, the call fails only if memory runs out.
 //! - [`Asks`] is a list of requested ref updates. The list keeps only the first update that was
 //!   added for each ref. Methods look up the ref, the id and the force flag of an update by index.
 //! - [`Repo::settle`] makes all allowed updates of refs at once, and leaves all other refs
@@ -23,7 +24,8 @@
 //!   refs (`RepoFault::Refs`) only if all ids are connected and the refs can be set.
 //! - If each object of the graph was added after its parents, no check needs a walk, so a lack of
 //!   memory does not hide any other fault. In any other graph, a lack of memory for a walk
-//!   (`RepoFault::Graph`) may hide an unconnected ref or id, but never an absent id.
+//!   (`RepoFault::Graph`) may hide an unconnected ref or id. In [`Repo::missing`], `set_local_ref`
+//!   and `settle`, a lack of memory never hides a given id that the repository does not hold.
 //! - A failed call leaves the repository and its marks unchanged.
 //! - [`Repo::missing`] returns an id that one of the given ids reaches and that the repository does
 //!   not hold, if there is such an id.
@@ -53,9 +55,9 @@
 //! options, such as a width.
 //!
 //! No contract bounds the time or the memory of a call. In this implementation, adding a requested
-//! update takes one hash look-up of the ref's name. Settling `n` updates of `r` refs takes time
-//! proportional to `(n + r) log r`. Settling also walks over the graph for each update of an
-//! existing ref to a different id, unless the update is forced.
+//! update takes one hash look-up of the ref's name. Settling `n` updates takes time proportional to
+//! `(n + r) log r`, if the repository has `r` refs afterwards. Settling also walks over the graph
+//! for each update of an existing ref to a different id, unless the update is forced.
 //!
 //! # Dependencies
 //!

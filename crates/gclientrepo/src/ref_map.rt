@@ -11,7 +11,8 @@ use std::alloc::{AllocError, Allocator};
 use std::collections::BTreeMap;
 use std::marker::Model;
 
-/// A map of refs. An insertion does not shift all later refs, as it would in a sorted list.
+/// A map of refs. An insertion into a sorted list would shift all later refs, but an insertion into
+/// this map does not.
 #[derive(Drop)]
 pub(crate) struct RefMap<A: Allocator + Copy> {
     refs: BTreeMap<RefName<A>, Oid, A>,

@@ -193,7 +193,7 @@ impl<A: Allocator + Copy> Repo<A> {
     /// Sets a ref to a connected id, even if the move is not a fast-forward. First marks every
     /// object that the id reaches.
     ///
-    /// Fails with `UnconnectedId` if the repository does not hold an id that the new id reaches.
+    /// Fails with `UnconnectedId` if the new id reaches an id that the repository does not hold.
     /// Otherwise fails with `Refs` if the ref is HEAD or if there would be too many refs. Otherwise
     /// fails only if out of memory. If [`Repo::missing`] needs a walk, out of memory for the walk
     /// (`Graph`) may be reported instead of these faults. A failed call leaves the repository
@@ -233,7 +233,7 @@ impl<A: Allocator + Copy> Repo<A> {
     /// requested update, in the order of the list. Each outcome is determined from the refs before
     /// the call. Before it moves any ref, the call marks every object that the new ids reach.
     ///
-    /// Fails with `NotConnected` if the repository does not hold an id that the new ids reach.
+    /// Fails with `NotConnected` if the new ids reach an id that the repository does not hold.
     /// Otherwise fails with `Refs` if an update is for HEAD or if there would be too many refs.
     /// Otherwise fails only if out of memory. If [`Repo::missing`] needs a walk, out of memory for
     /// the walk (`Graph`) may be reported instead of these faults. A failed call leaves the
@@ -311,8 +311,8 @@ impl<A: Allocator + Copy> Repo<A> {
     }
 }
 
-// Returns marks of every object that the refs reach. Requires that the refs are connected. Fails
-// only if out of memory.
+// Marks every object that the refs reach, and returns the marks. Requires that the refs are
+// connected. Fails only if out of memory.
 fn marks_of<A: Allocator + Copy>(
     graph: &Graph<A>,
     refs: &Refs<A>,

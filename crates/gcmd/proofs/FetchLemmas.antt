@@ -1,4 +1,4 @@
--- The client's repository of a file, and saving this repository as text.
+-- The client's repository that a file describes, and saving this repository as text.
 use Rattle.std.proofs.Common.{◌≡◌, ℕ, List, All, Ok, Err, refl, sym, ap, subst, ◌∙◌}
 use Rattle.std.proofs.lemmas.List.{append-nil}
 use Rattle.gdag.proofs.OrderLemmas.{all_at}

@@ -144,7 +144,7 @@ ShowsSome-failed input output down (lines, read, put) = (lines, read, inl put)
 
 -- ---- packets
 
--- the lines of several packets, and of one more packet
+-- after one more packet is appended, its line follows the lines of the earlier packets
 shown_lines-push : (lines : List Packet) (line : Packet) → shown_lines (lines ++ line ∷ []) ≡ shown_lines lines ++ shown_line line
 shown_lines-push [] line = append-nil (shown_line line)
 shown_lines-push (first ∷ lines) line =

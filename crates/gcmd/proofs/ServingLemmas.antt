@@ -23,7 +23,8 @@ names_server file parts server names same whole = record { names = subst (NamesP
 
 -- ---- parents of the objects in a file
 
--- if `P` holds for all elements of `f x`, for each `x` of a list, then it holds for all elements of `flat_map f`
+-- if `P` holds for all elements of `f x`, for each `x` of a list `xs`, then `P` holds for all elements of
+-- `flat_map f xs`
 all_parts : {X Y : Type 0} (f : X → List Y) (P : Y → Type 0) (xs : List X)
     → ((front : List X) (x : X) (rest : List X) → xs ≡ front ++ x ∷ rest → All P (f x)) → All P (flat_map f xs)
 all_parts f P [] each = All-nil P

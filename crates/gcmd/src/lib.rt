@@ -17,17 +17,18 @@
 //!   served repository from a file, and send plain packs (`specs/Serving.antt`). `gserve` specifies
 //!   what both programs read and write. [`cmd_upload`] succeeds if the client ends the connection,
 //!   the input ends before a request, or the limit of requests is reached. [`cmd_ls`] succeeds if
-//!   the request gets a reply or is a lone flush packet, or if the input is empty. In every other
-//!   case the fault is the refusal of a request or a failure of the output. The served file must be
-//!   the text of a repository. Each parent must precede its children, and the objects of all refs
-//!   and of a detached HEAD must be present. With any other file nothing is read or written. The
-//!   fault then gives the number of the malformed line, or names the ref or HEAD.
+//!   the request gets a reply or is a lone flush packet, or if the input is empty. If serving
+//!   fails, the fault is the refusal of a request or a failure of the output. The served file
+//!   must be the text of a repository. Each parent must precede its children, and the objects of
+//!   all refs and of a detached HEAD must be present. With any other file nothing is read or
+//!   written. The fault then gives the number of the malformed line, names the ref or HEAD whose
+//!   object is missing, or reports that memory ran out.
 //! - [`cmd_fetch`] opens the repository that a client's file describes, and fetches into the
 //!   repository with plain packs (`specs/Fetching.antt`). `gclient` specifies the conversation. The
-//!   file must be the text of a repository without HEAD whose refs are all connected. With any
-//!   other file nothing is read or written. If the conversation succeeds, the new file is the text
-//!   of the repository after the fetch. The fetch only adds objects, every ref is connected, and
-//!   each allowed update of a ref was made. The report (`specs/Reporting.antt`) is written and
+//!   file must be the text of a repository that has no HEAD and whose refs are all connected. With
+//!   any other file nothing is read or written. If the conversation succeeds, the new file is the
+//!   text of the repository after the fetch. The fetch only adds objects, every ref is connected,
+//!   and each allowed update of a ref was made. The report (`specs/Reporting.antt`) is written and
 //!   flushed. If the sink for the report fails, a prefix of the report is written. If memory for
 //!   the report runs out, there is a new file without a report. After any other fault there is no
 //!   new file and no report.

@@ -27,8 +27,8 @@ const MAX_DATA_HEAD: usize = 25;
 const CHUNK: usize = 512;
 
 /// `gitv2 lines`: shows each packet of `input` on a line of `output`, until the input ends
-/// (gitprotocol-common(5), "pkt-line Format"). A line is `data` with the length and the hexadecimal
-/// digits of the payload, `flush`, `delim` or `response-end`. The program reads at most
+/// (gitprotocol-common(5), "pkt-line Format"). A line is `flush`, `delim` or `response-end`, or is
+/// `data` with the length and the hexadecimal digits of the payload. The program reads at most
 /// 4,294,967,295 packets.
 ///
 /// Returns exit status 0 if all packets are shown and flushed. Otherwise prints a fault as one line

@@ -20,7 +20,8 @@ use std::alloc::Allocator;
 /// one line on `errors`.
 ///
 /// Returns exit status 0 if the request got a reply or was a lone flush packet, or if the input was
-/// empty. Returns 1 after a fault. The program flushes all output before the call returns.
+/// empty. Returns 1 after a fault. If the output does not fail, all of it is flushed before the
+/// call returns.
 pub fn cmd_ls<A: Allocator + Copy, S: Source, W: Sink, E: Sink>(
     alloc: A,
     file: &[u8],

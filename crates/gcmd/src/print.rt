@@ -108,7 +108,8 @@ impl<'a> FaultLine<'a> {
         }
     }
 
-    // Returns the line for a repository that can't be served, with the missing ref or id.
+    // Returns the line for a repository that can't be served, with the id in the fault, or the name
+    // of the ref whose object is missing.
     fn of_build<A: Allocator + Copy>(fault: &'a BuildFault<A>) -> FaultLine<'a>
         ensures row { row_view result ≡ printed_of_build fault.now }
         ensures short { IsShort result }
@@ -147,8 +148,8 @@ impl<'a> FaultLine<'a> {
         }
     }
 
-    // Returns the line for a fault of the client. The line has the position of the packet, the line
-    // of the pack, the id, and the ref name or the error text of the peer.
+    // Returns the line for a fault of the client. The line shows these parts if the fault has them:
+    // the packet's position, the line number in the pack, and an id, a ref name or an error text.
     fn of_client<A: Allocator + Copy>(fault: &'a ClientFault<A>) -> FaultLine<'a>
         ensures row { row_view result ≡ printed_of_client fault.now }
         ensures short { IsShort result }
@@ -211,7 +212,7 @@ fn as_number(place: Option<usize>) -> Option<u64>
     place.map(|place| place as u64)
 }
 
-// Appends a word and a number. Appends nothing if `place` is `None`.
+// Appends the word and the number `place`, or nothing if `place` is `None`.
 fn add_place(word: &[u8], place: Option<u64>, text: &mut ArrayVec<u8, MAX_FAULT_LINE>)
     requires { length text.old.items + length word.now + max_decimal ≤ max_fault_line }
     ensures text { text.new.items ≡ text.old.items ++ number_part word.now place }

@@ -21,7 +21,7 @@ use std::alloc::Allocator;
 ///
 /// Returns exit status 0 if the client ended the connection with a lone flush packet, the input
 /// ended before a request, or the connection reached 4,294,967,295 requests. Returns 1 after a
-/// fault. The program flushes all output before the call returns.
+/// fault. If the output does not fail, all of it is flushed before the call returns.
 pub fn cmd_upload<A: Allocator + Copy, S: Source, W: Sink, E: Sink>(
     alloc: A,
     file: &[u8],

@@ -197,9 +197,9 @@ pub fn counts_stay<A: Allocator + Copy>()
 
 /// Proves that level `k` of a search from the tips has exactly the ids at distance `k` from the
 /// tips. The distance of an id is the length of the shortest path from a tip to that id. Each step
-/// of a path leads from an object to a parent. No id occurs twice, either in one level or in two
-/// levels. All levels together have at most as many ids as there are tips and parents, so only
-/// finitely many levels have ids.
+/// of a path leads from an object to a parent. Each id occurs at most
+/// once in all levels together. All levels together have at most as many ids as there are tips and
+/// parents, so only finitely many levels have ids.
 pub fn levels_are_distances<A: Allocator + Copy>()
     ensures { LevelsAreDistances A }
 {}

@@ -119,7 +119,7 @@ module _ {S M R : Type 0} (judge : S → Judge) (brings : S → List Packet → 
         t.1,
       )
 
-  -- a dialogue that starts with this reply opens with it
+  -- if `opens` allows all packets that may complete this reply, a new dialogue may send the reply first
   pub opens_with : (side : S) (reply : R) → ((packets : List Packet) (goes : Bool) → may reply packets goes → opens side packets goes)
       → Saying side reply no_talk
   opens_with side reply opened = record { first = side; due = λ rest goes h. so_far rest goes (opened rest goes h) }
@@ -134,7 +134,7 @@ module _ {S M R : Type 0} (judge : S → Judge) (brings : S → List Packet → 
       → IsWhole (judge side) lines → message_holds message lines
       → MayAnswer may result packets goes → answers side lines packets goes after
 
-  -- equal lists of packets and equal stop reasons describe the same end of a dialogue
+  -- equal lists of packets and equal stop reasons describe the same ending of a dialogue
   ends_so : (first after : S) (heard all said : List Packet) (stop stopped : Option Stop) → all ≡ heard → stopped ≡ stop
       → Ended first heard stop said after
       → Ended first all stopped said after

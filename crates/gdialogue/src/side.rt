@@ -14,7 +14,7 @@ use std::alloc::Allocator;
 pub enum Said {
     /// More packets of the reply follow.
     More,
-    /// The reply is complete, and the dialogue continues.
+    /// The reply is complete, and does not itself end the dialogue.
     Whole,
     /// The reply is complete, and the dialogue has ended.
     Last,
@@ -78,7 +78,7 @@ pub trait Side<M: Message, R: Reply> {
     // The maximum number of further messages that the side answers without ending the dialogue.
     ghost messages: { Self → ℕ };
 
-    /// Returns the message to receive next, before its first packet.
+    /// Returns the state of the next message, before any of its packets is received.
     fn message(&self) -> M
         ensures holds { M.holds result [] }
         ensures judge { M.judge result ≡ judge self.now }

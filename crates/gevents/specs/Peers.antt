@@ -22,7 +22,7 @@ written_count (Ok count) = count
 written_count (Err fault) = 0
 
 module _ {C A : Type 0} (holds : C → Talk → Type 0) where
-  -- the state of the connection matches some received and sent bytes, and `count` is the number of sent bytes
+  -- the state of the connection matches some received and sent bytes, and `count` is the saturated number of sent bytes
   pub record IsCounted (connection : Connection C A) (count : ℕ) : Type 0 where
     pub received : Bytes
     pub sent : Bytes

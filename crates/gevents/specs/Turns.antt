@@ -52,7 +52,8 @@ module _ {C A : Type 0} {ghosts : Ghosts C} where
     pub sent : ended.sent ≡ peer.sent
     pub how_it_ended : ended.end ≡ how
 
-  -- the loop returns the connection of the peer at a key, if there is a peer at this key
+  -- the loop returns the connection of the peer at a key, or `None` if the key has no peer or that connection had ended
+  -- earlier
   abbrev pub HandsOut : Option (Slot C A ghosts) → End → Option (Ended C A ghosts) → Type 0
   HandsOut (Some (slot.Talks peer)) how result =
       (ended : Ended C A ghosts) × (result ≡ Some ended) × IsEndOf peer how ended

@@ -116,8 +116,8 @@ impl<C: Conversation + Drop, A: Allocator + Copy> EventLoop<'_, C, A> {
     }
 }
 
-// Returns whether connections may still be pending after this error of an accept (accept(2)). Fails
-// if no further connection can be accepted.
+// Returns whether connections may still be pending after accepting a connection failed with this
+// error (accept(2)). Fails if no further connection can be accepted.
 fn pending_after(error: io::Error) -> io::Result<Pending> {
     match error.kind() {
         ErrorKind::WouldBlock => Ok(Pending::None),

@@ -14,7 +14,7 @@
 //!   the whole connection. If a peer sends too late, the loop notifies the conversation that the
 //!   source failed, and the conversation may send its last packets. Any other late peer is
 //!   disconnected. A late peer first has one more turn, because its socket may be ready but not
-//!   reported yet. A peer whose whole connection lasted too long has no further turn.
+//!   reported yet. Only a peer whose whole connection lasted too long has no further turn.
 //! - A connection allocates memory for received bytes only when the first byte arrives. Before the
 //!   first byte, a connection needs a few hundred bytes and the memory of its conversation. The
 //!   send queue of a connection has room for two packets of the maximum size. The loop frees the
@@ -39,8 +39,8 @@
 //!   (`HearsOnce`). After a successful read the conversation is not notified of a failed source.
 //! - For any writer, exactly the accepted bytes are counted as sent, and removed from the queue of
 //!   pending bytes.
-//! - Only one private function notifies a conversation of a failed source, as its contract states.
-//!   No contract states when this function is called.
+//! - The contract of a private function states that the function notifies a conversation of a
+//!   failed source. No contract states when this function is called.
 //! - No call panics, overflows or reads out of bounds, and each call returns.
 //!
 //! # Only tested

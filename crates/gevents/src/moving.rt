@@ -25,8 +25,8 @@ const PIECE: usize = 4_096;
 // the conversation queue packets.
 const MOVES: u32 = 256;
 
-// The number of steps of a turn that may queue packets without ending the turn. The next such step
-// ends the turn.
+// In one turn, this number of steps may queue packets without ending the turn. The next step that
+// may queue packets ends the turn.
 const SPEAK_CALLS: u32 = 16;
 
 /// The state of a peer after its turn.
@@ -42,7 +42,7 @@ pub(crate) enum After {
 
 // The outcome of one step of a turn.
 enum Move {
-    // Bytes were sent, or the conversation was notified of a failed source.
+    // Bytes were sent, a call was interrupted, or the conversation was notified of a failed source.
     Moved,
     // Bytes or the end of the input were received.
     Heard,
@@ -56,8 +56,8 @@ enum Move {
 
 impl<C: Conversation, A: Allocator + Copy> Peer<C, A> {
     /// Moves bytes until the socket would block, the connection has ended, or the turn reaches its
-    /// limits. The turn also ends when bytes arrive after the conversation queued packets, because
-    /// computing the next answer may take long.
+    /// limits. The turn also ends when bytes arrive after the conversation has queued packets,
+    /// because computing the next answer may take a long time.
     pub(crate) fn advance(&mut self, now: Instant, limits: &Limits) -> After
         ensures { EndsBy C.turn self.new.connection result }
     {

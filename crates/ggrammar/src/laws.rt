@@ -68,8 +68,8 @@ pub fn texts_are_read()
     text_reads_back();
 }
 
-/// Proves that consecutive writes of packets have the effect of one write of all the packets. If
-/// one of the writes fails, the write of all the packets fails. Before the first write, all packets
+/// Proves that several writes of packets in a row have the effect of one write of all the packets.
+/// If one of them fails, the one write fails too. Before the first write, all packets
 /// of a message remain to be written. After the last write, none remains.
 pub fn writes_packets<W: Sink>()
     ensures line { WritesPacket W.contents W.passed_on W.is_down W.loans }

@@ -22,7 +22,7 @@ NotUpper c = is_ascii_uppercase c ≡ false
 abbrev glyph : ℕ → ℕ
 glyph v = if nat_lt v 10 then 48 + v else 87 + v
 
--- whether the table has the digit for the value at position `v`
+-- whether the digit at position `v` of the table is the lower-case digit for the value `v`
 abbrev stands : ℕ → Bool
 stands v = slice_index lower_digits v == glyph v
 
@@ -64,7 +64,7 @@ both_ok : {A B : Type 0} (r : Result A FromHexError) (f : A → Result B FromHex
 both_ok (Ok x) f y h = (x, refl, h)
 both_ok (Err e) f y h = cc h
 
--- a digit that was decoded, and its value
+-- if `digit_or_error` returns `Ok v`, its argument `o` is `Some v`
 digit_some : (c i : ℕ) (o : Option ℕ) (v : ℕ) → digit_or_error c i o ≡ Ok v → o ≡ Some v
 digit_some c i (Some w) v h = ap Some (ap (λ (r : Result ℕ FromHexError). result_unwrap_or r 0) h)
 digit_some c i None v h = cc h

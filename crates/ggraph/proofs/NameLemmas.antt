@@ -1,4 +1,4 @@
--- Out of memory for names.
+-- If memory runs out for a name, the name is a valid ref name.
 use Rattle.std.proofs.Common.{◌≡◌, ◌⊎◌, inl, inr, ℕ, List, None, Some, ap, ◌∙◌}
 use Rattle.gname.specs.Names.{IsRefName, name_fault}
 use Rattle.gname.specs.declared.faults.NameFault.{NameFault}

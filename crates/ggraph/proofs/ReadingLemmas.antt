@@ -180,7 +180,7 @@ module _ (laws : TextLaws) where
           let both = append_cancel_left (codes " ") (id_text id ++ after) (id_text entry.id ++ ids_text entry.node.parents) same in
           none entry.node.parents may.comes.ids.parents may.comes.shaped.few (one_front laws old.graph.format id entry.id after (ids_text entry.node.parents) valid may.comes.ids.id both).1
 
-  -- the line of a node
+  -- the letter of a kind, an id and the ids of the parents form the line of a node
   node_line_is : (A : Type 0) (kind : Kind) (text id after : List ℕ) (parents : List (List ℕ)) → text ≡ codes " " ++ (id_text id ++ after) → after ≡ ids_text parents → letter kind ∷ text ≡ node_text (entry_of {A = A} id (node_of kind parents))
   node_line_is A kind text id after parents is are = ap (λ (t : List ℕ). letter kind ∷ t) (is ∙ ap (λ (t : List ℕ). codes " " ++ (id_text id ++ t)) are)
 

@@ -24,7 +24,7 @@ lines_more f old xs x =
 pub next_seen : {X : Type 0} (xs : List X) (i : ℕ) (x : X) → i < length xs → x ≡ get_or xs i x → take i xs ++ x ∷ [] ≡ take (i + 1) xs
 next_seen {X} xs i x lt is = ap (λ (y : X). take i xs ++ y ∷ []) is ∙ sym (take_more xs i x lt)
 
--- the element at a position inside a list
+-- a list has an element at each position `i` below its length; this element follows the first `i` elements
 entry_at : {X : Type 0} (xs : List X) (i : ℕ) → i < length xs → (x : X) × (slice_get xs i ≡ Some x) × (take i xs ++ x ∷ [] ≡ take (i + 1) xs)
 entry_at [] i lt = absurd (grind (arith, lt))
 entry_at (x ∷ xs) i lt = (get_or (x ∷ xs) i x, slice_get-get_or (x ∷ xs) i x lt, sym (take_more (x ∷ xs) i x lt))

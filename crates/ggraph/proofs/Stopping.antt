@@ -52,7 +52,7 @@ module _ (laws : TextLaws) where
         let longer = reads_more other nothing_read old (after old item) items item there may refl in
         subst (BeginsText A other) (map_push line_of items item ∙ ap (λ (l : List ℕ). map line_of items ++ l ∷ []) (sym is)) (begins_so_far other (items ++ item ∷ []) (after old item) longer)
 
-    -- before the last line is read, the lines are not a complete text
+    -- before the last line is read, the lines that were read are not a complete text
     whole_not : (old.stage ≡ Done → ⊥) → IsWholeText A order (map line_of items) → ⊥
     whole_not early all =
         let same = same_reading laws order order nothing_read old (whole_reading laws all.graph all.refs all.head) items (whole_items laws all.graph all.refs all.head) reads (reads_whole laws order all.graph all.refs all.head all.loadable) (sym all.parts ∙ sym (lines_whole laws all.graph all.refs all.head)) in

@@ -1,4 +1,4 @@
--- A text is refused at one line and for one reason.
+-- Apart from out of memory, a text is refused at only one line and for only one reason.
 use Rattle.std.proofs.Common.{◌≡◌, ◌≢◌, ◌⊎◌, inl, inr, ℕ, ◌+◌, List, [], ◌∷◌, ◌++◌, length, refl, sym, ◌∙◌, ap, subst, append_assoc}
 use Rattle.std.proofs.lemmas.List.{append_cancel_left}
 use Rattle.ggraph.specs.Loading.{BeginsText, EndsEarly, IsWrongLine, NamesLaterParent, StopsAt}
@@ -17,7 +17,7 @@ abbrev Extends : List (List ℕ) → List ℕ → List (List ℕ) → Type 0
 Extends front rest lines =
     (this : List ℕ) × (more : List (List ℕ)) × (after : List ℕ) × (lines ≡ front ++ this ∷ more) × (rest ≡ line this ++ after)
 
--- if a text begins with two lists of lines, they are equal, or one continues with the next line after the other
+-- if a text begins with two lists of lines, the lists are equal, or one begins with the other and one more line
 lines_meet : (lines others : List (List ℕ)) (x y : List ℕ) → AreLines lines → AreLines others
     → text_of lines ++ x ≡ text_of others ++ y → (lines ≡ others) ⊎ Extends lines x others ⊎ Extends others y lines
 lines_meet [] [] x y here there same = inl refl
@@ -92,7 +92,7 @@ module _ (laws : TextLaws) where
     stops_later lines first begun later =
         stops_line lines later.0 begun later.1 (λ on. later.2 (subst (λ (o : Order). BeginsText A o (lines ++ later.0 ∷ [])) first on))
 
-    -- no text begins with the lines before the stop and the next line
+    -- no text begins with the lines before the stop, followed by the next line
     stops_here : (lines others : List (List ℕ)) (s : Stops A order text lines) → BeginsText A order others → Extends lines s.rest others → ⊥
     stops_here lines others s h on =
         let each = back_lines lines (on.0 ∷ on.1) (subst AreLines on.3 (lines_begun laws order others h)) in

@@ -1,4 +1,4 @@
--- Parts of lines: ids at the front of a text.
+-- Lemmas about ids, and lists of ids, at the beginning of a text.
 use Rattle.std.proofs.Common.{◌≡◌, ◌≢◌, ℕ, ◌+◌, ◌<◌, List, [], ◌∷◌, ◌++◌, length, take, drop, All, codes, Ok, Err, refl, sym, ◌∙◌, ap, subst, arith}
 use Rattle.std.proofs.Math.Seq.{take-append_seam, drop-append_seam}
 use Rattle.std.proofs.lemmas.List.{length-append, append_cancel_left, append_assoc, append-nil, take-append-drop}

@@ -1,4 +1,4 @@
--- The items of a complete text are the lines of a repository.
+-- The lines of a complete text are the lines of a valid repository.
 use Rattle.std.proofs.Common.{◌≡◌, inl, inr, ℕ, List, [], ◌∷◌, ◌++◌, map, refl, sym, ◌∙◌, ap, subst}
 use Rattle.std.proofs.lemmas.List.{append_assoc, append-nil, map_push}
 use Rattle.gname.specs.declared.formats.Format.{Format}
@@ -135,7 +135,7 @@ at_begin {A} order lines none =
       parts = ap (λ (ls : List (List ℕ)). ls ++ lines_of first.graph [] first.head) (sym none);
     }
 
--- the lines of nodes and refs are the beginning of a text without HEAD, which ends with two more lines
+-- the first line and the lines of nodes and refs begin a text; the lines `h none` and `end` complete that text
 at_refs : {A : Type 0} (order : Order) (r : Reading A) (lines : List (List ℕ)) → lines ≡ first_line r.graph.format ∷ (map node_text r.graph.entries ++ map ref_line r.refs) → IsLoadable order r.graph r.refs r.head → BeginsText A order lines
 at_refs {A} order r lines shape valid =
     let ending = head_line {A = A} None ∷ last_line ∷ [] in

@@ -11,7 +11,7 @@ use Rattle.grefs.specs.RefLists.{RefList, SetsRef}
 abbrev pub HasConnectedRefs : {A : Type 0} → List (Entry A) → RefList → Type 0
 HasConnectedRefs g refs = All (IsConnected g) (values_of refs)
 
--- connected refs stay connected when the graph keeps all its nodes
+-- connected refs stay connected when the graph changes but keeps all its nodes
 abbrev pub ConnectedRefsStay : Type 0 → Type 0
 ConnectedRefsStay A = (g h : List (Entry A)) (refs : RefList) → Keeps g h → HasConnectedRefs g refs → HasConnectedRefs h refs
 

@@ -59,8 +59,8 @@ abbrev pub TakesMemory : (A : Type 0) → Order → List ℕ → List (List ℕ)
 TakesMemory A order text lines =
     (line : List ℕ) × GoesOn text lines line × BeginsText A order (lines ++ line ∷ []) × IsKeptLine A line
 
--- The fault of a refused text. All lines before the reported line are valid, and the reported line is wrong or missing.
--- Out of memory is reported only at a valid line with contents to store.
+-- The fault of a refused text. `Text` and `ParentLater` report the first line that is wrong or missing. `Memory` is
+-- possible only at a valid line with contents to store, if all earlier lines are valid.
 abbrev pub StopsAt : (A : Type 0) → Order → List ℕ → LoadFault → Type 0
 StopsAt A order text Memory = (lines : List (List ℕ)) × TakesMemory A order text lines
 StopsAt A order text (Text number) =
@@ -83,7 +83,7 @@ ParentsFirstIsOrdered A =
     (graph : History A) (refs : RefList) (head : Head A) → IsLoadable ParentsFirst graph refs head
     → IsOrdered graph.entries
 
--- apart from out of memory, a text has only one possible fault and only one line at which it is refused
+-- apart from out of memory, a text has at most one possible fault for each order; the fault contains the line number
 abbrev pub TextsStopOnce : Type 0 → Type 0
 TextsStopOnce A =
     (order : Order) (text : List ℕ) (a b : LoadFault) → StopsAt A order text a → StopsAt A order text b

@@ -1,6 +1,6 @@
 -- The text format of a repository. The first line names the object format. One line for each node follows, in insertion
--- order, and then one line for each ref, in name order. The last two lines are the line of HEAD and a final line. Each
--- line ends with LF, and ids are in lower case.
+-- order, and then one line for each ref, in name order. The last two lines are the line of HEAD and the line `end`.
+-- Each line ends with LF, and ids are in lower case.
 use Rattle.std.specs.Prelude.{◌≡◌, ⊤, ℕ, List, [], ◌∷◌, ◌++◌, map, codes}
 use Rattle.gname.specs.Ids.{Id, IsIdOf, id_text}
 use Rattle.gname.specs.Names.{Name}

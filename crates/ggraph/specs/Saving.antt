@@ -21,7 +21,7 @@ ref_ids refs = map (λ ref. ref.1) refs
 abbrev pub named_ids : {A : Type 0} → RefList → Head A → List Id
 named_ids refs head = ref_ids refs ++ head_ids head
 
--- `id` is the first of the ids that does not have the format
+-- `id` is the first id in the list that does not have the format
 pub record IsFirstOther (format : Format) (ids : List Id) (id : Id) : Type 0 where
   pub front : List Id
   pub rest : List Id

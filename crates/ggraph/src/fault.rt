@@ -14,8 +14,8 @@ use std::fmt;
 /// The reason why a repository text was not loaded.
 #[derive(Clone, Copy, Debug, PartialEq, Eq, Drop)]
 pub enum LoadFault {
-    /// A line is malformed, exceeds a limit or is missing. `line` is the number of the first wrong
-    /// line, counted from 1.
+    /// A line breaks a rule of the format, exceeds a limit or is missing. `line` is the number,
+    /// counted from 1, of the first line that is wrong or missing.
     Text { line: usize },
     /// A parent of a node is not on an earlier line. `line` is the number, counted from 1, of the
     /// first line that names a parent that is on a later line or on no line.
@@ -88,7 +88,7 @@ impl<T: Drop> From<AllocFailed<T>> for LoadFault {
 #[derive(Clone, Copy, Debug, PartialEq, Eq, Drop)]
 pub enum SaveFault {
     /// A ref or `HEAD` has an id that does not have the graph's object format. `id` is the first
-    /// wrong id.
+    /// id of a different format: the refs are checked in name order, and `HEAD` last.
     OtherFormat { id: Oid },
     /// Out of memory.
     Memory,

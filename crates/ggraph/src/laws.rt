@@ -26,8 +26,8 @@ pub fn parents_first_is_ordered<A: Allocator + Copy>()
     ensures { ParentsFirstIsOrdered A }
 {}
 
-/// Proves that [`load`](crate::load) has only one possible fault for a text, apart from `Memory`.
-/// The fault reports the first wrong line.
+/// Proves that [`load`](crate::load) has at most one possible fault for a text and an order, apart
+/// from `Memory`. The fault reports the first line that is wrong or missing.
 #[tactic(auto, using(crate::proofs::StoppingOnce::stop_once))]
 pub fn texts_stop_once<A: Allocator + Copy>()
     ensures { TextsStopOnce A }

@@ -63,7 +63,7 @@ with_says (Some path) (Some host) hello e =
     let forms = and_parts (is_path path) (is_host host) h.0 in
     (ap (λ (x : Hello). Some x.path) same, ap (λ (x : Hello). Some x.host) same, subst IsHello same (record { path = forms.0; host = forms.1 }))
 
--- the payload with its parts and NULs appended in sequence, in two equal forms
+-- a payload as one sequence of parts and NULs: each NUL written as the list `nul`, or as the element 0
 pub joined : (command host_word host version end : List ℕ)
     → command ++ nul ++ host_word ++ host ++ nul ++ nul ++ version ++ end ≡ command ++ 0 ∷ (host_word ++ host ++ 0 ∷ 0 ∷ (version ++ end))
 joined command host_word host version end = simp append_assoc

@@ -186,7 +186,7 @@ impl<A: Allocator + Copy> Advert<A> {
         self.capabilities.is_empty()
     }
 
-    /// Returns the capability at index `place`, or `None` after the last capability.
+    /// Returns the capability at index `place`, or `None` if `place` is past the last capability.
     pub fn at(&self, place: usize) -> Option<Capability<'_>>
         ensures capability { option_map capability_view result ≡ slice_get self.now place }
         ensures form { AreCapabilities self.now }
@@ -195,8 +195,8 @@ impl<A: Allocator + Copy> Advert<A> {
         Some(capability.as_capability())
     }
 
-    /// Returns the first capability with this key and its value, or `None` if no capability has the
-    /// key.
+    /// Returns the first capability that has this key, together with its value. Returns `None` if
+    /// no capability has the key.
     pub fn value_of(&self, key: &[u8]) -> Option<Capability<'_>>
         ensures { option_map capability_view result ≡ first_with key.now self.now }
     {
@@ -231,8 +231,8 @@ impl<A: Allocator + Copy> Advert<A> {
         None
     }
 
-    /// Checks that a client with SHA-1 ids can use the server, as [`check_in`](Self::check_in)
-    /// does.
+    /// Checks that a client with SHA-1 ids can use the server. Fails with the same faults as
+    /// [`check_in`](Self::check_in).
     pub fn check(&self) -> Result<(), MessageFault>
         ensures { MatchResult result (λ _. check_fault Sha1 self.now ≡ None)
             (λ fault. (check_fault Sha1 self.now ≡ Some fault.why) × (fault.frame ≡ 0)) }
@@ -353,7 +353,7 @@ fn is_value_or_none(value: Option<&[u8]>) -> bool
 /// flush before the first line. The fault is `BadText` for a first line other than `version 2`, and
 /// for any later line that is not a capability. The fault is `Limit` for a 65th capability, and
 /// `Memory` only if there is not enough memory for a capability. After a refusal, the packet reader
-/// is unusable exactly if the fault is [`Why::Line`].
+/// is unusable if and only if the fault is [`Why::Line`].
 pub fn read_advert<S: Source, A: Allocator + Copy, B: Allocator + Copy>(
     reader: &mut PacketReader<S, B>,
     alloc: A,

@@ -130,8 +130,8 @@ pub fn is_host(host: &[u8]) -> bool
 /// A fault reports packet position 0. A fault of the packet reader takes precedence over the end of
 /// the input. The fault is `UnexpectedFrame` for a flush, a delimiter or a response-end. The fault
 /// is `BadText` for a malformed payload, even if the payload is an `ERR` text, and `Memory` only if
-/// there is not enough memory for the hello. After a refusal, the packet reader is unusable exactly
-/// if the fault is [`Why::Line`].
+/// there is not enough memory for the hello. After a refusal, the packet reader is unusable if and
+/// only if the fault is [`Why::Line`].
 pub fn read_hello<S: Source, A: Allocator + Copy, B: Allocator + Copy>(
     reader: &mut PacketReader<S, B>,
     alloc: A,
@@ -197,7 +197,8 @@ struct HelloText<'a> {
     host: &'a [u8],
 }
 
-// Returns the text before the first NUL, and the text after that NUL if there is one.
+// Returns the text before the first NUL, and the text after it. If there is no NUL, returns the
+// whole text and `None`.
 fn cut(text: &[u8]) -> (&[u8], Option<&[u8]>)
     ensures { slice_split is_nul text.now
         ≡ result.0.now ∷ option_map_or (λ rest. slice_split is_nul rest.now) result.1 [] }
@@ -223,10 +224,10 @@ fn hello_of(payload: &[u8]) -> Option<HelloText<'_>>
 {
     let (command, rest) = cut(payload);
     let (host, rest) = cut(rest?);
-    let (nothing, rest) = cut(rest?);
+    let (gap, rest) = cut(rest?);
     let (version, rest) = cut(rest?);
     let (end, more) = cut(rest?);
-    if !nothing.is_empty() || !end.is_empty() {
+    if !gap.is_empty() || !end.is_empty() {
         return None;
     }
     match more {

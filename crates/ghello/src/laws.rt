@@ -87,7 +87,7 @@ pub fn prefix_free()
 
 /// Proves that the grammar of advertisements accepts exactly the advertisements that the manual and
 /// the limits allow, with the values that the manual states (gitprotocol-v2(5), "Capability
-/// Advertisement"). A list of packets is a complete hello exactly if it encodes a hello
+/// Advertisement"). A list of packets is a complete hello if and only if it encodes a hello
 /// (gitprotocol-pack(5), "Git Transport"). The grammar of hellos is narrower than the manual's: the
 /// host and the version are mandatory, and no other parameter is allowed.
 pub fn manual()

@@ -42,7 +42,7 @@ pub(crate) fn arrival_result<A: Allocator + Copy>(
     }
 }
 
-// Adds a pack to the store in `files`, and returns the number of its commits and tags.
+// Indexes a pack for the store in `files`, and returns the number of the pack's commits and tags.
 fn receive_pack<F: ObjectFiles, A: Allocator + Copy>(
     files: &F,
     tested_alloc: A,

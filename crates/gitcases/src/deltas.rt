@@ -51,8 +51,8 @@ pub(crate) fn copy_instruction(
     Ok(instruction)
 }
 
-// Appends the byte and sets its bit in the instruction's first byte, which marks the byte as
-// present. Does nothing if the byte is 0.
+// Appends `byte`, and sets `bit` in the first byte of the instruction to mark `byte` as present.
+// Does nothing if `byte` is 0.
 fn put_byte(instruction: &mut Vec<u8>, bit: u8, byte: u8) -> Result<(), Trouble> {
     if byte != 0 {
         instruction.push(byte)?;

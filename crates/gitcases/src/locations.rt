@@ -5,7 +5,7 @@ use crate::trouble::Trouble;
 use gitwords::{Ending, GitUrl, ServedPath};
 use std::alloc::{Allocator, Global};
 
-// The result for a path that names no repository.
+// The result for a path that cannot name a served repository.
 const NONE: &str = "none";
 
 /// Returns the result of parsing a URL: `ok`, the host, the port and the path, or the fault.

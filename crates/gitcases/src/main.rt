@@ -1,7 +1,7 @@
 //! Tests of the crates that read Git's formats: packs, Git directories, refs, URLs and client
 //! paths. Test files describe the inputs and the expected results.
 //!
-//! The arguments of the program name test files. FORMAT.md describes the lines of these files. A
+//! The arguments are the names of test files. FORMAT.md describes the lines of these files. A
 //! row states the expected result for a pack, a text or a store. A store is a Git directory. A row
 //! is tested with its input unchanged. A row without the keyword `large` is also tested with each
 //! allocation refused in turn. A row may name files that replace the files of its store during a

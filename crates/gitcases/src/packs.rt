@@ -126,7 +126,7 @@ impl<'a> Pack<'a> {
     }
 
     // Appends the distance of an offset delta in groups of seven bits, the highest group first. The
-    // value of each group except the last is stored minus one.
+    // code computes the lowest group first, and reduces `rest` by one before each further group.
     fn put_distance(&mut self, distance: usize) -> Result<(), Trouble> {
         let distance_start = self.entry_bytes.len();
         self.entry_bytes.push(low_bits(distance))?;

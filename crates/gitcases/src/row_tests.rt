@@ -13,7 +13,7 @@ use std::rt::Files;
 // The masks of the eight bits of a byte.
 const BITS: [u8; 8] = [1, 2, 4, 8, 16, 32, 64, 128];
 
-// An exclusive upper bound on the number of the refused allocation.
+// An exclusive upper bound on the position of the refused allocation among all allocations.
 const MAX_REFUSED: u64 = 100_000;
 
 // An exclusive upper bound on the number of file-system calls before the files are replaced.
@@ -166,7 +166,7 @@ fn test_replaced_files<R: Files + Print + AllocGlobal>(
     Ok(())
 }
 
-// Tests a pack that is truncated after each byte, and a pack with each bit flipped.
+// Tests the pack truncated at each offset, and with each bit flipped in turn.
 fn test_changed_packs<R: Files + Print + AllocGlobal>(
     rt: &R,
     inputs: RunInputs<'_, '_>,

@@ -32,7 +32,7 @@ pub(crate) struct Script<'a> {
 }
 
 impl<'a> Script<'a> {
-    /// Returns a script before any file is parsed.
+    /// Returns a `Script` without contents.
     pub(crate) fn new(alloc: Global) -> Result<Script<'a>, Trouble> {
         Ok(Script {
             alloc,
@@ -216,8 +216,9 @@ impl<'a> Script<'a> {
         Ok(())
     }
 
-    // Adds an entry to an index. The line states the name of an object, the number of an entry in
-    // the pack, and optionally a different offset.
+    // Adds an entry to an index, or marks the index as unsorted. The line of an index entry states
+    // the name of an object and the number of a pack entry. The index entry has the offset of the
+    // pack entry, unless the line states another offset.
     fn add_to_index(&mut self, keyword: &str, value: &str) -> Result<(), Trouble> {
         let Some(last) = self.indexes.last() else {
             return Err(Trouble::NoCurrentItem);

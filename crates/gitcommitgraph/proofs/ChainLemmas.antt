@@ -19,7 +19,7 @@ use Rattle.gitcommitgraph.proofs.ParentLemmas.{commit_at, commits_before, length
 
 -- ---- one file
 
--- the index of an id in the table of ids is the index of a commit of the file
+-- the index of an id in the table of ids is the index of a commit with this id in the file
 pub finds_in_file : (file : GraphFile) (id : Id) (result : Option ℕ) → IsGraphFile file → IsPlaceOf file.ids id result → FindsCommit (file_commits file) id result
 finds_in_file file id None formed none = λ k c inside same.
     let n = length-commits file.edges file.ids file.rows formed.each in
@@ -34,7 +34,7 @@ finds_in_file file id (Some place) formed found =
       λ c. ap (λ (c : Commit). c.id) (commit_at file.edges file.ids file.rows place c inside (omega (arith, each, inside))) ∙ found.1 [],
     )
 
--- the commit at an index of a file: the id and the parents of the row at this index
+-- the commit at an index of a file has the id at this index, and the parents that the row at this index encodes
 pub at_place : (file : GraphFile) (place : ℕ) (c : Commit) → IsGraphFile file → place < length (file_commits file)
     → get_or (file_commits file) place c ≡ record { id = get_or file.ids place []; parents = row_parents file.edges (get_or file.rows place []) }
 at_place file place c formed inside =
@@ -59,7 +59,7 @@ above_more bases files place file low high is same so_far =
 -- ---- files of a chain
 
 module _ (files : List GraphFile) (i : ℕ) (file : GraphFile) (inside : i < length files) (is : file ≡ get_or files i file) where
-  -- the commits of one more file
+  -- the commits of the first `i + 1` files are the commits of the first `i` files, followed by those of the next file
   more : graph_commits (take (i + 1) files) ≡ graph_commits (take i files) ++ file_commits file
   more =
       ap graph_commits (take_more files i file inside) ∙ flat_map-append file_commits (take i files) (get_or files i file ∷ [])
@@ -148,7 +148,7 @@ pub lists_inside : {A : Type 0} (n most : ℕ) (parents : List ℕ) (found : Opt
 lists_inside n most parents None all h = tt
 lists_inside n most parents (Some list) all h = subst (All (λ p. p < n)) (sym h.0) all
 
--- the number of commits after one more file is added
+-- one more file increases the number of commits by the number of its own commits
 pub length-one_more : (old : List GraphFile) (file : GraphFile) → length (graph_commits (old ++ file ∷ [])) ≡ length (graph_commits old) + length (file_commits file)
 length-one_more old file =
     ap length (flat_map-append file_commits old (file ∷ []) ∙ ap (λ l. graph_commits old ++ l) (append-nil (file_commits file)))

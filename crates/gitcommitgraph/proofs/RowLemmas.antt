@@ -17,13 +17,13 @@ take_nil : (k : ℕ) → take {A = ℕ} k [] ≡ []
 take_nil zero = refl
 take_nil (suc k) = refl
 
--- the first `m` elements and the next `n` elements are the first `m + n` elements
+-- the first `m` elements and the next `n` elements together are the first `m + n` elements
 pub take_joins : (m n : ℕ) (l : List ℕ) → take m l ++ take n (drop m l) ≡ take (m + n) l
 take_joins zero n l = let same : n ≡ zero + n = omega arith in ap (λ k. take k l) same
 take_joins (suc m) n [] = take_nil n ∙ sym (take_nil (suc m + n))
 take_joins (suc m) n (x ∷ l) = let same : suc (m + n) ≡ suc m + n = omega arith in ap (λ t. x ∷ t) (take_joins m n l) ∙ ap (λ k. take k (x ∷ l)) same
 
--- two adjacent ranges are one range
+-- two adjacent ranges together are one range
 pub range_joins : (a b c : ℕ) (l : List ℕ) → a ≤ b → b ≤ c → slice_range l a b ++ slice_range l b c ≡ slice_range l a c
 range_joins a b c l low high =
     let at : b ≡ a + (b - a) = omega (arith, low) in
@@ -55,7 +55,7 @@ pub record IsRow (row : List ℕ) : Type 0 where
   pub long : length row ≡ 12
   pub bytes : (i : ℕ) → get_or row i 0 < 256
 
--- rows whose offsets never decrease, up to a last row without a name, whose offset is `end`
+-- the offsets of the rows never decrease, and the last row has no name and the offset `end`
 abbrev pub LeadTo : ℕ → List ℕ → List (List ℕ) → Type 0
 LeadTo end row [] = IsRow row × (row_name row ≡ no_name) × (row_offset row ≡ end)
 LeadTo end row (next ∷ rows) = IsRow row × (row_offset row ≤ row_offset next) × LeadTo end next rows

@@ -150,7 +150,7 @@ module _ (n : ℕ) (bytes : List ℕ) (span : Span) (within : IsWithin bytes spa
   pub rows_small : ((i : ℕ) → get_or bytes i 0 < 256) → All (λ row. (i : ℕ) → get_or row i 0 < 256) (table n bytes span)
   rows_small small = pieces_small n (length (part bytes span) / n) (part bytes span) (take_small (span.end - span.start) (drop span.start bytes) (drop_small span.start bytes small))
 
--- the fan-out table of the ids
+-- the fan-out table of the ids, as the concatenation of its rows
 concat_push : (rows : List (List ℕ)) (row : List ℕ) → concat (rows ++ row ∷ []) ≡ concat rows ++ row
 concat_push [] row = append-nil row
 concat_push (r ∷ rows) row = ap (λ l. r ++ l) (concat_push rows row) ∙ sym (append_assoc r (concat rows) row)

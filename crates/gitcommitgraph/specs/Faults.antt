@@ -1,4 +1,4 @@
--- The faults of adding a file to a commit-graph, and their displayed texts.
+-- The reasons why a file cannot be added to a commit-graph, and their displayed texts.
 use Rattle.std.specs.Prelude.{◌≢◌, ⊤, ℕ, ◌<◌, List, [], ◌∷◌, ◌++◌, codes, length, map}
 use Rattle.gname.specs.Faults.{out_of_memory_text}
 use Rattle.gitcommitgraph.specs.Chains.{checksum_of, graph_commits}

@@ -48,8 +48,8 @@ edge_list [] = []
 edge_list (edge ∷ edges) =
     if nat_lt (number edge) mark then number edge ∷ edge_list edges else (number edge - mark) ∷ []
 
--- The parents that the two numbers of a row encode: none, the first, or both. A marked second number is the index in
--- the edge table at which the list of further parents begins.
+-- The parents that the two numbers of a row encode: none, the first, or both. A marked second number without its mark
+-- is the index in the edge table at which the list of further parents begins.
 abbrev pub parents_by : List (List ℕ) → ℕ → ℕ → List ℕ
 parents_by edges first second =
     if first == no_parent then []
@@ -109,7 +109,7 @@ pub record IsGraphFile (file : GraphFile) : Type 0 where
 
 -- ---- positions
 
--- there is no parent, or its position is less than `end`
+-- the parent number says that there is no parent, or it is a position less than `end`
 abbrev pub IsBefore : ℕ → ℕ → Type 0
 IsBefore end parent = (parent ≡ no_parent) ⊎ (parent < end)
 

@@ -24,8 +24,8 @@ chunk_bytes c = c.bytes
 abbrev pub no_name : List ℕ
 no_name = 0 ∷ 0 ∷ 0 ∷ 0 ∷ []
 
--- The table of contents of chunks, of which the first begins at this offset. The table has a row for each chunk, with
--- the chunk's name and offset, and a last row with the offset of the end.
+-- The table of contents of these chunks, if the first chunk begins at this offset. The table has a row for each chunk,
+-- with the chunk's name and offset, and a last row with the offset of the end.
 abbrev pub contents : ℕ → List Chunk → List ℕ
 contents offset [] = no_name ++ to_be_bytes w64 offset
 contents offset (c ∷ chunks) = c.name ++ (to_be_bytes w64 offset ++ contents (offset + length c.bytes) chunks)

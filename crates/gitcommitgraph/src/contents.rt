@@ -49,9 +49,9 @@ pub(crate) fn read_header(bytes: &[u8]) -> Option<Header>
     })
 }
 
-/// Returns the rows of the table of contents for `chunks` chunks, in a file without its trailer.
-/// Returns `None` if the chunks do not fill the file up to its trailer, or if two chunks have the
-/// same name.
+/// Returns the rows of the table of contents for `chunks` chunks. `body` is all bytes of the file
+/// before its trailer. Returns `None` if the chunks do not fill the file up to its trailer, or if
+/// two chunks have the same name.
 pub(crate) fn read_rows(chunks: u8, body: &[u8]) -> Option<&[[u8; ENTRY_BYTES]]>
     ensures { MatchOption result ((rows : List (List ℕ)) → ¬ IsTable chunks body.now rows)
         (λ rows. IsTable chunks body.now rows.now) }

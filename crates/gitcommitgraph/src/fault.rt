@@ -1,4 +1,4 @@
-//! The faults of adding a file to a commit-graph.
+//! The reasons why a file cannot be added to a commit-graph.
 
 ghost use Rattle.std.specs.Prelude.{◌≡◌, Some};
 ghost use Rattle.gitcommitgraph.specs.Faults.{commit_graph_fault_text};

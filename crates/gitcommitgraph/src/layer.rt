@@ -164,8 +164,9 @@ impl<A: Allocator + Copy> Layer<A> {
     }
 }
 
-// Returns the locations of the chunks of a file. Fails with `Header`, `Contents` or `Chunk` if the
-// header, the table of contents, or the length of a chunk is wrong.
+// Returns the locations of the chunks of a file. Fails with `Header` or `Contents` if the header or
+// the table of contents is wrong. Fails with `Chunk` if a required chunk is missing, or a chunk has
+// a wrong length.
 fn read_places(bytes: &[u8]) -> Result<Places, CommitGraphFault>
     ensures { MatchResult result (IsCut bytes.now)
         (λ fault. (old : List GraphFile) → IsRefused old bytes.now fault) }

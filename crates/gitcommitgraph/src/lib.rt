@@ -4,8 +4,8 @@
 //!
 //! # Proved
 //!
-//! - [`CommitGraph::add`] adds a file if and only if the text of the file has the form of `specs/`:
-//!   header, table of contents, chunks and trailer. The ids ascend, the fan-out table matches the
+//! - [`CommitGraph::add`] adds a file only if its text has the form that `specs/` defines: header,
+//!   table of contents, chunks and trailer. The ids ascend, the fan-out table matches the
 //!   ids, and each edge list has an end. The base graphs are the files added earlier, and each
 //!   position in the file is the position of a commit. Each of the faults `Bases`, `TooMany` and
 //!   `Parents` is returned only if the file has that fault. Any other fault except `Memory` is
@@ -18,12 +18,13 @@
 //!   commit has more parents than the caller allows.
 //! - [`CommitGraph::id`] returns the id of the commit at a position. Positions continue from one
 //!   file of a chain to the next.
-//! - [`parse_chain`] accepts exactly the texts of the file `commit-graph-chain`.
-//! - No text encodes two different files, or lists the files of two different chains ([`laws`]).
+//! - [`parse_chain`] accepts exactly the texts that have the form of the file `commit-graph-chain`.
+//! - No text of fewer than 2^64 bytes encodes two different files. No text lists the files of two
+//!   different chains ([`laws`]).
 //! - No call panics, overflows or reads out of bounds, and every call returns.
 //!
 //! `examples/with-git.sh` serves repositories with files made by `git commit-graph write`, with and
-//! without `--split`. It checks that a clone has the objects that git-rev-list(1) prints.
+//! without `--split`. The script checks that a clone has the objects that git-rev-list(1) prints.
 //!
 //! # Differences from Git
 //!

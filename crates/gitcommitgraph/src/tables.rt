@@ -126,7 +126,8 @@ impl Tables<'_> {
         true
     }
 
-    /// Returns whether each edge list to which a row refers begins at a valid index and has an end.
+    /// Returns whether the last edge, if any, is marked, and each edge list to which a row refers
+    /// begins at a valid index. Each edge list then has an end.
     pub(crate) fn lists_end(&self) -> bool
         ensures { IsTrue result ↔ HaveEnds self.now.edges.now self.now.rows.now }
     {

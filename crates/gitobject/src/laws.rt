@@ -1,5 +1,4 @@
-//! Proved laws of objects. Each function does nothing at run time. The contract of each function
-//! states a law, which the proof of a caller can use.
+//! The laws of objects. Each function does nothing at run time, and its contract states the law.
 
 ghost use Rattle.gitobject.specs.Laws.{LinksAreOne, TextsAreOne};
 

@@ -22,7 +22,7 @@ pub strips_not : (word text : List ℕ) → pointwise nat_eq (take (length word)
 strips_not word text differ begins =
     false≢true (sym differ ∙ (bytes_eq-Decides (take (length word) text) word).1 (ap (take (length word)) begins.1 ∙ take_front word begins.0))
 
--- a text that begins with none of the four type names and a space does not begin like an object
+-- a text does not begin like an object if none of the four type names, followed by a space, is at its start
 pub no_object : (text : List ℕ) → ¬ (BeginsWith (codes "commit ") text) → ¬ (BeginsWith (codes "tree ") text) → ¬ (BeginsWith (codes "blob ") text) → ¬ (BeginsWith (codes "tag ") text) → (kind : ObjectType) → ¬ (BeginsAsObject text kind)
 no_object text commit tree blob tag Commit = commit
 no_object text commit tree blob tag Tree = tree

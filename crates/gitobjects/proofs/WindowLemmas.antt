@@ -23,7 +23,7 @@ pub map-set_same : {X Y : Type 0} (f : X → Y) (xs : List X) (i : ℕ) (x y : X
 map-set_same f xs i x y same inside =
     map-set f xs i y ∙ ap (set (map f xs) i) (same ∙ sym (get_or-map f xs i x (f x) inside)) ∙ set-get_or (map f xs) i (f x)
 
--- the blocks in memory after one more block
+-- one more block can be added to the blocks in memory if they are fewer than 64
 pub AreBlocks-push : {A : Type 0} (packs : List (Option (List ℕ))) (blocks : List (Block A)) (block : Block A) → AreBlocks packs blocks → length blocks < 64 → IsBlock packs block → AreBlocks packs (blocks ++ block ∷ [])
 AreBlocks-push packs blocks block are room is = record {
   few = rw length-append (omega arith);

@@ -4,11 +4,11 @@ use Rattle.gitobjects.specs.declared.files.FolderTime.{FolderTime}
 use Rattle.gitobjects.specs.declared.listed.Listed.{Listed}
 use Rattle.gitobjects.specs.declared.listed.Listed.TheVariants as listed
 
--- the state of a folder whose names last changed at this time, and which was listed at least twice since then
+-- the state of a folder that was listed at least twice since this time, when the names in it last changed
 abbrev pub Twice : Option FolderTime → Listed
 Twice time = listed.Twice time
 
--- the names of the folder last changed at this time, and the folder was listed at least once since then
+-- the names in the folder last changed at this time, and the folder was listed at least once since then
 abbrev pub IsListedAt : Option FolderTime → Listed → Type 0
 IsListedAt time listed.Never = ⊥
 IsListedAt time (listed.Once earlier) = earlier ≡ time

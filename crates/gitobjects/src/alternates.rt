@@ -20,10 +20,10 @@ pub(crate) struct Folder<A: Allocator + Copy> {
     // The path of the pack folder.
     pub(crate) pack_folder: String<A>,
     pub(crate) listed: Listed,
-    // The faults of the packs that were left out, or the fault of a pack folder that could not be
-    // listed.
+    // The faults of the packs that were left out, or the fault of the pack folder if the folder
+    // could not be listed.
     pub(crate) left_out: Vec<FileFault<A>, A>,
-    // The number of alternates files that lead to this folder: 0 for the repository's own folder.
+    // The number of alternates files on the way to this folder: 0 for the repository's own folder.
     depth: usize,
 }
 
@@ -42,7 +42,7 @@ impl<A: Allocator + Copy> Folder<A> {
 }
 
 /// Returns the object folder of a repository, its alternates, and their alternates recursively. As
-/// in Git, alternates are at most six levels deep. Missing folders and repeated folders are
+/// in Git, alternates are at most six levels deep. Missing alternates and repeated folders are
 /// skipped, so the search ends even if alternates are cyclic.
 pub(crate) fn object_folders<F: ObjectFiles, A: Allocator + Copy>(
     files: &F,

@@ -47,7 +47,8 @@ fn refusal(delta: &[u8]) -> Cause {
 
 impl<F: ObjectFiles, A: Allocator + Copy> ObjectReader<'_, F, A> {
     /// Returns the object whose entry is at this location. If a base in its delta chain is broken,
-    /// another copy of the base is used, as in Git. Fails if the entry at this location is broken.
+    /// another copy of the base is used, as in Git. Fails if the entry at this location is broken,
+    /// or if a broken base has no other intact copy.
     pub(crate) fn read_packed(&mut self, spot: Spot) -> Result<Object<A>, Cause> {
         let mut last = spot.start;
         for _copy in 0..MAX_COPIES {
@@ -140,7 +141,7 @@ impl<F: ObjectFiles, A: Allocator + Copy> ObjectReader<'_, F, A> {
     }
 
     // Returns the delta chain of the entry at this offset. A broken entry ends the chain, and its
-    // fault is reported when the entry is read. Fails with `Circle` if the chain is cyclic, or with
+    // fault is reported when the entry is read. Fails with `Cycle` if the chain is cyclic, or with
     // `Memory` if out of memory.
     fn trace(&mut self, pack: usize, start: usize) -> Result<Chain<A>, Cause> {
         let mut deltas = Vec::new(self.store.allocator());
@@ -160,11 +161,11 @@ impl<F: ObjectFiles, A: Allocator + Copy> ObjectReader<'_, F, A> {
                 Ok(LocalForm::Whole(_)) | Err(_) => return Ok(Chain { deltas, end }),
             }
         }
-        Err(Cause::Circle)
+        Err(Cause::Cycle)
     }
 
     // Returns the cached object or the whole object at this location. Fails with `Base` if the
-    // entry is a delta that is not cached.
+    // entry is a delta whose object is not cached.
     fn read_base(&mut self, spot: Spot) -> Result<Object<A>, Cause> {
         if let Some(object) = self.cache.get(spot) {
             return Ok(object.copy_in(self.store.allocator())?);
@@ -224,7 +225,8 @@ impl<F: ObjectFiles, A: Allocator + Copy> ObjectReader<'_, F, A> {
     }
 
     /// Returns the type of the object whose entry is at this location, from the entry headers of
-    /// its delta chain. Returns `None` if one of these headers is broken. Fails only with `Memory`.
+    /// its delta chain. Returns `None` if one of these headers is broken or the chain is cyclic.
+    /// Fails only with `Memory`.
     pub(crate) fn kind_at(&mut self, spot: Spot) -> Result<Option<ObjectType>, Cause> {
         let pack = spot.pack;
         let mut start = spot.start;

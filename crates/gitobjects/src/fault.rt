@@ -42,7 +42,7 @@ pub enum Cause {
     /// The base of a delta is not in the same pack.
     Base,
     /// A delta chain is cyclic.
-    Circle,
+    Cycle,
     /// A delta is malformed, or does not match its base.
     Delta,
     /// The text of a loose object is malformed.
@@ -102,7 +102,7 @@ impl Cause {
             Cause::Stream => "the stream of an object is malformed or has another size",
             Cause::Crc => "the CRC-32 of an entry is wrong",
             Cause::Base => "the base of a delta is not in the pack",
-            Cause::Circle => "a chain of deltas leads back to itself",
+            Cause::Cycle => "a chain of deltas leads back to itself",
             Cause::Delta => "a delta does not fit its base",
             Cause::Loose => "the loose object is malformed",
             Cause::Id => "an object has another id than its name says",
@@ -227,8 +227,8 @@ impl<A: Allocator + Copy> FirstFault<A> {
         FirstFault { fault: None }
     }
 
-    /// Records the fault of a copy. Fails at once with `Memory`, because no other copy is tried if
-    /// out of memory.
+    /// Records the fault of a copy, unless a fault is already recorded. Fails if the fault is
+    /// `Memory`, so that no other copy is tried.
     pub(crate) fn note(&mut self, fault: StoreFault<A>) -> Result<(), StoreFault<A>> {
         if let StoreFault::Memory = fault {
             return Err(fault);

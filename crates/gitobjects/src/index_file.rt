@@ -201,7 +201,7 @@ impl<P: OpenPack + Drop, A: Allocator + Copy> IndexFile<P, A> {
         if !is_next {
             return part;
         }
-        // This part may extend past the ids with the same first byte.
+        // This part may extend past the ids that begin with the same byte as the wanted id.
         let high = part
             .high
             .saturating_add(width.saturating_mul(2))
@@ -281,7 +281,8 @@ fn halfway(places: Places) -> usize {
     places.low.saturating_add(width / 2)
 }
 
-// Returns the positions in `places` that are at most `NEAR` or `FAR` from `middle`.
+// Returns the positions in `places` around `middle`. There are at most `NEAR` on either side if
+// `places` has at most `FEW` positions, and at most `FAR` otherwise.
 fn part_around(places: Places, middle: usize) -> Places {
     let around = if places.high.saturating_sub(places.low) <= FEW {
         NEAR

@@ -17,17 +17,18 @@
 //! - A private function inflates a pack entry, and returns the form and the size in its header. If
 //!   the function succeeds, all bytes after the header are a zlib stream, which inflates to that
 //!   size. Another private function splits the text of a loose object into the type and the body.
-//! - The private type `Window` caches at most 64 blocks of the open packs, each of at most 1 MiB.
-//!   It returns the correct bytes of a pack, no matter which blocks are in memory.
+//! - The private type `Window` caches at most 64 blocks of the open packs. Each block has at most
+//!   1 MiB. The window returns the correct bytes of a pack, no matter which blocks are in memory.
 //! - A private function returns whether to list a pack folder again. The result is `false` exactly
 //!   if the folder was listed at least twice since the names in it last changed.
-//! - The path of a loose object consists of a folder and the digits of the id. The paths in
-//!   `info/alternates` are read in the order of its lines.
+//! - The path of a loose object is the object folder, the first two digits of the id and the other
+//!   digits, separated by slashes. The paths in `info/alternates` are read in the order of its
+//!   lines.
 //! - A private function parses the list of the names in a pack folder, and returns the names of
 //!   exactly the packs whose index is listed. The name of an index ends in `.idx`, is UTF-8 and has
 //!   no slash.
 //! - No call panics, overflows or reads out of bounds, and every call returns, for any contents of
-//!   the files. A delta chain may be cyclic.
+//!   the files. This also holds if a delta chain is cyclic.
 //!
 //! # Only tested
 //!
@@ -57,7 +58,7 @@
 //!
 //! # What the contracts do not rule out
 //!
-//! No contract rules out any of the following:
+//! The contracts leave the following points open:
 //!
 //! - [`ObjectReader::read`] may return an object with another id. The method trusts the files and
 //!   does not compute ids. A contract cannot describe the contents of a system file.
@@ -82,9 +83,9 @@
 //! - A loose object may be accepted although bytes follow its stream.
 //! - No contract says which alternates are read, where a relative path begins, or how the open
 //!   packs are ordered.
-//! - [`ObjectReader::refresh`] may miss new packs and alternates. The private function that returns
-//!   whether to list a pack folder again is proved, but no contract says that its callers list the
-//!   folder exactly if the result is `true`.
+//! - [`ObjectReader::refresh`] may miss new packs and alternates. A proved private function returns
+//!   whether to list a pack folder again. No contract says that its callers list the folder exactly
+//!   if the result is `true`.
 //! - [`MemoryFiles`] may return bytes that differ from the added bytes.
 //! - A [`QuickReader`] may find no object, report an object that does not exist, or return a wrong
 //!   type. A quick reader does not check a whole index.

@@ -8,7 +8,7 @@ use gname::Oid;
 /// look-up of an object in it.
 #[derive(Clone, Copy, Drop)]
 pub struct LooseFolders {
-    // Whether the folder for each first byte of an id exists, or `None` if the folder was not
+    // For each first byte of an id, whether its folder exists, or `None` if the folder was not
     // looked up.
     exists_by_first_byte: [Option<bool>; 256],
 }

@@ -29,7 +29,7 @@ impl<A: Allocator + Copy> Object<A> {
         id_of(self.kind, self.body.as_slice()) == *id
     }
 
-    /// Returns a copy of the object that is allocated with `alloc`.
+    /// Returns a copy of the object. The copy is allocated with `alloc`.
     pub(crate) fn copy_in<B: Allocator + Copy>(&self, alloc: B) -> Result<Object<B>, AllocError>
         ensures kind { IfOk result (λ copy. copy.kind ≡ self.now.kind) }
         ensures body { IfOk result (λ copy. copy.body.items ≡ self.now.body.items) }

@@ -115,8 +115,9 @@ impl<'f, F: ObjectFiles, A: Allocator + Copy> QuickReader<'f, F, A> {
         Ok(None)
     }
 
-    /// Returns the object with this id, or `None` if the object is not found, has another id or is
-    /// too large. The id of the object is computed. Fails only if out of memory.
+    /// Returns the object with this id, or `None` if the object is not found or too large. Computes
+    /// the id of the object that was read, and returns `None` if the id differs. Fails only if out
+    /// of memory.
     pub fn read_checked(&mut self, id: &Oid) -> Result<Option<Object<A>>, AllocError>
         ensures { IfOk result (λ found. IfSome found (λ object.
             id_of object.kind object.body.items ≡ id.now)) }

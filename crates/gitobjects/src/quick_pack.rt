@@ -158,8 +158,8 @@ impl<P: OpenPack + Drop, A: Allocator + Copy> QuickPack<P, A> {
         Ok(None)
     }
 
-    // Returns at most `most` bytes of the pack starting at `start`, without any bytes after the
-    // last entry.
+    // Returns up to `most` bytes of the pack starting at `start`, without any bytes after the last
+    // entry.
     fn front(&mut self, start: usize, most: usize) -> Result<Vec<u8, A>, Cause> {
         let count = self.end.saturating_sub(start).min(most);
         self.file.read_at(self.alloc, start, count)

@@ -93,8 +93,8 @@ impl<'f, F: ObjectFiles, A: Allocator + Copy> ObjectReader<'f, F, A> {
 
     /// Returns the object with this id. The id of the object is computed and checked.
     ///
-    /// Fails for the same reasons as [`ObjectReader::read`], and with the cause `Id` if the object
-    /// has another id.
+    /// Fails for the same reasons as [`ObjectReader::read`], and with the cause `Id` if the
+    /// computed id differs from this id.
     pub fn read_checked(&mut self, id: &Oid) -> Result<Object<A>, StoreFault<A>>
         ensures { IfOk result (λ object. id_of object.kind object.body.items ≡ id.now) }
     {

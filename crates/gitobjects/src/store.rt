@@ -98,8 +98,8 @@ impl<'f, F: ObjectFiles, A: Allocator + Copy> ObjectStore<'f, F, A> {
         None
     }
 
-    /// Returns the fault for a missing object: the fault of the first pack that was left out, or
-    /// `Missing` if no pack was left out.
+    /// Returns the fault for a missing object: the fault of the first pack or pack folder that was
+    /// left out, or `Missing` if nothing was left out.
     pub(crate) fn missing(&self, id: &Oid) -> StoreFault<A> {
         match self.left_out() {
             Some(fault) => fault_at(self.alloc, fault.path.as_str(), fault.cause),
@@ -296,15 +296,26 @@ impl<'f, F: ObjectFiles, A: Allocator + Copy> ObjectStore<'f, F, A> {
         }
     }
 
-    /// Returns a fault that names the pack of the object with this id, or the file of the loose
-    /// object if no pack contains the object.
+    /// Returns a fault that names the first pack that contains the object with this id. If no pack
+    /// contains the object, the fault names the first file of the loose object.
     pub(crate) fn fault_of(&self, id: &Oid, cause: Cause) -> StoreFault<A> {
         if let Some(Found::Packed { pack, .. }) = self.find_packed(id) {
             return self.fault_in(pack, cause);
         }
-        match loose_path(self.alloc, self.own.as_str(), id) {
+        for folder in &self.folders {
+            let path = folder.path.as_str();
+            if let Ok(true) = self.has_loose(path, id) {
+                return self.fault_at_loose(path, id, cause);
+            }
+        }
+        fault_at(self.alloc, self.own.as_str(), cause)
+    }
+
+    // Returns a fault that names the path of a loose object in a folder.
+    fn fault_at_loose(&self, folder: &str, id: &Oid, cause: Cause) -> StoreFault<A> {
+        match loose_path(self.alloc, folder, id) {
             Ok(path) => fault_at(self.alloc, path.as_str(), cause),
-            Err(_) => fault_at(self.alloc, self.own.as_str(), cause),
+            Err(_) => fault_at(self.alloc, folder, cause),
         }
     }
 

@@ -84,8 +84,8 @@ fn is_special<R: Files>(files: &R, path: &str) -> bool {
     }
 }
 
-// Opens a file, and returns it with its length, or `None` if there is no such file. A pipe is not
-// opened, because opening it might block forever.
+// Opens a file, and returns the open file and its length. Returns `None` if there is no such file.
+// Fails for a special file such as a pipe, because opening a pipe might block forever.
 fn open_file<R: Files>(files: &R, path: &str) -> Result<Option<(R::File, usize)>, Cause> {
     if is_special(files, path) {
         return Err(Cause::Open(ErrorKind::Unsupported));

@@ -29,7 +29,7 @@
 //!   [`IncomingPack::finish`] returns the spool. Each successful [`IncomingPack::feed`] stores its
 //!   bytes, even if the pack has a fault. An [`ObjectVisitor`] receives each object with the id
 //!   that the object's type and bytes determine. The returned objects are sorted by id.
-//! - A vector is a [`Spool`], and returns the bytes that were appended to it.
+//! - A vector is a [`Spool`]. Its `read_at` reads exactly the bytes that were appended.
 //! - [`index_pack`] gives the same guarantees for a pack in one slice.
 //! - No call panics, overflows or reads out of bounds, and every call returns.
 //!

@@ -66,7 +66,7 @@ pub(crate) struct ScannedPack<A: Allocator + Copy> {
     pub entries: Vec<Scanned, A>,
     /// The inflated stream of each entry, or `None` if the stream is not cached.
     pub cache: Vec<Option<Vec<u8, A>>, A>,
-    /// The inflater for further streams.
+    /// The inflater, which inflates again the streams that are not cached.
     pub inflater: Inflater,
 }
 

@@ -6,7 +6,7 @@ use Rattle.glsreply.specs.RefTexts.{RefLine}
 use Rattle.gitprogram.specs.declared.cloning.ServerHead.{ServerHead}
 use Rattle.gitprogram.specs.declared.cloning.ServerHead.TheVariants.{Branch, Detached}
 
--- the branch for the HEAD of a clone if the server's reply does not show its HEAD
+-- the branch for the HEAD of a clone if the server's reply does not show the server's HEAD
 abbrev pub default_branch : Name
 default_branch = codes "refs/heads/main"
 

@@ -15,7 +15,7 @@ abbrev pub server_in : Extent → Server Global
 server_in (extent.Whole server) = server
 server_in (extent.Tips server) = server
 
--- the contract allows a packer to send any complete pack for a list of objects
+-- for any list of objects, the contract allows a packer to send any complete pack
 abbrev pub packs_any : List (Entry Global) → List ℕ → Type 0
 packs_any list pack = IsWholePack pack
 

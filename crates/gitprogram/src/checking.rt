@@ -10,8 +10,8 @@ use gitrepository::{CheckFault, Checked, check_repository};
 use std::alloc::{AllocError, Global};
 use std::rt::Files;
 
-/// Prints the number of refs of a repository, of reachable commits and tags, and of reachable
-/// objects. Fails if a reachable object is missing or malformed.
+/// Prints three counts for a repository: its refs, its reachable commits and tags, and its
+/// reachable objects. Fails if a reachable object is missing or malformed.
 pub(crate) fn check<R>(rt: &R, dir: &str) -> Result<(), Fault>
 where
     R: Files + Print + AllocGlobal,

@@ -1,4 +1,4 @@
-//! Fetches that need no objects.
+//! The check whether all refs of a fetch are already up to date.
 
 use crate::directory::Directories;
 use gclient::{Ask, Asks, Fetched, RefUpdate, Settled, Spec};
@@ -9,8 +9,8 @@ use glsreply::{LsReply, RefLine};
 use std::alloc::Global;
 use std::rt::Files;
 
-/// Returns the report of a fetch if each ref is already up to date and its object exists. Returns
-/// `None` for any other fetch. This function does not read the history.
+/// Returns the report of a fetch if each destination ref is already up to date and its object
+/// exists. Returns `None` for any other fetch. This function does not read the history.
 ///
 /// Fails if the repository cannot be opened.
 pub(crate) fn fetched_already<R>(

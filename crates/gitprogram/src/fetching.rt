@@ -423,8 +423,8 @@ fn print_report<R: Print + AllocGlobal>(
     }
 }
 
-/// Fetches into a repository in memory. This function writes only the temporary file of the pack,
-/// and creates the folder of this file if necessary.
+/// Performs a fetch, but changes the refs only in memory. This function writes only the temporary
+/// file of the pack, and creates the folder of this file if necessary.
 pub(crate) fn receive<'r, R, E>(
     rt: &'r R,
     found: &'r Directories,

@@ -21,7 +21,7 @@ pub(crate) struct FirstLine<'s, S> {
 }
 
 impl<'s, S: Source> FirstLine<'s, S> {
-    /// Returns a source of the whole first line and then the bytes of `source`.
+    /// Returns a source that returns the whole first line, and then the bytes of `source`.
     pub(crate) fn new(source: &'s mut S) -> FirstLine<'s, S> {
         FirstLine {
             source,

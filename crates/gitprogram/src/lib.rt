@@ -28,7 +28,7 @@
 //! - `serve` and `upload-pack` run each connection as a `Dialogue`, so the proofs of `gserver`
 //!   apply to each connection. `serve` runs the dialogues in an event loop of `gevents`, and
 //!   `upload-pack` runs one dialogue by `gtalk::drive`. If no fault ends the sending of a pack, the
-//!   pack is complete.
+//!   pack has a header, as many entries as the header states, and a trailer.
 //!
 //! # Only tested
 //!
@@ -57,12 +57,15 @@
 //!   limit; `serve` refuses this value. `upload-pack` waits for its client without a time limit.
 //! - `core.sharedRepository` and `core.logAllRefUpdates` are ignored: new files have the default
 //!   permissions, and no reflog is written.
+//! - `serve` and `upload-pack` refuse a repository if a ref file is malformed, or if the object of
+//!   a ref is missing. Git lists such a ref, and refuses only a client that wants it.
 //! - `serve` and `upload-pack` serve only protocol version 2. `upload-pack` does not check
 //!   who owns a repository.
 //! - A request has at most 65,537 wants, 65,536 haves and 1,024 ref prefixes. If a client connects
-//!   while 64 others are connected, even from one address, its requests have at most 1,024 wants,
-//!   4,096 haves and 64 prefixes. A repository has at most 65,536 refs. A sent or received pack has
-//!   less than 4 GiB. A received pack has at most 1,048,576 objects, and at most 128 MiB per entry.
+//!   while at least 64 others are connected, its requests have at most 1,024 wants, 4,096 haves and
+//!   64 prefixes. These limits apply even if all these connections come from one address. A
+//!   repository has at most 65,536 refs. A sent or received pack has less than 4 GiB. A received
+//!   pack has at most 1,048,576 objects, and at most 128 MiB per entry.
 //! - The progress line shows the object count from the pack header, and the number of received
 //!   bytes.
 //! - `ls` and `fetch` print ref names as the server sent them, unless standard output is a
@@ -74,10 +77,11 @@
 //! streams and sockets, which contracts cannot describe. No contract rules out any of the
 //! following:
 //!
-//! - No contract says how many repositories are cached, or that an object store is ever closed. A
-//!   cached repository lists its refs even if their objects have since been removed.
+//! - Any number of repositories may be cached, and an object store may never be closed. The server
+//!   may list the refs of a cached repository even if their objects have since been removed.
 //! - `Repositories` may find a wrong repository or report a wrong error text. A packer may fail
-//!   with a wrong fault, and a pack may have objects of another repository, or lack entries.
+//!   with a wrong fault. A pack may have objects of another repository, or lack objects that the
+//!   client needs.
 //! - A failed command may exit with a wrong status. Output may be lost before it is written, and a
 //!   call may fail without a reason.
 //! - A client may see the refs or objects of an earlier connection. `serve` may serve a repository

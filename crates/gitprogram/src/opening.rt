@@ -8,12 +8,13 @@ use crate::fault::Fault;
 use crate::sentences::Sentence;
 use ganswer::Server;
 use ggraph::{Head, Refs, Repository};
-use gitobjects::{ObjectFiles, ObjectReader, QuickReader};
+use gitobjects::{ObjectFiles, ObjectReader, QuickReader, StoreFault};
 use gitrefs::{PackedPeels, PeeledRefs};
 use gitrepository::{
     FormFault, RepositoryFault, StorePacker, Tips, add_leaves, check_form, lead_with_newest,
     open_refs, open_repository, open_store, open_tips, read_commit_graph,
 };
+use gname::Oid;
 use std::alloc::{AllocError, Global};
 use std::rt::Files;
 
@@ -209,7 +210,7 @@ pub(crate) fn open_history<'f, F: ObjectFiles>(
     }
 }
 
-// Returns the history of the refs and HEAD in `tips`, and a reader of its objects.
+// Returns the history of the refs and HEAD in `tips`, and a reader of the repository's objects.
 fn find_whole<'f, F: ObjectFiles>(
     alloc: Global,
     files: &'f F,
@@ -223,7 +224,9 @@ fn find_whole<'f, F: ObjectFiles>(
     Ok((whole, reader))
 }
 
-// Returns the history that is reachable from refs and HEAD.
+// Returns the history that is reachable from refs and HEAD. Fails if the object of a ref is missing.
+// A server must not leave out such a ref, because `git fetch --prune` would delete the client's
+// copy.
 fn read_history<F: ObjectFiles>(
     alloc: Global,
     files: &F,
@@ -233,7 +236,27 @@ fn read_history<F: ObjectFiles>(
     head: Head<Global>,
 ) -> Result<Repository<Global>, RepositoryFault<Global>> {
     let commits = read_commit_graph(files, alloc, path)?;
-    open_refs(reader, &commits, refs, head)
+    let repository = open_refs(reader, &commits, refs, head)?;
+    match first_left_out(refs, &repository.refs) {
+        Some(id) => Err(RepositoryFault::from(StoreFault::Missing(id))),
+        None => Ok(repository),
+    }
+}
+
+// Returns the id of the first ref in `listed` that `held` lacks. `held` has some of the refs in
+// `listed`, in the same order.
+fn first_left_out(listed: &Refs<Global>, held: &Refs<Global>) -> Option<Oid> {
+    if held.len() == listed.len() {
+        return None;
+    }
+    let held = held.as_slice();
+    for (place, pair) in listed.as_slice().iter().enumerate() {
+        match held.get(place) {
+            Some(other) if other.0 == pair.0 => {}
+            _ => return Some(pair.1),
+        }
+    }
+    None
 }
 
 fn not_opened(alloc: Global, found: &Directories, fault: &RepositoryFault<Global>) -> NotOpened {
@@ -265,9 +288,9 @@ fn make_server(
     }
 }
 
-/// Opens a repository to fetch from a server whose refs have the ids in `tips`. Adds refs that
-/// point to the newest objects, before all other refs, so that the client sends these objects as
-/// its first haves.
+/// Opens the repository of a client that fetches from a server whose refs have the ids in `tips`.
+/// Adds refs that point to the newest objects, before all other refs, so that the client sends
+/// these objects as its first haves.
 pub(crate) fn open_client<'f, R: Files, F: ObjectFiles>(
     alloc: Global,
     rt: &R,
@@ -319,7 +342,7 @@ pub(crate) fn open_reader<'f, F: ObjectFiles>(
     Ok(ObjectReader::new(store)?)
 }
 
-/// Returns the fault for the repository at a path.
+/// Converts a fault of the repository at a path into a `Fault`.
 pub(crate) fn repository_fault(
     alloc: Global,
     path: &str,

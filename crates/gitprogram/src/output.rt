@@ -49,7 +49,7 @@ pub(crate) fn print<R: Print + AllocGlobal>(rt: &R, text: &[u8]) -> Result<(), F
     print_peer(rt, false, text)
 }
 
-/// Writes a text that contains bytes from a peer to standard output. On a terminal, non-printable
+/// Writes to standard output a text that contains bytes from a peer. On a terminal, non-printable
 /// bytes are replaced.
 pub(crate) fn print_peer<R: Print + AllocGlobal>(
     rt: &R,

@@ -23,7 +23,8 @@ enum PacketPosition {
     // The parser is among the four length digits of a packet. `count` digits were read, and encode
     // `number`.
     Digits { count: u8, number: u16 },
-    // The parser is in a payload, after `before` bytes and before the last `left` bytes.
+    // The parser is in a payload. It has read `before` bytes of the payload, and `left` bytes
+    // remain.
     Payload { before: u16, left: u16 },
     // The parser found a malformed packet, and ignores all further bytes.
     Lost,
@@ -43,8 +44,8 @@ pub(crate) struct Packets {
     position: PacketPosition,
     // Whether the payload read so far is a prefix of `PACKFILE`.
     matches_packfile: bool,
-    // Whether each payload begins with the number of a side band. This is so between the packet
-    // `packfile` and the flush packet.
+    // Whether each payload begins with the number of a side band. Payloads begin with this number
+    // between the packet `packfile` and the flush packet.
     has_bands: bool,
     band: Band,
 }

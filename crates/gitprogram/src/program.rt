@@ -82,7 +82,7 @@ fn print_answer<R: Print, W: Write>(rt: &R, answer: &Answer, errors: &mut W) -> 
     answer.status()
 }
 
-// Prints the fault of a failed command, and returns the exit status.
+// Prints the fault if the command failed, and returns the exit status.
 fn finish<W: Write>(outcome: Result<(), Fault>, errors: &mut W) -> u8
     ensures { MatchResult outcome (λ _. result ≡ 0) (λ _. result ≡ 1) }
 {

@@ -18,9 +18,10 @@ fn send_text<W: Sink>(text: &[u8], writer: &mut PacketWriter<W>) -> Result<(), W
 /// The error line for a path that does not name a served repository, as in git-daemon(1).
 pub(crate) const NOT_SERVED: &[u8] = b"access denied or repository not exported: ";
 
-/// The error line for a malformed first line, such as the first line of an older protocol.
+/// The error line for a refused first line: of an older protocol, for another service, or with a
+/// path that is too long or not printable ASCII.
 pub(crate) const BAD_FIRST_LINE: &[u8] =
-    b"upload-pack: bad line: gitrepo serves protocol version 2 alone (git -c protocol.version=2)";
+    b"upload-pack: bad line: gitrepo serves fetches by protocol version 2 alone (git -c protocol.version=2), at paths of at most 1,000 ASCII characters";
 
 /// The error line for a repository that cannot be opened.
 pub(crate) const NOT_OPENED: &[u8] = b"upload-pack: the repository cannot be read";

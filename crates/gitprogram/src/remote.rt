@@ -85,7 +85,7 @@ impl Remote {
     }
 }
 
-// Returns the text of a URL without the default port.
+// Returns the text of a URL. The text omits the port if it is the default port.
 fn url_text(alloc: Global, url: &GitUrl<'_>) -> Result<String, AllocError> {
     let GitUrl { host, port, path } = url;
     if *port == DEFAULT_PORT {

@@ -65,7 +65,7 @@ impl<'d, D> Repositories<'d, D> {
         repo.handle()
     }
 
-    // Returns whether the repository is cached with other refs or another HEAD than `opened` has.
+    // Returns whether the cache has the repository of `opened` with other refs or another HEAD.
     fn differs_from_cache(&self, opened: &Shared<'d, D>) -> Result<bool, AllocError> {
         let server = opened.server();
         match self.find_cached(&opened.loaded.found)? {

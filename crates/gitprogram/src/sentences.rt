@@ -1,5 +1,5 @@
-//! The error messages of failed commands. Each message names the file or URL, the cause, and
-//! usually a remedy.
+//! The error messages of failed commands, and the faults in the connection log. Most messages name
+//! a cause. Many messages also name a file, a URL or a remedy.
 
 use crate::limits::LIMITS;
 use ganswer::{BuildFault, ServeFault};
@@ -140,7 +140,10 @@ impl fmt::Display for Sentence<'_> {
                 "{path} is not a Git repository: name a bare repository or a work tree"
             ),
             Sentence::Occupied { path } => {
-                write!(f, "{path} exists and is not empty: name a new directory")
+                write!(
+                    f,
+                    "{path} exists and is not an empty directory: name a new one"
+                )
             }
             Sentence::Open { path, error } => write_refused("open ", path, error, f),
             Sentence::Repository { path, fault } => write_repository(path, fault, f),
@@ -261,8 +264,8 @@ fn write_store_file<W: fmt::Write>(
     }
 }
 
-/// Returns the text about an unsupported format, which follows the name of the repository in a
-/// message.
+/// Returns the text about an unsupported format. In a message, this text follows the name of the
+/// repository.
 pub(crate) fn form_text(fault: FormFault) -> &'static str {
     match fault {
         FormFault::Shallow => "is shallow: 'git fetch --unshallow' makes it whole",
@@ -440,7 +443,9 @@ fn write_message<W: fmt::Write>(frame: u64, why: &Why, f: &mut fmt::Formatter<W>
         ),
         Why::Format => f.write_str("its object format is not SHA-1: use git"),
         Why::BadText if frame == 0 => {
-            f.write_str("the server does not speak protocol version 2: use git")
+            f.write_str(
+                "the server does not speak protocol version 2, or its repository is shallow: use git",
+            )
         }
         Why::Memory | Why::Line(PacketFault::Memory) => f.write_str(OUT_OF_MEMORY_TEXT),
         _ => write!(

@@ -26,8 +26,8 @@ pub(crate) enum ServedFrom<'f> {
     Only(&'f Directories),
 }
 
-/// The served repositories on disk. Each open pack uses a file descriptor, so an object store is
-/// open only while a ticket for it exists.
+/// The served repositories on disk. Each open pack uses a file descriptor, so `close_unused` closes
+/// each object store for which no ticket exists.
 #[derive(Drop)]
 pub(crate) struct Stored<'f, 'r, R: Files, F: ObjectFiles> {
     rt: &'r R,

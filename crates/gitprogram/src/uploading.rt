@@ -95,7 +95,7 @@ where
     upload_stored(rt.alloc(), &stored, source, sink)
 }
 
-// Serves the only repository on a disk.
+// Serves one client the repository that `disk` finds.
 fn upload_stored<D: Disk, S: Source, W: Sink>(
     alloc: Global,
     disk: &D,

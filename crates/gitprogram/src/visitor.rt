@@ -50,7 +50,7 @@ impl<'n, S> Visitor<'n, S> {
         (side, path, fault)
     }
 
-    // Moves the details that the last call recorded from `notes` into this visitor.
+    // Moves the details of the last call from `notes` into this visitor.
     fn take_notes(&mut self)
         ensures { self.new.side ≡ self.old.side }
     {
@@ -93,7 +93,8 @@ where
         answer
     }
 
-    // Sends no error packet to a client that ended the connection between two requests.
+    // Sends no error packet if the client sent its first line, and then ended the connection before
+    // the first packet of a new request.
     fn refuse(&mut self, fault: MessageFault) -> ServerReply<Global, K, K::Parts> {
         if self.has_path && fault.frame == 0 && matches!(fault.why, Why::Ended) {
             return ServerReply::Speech(Speech::silent());

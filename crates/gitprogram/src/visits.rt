@@ -115,7 +115,7 @@ fn fault_of<H, K: RecordsFault>(
 }
 
 // Returns the recorded fault of the repository, or the fault of a refused request if the repository
-// recorded none. Returns `None` if there is neither fault.
+// recorded none. Returns `None` if neither fault exists.
 fn fault_of_side<H, K: RecordsFault>(
     alloc: Global,
     side: &ServerSide<'_, Global, H, K>,

@@ -43,7 +43,7 @@ cut_once s (c ∷ x) (d ∷ y) u v one two is =
     let front = rest.0 in
     (cc, rest.1)
 
--- the test `p` of the first byte of the text, if any, does not have the result `c`
+-- the text is empty, or the test `p` of its first byte does not have the result `c`
 abbrev pub Stops : (ℕ → Bool) → Bool → List ℕ → Type 0
 Stops p c text = (first : ℕ) (more : List ℕ) → text ≡ first ∷ more → p first ≢ c
 

@@ -30,10 +30,10 @@ cause_text cause.Symbolic = Some (codes "the ref is symbolic")
 cause_text cause.Conflict = Some (codes "the name of a ref is also that of a directory of refs")
 cause_text cause.Utf8 = Some (codes "the name of the ref is not UTF-8")
 cause_text cause.Refs = Some (codes "the ref can't be set")
-cause_text cause.Format = Some (codes "the new id is none of SHA-1")
+cause_text cause.Format = Some (codes "the new id is not a SHA-1 id")
 cause_text (cause.System error) = None
 
--- the displayed text of a ref fault: the path of the file, a colon, and the text of the cause
+-- the displayed text of a ref fault; for a fault of a file: the path of the file, a colon, and the text of the cause
 abbrev pub ref_fault_text : {A : Type 0} → RefFault A → Option (List ℕ)
 ref_fault_text fault.Memory = Some out_of_memory_text
 ref_fault_text (fault.File path cause) = option_map (λ text. string_bytes path ++ codes ": " ++ text) (cause_text cause)

@@ -225,8 +225,8 @@ impl<'r, R: Files, A: Allocator + Copy> GitDirectory<'r, R, A> {
         }
     }
 
-    /// Replaces HEAD with a detached id or a symbolic ref (git-symbolic-ref(1)). HEAD is unchanged
-    /// if `head` is `Head::None`.
+    /// Makes HEAD contain an id, which detaches HEAD, or a symbolic ref (git-symbolic-ref(1)). HEAD
+    /// is unchanged if `head` is `Head::None`.
     ///
     /// Fails with `Locked` if HEAD is locked, with `Symbolic` if HEAD is a symbolic link, and with
     /// `Malformed` if HEAD is empty. Fails with `System` if a system call fails, or with `Memory`
@@ -249,7 +249,7 @@ impl<'r, R: Files, A: Allocator + Copy> GitDirectory<'r, R, A> {
     /// makes the same check before it writes. This function lets a caller check the names before it
     /// receives objects.
     ///
-    /// Fails with `Conflict` if the name of one ref is a directory in the name of another ref, or
+    /// Fails with `Conflict` if one ref name and a slash are the start of another ref name. Fails
     /// with `Memory` if out of memory.
     pub fn check_refs(&self, refs: &Refs<A>) -> Result<(), RefFault<A>> {
         let mut names = Vec::new(self.alloc);
@@ -263,8 +263,8 @@ impl<'r, R: Files, A: Allocator + Copy> GitDirectory<'r, R, A> {
     /// `peeled` maps the names of tags to their peeled ids. If `peeled` is `None`, the header does
     /// not contain the word `peeled`.
     ///
-    /// Fails with `Conflict` if the name of one ref is a directory in the name of another ref.
-    /// Fails with `Exists` if `packed-refs` exists and is not empty, and with `Malformed` if
+    /// Fails with `Conflict` if one ref name and a slash are the start of another ref name. Fails
+    /// with `Exists` if `packed-refs` exists and is not empty, and with `Malformed` if
     /// `packed-refs` is empty. Fails with `Symbolic` if `packed-refs` is a symbolic link. Other
     /// possible faults are `Missing`, `Locked`, `System` and `Memory`. After a fault, `packed-refs`
     /// is unchanged or complete, and its lock is removed.

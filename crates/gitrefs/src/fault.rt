@@ -33,7 +33,7 @@ pub enum Cause {
     Moved,
     /// The ref is symbolic, or its file is a symbolic link.
     Symbolic,
-    /// The name of one ref is a directory in the name of another ref.
+    /// The name of one ref, followed by a slash, is the start of the name of another ref.
     Conflict,
     /// The name of the ref is not UTF-8, so the ref has no path.
     Utf8,
@@ -107,7 +107,7 @@ impl fmt::Display for Cause {
             }
             Cause::Utf8 => f.write_str("the name of the ref is not UTF-8"),
             Cause::Refs => f.write_str("the ref can't be set"),
-            Cause::Format => f.write_str("the new id is none of SHA-1"),
+            Cause::Format => f.write_str("the new id is not a SHA-1 id"),
             Cause::System(error) => fmt::Display::fmt(error, f),
         }
     }

@@ -20,8 +20,8 @@
 //!   name is empty, `.` or `..` ([`laws`]).
 //! - Before a file is replaced, the crate locks the file and then reads it. A lockfile is renamed
 //!   only after it is written and synced.
-//! - A fault is displayed as the path of the file and the cause, as `specs/Faults.antt` defines. No
-//!   contract covers the text of a system error.
+//! - A fault of a file is displayed as the path of the file and the cause, as `specs/Faults.antt`
+//!   defines. No contract covers the text of a system error.
 //! - No call panics, overflows or reads out of bounds, and every call returns, for any contents of
 //!   the files.
 //!

@@ -9,7 +9,7 @@ use std::alloc::{AllocError, Allocator, Global};
 use std::io::ErrorKind;
 use std::marker::Model;
 
-/// The path of a file in a Git directory: a ref, `HEAD`, `packed-refs` or `config`.
+/// The path of a file in a Git directory: a ref file, `HEAD`, `packed-refs` or `config`.
 #[derive(Debug, Drop)]
 pub(crate) struct FilePath<A: Allocator + Copy = Global> {
     text: String<A>,
@@ -72,8 +72,8 @@ fn join<A: Allocator + Copy>(alloc: A, git_dir: &str, name: &str) -> Result<File
     Ok(FilePath { text })
 }
 
-/// Returns whether an error of this kind means that a path does not exist. This includes a path in
-/// which a parent directory is a file.
+/// Returns whether an error of this kind means that a path does not exist. A path also does not
+/// exist if a file has the name of one of its parent directories.
 pub(crate) fn is_absent(kind: ErrorKind) -> bool {
     matches!(kind, ErrorKind::NotFound | ErrorKind::NotADirectory)
 }

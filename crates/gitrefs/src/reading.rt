@@ -24,7 +24,8 @@ enum RefEntry<A: Allocator + Copy = Global> {
     Empty,
     // A directory of refs.
     Directory,
-    // A ref file, with the value of the ref. The value is `None` if the file is malformed.
+    // A ref file, with the value of the ref. The value is `None` if the file is malformed, or if
+    // the id is all zeros.
     Ref(Option<LooseRef<A>>),
 }
 
@@ -58,8 +59,8 @@ struct Walk<A: Allocator + Copy> {
 impl<R: Files, A: Allocator + Copy> GitDirectory<'_, R, A> {
     /// Reads the refs below `refs/`, and HEAD (gitrepository-layout(5)). A loose ref takes
     /// precedence over a line of `packed-refs`. A symbolic ref is returned with the id that it
-    /// resolves to. The returned HEAD points at the last ref name that HEAD leads to, even if that
-    /// ref does not exist.
+    /// resolves to. A symbolic HEAD is returned with the last ref name that it leads to, even if
+    /// that ref does not exist.
     ///
     /// A ref is ignored if its name is invalid, its file is malformed, its id is all zeros, or the
     /// ref does not resolve to an id. Fails with `Malformed` if `packed-refs` or `HEAD` is
@@ -74,6 +75,9 @@ impl<R: Files, A: Allocator + Copy> GitDirectory<'_, R, A> {
     /// Reads the refs below `refs/` and HEAD, as [`GitDirectory::read_refs`] does, and the peeled
     /// objects in `packed-refs`. No peeled objects are returned if `packed-refs` is missing, or if
     /// its header lacks `fully-peeled`.
+    ///
+    /// Also fails with `Malformed` at the first broken ref ([`GitDirectory::broken_ref`]). A server
+    /// must not ignore a broken ref, because `git fetch --prune` would delete the client's copy.
     pub fn read_peeled_refs(&self) -> Result<PeeledRefs<A>, RefFault<A>> {
         let mut values = self.read_loose_values()?;
         let packed = self.packed_refs()?;
@@ -83,6 +87,9 @@ impl<R: Files, A: Allocator + Copy> GitDirectory<'_, R, A> {
             PackedPeels::none(self.alloc)
         };
         add_packed(&mut values, packed.refs)?;
+        if let Some(name) = first_broken(&values) {
+            return Err(self.fault_of(name, Cause::Malformed));
+        }
         let (refs, head) = self.refs_and_head(values)?;
         Ok(PeeledRefs { refs, head, peels })
     }
@@ -110,13 +117,13 @@ impl<R: Files, A: Allocator + Copy> GitDirectory<'_, R, A> {
     pub fn broken_ref(&self) -> Result<Option<(RefName<A>, RefFault<A>)>, RefFault<A>> {
         let mut values = self.read_loose_values()?;
         add_packed(&mut values, self.packed_refs()?.refs)?;
-        for (name, value) in values.as_slice() {
-            if value.is_none() {
+        match first_broken(&values) {
+            Some(name) => {
                 let fault = self.fault_of(name, Cause::Malformed);
-                return Ok(Some((name.copy_in(self.alloc)?, fault)));
+                Ok(Some((name.copy_in(self.alloc)?, fault)))
             }
+            None => Ok(None),
         }
-        Ok(None)
     }
 
     // Reads HEAD and the loose refs below `refs/`, without resolving symbolic refs.
@@ -286,6 +293,16 @@ impl<R: Files, A: Allocator + Copy> GitDirectory<'_, R, A> {
             Err(TextFault::Memory) => Err(RefFault::Memory),
         }
     }
+}
+
+// Returns the name of the first broken ref, or `None` if no ref is broken.
+fn first_broken<A: Allocator + Copy>(values: &Values<A>) -> Option<&RefName<A>> {
+    for value in values.as_slice() {
+        if value.1.is_none() {
+            return Some(&value.0);
+        }
+    }
+    None
 }
 
 // Adds the refs of `packed-refs`. Loose refs with the same names take precedence.

@@ -27,13 +27,13 @@ impl<R: Files, A: Allocator + Copy> GitDirectory<'_, R, A> {
     /// expected old ids. If all ids match, all ref files are replaced. If a ref has no file, its
     /// old id is the id in `packed-refs`. Reflogs are not changed.
     ///
-    /// Fails with `Format` if a new id is not a SHA-1 id, and with `Conflict` if the name of one
-    /// ref is a directory in the name of another ref. Other possible faults are `Missing`, `Refs`,
-    /// `Locked`, `Moved`, `Symbolic`, `Malformed` and `Utf8`. After each of these faults, all refs
-    /// are unchanged. Fails with `System` if a system call fails, or with `Memory` if out of
-    /// memory. After `System` or `Memory`, some refs may have changed if renaming a lockfile
-    /// failed. After any fault, each ref has its old or its new id. All locks of this call are
-    /// removed, but directories created for the lockfiles may remain.
+    /// Fails with `Format` if a new id is not a SHA-1 id, and with `Conflict` if one ref name,
+    /// followed by a slash, is the start of another ref name. Other possible faults are `Missing`,
+    /// `Refs`, `Locked`, `Moved`, `Symbolic`, `Malformed` and `Utf8`. After each of these faults,
+    /// all refs are unchanged. Fails with `System` if a system call fails, or with `Memory` if out
+    /// of memory. After `System` or `Memory`, some refs may have changed, but only if renaming a
+    /// lockfile failed. After any fault, each ref has its old or its new id. All locks of this call
+    /// are removed, but directories created for the lockfiles may remain.
     pub fn update_refs(&self, updates: &[RefUpdate<A>]) -> Result<(), RefFault<A>> {
         self.check_updates(updates)?;
         let mut locked = Vec::new(self.alloc);

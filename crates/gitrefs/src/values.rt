@@ -13,7 +13,8 @@ const MAX_DEPTH: usize = 5;
 /// The names of refs and `HEAD`, each with its unresolved value.
 #[derive(Drop)]
 pub(crate) struct Values<A: Allocator + Copy> {
-    // The refs, sorted by name after a call of `sort`. A malformed ref has the value `None`.
+    // The refs, sorted by name after a call of `sort`. A malformed ref, or a ref whose id is all
+    // zeros, has the value `None`.
     values: Vec<(RefName<A>, Option<LooseRef<A>>), A>,
 }
 
@@ -25,8 +26,8 @@ impl<A: Allocator + Copy> Values<A> {
         }
     }
 
-    /// Adds a ref, with the value `None` if its file is malformed. If two refs have the same name,
-    /// the ref that was added first takes precedence.
+    /// Adds a ref, with the value `None` if its file is malformed or its id is all zeros. If two
+    /// refs have the same name, the ref that was added first takes precedence.
     pub(crate) fn push(
         &mut self,
         name: RefName<A>,

@@ -7,8 +7,9 @@
 //!
 //! # Only tested
 //!
-//! One test runs `--version` (`args`, `stdout`), to check that `gitprogram` receives the runtime.
-//! The script `examples/with-git.sh` tests all commands with Git as the peer.
+//! One test runs `--version`, to check that `gitprogram` receives the runtime. The files `args` and
+//! `stdout` contain the arguments and the expected output of this test. The script
+//! `examples/with-git.sh` tests all commands with Git as the peer.
 //!
 //! # What the contracts do not rule out
 //!

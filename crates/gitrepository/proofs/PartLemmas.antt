@@ -66,7 +66,7 @@ given_more given count bytes before out e =
     ∙ ap (λ l. before ++ (take count (drop given bytes) ++ l)) (sym (drop-drop count given bytes))
     ∙ ap (λ l. before ++ l) (take-append-drop count (drop given bytes))
 
--- the first `count` bytes of a buffer after `count` bytes are copied to its front
+-- after `count` bytes are copied to the front of a buffer, the first `count` bytes of the buffer are these bytes
 pub front : (count : ℕ) (copied bytes others : List ℕ) → length copied ≡ count → copied ≡ take count bytes → take count (copied ++ others) ≡ take count bytes
 front count copied bytes others long same =
     take-append-le count copied others (omega (arith, long)) ∙ ap (take count) same ∙ take-take count count bytes (omega arith)
@@ -93,7 +93,7 @@ whole_given pack before none is =
     let parts = is.over none.0 in
     IsWholePack_of pack.count pack.put is.text before parts.0 is.entries (none_left pack.given pack.bytes.items before _ none.1 parts.1)
 
--- the returned bytes, if `count` bytes of `more` are copied to a buffer after its first `filled` bytes
+-- copying `count` bytes of `more` to a buffer, after its first `filled` bytes, adds them to the returned bytes
 pub given_step : (filled count : ℕ) (out more post before : List ℕ) → filled ≤ length out → count ≤ length more
     → (before ++ take filled out) ++ take count more ≡ before ++ take (filled + count) (take filled out ++ (more ++ post))
 given_step filled count out more post before h fits =

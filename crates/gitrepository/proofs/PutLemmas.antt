@@ -11,7 +11,7 @@ use Rattle.gitrepository.specs.Packs.{HasPut, IsEntryText, IsWholePack}
 concat-one : (text : List ℕ) → concat (text ∷ []) ≡ text
 concat-one text = append-nil text
 
--- a pack header with `put` entries, after one more entry is added
+-- if a pack header is followed by `put` entries, it is followed by `put + 1` entries after one more entry is added
 pub HasPut_more : (count put size : ℕ) (form : EntryForm) (stream old new : List ℕ) → HasPut count put old → AddsEntry form size stream old new → HasPut count (put + 1) new
 HasPut_more count put size form stream old new has adds =
     let entry : IsEntryText adds.text = record { form = form; size = size; stream = stream; is = adds.entry } in
@@ -23,7 +23,7 @@ HasPut_more count put size form stream old new has adds =
           ∙ ap (λ l. pack_header count ++ l) (sym (concat-append has.texts (adds.text ∷ []) ∙ ap (λ l. concat has.texts ++ l) (concat-one adds.text)));
     }
 
--- a pack header without entries
+-- a pack header alone is followed by 0 entries
 pub HasPut_none : (count : ℕ) (bytes : List ℕ) → bytes ≡ pack_header count → HasPut count 0 bytes
 HasPut_none count bytes is = record { texts = []; each = All-nil IsEntryText; many = refl; is = is ∙ sym (append-nil (pack_header count)) }
 

@@ -27,9 +27,8 @@ pub struct Checked {
     pub objects: u32,
 }
 
-/// Checks that every object that is reachable from the refs and HEAD of a Git directory exists. The
-/// id of each object is recomputed. A malformed ref file makes the check fail. The commit-graph is
-/// not used.
+/// Checks that the refs and HEAD of a Git directory reach no missing object. The id of each object
+/// is recomputed. A malformed ref file makes the check fail. The commit-graph is not used.
 ///
 /// The reader must read the objects of the same directory. The reader can be used again after any
 /// fault.
@@ -56,8 +55,7 @@ pub fn check_repository<R: Files, F: ObjectFiles, A: Allocator + Copy>(
     }
 }
 
-/// Checks that every object that is reachable from these refs and HEAD exists, as
-/// [`check_repository`] does.
+/// Checks, as [`check_repository`] does, that these refs and HEAD reach no missing object.
 pub fn check_refs<F: ObjectFiles, A: Allocator + Copy>(
     reader: &mut ObjectReader<'_, F, A>,
     refs: &Refs<A>,

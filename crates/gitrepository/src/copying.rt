@@ -104,7 +104,7 @@ pub(crate) struct Copying<A: Allocator + Copy> {
     to_deflate: Vec<ToDeflate, A>,
     // The number of objects of `to_deflate` that were deflated so far.
     deflated: usize,
-    // Whether `to_deflate` is sorted, which happens once all packs have been examined.
+    // Whether `to_deflate` is sorted. The list is sorted once all packs have been examined.
     is_sorted: bool,
     // The most recently deflated objects, which can be bases of new deltas.
     window: Window<A>,
@@ -213,7 +213,7 @@ impl<A: Allocator + Copy> Copying<A> {
         Ok(Some(self.reuse_entry(form, entry)))
     }
 
-    // Adds a packed object to the objects to deflate again.
+    // Adds a packed object to `to_deflate`, the list of objects to deflate again.
     fn deflate_later(&mut self, object: Packed) -> Result<(), RepositoryFault<A>> {
         self.counts.renewed = self.counts.renewed.saturating_add(1);
         self.add_to_deflate(&object.id, object.path)
@@ -242,9 +242,9 @@ impl<A: Allocator + Copy> Copying<A> {
         }
     }
 
-    // Returns the header form of a copied entry at this offset, or `None` if the base of a delta is
-    // not sent. A delta names its base by offset if the base was already copied, and by id
-    // otherwise.
+    // Returns the header form of a copied entry at this offset, or `None` if the entry is a delta
+    // whose base is not sent. A delta names its base by offset if the base was already copied, and
+    // by id otherwise.
     fn form_of<F: ObjectFiles>(
         &self,
         reader: &ObjectReader<'_, F, A>,

@@ -29,13 +29,13 @@ pub enum ObjectCause {
 pub enum FormFault {
     /// The repository is shallow: some commits lack their parents.
     Shallow,
-    /// The ids of the repository are not SHA-1: `extensions.objectFormat`.
+    /// The ids of the repository are not SHA-1, according to `extensions.objectFormat`.
     ObjectFormat,
-    /// The refs of the repository are not in files: `extensions.refStorage`.
+    /// The refs of the repository are not in files, according to `extensions.refStorage`.
     RefStorage,
     /// The repository is a partial clone: named objects may be missing.
     PartialClone,
-    /// The version of the repository is neither 0 nor 1: `core.repositoryFormatVersion`.
+    /// The version of the repository, `core.repositoryFormatVersion`, is neither 0 nor 1.
     Version,
     /// The repository has an unknown extension.
     Extension,
@@ -157,7 +157,7 @@ impl<A: Allocator + Copy> RepositoryFault<A> {
         }
     }
 
-    /// Returns the fault for the object file with this path.
+    /// Returns the fault for the file or folder with this path, which cannot be read.
     pub(crate) fn of_cause(alloc: A, path: &str, cause: Cause) -> RepositoryFault<A> {
         if cause == Cause::Memory {
             return RepositoryFault::Memory;

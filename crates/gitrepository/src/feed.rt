@@ -110,7 +110,7 @@ fn finish_pack<F: ObjectFiles, S: Spool + Drop, A: Allocator + Copy>(
     }
 }
 
-// Returns the fault of the refused object, or the pack fault `Refused` if no object was refused.
+// Returns the fault of the refused object, or the pack fault `Refused` if `fault` is `None`.
 fn refusal<A: Allocator + Copy>(fault: Option<RepositoryFault<A>>) -> RepositoryFault<A> {
     match fault {
         Some(fault) => fault,

@@ -23,7 +23,7 @@ pub(crate) fn gather<F: ObjectFiles, A: Allocator + Copy>(
     Ok(gathering.fates)
 }
 
-// A tree whose fate is decided. The fates of its entries are still to be decided.
+// A tree whose fate is decided. The fates of the objects that the tree names may be undecided.
 #[derive(Clone, Copy, Drop)]
 struct Tree {
     id: Oid,
@@ -31,7 +31,7 @@ struct Tree {
     fate: Fate,
 }
 
-/// The fates of objects decided so far, and a reader of the store.
+/// The fates that are decided so far, and a reader of the store.
 #[derive(Drop)]
 pub(crate) struct Gathering<'r, 'f, F: ObjectFiles, A: Allocator + Copy> {
     alloc: A,

@@ -17,8 +17,8 @@ use std::fs::Files;
 /// Both files are written and synced before either is renamed. The pack is renamed before the
 /// index.
 ///
-/// Fails if a call on the folder fails. After a failure the folder has neither file, only the pack,
-/// or both.
+/// Fails if a call on the folder fails. After a failure the folder has both files, only the pack,
+/// or neither file.
 pub fn install_files<P: PackFolder>(
     folder: &mut P,
     pack: P::Pack,
@@ -39,7 +39,7 @@ pub fn install_files<P: PackFolder>(
     }
 }
 
-// Syncs both files, and then renames them to their final names.
+// Takes the pack, writes the index, syncs both files, and renames them to their final names.
 fn write_and_name<P: PackFolder>(
     folder: &mut P,
     pack: P::Pack,

@@ -15,7 +15,7 @@ use std::alloc::Allocator;
 
 /// Adds leaves to a graph: the trees and blobs that refs of the peer point to. An object is added
 /// only if the store has everything that the object reaches. In the graph, trees and blobs count
-/// as commits without parents, so a client does not request them.
+/// as commits without parents, which are always connected. A client requests no connected objects.
 ///
 /// Fails with `Store` if an object cannot be read, with `Objects` if the graph is full, or with
 /// `Memory` if out of memory. After a fault, some objects may have been added.

@@ -7,8 +7,8 @@
 //! - [`open_tips`] returns the objects that refs point to, without their history. The command
 //!   `ls-refs` needs no other objects. [`lead_with_newest`] puts refs to the newest objects first.
 //! - A [`StorePacker`] packs commits and tags with their trees and blobs. The packer copies the
-//!   streams of stored pack entries unchanged. It sends other objects as deltas if the deltas are
-//!   smaller. A pack is returned in parts, with one entry in memory at a time.
+//!   streams of stored pack entries unchanged. It sends other objects as new deltas if it finds
+//!   small enough deltas. A pack is returned in parts, with one entry in memory at a time.
 //! - A [`StoreIndexer`] indexes a pack while receiving it, and stores the pack in a temporary file
 //!   ([`StoredSpools`]) or in memory ([`MemorySpools`]). The function [`install_pack`] writes the
 //!   index, and gives both files their final names.
@@ -27,16 +27,16 @@
 //!   object.
 //! - A sent pack consists of a header, as many entries as the header says, and the SHA-1 of all
 //!   preceding bytes. Each entry of a sent pack has a well-formed header. The pack has at most
-//!   `gparts::MAX_PARTS` bytes. The concatenation of the returned parts is the pack. If a part
-//!   fails, no contract describes the parts returned before it.
+//!   `gparts::MAX_PARTS` bytes. The concatenation of the returned parts is the pack. If the call
+//!   for a part fails, no contract describes the parts returned before.
 //! - A pack is accepted only if its trailer is the SHA-1 of all preceding bytes. Each entry that
 //!   the indexer returns describes an object, or is a tree or blob that a tag names. In the second
 //!   case the entry of the tag is also returned.
 //! - The spool that stores a received pack was given exactly the received bytes, in order.
 //! - [`install_files`] installs a pack in a [`PackFolder`], and then its index. After `Ok` both
 //!   files exist, with the bytes that they were given. A file gets its final name only once both
-//!   files are written and synced. After a fault the folder has neither file, only the pack, or
-//!   both.
+//!   files are written and synced. After a fault the folder has both files, only the pack, or
+//!   neither file.
 //! - [`MemoryFolder`] is a [`PackFolder`] that records all files it receives.
 //! - For any contents of the files, no call panics, overflows or reads out of bounds, and every
 //!   call returns.
@@ -46,8 +46,9 @@
 //! - A tree or blob that a ref or tag points to counts as a commit without parents.
 //! - A ref whose object is missing is not part of the repository. Git also leaves the ref out, and
 //!   prints a warning. If HEAD points to a missing object, the repository is refused.
-//! - The packer assumes that the client has every unlisted parent of a listed commit, and
-//!   everything that the trees of these parents reach.
+//! - The packer packs a list of commits and tags. If a parent of a listed commit is not in the
+//!   list, the packer assumes that the client has the parent. It also assumes that the client has
+//!   everything that the tree of the parent reaches.
 //! - New deltas are made only for objects that are not copied: loose objects, stored deltas whose
 //!   base is not sent, and objects with broken entries. Only these objects are bases of new deltas.
 //!   Git also makes new deltas for objects that are stored whole in a pack.
@@ -105,9 +106,9 @@
 //! - A [`NewRepository`] may lack its configuration, its pack, its refs or HEAD. Its files may be
 //!   removed by `finish`, or may remain after a fault.
 //! - A contract cannot describe the contents of a system file, so only the order of the calls in
-//!   [`install_pack`] is proved. The function may install nothing, or may not create the file
-//!   `.keep`. The folder of packs may fail to write, sync or rename a file, may give a file a wrong
-//!   name, or may leave temporary files.
+//!   [`install_files`] is proved for system files. The function [`install_pack`] may install
+//!   nothing, or may not create the file `.keep`. The folder of packs may fail to write, sync or
+//!   rename a file, may give a file a wrong name, or may leave temporary files.
 //! - A dropped [`KeptPack`] may leave its file `.keep`, or may remove another file.
 //! - A [`StoredSpool`] may write or return wrong bytes, may leave its file, or may create its file
 //!   in the wrong folder.
@@ -123,8 +124,9 @@
 //! `gparts` defines packers that return parts, and `ggraph` and `gdag` define graphs. `gobject`
 //! defines the objects of a graph, and `grefs` defines refs. `gitobjects` reads objects,
 //! `gitcommitgraph` reads commit-graphs, `gitrefs` reads refs, and `gitconfig` reads settings.
-//! `gitpack` reads and writes packs, and `gitobject` parses links. `gzlib` deflates, `gname`
-//! defines ids, `indexmap` defines maps by id, and `sha1` computes the trailer of a pack.
+//! `gitpack` reads and writes packs, and `gitobject` parses the ids that objects name. `gzlib`
+//! deflates, `gname` defines ids, `indexmap` defines maps by id, and `sha1` computes the trailer of
+//! a pack.
 #![tactic(auto)]
 
 mod arrival;

@@ -64,9 +64,9 @@ impl<'r, R: Files, A: Allocator + Copy> NewRepository<'r, R, A> {
     /// Finishes the clone: writes the pack, if there is one, then the refs as `packed-refs`, and
     /// then HEAD. The peeled object of each tag is looked up in the graph.
     ///
-    /// Fails with `File` or `Refs` if the system refuses a call. Fails with `Refs` if the name of
-    /// one ref is a directory in the name of another ref, or with `Memory` if out of memory. After
-    /// a fault the repository is removed. The ref names are checked before the pack is written.
+    /// Fails with `File` or `Refs` if the system refuses a call. Fails with `Refs` if a ref name
+    /// begins with another ref name and a slash, or with `Memory` if out of memory. After a fault
+    /// the repository is removed. The ref names are checked before the pack is written.
     pub fn finish(
         self,
         received: Option<Received<StoredSpool<'r, R, A>, A>>,
@@ -84,7 +84,7 @@ impl<'r, R: Files, A: Allocator + Copy> NewRepository<'r, R, A> {
         Ok(())
     }
 
-    // Checks that no ref name conflicts with another, before any file is written.
+    // Checks that no ref name conflicts with another ref name. Writes no file.
     fn check_refs(&self, refs: &Refs<A>) -> Result<(), RepositoryFault<A>> {
         GitDirectory::new(self.alloc, self.files, self.path).check_refs(refs)?;
         Ok(())

@@ -91,7 +91,8 @@ fn put_newest<A: Allocator + Copy>(
     Ok(())
 }
 
-// Adds a ref with this name that points to an object.
+// Adds a ref that has this name and points to an object. Adds no ref if the name is not a ref name,
+// or if the graph does not hold the object.
 fn put_named<A: Allocator + Copy>(
     graph: &Graph<A>,
     refs: &mut Refs<A>,

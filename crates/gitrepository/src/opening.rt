@@ -17,7 +17,7 @@ use std::fs::Files;
 
 /// Opens the repository of a Git directory: its refs, HEAD, and the commits and tags they reach,
 /// parents first. A tree or blob that a ref or tag points to counts as a commit without parents. A
-/// ref whose object is missing is left out, as in Git.
+/// ref whose object is missing is left out.
 ///
 /// The reader must read the objects of the same Git directory. The reader can be used again after
 /// any fault. A commit is not read if the commit-graph lists it and its object exists.

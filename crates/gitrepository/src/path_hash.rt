@@ -2,7 +2,7 @@
 
 /// The hash of the path at which an object was found. The last bytes of a path have the most
 /// weight. Sorting by this hash makes the versions of a file adjacent, and puts files whose names
-/// have the same ending nearby.
+/// have the same ending near each other.
 #[derive(Clone, Copy, Debug, PartialEq, Eq, PartialOrd, Ord)]
 pub(crate) struct PathHash(u32);
 

@@ -147,8 +147,9 @@ fn peel_target(peel: &Peel) -> Option<Oid> {
     }
 }
 
-// Adds an object, the tags that it leads to, and its peeled object. Reads these objects. Returns
-// `false` if an object is missing or malformed, or cannot be added.
+// Adds an object, the tags that it leads to, and its peeled object. Looks up the type of each of
+// these objects that the graph lacks, and reads the tags. Returns `false` if an object is missing
+// or malformed, or cannot be added.
 fn add_read<F: ObjectFiles, A: Allocator + Copy>(
     graph: &mut Graph<A>,
     reader: &mut QuickReader<'_, F, A>,

@@ -88,7 +88,7 @@ fn create<'r, R: Files, A: Allocator + Copy>(
     Temporary::create(alloc, files, folder.as_str(), "tmp_pack")
 }
 
-// Converts the fault of creating a file.
+// Converts the fault of creating a file to a `SpoolFault`.
 fn fault_of<A: Allocator + Copy>(fault: RepositoryFault<A>) -> SpoolFault {
     match fault {
         RepositoryFault::Memory => SpoolFault::Memory,
@@ -97,7 +97,7 @@ fn fault_of<A: Allocator + Copy>(fault: RepositoryFault<A>) -> SpoolFault {
     }
 }
 
-// Converts an error of the system.
+// Converts an error of the system to a `SpoolFault`.
 fn fault_of_error(error: &io::Error) -> SpoolFault {
     match error.kind() {
         ErrorKind::OutOfMemory => SpoolFault::Memory,

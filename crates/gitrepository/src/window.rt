@@ -1,4 +1,4 @@
-//! The window of objects that are bases of new deltas.
+//! The window of objects that can be bases of new deltas.
 
 use gitobject::ObjectType;
 use gitobjects::Object;
@@ -47,7 +47,7 @@ pub(crate) struct Delta<A: Allocator + Copy> {
     depth: usize,
 }
 
-/// The objects most recently sent in a pack, which can be bases of new deltas.
+/// The most recently deflated objects of a pack, which can be bases of new deltas.
 #[derive(Drop)]
 pub(crate) struct Window<A: Allocator + Copy> {
     alloc: A,

@@ -15,7 +15,7 @@ use Rattle.gitwords.specs.Urls.{IsHost, is_name_byte, max_host}
 
 -- ---- uniqueness of a split
 
--- a text with the byte `s` between two parts does not consist only of other bytes
+-- a text with the byte `s` between two parts does not consist only of bytes other than `s`
 pub no_in : (s : ℕ) (front back : List ℕ) → ¬ (All (λ b. b ≢ s) (front ++ s ∷ back))
 no_in s [] back all = All-head (λ b. b ≢ s) s back all refl
 no_in s (b ∷ front) back all = no_in s front back (All-tail (λ b. b ≢ s) b (front ++ s ∷ back) all)

@@ -103,7 +103,7 @@ no_names (part ∷ other ∷ front) some =
 no_names_before_slash : (rest : List ℕ) → list_all is_name (components (rest ++ 47 ∷ [])) ≡ false
 no_names_before_slash rest = ap (list_all is_name) (components-append rest (47 ∷ [])) ∙ no_names (components rest) (some_part rest)
 
--- two equal texts do not differ in whether all their components are names
+-- it is impossible that two texts are equal, but only one of them has a component that is not a name
 differ : (x y : List ℕ) → x ≡ y → list_all is_name (components x) ≡ false → list_all is_name (components y) ≡ true → ⊥
 differ x y same bad named = both_ways (list_all is_name (components x)) bad (subst (λ l. list_all is_name (components l) ≡ true) (sym same) named)
 

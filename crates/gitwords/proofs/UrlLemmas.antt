@@ -108,8 +108,8 @@ module _ (text front back : List ℕ) (parts : text ≡ front ++ 58 ∷ back) (c
   pub no_listen_host : ¬ (IsHost front) → ¬ (IsListenAddress text)
   no_listen_host bad address = bad (subst IsHost (sym (address_parts address).0) address.names)
 
-  -- the text after a host and a colon decides whether the whole text is a listening address: `b` states whether this
-  -- text denotes a number up to 65,535
+  -- the text `back` after a host and a colon decides whether the whole text is a listening address: `b` states whether
+  -- `back` denotes a number up to 65,535
   pub listens : (b : Bool) → IsHost front → MatchBool b ((port : ℕ) × IsNumber 10 back port × (port ≤ 65_535)) ((port : ℕ) → port ≤ 65_535 → ¬ (IsNumber 10 back port))
       → MatchBool b (IsListenAddress text) (¬ (IsListenAddress text))
   listens true named (port, number, most) = record { host = front; digits = back; port = port; parts = parts; names = named; number = number; most = most }

@@ -1,4 +1,4 @@
--- The bytes from a peer that a terminal may show.
+-- Those bytes of a peer's text that a terminal may show.
 use Rattle.std.specs.Prelude.{◌≡◌, ℕ, Bool, true, false, ◌==◌, ◌&&◌, ◌||◌, IsTrue, List, ◌++◌, All, map, nat_le}
 use Rattle.std.specs.Prelude.{if◌then◌else◌}
 use Rattle.gitwords.specs.declared.terminal.Shown.{Shown}

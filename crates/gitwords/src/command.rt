@@ -56,7 +56,7 @@ pub struct CloneArgs<'a> {
     pub verbosity: Verbosity,
     /// The URL of the repository on the server.
     pub url: GitUrl<'a>,
-    /// The directory to create.
+    /// The directory of the new repository.
     pub dir: &'a str,
 }
 
@@ -69,7 +69,7 @@ pub struct FetchArgs<'a> {
     pub dir: &'a str,
     /// The URL of the repository on the server.
     pub url: GitUrl<'a>,
-    /// The refspecs, of which there is at least one.
+    /// The refspecs: at least one.
     pub specs: Vec<Spec>,
 }
 

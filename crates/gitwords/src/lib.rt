@@ -1,5 +1,5 @@
 //! The command line of the program `gitrepo`, `git://` URLs, the paths that clients request, and
-//! texts from a peer that a terminal shows. The crate opens no files and no sockets.
+//! the cleaning of a peer's texts for a terminal. The crate opens no files and no sockets.
 //!
 //! # Proved
 //!
@@ -11,9 +11,9 @@
 //! - [`ServedPath::parse`] accepts exactly the paths of `specs/Served.antt`. No component of an
 //!   accepted path is empty or begins with a dot, but the path may end with one slash. A path names
 //!   at most one directory ([`paths_have_one_reading`](laws::paths_have_one_reading)).
-//! - [`ServedPath::candidate`] removes the first slash of the path and a slash at its end, and
-//!   appends an [`Ending`] such as `.git`. No component of the result is empty, `.` or `..`, so the
-//!   result can't leave the base directory.
+//! - [`ServedPath::parse`] removes the first slash of the path and a slash at its end. Then
+//!   [`ServedPath::candidate`] appends an [`Ending`] such as `.git`. No component of the result is
+//!   empty, `.` or `..`, so the result can't leave the base directory.
 //! - [`Ending::in_order`] returns the endings in the order in which Git tries them.
 //! - [`clean`] and [`push_clean`] keep printable ASCII, line feeds and tabs. Progress lines also
 //!   keep carriage returns. Any other byte becomes a question mark. Cleaning a text piece by piece
@@ -44,10 +44,11 @@
 //!
 //! No contract rules out that [`read_words`] refuses all arguments, or returns a well-formed
 //! command that does not match the arguments. The contracts do not state the text of an answer to
-//! wrong arguments, or the [`Transport`] of a URL that does not begin with `git://`. If both the
-//! host and the port of a URL are malformed, no contract says which of them is reported. Any call
-//! that allocates may fail if out of memory. The crate does not check symbolic links below the base
-//! directory.
+//! wrong arguments, or the [`Transport`] of a URL that does not begin with `git://`. If the
+//! conditions of several causes hold for a URL, no contract says which cause is reported. For
+//! example, a malformed port after a valid host meets the conditions of `BadHost` and `BadPort`.
+//! Any call that allocates may fail if out of memory. The crate does not check symbolic links below
+//! the base directory.
 //!
 //! This crate has no tests of its own.
 //!

@@ -1,4 +1,4 @@
-//! The parser of the arguments.
+//! The parser of the arguments of `gitrepo`.
 
 ghost use Rattle.std.specs.Prelude.{◌≤◌, IfOk, IfSome, length};
 ghost use Rattle.gitwords.specs.Commands.{IsCommand, IsConnectionLimit, IsUrl};

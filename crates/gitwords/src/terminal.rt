@@ -1,4 +1,4 @@
-//! Replacing bytes from a peer that a terminal must not show.
+//! Replacing those bytes of a peer's text that a terminal must not show.
 
 ghost use Rattle.std.specs.Prelude.{◌≡◌, ◌++◌, IfOk, OnOk};
 ghost use Rattle.gitwords.specs.Clean.{clean_byte, clean_text};

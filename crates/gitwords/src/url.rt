@@ -170,8 +170,8 @@ fn split_port(text: &str) -> Option<(&str, &str)>
     text.rsplit_once(':')
 }
 
-// Returns the port number from 1 to 65,535 that these decimal digits denote, or `None` for any
-// other text.
+// Returns the port from 1 to 65,535 that a text of decimal digits denotes, or `None` for any other
+// text.
 fn port_of(digits: &str) -> Option<u16>
     ensures { MatchOption result ((port : ℕ) → ¬ (IsPort digits.now port)) (IsPort digits.now) }
 {

@@ -35,14 +35,14 @@ enum FailurePlan {
     After(usize),
 }
 
-// The outcome of a call.
+// The effect of a call.
 #[derive(Clone, Copy, PartialEq, Eq)]
-enum Outcome {
-    // The call has its effect, and succeeds.
+enum CallEffect {
+    // The call does its work, and succeeds.
     Done,
-    // The call has its effect, but fails.
+    // The call does its work, but fails.
     DoneButFailed,
-    // The call has no effect, and fails.
+    // The call does nothing, and fails.
     Refused,
 }
 
@@ -128,17 +128,17 @@ impl<A: Allocator + Copy> MemoryFile<A> {
         self.calls
     }
 
-    // Counts a call, and returns its outcome.
-    fn call(&mut self) -> Outcome
+    // Counts a call, and returns its effect.
+    fn call(&mut self) -> CallEffect
         ensures { self.new ≡ self.old }
     {
         self.calls = self.calls.saturating_add(1);
         match self.failure_plan {
-            FailurePlan::At(call) if self.calls == call => Outcome::Refused,
-            FailurePlan::From(call) if self.calls >= call => Outcome::Refused,
-            FailurePlan::After(call) if self.calls == call => Outcome::DoneButFailed,
-            FailurePlan::After(call) if self.calls > call => Outcome::Refused,
-            _ => Outcome::Done,
+            FailurePlan::At(call) if self.calls == call => CallEffect::Refused,
+            FailurePlan::From(call) if self.calls >= call => CallEffect::Refused,
+            FailurePlan::After(call) if self.calls == call => CallEffect::DoneButFailed,
+            FailurePlan::After(call) if self.calls > call => CallEffect::Refused,
+            _ => CallEffect::Done,
         }
     }
 }
@@ -149,12 +149,12 @@ impl<A: Allocator + Copy> Storage for MemoryFile<A> {
     ghost lockfile = { λ f. f.lockfile };
 
     fn lock(&mut self) -> Result<(), StorageFault> {
-        let outcome = self.call();
-        if self.is_locked || outcome == Outcome::Refused {
+        let effect = self.call();
+        if self.is_locked || effect == CallEffect::Refused {
             return Err(StorageFault::Failed);
         }
         self.is_locked = true;
-        if outcome == Outcome::DoneButFailed {
+        if effect == CallEffect::DoneButFailed {
             return Err(StorageFault::Failed);
         }
         self.lockfile = Lockfile::Empty;
@@ -162,7 +162,7 @@ impl<A: Allocator + Copy> Storage for MemoryFile<A> {
     }
 
     fn read<B: Allocator + Copy>(&mut self, alloc: B) -> Result<Vec<u8, B>, StorageFault> {
-        if self.call() != Outcome::Done {
+        if self.call() != CallEffect::Done {
             return Err(StorageFault::Failed);
         }
         match self.states.last() {
@@ -173,12 +173,12 @@ impl<A: Allocator + Copy> Storage for MemoryFile<A> {
 
     fn write(&mut self, text: &[u8]) -> Result<(), StorageFault> {
         self.lockfile = Lockfile::Unusable;
-        let outcome = self.call();
-        if outcome == Outcome::Refused {
+        let effect = self.call();
+        if effect == CallEffect::Refused {
             return Err(StorageFault::Failed);
         }
         self.written = text.to_vec(self.alloc)?;
-        if outcome == Outcome::DoneButFailed {
+        if effect == CallEffect::DoneButFailed {
             return Err(StorageFault::Failed);
         }
         self.lockfile = Lockfile::Written;
@@ -186,7 +186,7 @@ impl<A: Allocator + Copy> Storage for MemoryFile<A> {
     }
 
     fn sync(&mut self) -> Result<(), StorageFault> {
-        if self.call() == Outcome::Done {
+        if self.call() == CallEffect::Done {
             self.lockfile = Lockfile::Synced;
             Ok(())
         } else {
@@ -197,14 +197,14 @@ impl<A: Allocator + Copy> Storage for MemoryFile<A> {
 
     fn rename(&mut self) -> Result<(), StorageFault> {
         self.lockfile = Lockfile::Unusable;
-        let outcome = self.call();
-        if outcome == Outcome::Refused {
+        let effect = self.call();
+        if effect == CallEffect::Refused {
             return Err(StorageFault::Failed);
         }
         let text = mem::replace(&mut self.written, Vec::new(self.alloc));
         self.states.push(text)?;
         self.is_locked = false;
-        if outcome == Outcome::DoneButFailed {
+        if effect == CallEffect::DoneButFailed {
             return Err(StorageFault::Failed);
         }
         self.lockfile = Lockfile::Absent;
@@ -212,7 +212,7 @@ impl<A: Allocator + Copy> Storage for MemoryFile<A> {
     }
 
     fn unlock(&mut self) {
-        if self.call() != Outcome::Refused {
+        if self.call() != CallEffect::Refused {
             self.is_locked = false;
         }
         self.lockfile = Lockfile::Absent;

@@ -1,6 +1,6 @@
 //! The laws of plain packs. Each function does nothing at run time, and its contract states the
-//! law. The bad line of a sequence of bytes is the first line that is malformed or missing if the
-//! bytes are read as a plain pack.
+//! law. Bytes that are not a plain pack have a bad line: the first line that is malformed or
+//! missing.
 
 ghost use Rattle.std.specs.Prelude.{◌≡◌};
 ghost use Rattle.gobject.specs.Laws.{BadLinesHaveOnePlace, PacksHaveNoBadLine, PacksHaveOneReading};

@@ -13,8 +13,8 @@ use std::io::{BufReader, BufWriter};
 use std::net::Net;
 use std::rt::{Clock, Files};
 
-/// Runs `gitv2 fetch (--stdio or --tcp ADDR --path PATH) FILE SPEC...`, and returns the exit
-/// status.
+/// Runs `gitv2 fetch (--stdio or --tcp ADDR --path PATH) [--limit N] [--response-end] FILE
+/// SPEC...`, and returns the exit status.
 pub(crate) fn fetch<R, E>(rt: &R, args: &Fetch, errors: &mut E) -> u8
 where
     R: Files + Input + Print + AllocGlobal + Clock + Net,

@@ -19,7 +19,7 @@
 //! # What the contracts do not rule out
 //!
 //! The contracts make no other statement about the effects of the program. No contract can state
-//! the bytes that a file, a stream or a socket of the system reads or writes.
+//! the bytes that the program reads from or writes to a file, a stream or a socket of the system.
 //!
 //! # Dependencies
 //!

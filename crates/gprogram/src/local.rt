@@ -1,4 +1,4 @@
-//! Commands over standard input and standard output that change no file and open no socket.
+//! Commands that use standard input or standard output, change no file, and open no socket.
 
 use crate::faults::fail;
 use crate::files::read;
@@ -65,7 +65,7 @@ pub(crate) enum StdioService {
     /// Serves one request, without an advertisement before the reply: `gitv2 ls --stdio-server
     /// FILE`.
     Request,
-    /// Serves one connection: `gitv2 upload FILE`.
+    /// Serves one connection: `gitv2 upload [--response-end] FILE`.
     Connection(Ends),
 }
 

@@ -23,7 +23,7 @@ where
     }
 }
 
-// Serves the repository that `text` describes to clients over sockets.
+// Serves clients over sockets, with the repository that `text` describes.
 fn serve_text<R, E>(rt: &R, args: &Serve, text: &[u8], errors: &mut E) -> u8
 where
     R: Print + AllocGlobal + Clock + Net,

@@ -145,7 +145,7 @@ module _ (four : HasFourBytes) (limits : Limits) (format : Format) where
   no_fault bytes new packet_fault.Memory empty certain read = read
   no_fault bytes new fault empty certain read = let none : length bytes ≡ 0 = ap length empty in omega (arith, none, read.0.0)
 
-  -- before the first packet of an empty input, the end of the input is the only reason that its bytes can cause
+  -- if no packet was read, the end of the input is the only reason that the bytes of an empty input can cause
   no_reason : (bytes new : List ℕ) (reason : Why) → bytes ≡ [] → IsOfBytes reason → (reason ≡ why.Ended → ⊥)
       → IsReasonAfter (judge limits format) brings [] (known_bytes bytes new) reason → ⊥
   no_reason bytes new (why.Line fault) empty certain later h = no_fault bytes new fault empty certain h

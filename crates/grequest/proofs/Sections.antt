@@ -115,7 +115,7 @@ AreCapabilities-parts format command lines arguments line h =
       capability_taken format command lines arguments line (capability_form line) refl parts.1 h.one_agent h.one_format,
     )
 
--- there are no more capabilities than agents and object formats, since each capability is one of these
+-- the number of capabilities is at most the number of agents plus that of object formats, since each is one of these
 pub counted : (format : Format) (lines : List (List ℕ)) → All (λ line. IsCapability format (capability_form line)) lines → length lines ≤ length (agents lines) + length (formats lines)
 counted format [] h = omega arith
 counted format (line ∷ lines) h =
@@ -167,7 +167,7 @@ room_for : (b : Bool) → b ≡ true → if_room b ≡ Open
 room_for true e = refl
 room_for false e = cc
 
--- an argument of a kind that has a maximum number
+-- an argument of a kind whose number is limited
 module _ (test : Bool) (lines before : List (List ℕ)) (limit : ℕ) (why : Why) where
   few_found : cond test (of_few (length lines) before limit) (Refused why) ≡ Open
       → (test ≡ true) × (length lines < max_arguments) × (length before < limit)
@@ -182,7 +182,7 @@ module _ (test : Bool) (lines before : List (List ℕ)) (limit : ℕ) (why : Why
       opens_if test (of_few (length lines) before limit) why h
       (room_for _ (and_from _ _ (lt-ltb (length lines) max_arguments room) (lt-ltb (length before) limit few)))
 
--- the facts about an accepted argument: it is well-formed, and there is room for it and for its kind
+-- the facts about an accepted argument: it is well-formed, it has room, and the limit on its kind is kept
 record Found (kind : Type 0) (is : Type 0) (lines : List (List ℕ)) : Type 0 where
   form : is
   room : length lines < max_arguments

@@ -121,7 +121,7 @@ refuses_packets limits format front packet = of_packet limits format (state_of f
 
 -- ---- the precedence of the peer's errors
 
--- if a request continues after a data packet, the verdict on its text in this section is `Open`
+-- if a request continues after a data packet, the verdict on the packet's text in this section is `Open`
 pub text-open : (limits : Limits) (format : Format) (state : State) (payload : List ℕ) → judge_at limits format state (Data payload) ≡ Open → judge_text limits format state.place state (text payload) ≡ Open
 unfolding judge_at
 text-open limits format state payload e = open_unless (peer_error payload) _ e

@@ -1,4 +1,4 @@
--- The texts of a written request, for its flags and its values: their packets and their contents.
+-- The texts that are written for the flags and the values of a request: the packets and the contents of these texts.
 use Rattle.std.proofs.Common.{◌≡◌, ℕ, ◌≤◌, ◌&&◌, ◌||◌, Bool, true, false, List, [], ◌∷◌, ◌++◌, length, map, Option}
 use Rattle.std.proofs.Common.{Some, None, refl, sym, ap, ◌∙◌, append-nil, arith, codes}
 use Rattle.std.specs.Prelude.{All}

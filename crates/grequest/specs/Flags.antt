@@ -38,7 +38,7 @@ module _ {F : Type 0} (same : F → F → Bool) where
   has_flag [] flags flag = false
   has_flag (row ∷ rows) flags flag = if same flag row.0 then flags.0 else has_flag rows flags.1 flag
 
-  -- the set of flags, with one flag set or cleared
+  -- the set of flags, with one flag added or removed
   abbrev pub with_flag : (table : Table F) → FlagsOf table → F → Bool → FlagsOf table
   with_flag table flags flag is_set =
       flags_where table (λ other. if same other flag then is_set else has_flag table flags other)

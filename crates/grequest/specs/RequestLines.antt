@@ -145,7 +145,7 @@ abbrev pub asked_by_command : Format → Command → List Bytes → List Bytes �
 asked_by_command format LsRefs capabilities arguments = Ls (ls_refs_asked capabilities arguments)
 asked_by_command format Fetch capabilities arguments = Fetches (fetch_asked format capabilities arguments)
 
--- the contents of a request, which is empty if it has no command
+-- the contents of a request; a request without a command is the empty request
 abbrev pub asked_by_texts : Format → RequestPlace → List Bytes → List Bytes → Asked
 asked_by_texts format First capabilities arguments = Empty
 asked_by_texts format (InCapabilities command) capabilities arguments =

@@ -10,7 +10,7 @@ use Rattle.ggrammar.specs.declared.fault.MessageFault.{MessageFault}
 use Rattle.grequest.specs.Asked.{Asked}
 use Rattle.grequest.specs.Requests.{judge, brings, Says}
 
--- the content of the bytes caused the fault; if the fault is the end of the input, at least one packet was read before
+-- the content of the bytes caused the fault; if the fault is the end of the input, at least one packet precedes it
 abbrev pub IsNotMissing : MessageFault → Type 0
 IsNotMissing fault = IsOfBytes fault.why × (fault.why ≡ Ended → 0 < fault.frame)
 

@@ -1,4 +1,4 @@
--- The packets that are written for a request: each argument that is set, in a fixed order (gitprotocol-v2(5), "Command
+-- The packets that are written for a request, with its arguments in a fixed order (gitprotocol-v2(5), "Command
 -- Request"). Git's manual does not fix the order of arguments, so this order is a choice of this crate.
 use Rattle.std.specs.Prelude.{◌≡◌, Bool, true, false, List, [], ◌∷◌, ◌++◌, map, codes, Option, Some, None}
 use Rattle.gpkt.specs.Packets.{Bytes, Packet, Flush, Delim}

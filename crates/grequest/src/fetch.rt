@@ -297,7 +297,8 @@ impl<A: Allocator + Copy> FetchRequest<A> {
         Ok(())
     }
 
-    // Adds the argument that `text` encodes to a request with `arguments` earlier arguments.
+    // Adds an argument to a request that has `arguments` earlier arguments. The argument is the one
+    // that `text` encodes.
     pub(crate) fn take_argument(&mut self, arguments: u32, text: &[u8]) -> Result<(), Why>
         ensures adds { AddsAs (judge_fetch_argument self.old.limits self.old.format arguments
             self.old.asked.wants self.old.asked.haves (fetch_argument text.now))
@@ -359,8 +360,8 @@ impl<A: Allocator + Copy> FetchRequest<A> {
     }
 }
 
-// Returns whether a request with `arguments` arguments has room for another argument, and a list
-// with `len` values has room for another value.
+// Returns true if a request with `arguments` arguments has room for another argument, and a list
+// of `len` values with the maximum length `limit` has room for another value.
 fn has_room(arguments: u32, len: usize, limit: usize) -> bool
     ensures room { result ≡ (has_room arguments && nat_lt len limit) }
     ensures few { result ≡ true → len < limit }
@@ -368,8 +369,8 @@ fn has_room(arguments: u32, len: usize, limit: usize) -> bool
     arguments < MAX_ARGUMENTS && len < limit
 }
 
-// Appends the id. Fails if the id has another format, if `has_room` is false, or if memory runs
-// out.
+// Appends the id. Fails if the format of the id is not `format`, if `has_room` is false, or if
+// memory runs out.
 fn keep_id<A: Allocator + Copy>(
     format: Format,
     ids: &mut Vec<Oid, A>,

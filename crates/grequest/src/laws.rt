@@ -38,8 +38,8 @@ pub fn manual()
     grammars_are_exact();
 }
 
-/// Proves that a list of packets encodes at most one request, and that each complete list encodes a
-/// request.
+/// Proves that a list of packets encodes at most one request. Each list that the judge accepts as a
+/// whole request encodes one.
 pub fn one_meaning()
     ensures one { (limits : Limits) (format : Format) → OneMeaning (Says limits format) }
     ensures whole { (limits : Limits) (format : Format)

@@ -5,11 +5,11 @@
 //!
 //! - [`read_request_within`] reads a request exactly to its end, however its bytes are split into
 //!   pieces. The function returns the request that the packets encode, or `None` if the input ends
-//!   before the first packet. The request has the limits of the call. Any other input is rejected
-//!   at the first packet that does not fit, with the fault that the grammar gives (`judge` in
-//!   `specs/Requests.antt`). An error packet from the peer takes precedence over a malformed text,
-//!   which takes precedence over an exceeded limit. Out of memory is reported only at a packet with
-//!   an agent, a prefix, a want or a have.
+//!   before the first packet. The request has the limits of the call. An input that is not empty
+//!   and begins with no request is rejected at the first packet that does not fit, with the fault
+//!   that the grammar gives (`judge` in `specs/Requests.antt`). An error packet from the peer takes
+//!   precedence over a malformed text, which takes precedence over an exceeded limit. The fault
+//!   `Memory` is reported only at a packet with an agent, a prefix, a want or a have.
 //! - A request to a SHA-256 repository must name the object format, and its ids have this format.
 //! - Every [`LsRefsRequest`] and every [`FetchRequest`] is well-formed and within its limits. `new`
 //!   gives the default limits of 64 prefixes, 1,024 wants and 4,096 haves. `within` takes other
@@ -41,10 +41,10 @@
 //!
 //! # What the contracts do not rule out
 //!
-//! No contract rules out that a call that stores or copies a value reports out of memory at any
-//! time. No contract bounds the time or the memory of such a call. No contract rules out that a
-//! call allocates, not even `new`. If a sink fails, the contracts do not state how long the written
-//! prefix is. If the bytes of a source are unknown, the contracts do not state which packets are
+//! The contracts allow a call that stores or copies a value to report out of memory at any time.
+//! No contract bounds the time or the memory of such a call. The contracts allow every call to
+//! allocate, even `new`. If a sink fails, the contracts do not state how long the written prefix
+//! is. If the bytes of a source are unknown, the contracts do not state which packets are
 //! read. The contracts still state whether the source or the sink has failed.
 //!
 //! # Dependencies

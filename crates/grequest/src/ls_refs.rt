@@ -191,9 +191,9 @@ impl<A: Allocator + Copy> LsRefsRequest<A> {
 
     /// Appends a prefix, which requests the names that begin with this prefix.
     ///
-    /// Fails with `BadText` if the text is not a prefix of names. Otherwise fails with `Limit` if
-    /// there are already as many prefixes as the limits of the request allow, or with `Memory` if
-    /// memory runs out. The fault reports packet position 0, and the request is unchanged.
+    /// Fails with `BadText` if the prefix is malformed. Otherwise fails with `Limit` if there are
+    /// already as many prefixes as the limits of the request allow, or with `Memory` if memory runs
+    /// out. The fault reports packet position 0, and the request is unchanged.
     pub fn push_prefix(&mut self, prefix: &[u8]) -> Result<(), MessageFault>
         ensures { Builds (is_none (prefix_fault prefix.now))
             (nat_lt (length self.old.asked.prefixes) (max_prefixes self.old.limits))
@@ -251,7 +251,8 @@ impl<A: Allocator + Copy> LsRefsRequest<A> {
         }
     }
 
-    // Adds the argument that `text` encodes to a request with `arguments` earlier arguments.
+    // Adds an argument to a request that has `arguments` earlier arguments. The argument is the one
+    // that `text` encodes.
     pub(crate) fn take_argument(&mut self, arguments: u32, text: &[u8]) -> Result<(), Why>
         ensures adds { AddsAs (judge_ls_argument self.old.limits arguments self.old.asked.prefixes
             (ls_argument text.now)) (ls_argument_brings (ls_argument text.now))

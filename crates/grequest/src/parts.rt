@@ -37,7 +37,7 @@ pub(crate) fn copy_prefixes<A: Allocator + Copy, B: Allocator + Copy>(
     Ok(copies)
 }
 
-// Returns a copy of a prefix. The copy fails only if memory runs out, since the prefix is
+// Returns a copy of a prefix. The call fails only if memory runs out, since the prefix is
 // well-formed.
 fn copy_prefix<A: Allocator + Copy, B: Allocator + Copy>(
     alloc: B,

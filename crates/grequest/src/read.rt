@@ -91,7 +91,7 @@ pub fn read_request_within<S: Source, A: Allocator + Copy, B: Allocator + Copy>(
     }
 }
 
-// Returns whether the input ended before the first packet.
+// Returns whether the fault is the end of the input before the first packet.
 fn is_missing(fault: &MessageFault) -> bool
     ensures { IsTrue result ↔ ((fault.now.frame ≡ 0) × (fault.now.why ≡ Why.Ended)) }
 {

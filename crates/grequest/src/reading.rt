@@ -65,8 +65,7 @@ impl<A: Allocator + Copy> Model for RequestReader<A> {
 impl<A: Allocator + Copy> RequestReader<A> {
     ghost use Rattle.grequest.specs.RequestValues.{HasLimits, IsOfFormat, asked_by_request};
 
-    /// Returns a reader that has not read any packet yet. The request to read has the default
-    /// limits.
+    /// Returns a reader that has not read any packet yet, for a request with the default limits.
     pub fn new(alloc: A, format: Format) -> RequestReader<A>
         ensures { result
             ≡ record { limits = profile; format = format; state = state_of format [] } }
@@ -74,8 +73,8 @@ impl<A: Allocator + Copy> RequestReader<A> {
         RequestReader::within(alloc, format, Limits::default())
     }
 
-    /// Returns a reader that has not read any packet yet. The request to read has these limits. A
-    /// limit above 2^30 counts as 2^30.
+    /// Returns a reader that has not read any packet yet, for a request with these limits. A limit
+    /// above 2^30 counts as 2^30.
     #[tactic(auto, unfolding(crate::specs::RequestLines::capability_texts, crate::specs::RequestLines::argument_texts))]
     pub fn within(alloc: A, format: Format, limits: Limits) -> RequestReader<A>
         ensures { result

@@ -102,7 +102,7 @@ impl<A: Allocator + Copy> Request<A> {
         }
     }
 
-    // Stores the client's agent string.
+    // Stores the client's agent string. The empty request stores none and is unchanged.
     pub(crate) fn keep_agent(&mut self, agent: &[u8]) -> Result<(), AllocError>
         requires { is_word_value agent.now ≡ true }
         ensures ok { OnOk result (asked_by_request self.new

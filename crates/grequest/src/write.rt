@@ -27,11 +27,13 @@ use gpkt::{PacketWriter, Sink, WriteFault};
 use std::alloc::Allocator;
 
 /// Writes a request as its canonical list of packets (gitprotocol-v2(5), "Command Request").
-/// `format` is the format of the repository's objects. A fetch request must have this format.
+/// `format` is the format of the repository's objects. A fetch request must be for ids of this
+/// format.
 ///
-/// Allocates nothing. Fails with `Io` if the sink fails, after writing a prefix of the request.
-/// Fails with `Failed` if the writer failed before the call. Every request meets the conditions of
-/// [`reads_back`](crate::laws::reads_back), so reading a written request returns the same request.
+/// Allocates nothing. If the sink fails, the call fails with `Io` after it wrote a prefix of the
+/// request. Fails with `Failed` if the writer failed before the call. Every request meets the
+/// conditions of [`reads_back`](crate::laws::reads_back), so reading a written request returns the
+/// same request.
 pub fn write_request<A: Allocator + Copy, W: Sink>(
     request: &Request<A>,
     format: Format,
@@ -87,7 +89,7 @@ fn write_fetch<A: Allocator + Copy, W: Sink>(
     writer.flush_pkt()
 }
 
-// Writes the packets of a request before its arguments.
+// Writes the packets of a request that come before its arguments.
 fn write_head<W: Sink>(
     command: Command,
     agent: Option<&[u8]>,
@@ -135,7 +137,7 @@ fn write_format<W: Sink>(format: Format, writer: &mut PacketWriter<W>) -> Result
     }
 }
 
-// Writes the flags of the table that are set.
+// Writes a packet for each flag that is set, in the order of the table.
 fn write_flags<F: Flag, W: Sink>(
     table: &[(F, &str)],
     flags: &[bool; MAX_FLAGS],

@@ -117,7 +117,7 @@ module _ {A : Type 0} where
       at = reads.at;
     }
 
-    -- reading a next line that encodes an event
+    -- if the next line encodes an event, the lines that were read grow by this line, and the events by this event
     pub goes_on : (now : List (Event A)) (event : Event A) (found : Option (Event A)) → found ≡ Some event
         → MatchOption found (IsNoLine A here) (IsLineOf here) → now ≡ events ++ event ∷ []
         → ReadsLines text after now (number + 1)

@@ -23,7 +23,7 @@ abbrev pub with_byte : ℕ → List (List ℕ) → List (List ℕ)
 with_byte byte [] = (byte ∷ []) ∷ []
 with_byte byte (word ∷ words) = (byte ∷ word) ∷ words
 
--- the words of a line, which single spaces separate
+-- the words of a line, split at each space
 abbrev pub words_of : List ℕ → List (List ℕ)
 words_of [] = [] ∷ []
 words_of (byte ∷ text) = if byte == 32 then [] ∷ words_of text else with_byte byte (words_of text)

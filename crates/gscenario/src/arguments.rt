@@ -182,7 +182,7 @@ fn number_and_count(tail: &[u8]) -> Option<(usize, usize)>
     }
 }
 
-// Returns the bytes that the only argument encodes, or `None` if `tail` has any other form.
+// Returns the bytes if `tail` is exactly one argument that encodes bytes, or `None` otherwise.
 fn bytes_alone<A: Allocator + Copy>(alloc: A, tail: &[u8]) -> Result<Option<Vec<u8, A>>, AllocError>
     ensures { MatchResult result
         (λ found. MatchOption found (((bytes : List ℕ) → AreOneBytes (words_after tail.now) bytes

@@ -1,4 +1,4 @@
-//! The first words of a scenario's lines.
+//! The first word of each line of a scenario.
 
 ghost use Rattle.std.specs.Prelude.{◌≡◌, ◌≢◌, MatchOption};
 ghost use Rattle.gscenario.specs.ScenarioText.{command_text};

@@ -11,9 +11,9 @@ use std::alloc::{Allocator, Global};
 /// also be delivered twice, late or truncated.
 #[derive(Debug, Drop)]
 pub enum Event<A: Allocator + Copy = Global> {
-    /// The client begins a session with these refspecs, at most 16, and reads the server's
-    /// advertisement. The new session replaces any older session. The session accepts packs up to
-    /// the default size limit, and expects no response-end packets.
+    /// The client begins a session with these refspecs, and reads the server's advertisement. The
+    /// event fails if there are more than 16 refspecs. The new session replaces any older session.
+    /// The session accepts packs up to the default size limit, and expects no response-end packets.
     Begin(Vec<Spec<A>, A>),
     /// The client's session makes its next request, and appends it to the list of sent requests.
     Ask,

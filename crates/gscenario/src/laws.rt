@@ -15,8 +15,8 @@ pub fn texts_have_one_reading<A: Allocator + Copy>()
     texts_spell_one_id();
 }
 
-/// Proves that a text with a malformed line does not encode any list of events. A rejected text is
-/// therefore not a scenario.
+/// Proves that a text with a malformed line does not encode any list of events. A text that is
+/// rejected with `ScenarioFault::Scenario` is therefore not a scenario.
 pub fn wrong_is_none<A: Allocator + Copy>()
     ensures { WrongIsNone A }
 {}

@@ -19,8 +19,8 @@
 //! # What the contracts do not rule out
 //!
 //! A call may report out of memory although memory is available. This is possible only if the first
-//! line of the text begins with a command and has a line feed. Out of memory may then replace the
-//! report of a later malformed line. No contract limits the time of a call, or the memory that a
+//! line of the text begins with a command and has a line feed. The call may then report out of
+//! memory instead of a malformed line. No contract limits the time of a call, or the memory that a
 //! call takes. Formatting a fault may return `fmt::Error` even if every write succeeds.
 //!
 //! # Dependencies

@@ -15,7 +15,7 @@ use std::alloc::{AllocError, Allocator};
 /// A text that encodes a list of events.
 ///
 /// Each event is one line. The line ends with a line feed. Single spaces separate the words of a
-/// line:
+/// line. A line has one of these forms:
 ///
 /// - `begin SPEC SPEC ..`, with at least one refspec
 /// - `ask`, `settle`, `restart-client`, `restart-server`

@@ -158,7 +158,7 @@ module _ {A S W : Type 0} (server : Server A) (packs : Packs A) (fails : PackFai
   answered_all r s a b before =
       (before.turns, conversed r s s a b max_requests (HasEnded max_requests) before (inr (refl, refl, before.up (omega arith))), before.passed)
 
-  -- an exchange after which the connection does not continue ends the connection
+  -- if an exchange does not end with `Answered`, the connection ends
   ended_as : (r s t : S) (a b c : W) (requests : ℕ) (ended : ExchangeEnd)
       → HasAnswered server packs fails ends (input_of remaining source_down r s) (output_of contents passed_on sink_down a b) requests
       → Exchanges server packs fails ends (input_of remaining source_down s t) (output_of contents passed_on sink_down b c) ended

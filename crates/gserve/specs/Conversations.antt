@@ -46,7 +46,7 @@ pub data IsDueFirst (format : Format) (input : Input) : List Packet → Type 0 w
 
 -- ---- the requests
 
--- the server reads and answers `requests` requests; the predicate describes the input after the last request
+-- the server reads and answers `requests` requests, and `Last` holds for the input after the last request
 pub record Converses {A : Type 0} (server : Server A) (packs : Packs A) (input : Input) (requests : ℕ)
     (turns : List Turn) (Last : Input → Type 0) : Type 0 where
   pub between : Option Bytes
@@ -63,9 +63,9 @@ HasEnded requests rest =
 -- ---- the whole connection
 
 module _ {A : Type 0} (server : Server A) (packs : Packs A) (fails : PackFails A) (ends : Ends) where
-  -- The relation between the input, the output, the number of answered requests and the end of a connection. All
-  -- replies are written and flushed. If the sink fails, each counted reply was flushed, and a prefix of the next
-  -- message was written.
+  -- The relation between the input, the output, the number of answered requests and the end of a connection. Unless the
+  -- sink fails, all replies are written and flushed. If the sink fails, each counted reply was flushed, and a prefix of
+  -- the next message was written.
   abbrev pub Serves : Input → Output → ℕ → End → Type 0
   Serves input output requests end.Closed =
       (turns : List Turn) × (requests < max_requests)

@@ -1,6 +1,6 @@
 -- The last result of the packer at the end of an exchange or a connection. If the packer fails, its fault is reported.
--- If another fault is reported, the packer was not asked for a pack for the same request. If the sink fails, nothing is
--- stated about the packer's last result.
+-- If any other fault is reported, the packer was not asked for a pack for the last request. If the sink fails, nothing
+-- is stated about the packer's last result.
 use Rattle.std.specs.Prelude.{◌≡◌, ⊤, false}
 use Rattle.ganswer.specs.OnePack.{has_failed, packing_of_fault}
 use Rattle.ganswer.specs.declared.one_pack.Packing.TheVariants.{Unasked}

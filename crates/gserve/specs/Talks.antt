@@ -27,8 +27,8 @@ last_packets (end.Refused fault) = err_packets fault
 last_packets _ = []
 
 module _ {A : Type 0} (server : Server A) (fails : PackFails A) where
-  -- How a conversation ends after this many requests, with these bytes left. A lone flush packet is next, no bytes are
-  -- left, the maximum number of requests was answered, or the next request is refused.
+  -- How a conversation ends after this many requests, with these bytes left. The cause is a lone flush packet, the end
+  -- of the bytes, the maximum number of answered requests, or a request that is refused.
   abbrev pub Stops : ℕ → Bytes → End → Type 0
   Stops requests left end.Closed =
       (requests < max_requests) × (rest : Bytes) × ReadsEmpty server.graph.format (input_of_bytes left rest)

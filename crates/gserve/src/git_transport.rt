@@ -36,8 +36,8 @@ pub enum GitEnd {
     Served(Served),
     /// The client requested another path. Only an error packet was written and flushed.
     Elsewhere,
-    /// The first line was refused, or memory ran out while reading it. Only an error packet was
-    /// written and flushed.
+    /// The first line was refused, or memory ran out before the line was read and stored. Only an
+    /// error packet was written and flushed.
     Refused(ServeFault),
     /// The sink failed while the error packet was written. A prefix of the packet was written.
     WriteFailed,
@@ -48,8 +48,8 @@ pub enum GitEnd {
 /// byte, and ignores the host.
 ///
 /// If the line names another path or is refused, an `ERR` packet replaces the advertisement, and
-/// nothing after the line is read. If memory runs out before the line is read, nothing is read, and
-/// the `ERR` packet reports out of memory.
+/// nothing after the line is read. If there is no memory for the reader's buffer, nothing is read,
+/// and the `ERR` packet reports out of memory.
 ///
 /// The packer is used only if the client requests the served path. Faults of the packer are
 /// reported as [`serve`] reports them.

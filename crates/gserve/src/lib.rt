@@ -6,20 +6,21 @@
 //! # Proved
 //!
 //! - [`serve`] serves a whole connection (`specs/Conversations.antt`). The requests depend only on
-//!   the bytes that are read, not on how the source splits them into pieces. Nothing after the last
-//!   packet of a request is read. Requests have the default limits: 64 prefixes, 1,024 wants and
-//!   4,096 haves. The reply to each request is the answer that `ganswer` returns, with any packer.
-//!   An ls-refs request always gets a reply, since this reply needs no memory. The server writes
-//!   the advertisement and the replies in their canonical encoding, and flushes each message. The
-//!   field [`Served::requests`](Served) is the number of replies.
+//!   the bytes that are read, not on how the source splits them into pieces. While the server reads
+//!   a request, it reads nothing after the last packet of this request. Requests have the default
+//!   limits: 64 prefixes, 1,024 wants and 4,096 haves. The reply to each request is the answer that
+//!   `ganswer` returns, with any packer. Once an ls-refs request is read, it is never refused,
+//!   since its reply needs no memory. The server writes the advertisement and the replies in their
+//!   canonical encoding, and flushes each message. The field [`Served::requests`](Served) is the
+//!   number of replies.
 //! - The advertisement and each reply are flushed before anything more is read. If the sink fails
 //!   while a reply is written or flushed, nothing after the request of that reply was read. If the
 //!   sink fails while the advertisement is written, nothing was read.
 //! - A connection ends if the client sends a lone flush packet, the input ends before a request, or
 //!   the sink fails. A connection also ends after [`MAX_REQUESTS`] requests. The first request that
-//!   is refused also ends the connection. The last packet written is then the error packet for this
-//!   request, which is flushed. The fault comes from the grammar of requests, from the server's
-//!   answer, or from the source.
+//!   is refused also ends the connection. The server then writes and flushes the error packet for
+//!   this request as its last packet. The fault comes from the grammar of requests, from the
+//!   server's answer, or from the source.
 //! - If the packer fails, its fault is reported, and never an out-of-memory fault of the server
 //!   (`specs/Packings.antt`). The functions [`serve`], [`serve_one`] and [`serve_git`] take the
 //!   packer as a [`OnePack`], which records the last result of the packer. Any other fault is
@@ -35,13 +36,14 @@
 //! - [`serve_git`] reads the first line of a `git://` connection, and reads more only after the
 //!   advertisement is flushed (`specs/GitConnections.antt`). If the line names the served path,
 //!   byte for byte, the connection continues as for [`serve`]. If the line names another path or is
-//!   refused, the server writes and flushes an error packet instead of the advertisement. Nothing
-//!   after the first line is read. If the sink fails, a prefix of the error packet was written. The
-//!   type [`GitEnd`] distinguishes these cases.
-//! - If memory runs out before the first line is read, nothing is read. The error packet is still
-//!   written, since it needs no memory. The function [`hear`] reads only a first line.
-//! - [`write_reply`] writes a reply as its canonical list of packets, or a prefix of it if the sink
-//!   fails.
+//!   refused, the server writes and flushes an error packet instead of the advertisement. In both
+//!   cases nothing after the first line is read. If the sink fails, a prefix of the error packet
+//!   was written. The type [`GitEnd`] distinguishes these cases.
+//! - If there is no memory for the reader's buffer, nothing is read, not even the first line. The
+//!   error packet is still written, since it needs no memory. The function [`hear`] reads only a
+//!   first line.
+//! - [`write_reply`] writes a reply as its canonical list of packets, or a prefix of the reply if
+//!   the sink fails.
 //! - [`err_text`] writes the text of a fault, at most 128 bytes, and leaves the rest of the buffer
 //!   unchanged.
 //! - By [`laws`], a connection satisfies `Talks` (`specs/Talks.antt`), if the bytes of its source
@@ -63,10 +65,10 @@
 //! - If the sink fails, the contracts do not state how long the written prefix is. No contract
 //!   rules out that more than the counted replies were flushed.
 //! - No contract rules out that a call reports out of memory even if there is enough memory. The
-//!   contracts permit this report in place of the advertisement, and at a packet whose contents are
-//!   stored. They also permit this report in place of a fetch reply, if the server holds all wants
-//!   and the packer was not asked for a pack. At the start, they permit both fault 28 and fault 64
-//!   for out of memory.
+//!   contracts permit this report in place of the advertisement, and at a packet whose contents the
+//!   server has to store. They also permit this report in place of a fetch reply, if the server
+//!   holds all wants and the packer was not asked for a pack. At the start, they permit both fault
+//!   28 and fault 64 for out of memory.
 //! - No contract limits the time of a call. A call may flush more often than necessary, or write
 //!   one packet with several calls to the sink.
 //!

@@ -1,4 +1,4 @@
--- The number of requests for objects of a session: the graph with which the session began, the offered ids, the last
+-- The number of a session's requests for objects: the graph with which the session began, the offered ids, the last
 -- request, and the count of requests.
 use Rattle.std.proofs.Common.{◌≡◌, ◌⊎◌, ℕ, ◌+◌, ◌≤◌, ◌==◌, true, List, [], ◌∷◌, ◌++◌, length, All, Contains}
 use Rattle.std.proofs.Common.{bytes_eq, Some, None, Ok, Err, inl, inr, refl, sym, ap, ap₂, ◌∙◌, arith, length-append}

@@ -31,7 +31,7 @@ fits format other ids i id are low at same =
     let is : IsIdOf format id = subst (IsIdOf format) (sym at) (are i id low) in
     eq-eqb (length id) (id_length other) (is.long ∙ ap id_length (sym same))
 
--- a request has room for each of the ids after the old ids
+-- a request with room for all the ids still has room for one more after the first `i` ids are added
 pub has_room : (old now ids : List (List ℕ)) (i max : ℕ) → now ≡ old ++ take i ids → i < length ids
     → length old + length ids ≤ max → nat_lt (length now) max ≡ true
 has_room old now ids i max is low few =

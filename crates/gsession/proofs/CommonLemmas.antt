@@ -147,7 +147,7 @@ module _ {A : Type 0} where
 
   -- ---- offered ids
 
-  -- an id of an object format reaches only held ids of this format, whatever the format of the graph
+  -- if an id has an object format, each held id that it reaches has the same format, whatever the format of the graph
   reached_id : PositionsAreNodes A → IdsHaveOneFormat → (format : Format) (g : History A) (a b : List ℕ) → IsGraph g
       → IsIdOf format a → Holds g.entries b → Reaches g.entries a b → IsIdOf format b
   reached_id places one format g a b is id held here = id

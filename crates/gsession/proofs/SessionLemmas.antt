@@ -44,7 +44,7 @@ open_fetch s asked is waits = (fetch_waits s s.stage asked (subst (FitsStage s s
 
 -- ---- the beginning of a session
 
--- a new session, whose lists are empty, satisfies the invariants
+-- a new session, which has no wants, no common ids and no offered ids, satisfies the invariants
 pub begun : {A : Type 0} (s : SessionState A) → length s.refspecs ≤ max_specs → All (IsIdOf s.format) s.tips
     → s.wants ≡ [] → s.commons ≡ [] → s.sent ≡ []
     → s.stage ≡ Listing → s.pending ≡ None → s.rounds ≡ 0 → IsSession s

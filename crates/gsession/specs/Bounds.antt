@@ -1,5 +1,5 @@
 -- The number of requests for objects that a session makes. Git's manuals set no limit on this number. In this project
--- each request except the last offers a new id.
+-- each request for objects except the last offers a new id.
 use Rattle.std.specs.Prelude.{◌≡◌, ◌⊎◌, ℕ, ◌+◌, ◌≤◌, true, false, List, length, All, Contains, None, Result, Ok}
 use Rattle.std.specs.List.{IsDistinct}
 use Rattle.std.specs.Str.{bytes_eq}
@@ -65,7 +65,7 @@ OfferedStays {A} indexes index_fails =
     (repo : RepoState A) (old new : SessionState A)
     → AreOffered old → HasCalled indexes index_fails repo old new → AreOffered new
 
--- each request without `done` has a have that the session did not offer before
+-- each request for objects that lacks `done` has a have that the session did not offer before
 abbrev pub OffersAreNew : Type 0 → Type 0
 OffersAreNew A =
     (g : List (Entry A)) (old new : SessionState A) (asked : FetchAsked)

@@ -1,6 +1,6 @@
 -- The next request of a session. The manual defines the form of a request (gitprotocol-v2(5), "ls-refs" and "fetch").
--- The manual does not say which haves a client sends, nor when the client sends `done`. This client offers batches of
--- at most 16, 32, 64 and so on ids, up to the maximum of its options and at most up to 16,384.
+-- The manual does not say which haves a client sends, nor when the client sends `done`. The first batch of this client
+-- has at most 16 ids. This bound doubles with each batch, up to the maximum of the options and at most to 16,384.
 use Rattle.std.specs.Prelude.{◌≡◌, ℕ, ◌+◌, ◌*◌, ◌^◌, min, Bool, true, false, List, [], ◌++◌, length, map, nat_le, ◌==◌}
 use Rattle.std.specs.Prelude.{if◌then◌else◌, not, Option, Some, None, Result, Ok, Err}
 use Rattle.gname.specs.Ids.{Id}

@@ -141,8 +141,8 @@ pub(crate) fn wants_of<A: Allocator + Copy>(
     Ok(wants)
 }
 
-// Returns whether the id is connected. Walks the graph only if the repository holds the id and the
-// local refs do not reach it.
+// Returns whether the id is connected. Walks the graph only if the repository holds the id and has
+// not marked the id as connected.
 fn is_connected<A: Allocator + Copy>(repo: &Repo<A>, id: &Oid) -> Result<bool, GraphFault>
     ensures connected { IfOk result (λ connected. IsTrue connected ↔ IsConnected repo.now.graph.entries id.now) }
     ensures fault { IfErr result (λ fault. fault ≡ Memory) }

@@ -18,8 +18,8 @@ use std::fmt;
 /// The reason why a call of a session failed.
 #[derive(Debug, Drop)]
 pub enum ClientFault<A: Allocator + Copy = Global> {
-    /// A packet of the reply is unreadable or rejected. The number of the fault is 20 to 25, 29, 30
-    /// or 41 to 54.
+    /// A packet of the reply is unreadable or rejected, memory for a packet ran out, or the name of
+    /// a local ref would be invalid. The number of the fault is 20 to 25, 29, 30 or 41 to 54.
     Message(MessageFault),
     /// Fault 66: the indexer rejected the pack.
     Index(IndexFault),
@@ -32,8 +32,8 @@ pub enum ClientFault<A: Allocator + Copy = Global> {
     StrangeAck { id: Oid },
     /// Fault 86: there are more wants than the limits of the session allow.
     TooManyWants,
-    /// The repository rejected the change (faults 60 to 63, 69, 75 and 85), or memory ran out
-    /// (fault 64).
+    /// The repository rejected the objects of a pack or the update of the local refs (faults 60 to
+    /// 63, 69, 75 and 85), or memory ran out (fault 64).
     Repo(RepoFault<A>),
 }
 

@@ -24,15 +24,16 @@ pub fn limits_are_the_constants()
 // ---- the number of a session's requests for objects
 
 /// Proves that a new session on a connected repository satisfies `BeganOn` with the repository's
-/// graph: its tips are connected in the graph, and it has offered only ids that the tips reach.
+/// graph: the tips of the session are connected in the graph, and the session has offered only ids
+/// that the tips reach.
 pub fn began_begins<A: Allocator + Copy>()
     ensures { BeganBegins A }
 {
     distinct_are_once();
 }
 
-/// Proves that a session that satisfies `BeganOn` still satisfies it after the next request, if the
-/// graph only gained objects. The session thus offers only ids that its tips reached when it began.
+/// Proves that `BeganOn` still holds for a session after its next request, if the graph only gained
+/// objects. The session thus offers only ids that its tips reached when the session began.
 pub fn began_stays<A: Allocator + Copy>()
     ensures { BeganStays A }
 {
@@ -41,8 +42,8 @@ pub fn began_stays<A: Allocator + Copy>()
     connected_stays_connected::<A>();
 }
 
-/// Proves that a session that satisfies `BeganOn` still satisfies it after every call, successful
-/// or not, if the graph only gained objects.
+/// Proves that `BeganOn` still holds for a session after every call, successful or not, if the
+/// graph only gained objects.
 pub fn began_stays_on<A: Allocator + Copy, K: Indexer<A>>()
     ensures { (k : K) → BeganStaysOn (K.indexes k) (K.index_fails k) }
 {
@@ -58,7 +59,7 @@ pub fn names_were_offered<A: Allocator + Copy, K: Indexer<A>>()
     distinct_are_once();
 }
 
-/// Proves that each request for objects without `done` has a have that the session did not offer
+/// Proves that each request for objects that lacks `done` has a have that the session did not offer
 /// before.
 pub fn offers_are_new<A: Allocator + Copy>()
     ensures { OffersAreNew A }
@@ -130,8 +131,8 @@ pub fn open_is_the_sessions<A: Allocator + Copy>()
 {}
 
 /// Proves that exactly one update is requested for each local ref to which a refspec maps a line of
-/// the reply. The first refspec that maps a line to this ref, and its first matching line,
-/// determine the update.
+/// the reply. The first refspec that maps a line to this ref, and the first line that this refspec
+/// maps to the ref, determine the update.
 #[tactic(auto, using(crate::proofs::AskLemmas::first_is_asked))]
 pub fn first_is_asked<A: Allocator + Copy>()
     ensures { FirstIsAsked A }

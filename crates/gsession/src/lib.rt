@@ -20,15 +20,17 @@
 //!   and acknowledged ids. By default, the limits are 1,024 wants, 4,096 haves and 4,096
 //!   acknowledged ids.
 //! - The options also contain the maximum number of new ids in a request
-//!   ([`PackOptions::max_batch`]). A batch has at most 16 ids in the first request for objects. The
-//!   number doubles with each request up to this maximum, and at most to 16,384. By default, the
-//!   maximum is 256. The batch is empty if the haves would exceed their limit.
+//!   ([`PackOptions::max_batch`]). A batch has at most 16 ids in the first request for objects.
+//!   This bound doubles with each request for objects, up to the maximum of the options and at most
+//!   to 16,384. By default, the maximum is 256. The batch is empty if the haves would exceed their
+//!   limit.
 //! - [`Session::take_ls`] reads one ls-refs reply to its end, and nothing after it. Exactly one
 //!   update is requested for each local ref to which a refspec maps a line of the reply. The first
-//!   refspec that maps a line to the ref, and its first matching line, determine the update
-//!   ([`laws`]). The wants are the requested ids that are not connected. If the name of a local ref
-//!   would be invalid, the fault gives the position of the reply's last packet. The fault for an
-//!   invalid name takes precedence over too many wants and over out of memory.
+//!   refspec that maps a line to the ref, and the first line that this refspec maps to the ref,
+//!   determine the update ([`laws`]). The wants are the requested ids that are not connected. If
+//!   the name of a local ref would be invalid, the fault gives the position of the reply's last
+//!   packet. The fault for an invalid name takes precedence over too many wants and over out of
+//!   memory.
 //! - [`Session::take_reply`] reads one fetch reply to its end, and nothing after it. Each id that
 //!   becomes common was a have of the request. The repository gains all objects that the indexer
 //!   returns for the pack, or no objects. If several faults occur, the first of the following is
@@ -51,9 +53,9 @@
 //! - After a complete reply, the reader can read the next message. After a malformed reply, the
 //!   reader stays at the position where the reading stopped.
 //! - The bytes of a fetch reply, and the result of reading the reply, determine the next state of
-//!   the session. Each request without `done` has a new have, and no request follows a request with
-//!   `done`. Therefore a session makes at most N + 1 requests for objects, if its tips reach N ids
-//!   ([`laws`]).
+//!   the session. Each request for objects that lacks `done` has a new have, and no request follows
+//!   a request with `done`. Therefore a session makes at most N + 1 requests for objects, if its
+//!   tips reach N ids ([`laws`]).
 //! - Each fault has the number, the name and the text of its row in `specs/Faults.antt`. No call
 //!   panics, overflows or reads out of bounds. A call returns if each call of its reader returns.
 //!

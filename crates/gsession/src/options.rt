@@ -22,8 +22,8 @@ pub struct PackOptions {
     /// at most 2^30 wants and 2^30 haves. A request for refs has the default limits.
     pub limits: Limits,
     /// The maximum number of new ids in a request. The first request for objects offers at most 16
-    /// new ids. The number doubles with each request up to this maximum, and at most to 16,384. If
-    /// the maximum is 0, the first request for objects has no haves, and has `done`.
+    /// new ids. This bound doubles with each request for objects, up to the maximum and at most to
+    /// 16,384. If the maximum is 0, the first request for objects has no haves, and has `done`.
     pub max_batch: usize,
 }
 
@@ -45,8 +45,8 @@ impl Default for PackOptions {
 /// The parameters of a session's fetch.
 #[derive(Clone, Copy)]
 pub struct FetchPlan<'a, A: Allocator + Copy = Global> {
-    /// The refspecs, at most 16. If several refspecs map to the same local ref, only the first of
-    /// them applies.
+    /// The refspecs, at most 16. If several updates would be for the same local ref, the session
+    /// requests only the first.
     pub specs: &'a [Spec<A>],
     /// The maximum size of a pack in bytes.
     pub limit: StreamLimit,

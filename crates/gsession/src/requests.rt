@@ -160,8 +160,8 @@ fn add_haves<A: Allocator + Copy>(
     Ok(())
 }
 
-// Converts the fault of adding an argument to a request that has room for it. Only out of memory is
-// possible.
+// Converts the fault of adding an argument to a request into `AllocError`. The request has room for
+// the argument, so only out of memory is possible.
 fn no_memory(fault: MessageFault) -> AllocError
     requires { fault.why ≡ Memory }
 {

@@ -103,7 +103,7 @@ impl<A: Allocator + Copy> Session<A> {
         Session::begin_with(alloc, repo, &plan)
     }
 
-    /// Begins a session like [`Session::begin`], with pack options.
+    /// Begins a session like [`Session::begin`], with the pack options of the plan.
     ///
     /// Fails like `begin`.
     pub fn begin_with(

@@ -1,6 +1,6 @@
 //! The stages of a session.
 
-/// The stage of a session, which determines its next call.
+/// The stage of a session. The stage and the open request determine which calls the session allows.
 #[derive(Clone, Copy, Drop)]
 pub enum Stage {
     /// The session requests the refs of the server.

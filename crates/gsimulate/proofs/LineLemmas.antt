@@ -29,12 +29,13 @@ module _ {X : Type 0} (line : X → List ℕ) (xs : List X) (place : ℕ) where
 
 -- ---- faults
 
--- if `fault` is a malformed line of the scenario and that line is reported, then `fault` is reported
+-- if `fault` is about a malformed line of the scenario, and the text for this malformed line is printed, then the text
+-- for `fault` is printed
 pub prints_scenario : (errors : Output) (fault : ScenarioFault) (line : ℕ) → fault ≡ scenario.Scenario line → Prints errors (wrong_line line)
     → Prints errors (scenario_line fault)
 prints_scenario errors fault line same h = subst (λ (f : ScenarioFault). Prints errors (scenario_line f)) (sym same) h
 
--- if `fault` is out of memory and the line for out of memory is printed, then `fault` is reported
+-- if `fault` is `Memory` and the line for `Memory` is printed, then the line for `fault` is printed
 pub prints_no_memory : (errors : Output) (fault : ScenarioFault) → fault ≡ scenario.Memory → Prints errors (codes "gitv2: fault 91 Memory\n")
     → Prints errors (scenario_line fault)
 prints_no_memory errors fault same h = subst (λ (f : ScenarioFault). Prints errors (scenario_line f)) (sym same) h

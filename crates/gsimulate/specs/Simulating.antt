@@ -22,7 +22,7 @@ use Rattle.gsimulate.specs.declared.fault.SimulationFault.{SimulationFault}
 use Rattle.gsimulate.specs.declared.fault.SimulationFault.TheVariants as faults
 use Rattle.gsimulate.specs.declared.simulate.Simulation.{Simulation}
 
--- the outcome of a simulation: success or a fault
+-- the ending of a simulation: success or a fault
 abbrev pub Ending : Type 0 → Type 0
 Ending A = Result (Unit {0}) (SimulationFault A)
 
@@ -117,13 +117,13 @@ pub record IsNotRun {A : Type 0} (files : Simulation) (output : Output) (ending 
 abbrev pub Simulates : {A : Type 0} → Simulation → Output → Ending A → Type 0
 Simulates {A} files output ending = HasWorld {A = A} files (IsRun output ending) ⊎ IsNotRun files output ending
 
--- after success nothing is printed, and the status is 0; after a fault the line that reports the fault is printed, and
+-- after success no fault is printed, and the status is 0; after a fault the line that reports the fault is printed, and
 -- the status is 1
 abbrev pub ExitsWith : {A : Type 0} → Ending A → Output → ℕ → Type 0
 ExitsWith (Ok done) errors status = IsUnwritten errors × (status ≡ 0)
 ExitsWith (Err fault) errors status = Prints errors (simulation_fault_line fault) × (status ≡ 1)
 
--- a simulation has an outcome, prints the line that reports a fault, if any, and exits with the status for the outcome
+-- a simulation has an ending, prints the line that reports a fault, if any, and exits with the status for the ending
 pub record Runs (A : Type 0) (files : Simulation) (output errors : Output) (status : ℕ) : Type 0 where
   pub ending : Ending A
   pub simulates : Simulates files output ending

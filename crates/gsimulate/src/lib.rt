@@ -12,8 +12,8 @@
 //!   (`specs/Lines.antt`, `Simulating.antt`).
 //! - Before the first event, the program checks the server's file, the client's file, the scenario,
 //!   and whether server and client can form a world. The program reports the first fault in this
-//!   order. After a fault of these checks no event happens, and nothing is written. If memory for
-//!   an event runs out, nothing is written.
+//!   order. If a check finds a fault, no event happens, and nothing is written to the output. If
+//!   memory for an event runs out, nothing is written to the output.
 //! - The program exits with status 0 and prints no fault, or exits with status 1 and prints the
 //!   line that reports its fault. If the error sink fails, a prefix of the line is printed.
 //! - Each fault has the number, the name, the text and the printed line that `specs/Faults.antt`

@@ -87,8 +87,8 @@ fn put_taken<A: Allocator + Copy>(
     put_count(text, b" wants=", wants)
 }
 
-// Appends three numbers: the refs that moved, the refs that already had their ids, and the refs
-// whose update was not a fast-forward.
+// Appends the numbers of three kinds of refs: refs that moved, refs that already had their ids, and
+// refs whose update was not a fast-forward.
 fn put_settled<A: Allocator + Copy>(
     text: &mut Vec<u8, A>,
     moved: usize,

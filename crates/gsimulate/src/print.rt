@@ -17,8 +17,8 @@ use gworld::{ScenarioFault, WorldFault};
 use itoa::Buffer;
 use std::alloc::Allocator;
 
-/// The maximum length in bytes of the line that reports a fault. The line consists of fixed words,
-/// and of the digits of an id or a number.
+/// The maximum length in bytes of a composed line that reports a fault of the scenario or of the
+/// world. The line consists of fixed words, and of the digits of an id or a number.
 const MAX_LINE: usize = 128;
 
 /// The printed line if memory for an event or for the scenario ran out.
@@ -42,7 +42,7 @@ pub(crate) fn finish<A: Allocator + Copy, E: Sink>(
     }
 }
 
-// Prints the fault as one line, and flushes it. A failure of `errors` itself is not reported.
+// Prints the fault as one line, and flushes `errors`. A failure of `errors` itself is not reported.
 fn print<A: Allocator + Copy, E: Sink>(fault: &SimulationFault<A>, errors: &mut E)
     ensures printed { Prints (output_of E.contents E.passed_on E.is_down errors.old errors.new)
         (simulation_fault_line fault.now) }

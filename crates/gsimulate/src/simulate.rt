@@ -33,7 +33,7 @@ pub struct Simulation<'a> {
 /// `gitv2 simulate SERVERFILE CLIENTFILE SCENARIO`: runs the events of a scenario between a server
 /// and a client that fetches from it, with plain packs (gitprotocol-v2(5)). Prints the outcome of
 /// each event as a line on `output`. Then prints each ref of the client as a line `ref ID NAME`, in
-/// the byte order of the names. A fault is printed as one line on `errors`. Faults are checked in
+/// the byte order of the names. A fault is printed as one line on `errors`. Faults are detected in
 /// this order: the server's file, the client's file, the scenario, the two repositories together,
 /// and the events. An event that fails has the fault as its outcome, and the simulation continues.
 ///
@@ -160,7 +160,7 @@ fn show<A: Allocator + Copy, W: Sink>(
     }
 }
 
-// Writes the text to the output, and flushes it.
+// Writes the text to the output, and flushes the output.
 fn send<A: Allocator + Copy, W: Sink>(text: &[u8], output: &mut W) -> Result<(), SimulationFault<A>>
     ensures shows { Shows {A = A} text.now (output_of W.contents W.passed_on W.is_down output.old
         output.new) result }

@@ -171,7 +171,7 @@ module _ {C A : Type 0} (holds : C → Talk → Type 0) where
   pub held_after : (old new : Connection C A) (more said : Bytes) → Moves {A = A} holds old new more said → IsHeld {A = A} holds old → IsHeld {A = A} holds new
   held_after old new more said moves (received, sent, h) = (received ++ more, sent ++ said, moves received sent h)
 
-  -- two consecutive moves are one move
+  -- two consecutive moves together are one move
   pub one_move : (old mid new : Connection C A) (a b said told : Bytes)
       → ((received sent : Bytes) → Holds {A = A} holds old received sent → Holds {A = A} holds mid (received ++ a) (sent ++ said))
       → ((received sent : Bytes) → Holds {A = A} holds mid received sent → Holds {A = A} holds new (received ++ b) (sent ++ told))

@@ -125,8 +125,8 @@ module _ {C A : Type 0} where
     pub last : SendsSaid holds mid new (record { old = between; new = written.new })
     pub passed : HasPassed before.said between written passed_on
 
--- the sink has not failed after `Ok`, and has failed after `Io`; after `Memory` the sink has failed exactly when it had
--- failed before the call
+-- the sink has not failed after `Ok`, and has failed after `Io`; after `Memory` the sink has failed if and only if it
+-- had failed before the call
 abbrev pub LeavesSink : Result Unit TalkFault → Bool → Bool → Type 0
 LeavesSink (Ok done) was_down is_down = is_down ≡ false
 LeavesSink (Err Io) was_down is_down = is_down ≡ true

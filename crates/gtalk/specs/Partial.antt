@@ -60,7 +60,7 @@ IsByEnd (Some (stop.Refused Truncated)) = Unit {0}
 IsByEnd other = ⊥
 
 -- The unread bytes of the source and whether the source has failed, for each reason why no more packets arrive. The
--- source is at its end after `Ended` and `Truncated`, and it has failed exactly after `Failed`.
+-- source is at its end after `Ended` and `Truncated`. The source has failed after `Failed`, and only then.
 abbrev pub LeavesSource : Option Stop → Option Bytes → Bool → Type 0
 LeavesSource None remaining down = down ≡ false
 LeavesSource (Some stop.Ended) remaining down = IsAtEnd remaining × (down ≡ false)

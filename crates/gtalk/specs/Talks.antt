@@ -19,7 +19,7 @@ no_talk = record { heard = []; stopped = None; said = [] }
 abbrev pub talk_after : Talk → Packet → Talk
 talk_after talk packet = record { heard = talk.heard ++ packet ∷ []; stopped = talk.stopped; said = talk.said }
 
--- the history after the conversation was notified that no more packets arrive, for this reason
+-- the history after the conversation was notified that no more packets arrive, with the reason `why`
 abbrev pub stop_talk : Talk → Stop → Talk
 stop_talk talk why = record { heard = talk.heard; stopped = Some why; said = talk.said }
 

@@ -60,7 +60,7 @@ pub trait Conversation {
             → holds self.new (talk_after talk (packet_of line.entry)) }
         ensures nearer { (talk : Talk) → holds self.old talk → IsNearer turn left self.old self.new };
 
-    /// Notifies the conversation that no more packets arrive, for the reason `why`.
+    /// Notifies the conversation that no more packets arrive. The reason is `why`.
     fn stop(&mut self, why: Stop)
         requires { turn self.old ≡ Turn.Listens }
         ensures stopped { (talk : Talk) → holds self.old talk → holds self.new (stop_talk talk why) }

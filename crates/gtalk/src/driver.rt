@@ -181,7 +181,7 @@ fn pass_on<W: Sink>(sink: &mut W) -> Result<(), TalkFault>
     }
 }
 
-// Receives packets until the conversation has the turn, or until no more packets arrive.
+// Receives packets until the conversation no longer listens, or until no more packets arrive.
 fn listen<C: Conversation, A: Allocator + Copy, S: Source>(
     connection: &mut Connection<C, A>,
     source: &mut S,

@@ -49,8 +49,8 @@ impl<A: Allocator + Copy> Incoming<A> {
         lacks_after(self.as_bytes())
     }
 
-    /// Appends received bytes, which must not exceed the number of missing bytes. If the allocation
-    /// fails, the buffer is unchanged.
+    /// Appends received bytes. Their number must not exceed the number of missing bytes. If the
+    /// allocation fails, the buffer is unchanged.
     #[tactic(auto, using(crate::proofs::Partials::within_after))]
     pub(crate) fn take_bytes(&mut self, bytes: &[u8]) -> Result<(), AllocError>
         requires { Lacks self.old (length bytes.now) }

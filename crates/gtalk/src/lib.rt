@@ -33,6 +33,8 @@
 //! - No contract rules out that a connection reads and writes one byte at a time.
 //! - No contract rules out that an allocation fails, for received bytes or for packets to send.
 //! - No contract rules out that memory is allocated before it is needed, or freed late.
+//! - No contract rules out that [`drive`] leaves sent packets unflushed, if the written or flushed
+//!   bytes of the sink are unknown before the call.
 //! - No contract of this crate rules out that an event loop drops a connection or its bytes. Only
 //!   the contract of the event loop can rule this out.
 //!

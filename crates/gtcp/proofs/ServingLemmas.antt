@@ -17,7 +17,7 @@ use Rattle.gtcp.specs.steps.Remote.{ServesSoFar, Tells}
 use Rattle.gtcp.proofs.TellingLemmas.{tells_all, tells_next}
 
 module _ {A : Type 0} (server : Server A) (packs : Packs A) (fails : PackFails A) (path : List ℕ) (ends : Ends) where
-  -- serving over a source and a sink that have not failed before is serving over a reader and a writer
+  -- serving over a source and a sink that have not failed before counts as serving over a reader and a writer
   pub serves_between : (read written : Change) (input : Input) (output : Output) (ended : GitEnd) → input.read ≡ read
       → output.written ≡ written → output.passed_on ≡ record { old = None; new = None } → input.was_down ≡ false
       → output.was_down ≡ false → ServesGit server packs fails path ends input output ended

@@ -44,7 +44,7 @@ impl Model for TimeLeft {
 }
 
 impl TimeLeft {
-    /// Returns the full time for a client's first line, which starts at `now`.
+    /// Returns the full time for a client's first line, counted from `now`.
     pub(crate) fn for_first_line(now: Instant) -> TimeLeft
         ensures { result ≡ (first_line_time, instant_nanos now) }
     {
@@ -54,7 +54,7 @@ impl TimeLeft {
         }
     }
 
-    /// Returns the full time for a client's request, which starts at `now`.
+    /// Returns the full time for a client's request, counted from `now`.
     pub(crate) fn for_request(now: Instant) -> TimeLeft
         ensures { result ≡ (request_time, instant_nanos now) }
     {

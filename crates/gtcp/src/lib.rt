@@ -1,5 +1,5 @@
 //! The programs of gitv2 that open sockets, as functions over the network. The programs serve a
-//! repository, list the refs of a server, fetch from a server, or run client and server in one
+//! repository, list the refs of a server, fetch from a server, or run a client and a server in one
 //! process.
 //!
 //! The caller provides the network, its streams and the clock. The contracts can't state which
@@ -85,10 +85,10 @@
 //! `None` for any arguments. [`connect_to`] could fail, or connect to another address. A [`Peer`]
 //! could read and write bytes that differ from the bytes of its stream.
 //!
-//! A [`MessageSink`] could never flush the inner sink, and a failed flush could write some of the
-//! held bytes. If the inner sink does not record its bytes, the contracts do not state when the
-//! inner sink receives bytes. `is_too_long` and `bytes_written` could ignore the effect of a
-//! `write` or a flush.
+//! The contracts allow a [`MessageSink`] that never flushes the inner sink. A failed flush could
+//! write some of the held bytes. If the inner sink does not record its bytes, the contracts do not
+//! state when the inner sink receives bytes. `is_too_long` and `bytes_written` could ignore the
+//! effect of a `write` or a flush.
 //!
 //! # Dependencies
 //!

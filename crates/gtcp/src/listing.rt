@@ -48,7 +48,7 @@ fn put_target<A: Allocator + Copy>(
     text.extend_from_slice(b"\n")
 }
 
-// Appends a word and a ref name.
+// Appends the text `word`, and then a ref name.
 fn put_named<A: Allocator + Copy>(
     text: &mut Vec<u8, A>,
     word: &[u8],

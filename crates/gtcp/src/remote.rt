@@ -40,7 +40,7 @@ use std::time::Clock;
 // ---- serving
 
 /// The parameters of a server: its address and path, the number of connections, whether replies end
-/// with a response-end packet, and the text of the repository.
+/// with a response-end packet, and the text that describes the repository.
 #[derive(Drop)]
 pub struct Service<'a, A: Allocator + Copy> {
     pub place: &'a Location<A>,
@@ -100,7 +100,8 @@ where
     }
 }
 
-// Serves `connections` connections at the location, and prints only the faults of connections.
+// Shows the port on `output`, and serves `connections` connections at the location. Prints only the
+// faults of connections on `errors`.
 fn serve_at<A: Allocator + Copy, N, W: Sink, E: Sink>(
     net: &N,
     server: &Server<A>,
@@ -169,7 +170,7 @@ fn show_port<A: Allocator + Copy, W: Sink>(
 // ---- listing
 
 /// The parameters of a listing: the location of the server, and the prefixes of the refs to list.
-/// An empty list of prefixes lists all refs.
+/// If there are no prefixes, the program lists all refs.
 #[derive(Drop)]
 pub struct Listing<'a, A: Allocator + Copy> {
     pub place: &'a Location<A>,
@@ -177,10 +178,11 @@ pub struct Listing<'a, A: Allocator + Copy> {
 }
 
 /// `gitv2 ls --tcp ADDR --path PATH [PREFIX]...`: lists the refs of a server on `output`, one per
-/// line, in the text form of a reply (gitprotocol-v2(5), "ls-refs"). The first line shows `HEAD` if
-/// the server's `HEAD` is unborn. A fault is printed as one line on `errors`. The fault is `Socket`
-/// if no address of the location accepts a connection within [`MAX_CONNECT`](crate::MAX_CONNECT)
-/// seconds. Otherwise the faults are the same as for [`ls_on`](crate::ls_on).
+/// line, in the text form of a reply (gitprotocol-v2(5), "ls-refs"). If the reply has an unborn
+/// `HEAD`, the first line shows the target of `HEAD`. A fault is printed as one line on `errors`.
+/// The fault is `Socket` if no address of the location accepts a connection within
+/// [`MAX_CONNECT`](crate::MAX_CONNECT) seconds. Otherwise the faults are the same as for
+/// [`ls_on`](crate::ls_on).
 ///
 /// Returns exit status 0 if the lines are written and flushed, and 1 after a fault.
 pub fn cmd_ls_remote<A: Allocator + Copy, N, W: Sink, E: Sink>(
@@ -398,8 +400,8 @@ where
 
 // ---- pairs
 
-/// The parameters of a fetch between a client and a server in one process: the server, the text of
-/// the client's repository, and the refspecs.
+/// The parameters of a fetch between a client and a server in one process: the server, the text
+/// that describes the client's repository, and the refspecs.
 #[derive(Drop)]
 pub struct Pair<'a, A: Allocator + Copy> {
     pub server: &'a Server<A>,
@@ -408,9 +410,9 @@ pub struct Pair<'a, A: Allocator + Copy> {
 }
 
 /// `gitv2 pair SERVERFILE CLIENTFILE SPEC...`, after the server is loaded: fetches from the server
-/// into the client's repository, over a connection inside this process. Writes the same report as
-/// `fetch` to `output`. A message has at most [`MAX_MESSAGE`](crate::MAX_MESSAGE) bytes. No file is
-/// written. A fault is printed as one line on `errors`.
+/// into the client's repository, over a connection inside this process. Writes to `output` the same
+/// report as `gitv2 fetch`. A message has at most [`MAX_MESSAGE`](crate::MAX_MESSAGE) bytes. No
+/// file is written. A fault is printed as one line on `errors`.
 ///
 /// Returns exit status 0 if the report is written and flushed, and 1 after a fault.
 pub fn cmd_pair<A: Allocator + Copy, N, W: Sink, E: Sink>(

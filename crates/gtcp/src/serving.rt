@@ -30,9 +30,9 @@ use std::time::Clock;
 /// A client has [`MAX_FIRST_LINE`](crate::MAX_FIRST_LINE) seconds for its first line, counted from
 /// the moment when the server accepts the connection. The client has
 /// [`MAX_REQUEST`](crate::MAX_REQUEST) seconds for each request, counted from the moment when the
-/// server starts to wait for the request. When this time is over, the current read fails. Every
-/// read fails if the clock fails or goes backwards. A write fails if the client accepts no byte for
-/// [`MAX_SILENCE`](crate::MAX_SILENCE) seconds.
+/// server starts to wait for the request. When this time is over, the current read fails. A read
+/// also fails if the clock fails, or if the clock goes backwards while this time runs. A write
+/// fails if the client accepts no byte for [`MAX_SILENCE`](crate::MAX_SILENCE) seconds.
 ///
 /// Fails with `Socket` if a connection can't be accepted, and serves no further connection.
 pub fn serve_listener<C, A, K, L, S, E>(

@@ -61,7 +61,7 @@ waits_for_objects (Some asked) is = refl
 module _ {A : Type 0} {w now : WorldState A} (same : w ≡ now) where
   -- ---- the session
 
-  -- if the session has an open request, `waiting_session` returns both
+  -- if the session has an open request, `waiting_session` returns the session and the request
   pub waits_on : (s : SessionState A) → w.session ≡ Some s → IsSome s.pending → IsSome (waiting_session now.session)
   waits_on s is waits = rw (← same, is) (some_waits s s.pending waits)
 

@@ -433,7 +433,7 @@ module _ {A : Type 0} (tools : PackTools A) (keep : StepsKeep tools) (grow : Gra
 
   -- ---- the world after the rounds
 
-  -- the session has sent at most as many different haves as its tips reach ids
+  -- the number of different haves that the session sent is at most the number of ids that its tips reach
   offered_few : (n : ℕ) (w : WorldState A) (stands : Stands n w) → length stands.session.sent ≤ reached
   offered_few n w stands =
       let s = stands.session in

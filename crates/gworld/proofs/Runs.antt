@@ -46,7 +46,7 @@ module _ {A : Type 0} (tools : PackTools A) where
     memory = inr needs;
   }
 
-  -- a run before its first event
+  -- the run of no events leaves the sound world unchanged
   pub begins_soundly : {w : WorldState A} (events : List (Event A)) (told : List Outcome) → IsSound tools w
       → told ≡ [] → RunsSoundly tools w (take 0 events) told w
   begins_soundly {w} events told sound is = record {

@@ -11,7 +11,7 @@ use Rattle.gworld.specs.declared.fault.WorldFault.TheVariants as world
 
 -- ---- the numbers of faults that only worlds report
 
--- the event would give the same id different objects at the server and at the client
+-- the server and the client would hold different objects under the same id
 abbrev pub disagreement : ℕ
 disagreement = 90
 

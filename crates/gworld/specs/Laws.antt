@@ -44,7 +44,8 @@ pub record StepsListed {A : Type 0} (tools : PackTools A) (w : WorldState A) (ev
   pub step : Step tools w event outcome new
   pub listed : AreListed new
 
--- each run from a sound world that satisfies `AreEndsConnected` keeps its promises, and leads to another such world
+-- a run of steps with the property `StepsListed` keeps its promises and leads to a sound world that satisfies
+-- `AreEndsConnected`, if the run starts in such a world
 abbrev pub RunsKeepPromises : {A : Type 0} → PackTools A → Type 0
 RunsKeepPromises {A} tools =
     (w new : WorldState A) (events : List (Event A)) (outcomes : List Outcome) → AreEndsConnected w → IsSound tools w
@@ -161,7 +162,7 @@ CommonsStayShared {A} tools =
     → AreCommonsShared w → All IsNoForge events → RunWith (Promises tools) w events outcomes new
     → (new.forged ≡ false) × AreCommonsShared new
 
--- all promises of a step and of the world after it; the promises of `HonestPromises` hold unconditionally
+-- the promises of a step except `lists` and `ends`; the promises `commons` and `honest` hold unconditionally
 pub record KeepsAll {A : Type 0} (tools : PackTools A) (w : WorldState A) (event : Event A) (outcome : Outcome)
     (new : WorldState A) : Type 0 where
   pub step : Step tools w event outcome new

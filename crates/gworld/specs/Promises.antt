@@ -249,9 +249,9 @@ module _ {A : Type 0} (tools : PackTools A) where
     pub serves : ServesSent tools w event outcome
     pub settles : SettlesAnswered w event outcome new
 
-  -- The effect and the promises of a step. Only the promises in `honest` need a world without forged bytes and a
-  -- faithful packer and indexer. If no bytes were forged, the server and the client hold each common id (`commons`).
-  -- All other promises hold for any bytes, and for any packer and indexer.
+  -- The effect and the promises of a step. The promises in `honest` need a world without forged bytes, and a faithful
+  -- packer and indexer. The promise `commons` needs only a world without forged bytes. All other promises hold for any
+  -- bytes, and for any packer and indexer.
   pub record Promises (w : WorldState A) (event : Event A) (outcome : Outcome) (new : WorldState A) : Type 0 where
     pub step : Step tools w event outcome new
     pub refs : AreRefsConnected new

@@ -9,7 +9,7 @@
 //! - [`World::new`] returns a world with exactly the given server, client repository, packer and
 //!   indexer. A new world has no session, no messages and no forged bytes. `World::new` fails with
 //!   `TwoFormats` exactly when the two repositories have different object formats. Otherwise
-//!   `World::new` fails with `Disagree` exactly when both repositories hold different objects under
+//!   `World::new` fails with `Disagree` exactly when server and client hold different objects under
 //!   the same id. The fault gives the first such id, in the order of the server's objects.
 //! - [`World::run`] executes the events in order, and returns the outcome of each event. `Step`
 //!   (specs/Events.antt) defines the effect and the outcome of an event. If there is no memory for
@@ -20,7 +20,7 @@
 //! - **Each ref of the client is connected, for any outcomes, any forged bytes, and any packer and
 //!   indexer.** A ref is connected if the client holds its whole history. The session makes at most
 //!   N + 1 requests for objects, if the client's refs reached N ids when the session began. If no
-//!   bytes were forged, server and client hold each have that the server acknowledged.
+//!   bytes were forged, server and client both hold the id of each acknowledged have.
 //! - The following promises hold if no bytes were forged, and if the packer and the indexer are
 //!   faithful. A faithful indexer reads back exactly the objects that the packer packed. After the
 //!   client accepts a pack, the wants of the pack's request are connected, even if the pack answers
@@ -39,19 +39,20 @@
 //! - **Nothing is lost** ([`laws::graphs_only_grow`], [`laws::others_leave_refs`],
 //!   [`laws::refusals_leave_both_ends`]): both graphs only grow. Only `Settle` and `ClientRef` move
 //!   refs of the client. Only `ServerAdd` and `ServerRef` change the server. An event that fails
-//!   changes neither end.
+//!   changes neither the server nor the client's repository.
 //! - **Honest runs** ([`laws::honest_runs_keep_all`]): each step keeps all promises if no event
 //!   forges bytes and the packer and the indexer are faithful.
 //! - **A fetch completes** ([`laws::fetches_complete`]): a session makes at most N + 2 requests,
 //!   and can then settle. N is the number of ids that the client's refs reached when the session
 //!   began. Settling makes every allowed update of refs, unless there would be too many refs or the
-//!   client is out of memory. This law has the premises of the promises above. The law also assumes
-//!   that each reply arrives complete, and that no event fails. An event of a fetch fails only
-//!   because of a limit, for lack of memory, or because the name of a local ref would be invalid
-//!   ([`laws::only_limits_refuse`]).
-//! - The promises follow from the definition of a step ([`laws::runs_keep_promises`]). The only
-//!   premise about the worlds of a run is an invariant of their types: refs are sorted by name, and
-//!   sessions are valid.
+//!   client is out of memory. The law assumes that no bytes were forged, and that the packer and
+//!   the indexer are faithful. The law also assumes that each reply arrives complete, and that no
+//!   event fails. An event of a fetch fails only because of a limit, for lack of memory, or because
+//!   the name of a local ref would be invalid ([`laws::only_limits_refuse`]).
+//! - The promises follow from the definition of a step, if a run starts in a sound world that
+//!   satisfies `AreEndsConnected` ([`laws::runs_keep_promises`]). The only premise about the later
+//!   worlds of the run is an invariant of their types: refs are sorted by name, and sessions are
+//!   valid.
 //! - Each fault has the number, the name and the text of its row in `specs/Faults.antt`. No call
 //!   panics, overflows or reads out of bounds, and each call returns.
 //!

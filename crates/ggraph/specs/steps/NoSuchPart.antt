@@ -1,4 +1,4 @@
--- Definitions for the proofs of refusing a line. Most of them state that a part of the line is malformed.
+-- Definitions for the proofs about refused lines. Most of these definitions state that a part of a line is malformed.
 use Rattle.std.specs.Prelude.{◌≡◌, ℕ, ◌≤◌, List, ◌∷◌, ◌++◌, length, All, codes}
 use Rattle.gname.specs.Ids.{Id, IsIdOf, id_text}
 use Rattle.gname.specs.Names.{Name}
@@ -20,7 +20,7 @@ abbrev pub BeginsWithNoSpacedId : Format → List ℕ → Type 0
 BeginsWithNoSpacedId format text =
     (id : Id) (rest : List ℕ) → IsIdOf format id → text ≡ codes " " ++ (id_text id ++ rest) → ⊥
 
--- the text is not a list of at most the maximum number of parent ids of the format
+-- the text is not the text of a list of at most `max_parents` ids of the format
 abbrev pub IsNoParents : Format → List ℕ → Type 0
 IsNoParents format text =
     (ids : List Id) → All (IsIdOf format) ids → length ids ≤ max_parents → text ≡ ids_text ids → ⊥

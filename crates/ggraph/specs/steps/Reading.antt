@@ -81,8 +81,8 @@ ComesNext {A} order old line new =
 abbrev pub NeverComes : {A : Type 0} → Order → Reading A → List ℕ → Type 0
 NeverComes {A} order old line = (item : Item A) → line ≡ line_of item → MayCome order old item → ⊥
 
--- the fault of a refused line: `Memory` for an allowed line with contents to store, `Text` for a line that is not
--- allowed in any order of nodes, or `ParentLater` for a line that is not allowed only because of a later parent
+-- The fault of a refused line. `Memory`: the line is allowed next, and has contents to store. `Text`: the line is not
+-- allowed even under `Any`. `ParentLater`: the line is allowed under `Any`, but not under `ParentsFirst`.
 abbrev pub RefusesLine : {A : Type 0} → Order → Reading A → List ℕ → ℕ → LoadFault → Type 0
 RefusesLine {A} order old line number Memory =
     (item : Item A) × (line ≡ line_of item) × MayCome order old item × IsKept item

@@ -16,7 +16,8 @@ use grefs::{Head, Refs};
 use memchr::{memchr, memchr_iter};
 use std::alloc::Allocator;
 
-// The length in bytes of the prefix of a text from which the number of nodes is estimated.
+// `load` counts the lines in at most this many bytes at the beginning of a text, to estimate the
+// number of nodes.
 const SAMPLE: usize = 65_536;
 
 // The minimum length in bytes of a node's line: a letter, a space, the 40 digits of an id, and an
@@ -25,11 +26,11 @@ const SHORTEST_NODE: usize = 43;
 
 /// Reads the text of a repository. The first line names the format of all ids.
 ///
-/// Fails with `Text` at the first line that is malformed or exceeds a limit, or if the text ends
-/// early. Under `Order::ParentsFirst`, fails with `ParentLater` at the first line with a parent
-/// that is not on an earlier line. If both faults apply, the call reports the fault at the earlier
-/// line, or `Text` if both are at the same line. Fails with `Memory` only at a valid line of a
-/// node, a ref, or a symbolic HEAD.
+/// Fails with `Text` at the first line that breaks a rule of the format or exceeds a limit, or if
+/// the text ends early. Under `Order::ParentsFirst`, fails with `ParentLater` at the first line
+/// with a parent that is not on an earlier line. If both faults apply, the call reports the fault
+/// at the earlier line, or `Text` if both are at the same line. Fails with `Memory` only at a valid
+/// line of a node, a ref, or a symbolic HEAD.
 pub fn load<A: Allocator + Copy>(
     alloc: A,
     text: &[u8],

@@ -94,8 +94,8 @@ fn take_parent<'t>(format: Format, recent: &Recent<'_>, text: &'t [u8]) -> Optio
     take_id(format, text)
 }
 
-/// The data that the reading of all lines shares: an array for a node's parents, the expected
-/// number of nodes, and the ids of the last two nodes.
+/// The data that all calls of `Reading::take_line` share: an array for a node's parents, the
+/// expected number of nodes, and the ids of the last two nodes.
 #[derive(Drop)]
 pub(crate) struct Room<'a> {
     ids: [Oid; MAX_PARENTS],
@@ -127,7 +127,8 @@ impl<'a> Room<'a> {
     }
 }
 
-// Reads the ids of a node's parents into the first elements of the array, and returns their number.
+// Reads the ids of a node's parents into the first elements of the array, and returns the number of
+// ids. Returns `None` for any other text, and for more than `MAX_PARENTS` ids.
 fn read_parents(
     format: Format,
     recent: &Recent<'_>,

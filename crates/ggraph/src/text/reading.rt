@@ -60,8 +60,8 @@ impl<A: Allocator + Copy> Reading<A> {
         }
     }
 
-    /// Reads the next line, whose number in the text is `number`. `room` provides an array for a
-    /// node's parents.
+    /// Reads the next line, whose number in the text is `number`. `room` is the data that
+    /// all calls share.
     pub(crate) fn take_line<'a>(
         &mut self,
         room: &mut Room<'a>,

@@ -9,7 +9,7 @@ abbrev pub words_after : List ℕ → List (List ℕ)
 words_after [] = []
 words_after (space ∷ text) = words_of text
 
--- the words are not the arguments of any event that the command denotes
+-- the words are not the arguments of any event of the kind that the command denotes
 abbrev pub NoArguments : Type 0 → EventWord → List (List ℕ) → Type 0
 NoArguments A command words = (event : Event A) → command ≡ command_of event → ¬ (AreArguments event words)
 

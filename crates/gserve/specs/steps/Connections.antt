@@ -20,7 +20,7 @@ use Rattle.gserve.specs.declared.exchange.ExchangeEnd.TheVariants as exchange
 use Rattle.gserve.specs.declared.connection.End.TheVariants as end
 
 -- The effect of a call that writes these packets and flushes them. The flush is guaranteed only if the bytes written
--- before the call are known. Therefore two consecutive calls with this effect have the effect of one call.
+-- before the call are known. With this condition, two consecutive calls with this effect have the effect of one call.
 abbrev pub PassesPackets : {E : Type 0} → Output → Result (Unit {0}) E → List Packet → Type 0
 PassesPackets output (Ok done) packets = Passes output (canonical_all packets)
 PassesPackets output (Err fault) packets = SendsSome output (canonical_all packets) × KeepsPassed output.passed_on

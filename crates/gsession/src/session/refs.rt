@@ -123,7 +123,8 @@ impl<A: Allocator + Copy> Session<A> {
         }
     }
 
-    // Returns the wants that the requested updates need, and the result of accepting the reply.
+    // Returns the wants that follow from the requested updates, and the result of accepting the
+    // reply.
     fn find_wants(
         &self,
         repo: &Repo<A>,

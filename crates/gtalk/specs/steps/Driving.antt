@@ -44,18 +44,18 @@ module _ {C A : Type 0} (turn : C → Turn) (left : C → Left) where
   turns_left connection =
       (left connection.conversation).turns + (left connection.conversation).turns + count_unstopped connection.stopped
 
--- the same end has the turn, or fewer turns remain
+-- the turn is the same and the number of remaining turns has not grown, or fewer turns remain
 abbrev pub IsLater : {C : Type 0} → (C → Turn) → (C → Left) → C → C → Type 0
 IsLater turn left old new =
     ((turn new ≡ turn old) × ((left new).turns ≤ (left old).turns)) ⊎ ((left new).turns < (left old).turns)
 
--- fewer turns remain, or no more packets arrive
+-- fewer turns remain, or no more packets arrive and the number of remaining turns has not grown
 abbrev pub IsFewer : {C A : Type 0} → (C → Left) → Connection C A → Connection C A → Type 0
 IsFewer left old new =
     ((left new.conversation).turns < (left old.conversation).turns)
     ⊎ (((left new.conversation).turns ≤ (left old.conversation).turns) × ((why : Stop) × (new.stopped ≡ Some why)))
 
--- after `Io` the sink has failed; after any other result it has failed exactly when it had failed before the calls
+-- after `Io` the sink has failed; after any other result it has failed if and only if it had failed before the call
 abbrev pub IsDownBy : Result Unit TalkFault → Bool → Bool → Type 0
 IsDownBy (Ok done) was_down is_down = is_down ≡ was_down
 IsDownBy (Err Io) was_down is_down = is_down ≡ true

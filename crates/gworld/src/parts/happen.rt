@@ -124,7 +124,8 @@ impl<A: Allocator + Copy> Parts<A> {
         }
     }
 
-    // Executes the events, one after the other. Requires that the list has room for their outcomes.
+    // Executes the events, one after the other. Requires that the list `outcomes` is empty, and has
+    // room for the outcome of each event.
     fn run_each<K: Packer<A> + Indexer<A>>(
         &mut self,
         events: &[Event<A>],

@@ -103,7 +103,7 @@ impl<A: Allocator + Copy> Parts<A> {
         }
     }
 
-    /// Makes the ref updates that the session requested.
+    /// Settles the session: makes each requested ref update that is allowed.
     pub(crate) fn settle(&mut self) -> Outcome
         ensures { SettlesRefs self.old self.old.session result self.new }
     {

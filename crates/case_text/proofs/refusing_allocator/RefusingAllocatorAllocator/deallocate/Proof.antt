@@ -1,4 +1,4 @@
--- The proof of `deallocate`. The inner allocator frees the block, with the right to free it that the caller passes.
+-- The proof of `deallocate`. The caller passes the right to free the block, and the inner allocator frees the block.
 use Rattle.std.proofs.Common.{◌≡◌, ℕ, ◌+◌, ◌^◌, ◌<◌, List, [], ◌∷◌, refl, w64, Bor}
 use seplogic.Ra.Ura.{Ura}
 use mir.Syntax.{Ty, Args, Fn, a_type, dnil, dcons}
