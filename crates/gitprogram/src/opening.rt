@@ -224,9 +224,9 @@ fn find_whole<'f, F: ObjectFiles>(
     Ok((whole, reader))
 }
 
-// Returns the history that is reachable from refs and HEAD. Fails if the object of a ref is missing.
-// A server must not leave out such a ref, because `git fetch --prune` would delete the client's
-// copy.
+// Returns the history that is reachable from refs and HEAD. Fails if the object of a ref is
+// missing. A server must not leave out such a ref, because `git fetch --prune` would delete the
+// client's copy.
 fn read_history<F: ObjectFiles>(
     alloc: Global,
     files: &F,

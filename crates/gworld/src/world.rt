@@ -41,8 +41,8 @@ impl<K: Packer<A> + Indexer<A> + Drop, A: Allocator + Copy> World<K, A> {
     /// indexer.
     ///
     /// A new world has no session, no messages and no forged bytes. Fails with `TwoFormats` if the
-    /// two repositories have different object formats. Otherwise fails with `Disagree` if
-    /// server and client hold different objects under the same id. The fault gives the first id with
+    /// two repositories have different object formats. Otherwise fails with `Disagree` if server
+    /// and client hold different objects under the same id. The fault gives the first id with
     /// different objects, in the order of the server's objects. Allocates nothing.
     pub fn new(server: Server<A>, repo: Repo<A>, tools: K) -> Result<World<K, A>, WorldFault>
         ensures { Starts server repo tools result }
