@@ -4,3 +4,5 @@ pub mod HistoryLemmas
 pub mod PutLemmas
 pub mod RefLemmas
 pub mod PartLemmas
+pub mod LinkLemmas
+pub mod LawLemmas

@@ -33,6 +33,13 @@
 //!   the indexer returns describes an object, or is a tree or blob that a tag names. In the second
 //!   case the entry of the tag is also returned.
 //! - The spool that stores a received pack was given exactly the received bytes, in order.
+//! - For each object in the index of a [`Received`] pack, the id is the SHA-1 of its type and
+//!   bytes, and the bytes are well-formed. Each object that it names is in the index, or is one of
+//!   the prerequisites of the pack. In both cases the named object has the expected type
+//!   ([`Received::laws`]). The prerequisites are only the objects whose type the store returned.
+//! - A store is closed if each object that its objects name is in the store. If a closed store has
+//!   the prerequisites of a received pack, it stays closed when the objects of the pack are added.
+//!   Otherwise two different texts have the same SHA-1 ([`laws`]).
 //! - [`install_files`] installs a pack in a [`PackFolder`], and then its index. After `Ok` both
 //!   files exist, with the bytes that they were given. A file gets its final name only once both
 //!   files are written and synced. After a fault the folder has both files, only the pack, or
@@ -40,6 +47,14 @@
 //! - [`MemoryFolder`] is a [`PackFolder`] that records all files it receives.
 //! - For any contents of the files, no call panics, overflows or reads out of bounds, and every
 //!   call returns.
+//!
+//! # What the proofs rely on
+//!
+//! No contract can describe the contents of a system file. So the proofs about received packs say
+//! nothing about the objects of the store, except that the store returned the types of all
+//! prerequisites. They also rely on the file system, which must return the pack as it was written.
+//! The id of an object is checked when [`open_repository`] or [`check_repository`] reads it, but not
+//! when the packer reads it.
 //!
 //! # Differences from Git
 //!
@@ -93,10 +108,11 @@
 //! - No contract says which repository formats are opened or refused. No contract covers the result
 //!   of [`is_bare`], or the names and ids of peeled refs in a new repository.
 //! - The indexer may leave out an entry, or return an entry for an object that the pack does not
-//!   have. It may accept a pack with a malformed object.
-//! - The indexer looks up the named objects, and compares objects that the store already has. No
-//!   contract covers these look-ups and comparisons, or states when the indexer reads an object.
-//!   The indexer can miss a loose object that is added while a pack arrives.
+//!   have. The index of a received pack may leave out an object of the pack.
+//! - The store may return the type of an object that it does not have, or that is malformed.
+//! - The indexer compares objects that the store already has. No contract covers these comparisons,
+//!   or states when the indexer reads an object. The indexer can miss a loose object that is added
+//!   while a pack arrives.
 //! - A parent of a commit in the graph may be a tag, a tree or a blob. The types of parents are
 //!   checked, but no contract covers this check.
 //! - [`PackCounts`] and [`StorePacker::counts`] have no contract, because they serve only
@@ -124,9 +140,9 @@
 //! `gparts` defines packers that return parts, and `ggraph` and `gdag` define graphs. `gobject`
 //! defines the objects of a graph, and `grefs` defines refs. `gitobjects` reads objects,
 //! `gitcommitgraph` reads commit-graphs, `gitrefs` reads refs, and `gitconfig` reads settings.
-//! `gitpack` reads and writes packs, and `gitobject` parses the ids that objects name. `gzlib`
-//! deflates, `gname` defines ids, `indexmap` defines maps by id, and `sha1` computes the trailer of
-//! a pack.
+//! `gitpack` reads and writes packs, `gitobject` parses links, and `gcomplete` defines closed
+//! stores. `gzlib` deflates, `gname` defines ids, `indexmap` defines maps by id, and `sha1`
+//! computes the trailer of a pack.
 #![tactic(auto)]
 
 mod arrival;
@@ -143,9 +159,12 @@ mod history;
 mod indexer;
 mod install;
 mod kept;
+pub mod laws;
 mod leaves;
 mod limits;
+mod linking;
 mod memory_folder;
+mod needs;
 mod new_repository;
 mod newest;
 mod nodes;
@@ -174,6 +193,7 @@ pub use crate::indexer::StoreIndexer;
 pub use crate::install::{install_files, install_pack};
 pub use crate::kept::KeptPack;
 pub use crate::leaves::add_leaves;
+pub use crate::linking::TypeStore;
 pub use crate::memory_folder::{MemoryFolder, PackFile};
 pub use crate::new_repository::NewRepository;
 pub use crate::newest::lead_with_newest;
