@@ -415,11 +415,14 @@ fn print_report<R: Print + AllocGlobal>(
         return Ok(());
     }
     let mut stdout = Output::new(io::writer(rt), is_terminal);
-    let mut output = ToWrite::new(&mut stdout);
-    match send_report(rt.alloc(), fetched, &mut output) {
+    let sent = {
+        let mut output = ToWrite::new(&mut stdout);
+        send_report(rt.alloc(), fetched, &mut output)
+    };
+    match sent {
         Ok(()) => Ok(()),
         Err(ProgramFault::Memory) => Err(Fault::Memory),
-        Err(_) => Err(Fault::of(rt.alloc(), Sentence::NoOutput)),
+        Err(_) => Err(stdout.take_fault(rt.alloc())),
     }
 }
 
