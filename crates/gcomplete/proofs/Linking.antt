@@ -25,10 +25,12 @@ module _ (types : Types) (s : Store) (are_named : IsNamed s) (closed : IsClosed 
   added a = object_at a (kind_at types a) refl
 
   kind_here : (a : Id) (f : Option ObjectType) (is : kind_at types a ≡ f) → f ≡ option_map kind_of (object_at a f is)
+  unfolding object_at
   kind_here a None is = refl
   kind_here a (Some kind) is = refl
 
   added_types : AreTypesOf types added
+  unfolding added
   added_types a = kind_here a (kind_at types a) refl
 
   -- an object of the list has its own id, and its links lead somewhere
@@ -40,10 +42,12 @@ module _ (types : Types) (s : Store) (are_named : IsNamed s) (closed : IsClosed 
       let mine = linked a kind is in (mine.name, (mine.links, mine.reads, mine.each))
 
   good_here : (a : Id) (f : Option ObjectType) (is : kind_at types a ≡ f) (o : GitObject) → object_at a f is ≡ Some o → IsGood a o
+  unfolding object_at
   good_here a None is o held = absurd (none-some o held)
   good_here a (Some kind) is o held = subst (IsGood a) (same_Some (object_of kind (linked a kind is).body) o held) (good a kind is)
 
   added_good : (a : Id) (o : GitObject) → added a ≡ Some o → IsGood a o
+  unfolding added
   added_good a o held = good_here a (kind_at types a) refl o held
 
   added_named : IsNamed added

@@ -15,8 +15,11 @@ loop-link-preserved g c =
       keeps_more c.args.self.now old new c.loop-link.invariant.1 keeps,
     )
 
-pub returns : goal.returns
-returns g c =
+pub returns-clause-noted : goal.returns-clause-noted
+returns-clause-noted g c =
     let links = c.args.links.now in
     let past : length links ≤ c.loop-link.link-index = omega (arith, c.loop-link-test.false) in
     rw (take_all c.loop-link.link-index links past) at c.loop-link.invariant.0
+
+pub returns-clause-keeps : goal.returns-clause-keeps
+returns-clause-keeps g c = c.loop-link.invariant.1

@@ -19,7 +19,10 @@ loop-rest-preserved g c =
       keeps_more c.args.self.now old new inv.4 keeps,
     )
 
-pub returns : goal.returns
-returns g c =
+pub returns-clause-noted : goal.returns-clause-noted
+returns-clause-noted g c =
     let inv = c.loop-rest.invariant in
     tree_needed c.loop-rest.self c.args.body.now c.loop-rest.rest.now inv.0 inv.1 inv.2 (c.is_over.ensures.0 c.loop-rest-test.false) inv.3
+
+pub returns-clause-keeps : goal.returns-clause-keeps
+returns-clause-keeps g c = c.loop-rest.invariant.4
