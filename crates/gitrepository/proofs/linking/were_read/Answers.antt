@@ -1,4 +1,4 @@
-use Rattle.std.proofs.Common.{◌<◌, ◌≤◌, take, length, subst, sym, arith}
+use Rattle.std.proofs.Common.{◌<◌, ◌≤◌, take, length, subst, refl, sym, arith}
 use Rattle.std.proofs.lemmas.List.{take_all}
 use Rattle.std.proofs.lemmas.List.Elements.{All-get_or, All-more}
 use Rattle.gitrepository.specs.steps.Arriving.{IsReadEntry, IsReadObject}
@@ -9,7 +9,7 @@ pub loop-place-preserved : goal.loop-place-preserved
 loop-place-preserved c needs all =
     let pack = c.args.pack.now in let objects = c.args.objects.now in let k = c.loop-place.place in
     let object = c.index-objects-place.result in let entry = c.index-pack-place.result in
-    let same = c.if-not-is_same.ensures in
+    let same = c.if-not-is_same.ensures refl in
     let inside : k < length pack = omega (arith, c.loop-place-test.true) in
     let within : k < length objects = omega (arith, inside, c.if-objects-pack.false) in
     All-more (IsReadEntry needs) pack k entry inside (c.loop-place.invariant needs all)
