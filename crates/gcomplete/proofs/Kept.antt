@@ -13,7 +13,7 @@ keeps_all types a kind kept = kept
 pub keeps_more : (old mid new : Types) → KeepsTypes old mid → KeepsTypes mid new → KeepsTypes old new
 keeps_more old mid new one two a kind kept = two a kind (one a kind kept)
 
-kept_still : (old new : Types) → KeepsTypes old new → (a : Id) → IsKept old a → IsKept new a
+pub kept_still : (old new : Types) → KeepsTypes old new → (a : Id) → IsKept old a → IsKept new a
 kept_still old new keeps a kept =
     let kind = something (kind_at old a) kept in
     is_something (kind_at new a) kind.0 (keeps a kind.0 kind.1)

@@ -1,11 +1,12 @@
 -- Objects, stores of objects, and the ids and types of a store (gitglossary(7), "object", "object database", "object
 -- type").
-use Rattle.std.specs.Prelude.{◌≡◌, ℕ, List, IsSome, Option, None, Some, if◌then◌else◌}
+use Rattle.std.specs.Prelude.{◌≡◌, ℕ, Bool, true, false, List, IsSome, Option, None, Some, if◌then◌else◌}
 use Rattle.std.specs.Map.{lookup}
 use Rattle.std.specs.Option.{option_map, option_or}
 use Rattle.std.specs.Str.{bytes_eq}
 use Rattle.gname.specs.Ids.{Id}
 use Rattle.gitobject.specs.declared.types.ObjectType.{ObjectType}
+use Rattle.gitobject.specs.declared.types.ObjectType.TheVariants.{Commit, Tree, Blob, Tag}
 
 -- an object: its type, and its bytes
 pub record GitObject : Type 0 where
@@ -51,6 +52,17 @@ Types = List (Id × ObjectType)
 -- the type of this id
 abbrev pub kind_at : Types → Id → Option ObjectType
 kind_at types a = lookup (bytes_eq a) types
+
+-- the type of a commit or a tag
+abbrev pub is_history_type : ObjectType → Bool
+is_history_type Commit = true
+is_history_type Tag = true
+is_history_type Tree = false
+is_history_type Blob = false
+
+-- an id with the type of a commit or a tag
+abbrev pub is_commit_or_tag : Id × ObjectType → Bool
+is_commit_or_tag pair = is_history_type pair.1
 
 -- the ids and the types of the objects of a store
 abbrev pub AreTypesOf : Types → Store → Type 0

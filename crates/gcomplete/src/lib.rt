@@ -79,7 +79,7 @@ mod types;
 
 pub use crate::batch::Batch;
 pub use crate::fault::BatchFault;
-pub use crate::judging::{JudgeFault, ObjectSource, judge};
+pub use crate::judging::{JudgeFault, ObjectSource, judge, read_reachable};
 pub use crate::needs::Need;
 pub use crate::store::ClosedStore;
 pub use crate::types::TypeMap;

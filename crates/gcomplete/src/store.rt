@@ -7,7 +7,8 @@ ghost use Rattle.gcomplete.specs.Adding.{AddsAll};
 ghost use Rattle.gcomplete.specs.Batches.{AreJudged, HasJudged, IsBatchOf, KeepsTypes};
 ghost use Rattle.gcomplete.specs.Closed.{IsComplete};
 ghost use Rattle.gcomplete.specs.Rereading.{IsReadAgain};
-ghost use Rattle.gcomplete.specs.Stores.{Holds, Store, joined, kind_at, object_of};
+ghost use Rattle.gcomplete.specs.Stores.{Holds, Store, is_commit_or_tag, joined, kind_at, object_of};
+ghost use Rattle.std.specs.List.{filter};
 
 use crate::batch::Batch;
 use crate::fault::BatchFault;
@@ -61,6 +62,13 @@ impl<A: Allocator + Copy> ClosedStore<A> {
         ensures { result ≡ length self.now }
     {
         self.types.len()
+    }
+
+    /// Returns the number of commits and tags.
+    pub fn commits_and_tags(&self) -> usize
+        ensures { result ≡ length (filter is_commit_or_tag self.now) }
+    {
+        self.types.commits_and_tags()
     }
 
     /// Returns the type of the object with this id, or `None` if the store lacks the object.

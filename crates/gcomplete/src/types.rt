@@ -2,7 +2,8 @@
 
 ghost use Rattle.std.specs.Prelude.{◌≡◌, ◌<◌, ◌↔◌, [], IsTrue, Some, length, MatchResult, slice_get};
 ghost use Rattle.gcomplete.specs.Adding.{IsJoined};
-ghost use Rattle.gcomplete.specs.Stores.{kind_at};
+ghost use Rattle.gcomplete.specs.Stores.{is_commit_or_tag, is_history_type, kind_at};
+ghost use Rattle.std.specs.List.{filter};
 ghost use Rattle.gcomplete.specs.steps.Keeping.{Puts};
 
 use gitobject::{Link, ObjectType};
@@ -55,6 +56,20 @@ impl<A: Allocator + Copy> TypeMap<A> {
         self.map.get(id).copied()
     }
 
+    /// Returns the number of commits and tags.
+    pub(crate) fn commits_and_tags(&self) -> usize
+        ensures { result ≡ length (filter is_commit_or_tag self.now) }
+    {
+        let mut count = 0usize;
+        for place in 0..self.len() {
+            let (_, kind) = self.at(place);
+            if is_commit_or_tag(kind) {
+                count += 1;
+            }
+        }
+        count
+    }
+
     /// Returns whether the map has the id of the link, with the type of the link.
     pub(crate) fn leads(&self, link: &Link) -> bool
         ensures { IsTrue result ↔ (kind_at self.now link.now.id ≡ Some link.now.kind) }
@@ -101,5 +116,15 @@ impl<A: Allocator + Copy> TypeMap<A> {
         ensures { self.new ≡ [] }
     {
         self.map.clear();
+    }
+}
+
+// Returns whether this is the type of a commit or a tag.
+fn is_commit_or_tag(kind: ObjectType) -> bool
+    ensures { result ≡ is_history_type kind }
+{
+    match kind {
+        ObjectType::Commit | ObjectType::Tag => true,
+        ObjectType::Tree | ObjectType::Blob => false,
     }
 }

@@ -8,11 +8,11 @@ use Rattle.gcomplete.proofs.judging.read_tips.Goals as goal
 pub loop-id-preserved : goal.loop-id-preserved
 loop-id-preserved g c =
     let tips = c.args.tips.now in let k = c.loop-id.id-index in
-    let old = c.loop-id.batch.types in let new = c.read_one.new.batch.types in
+    let old = c.loop-id.batch.types in let new = c.read_reachable.new.batch.types in
     let P = IsKept new in
     All-more P tips k c.id-item.result c.loop-id-test.true
-    (all_kept_still old new c.in_ok-read_one.ensures.keeps (take k tips) c.loop-id.invariant)
-    (subst P c.id-item.is c.in_ok-read_one.ensures.kept)
+    (all_kept_still old new c.in_ok-read_reachable.ensures.keeps (take k tips) c.loop-id.invariant)
+    (subst P c.id-item.is c.in_ok-read_reachable.ensures.kept)
 
 pub returns : goal.returns
 returns g c =
