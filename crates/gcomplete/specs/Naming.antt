@@ -1,5 +1,5 @@
 -- The ids of the objects of a store (gitglossary(7), "object name"; git-hash-object(1)).
-use Rattle.std.specs.Prelude.{◌≡◌, ◌≢◌, ℕ, ◌<◌, ◌^◌, List, Some, length}
+use Rattle.std.specs.Prelude.{◌≡◌, ◌≢◌, ℕ, ◌<◌, ◌^◌, List, Some, length, slice_index}
 use Rattle.gname.specs.Ids.{Id}
 use Rattle.gitobject.specs.Naming.{id_of, object_text}
 use Rattle.sha1.specs.Sha1.{sha1}
@@ -9,9 +9,10 @@ use Rattle.gcomplete.specs.Stores.{GitObject, Store}
 abbrev pub text_of : GitObject → List ℕ
 text_of o = object_text o.kind o.body
 
--- the id is the id of the object, and the object has fewer than 2^64 bytes
+-- the id is the id of the object, whose body consists of fewer than 2^64 bytes
 pub record IsNameOf (a : Id) (o : GitObject) : Type 0 where
   pub name : a ≡ id_of o.kind o.body
+  pub bytes : (i : ℕ) → slice_index o.body i < 256
   pub sized : length o.body < 2 ^ 64
 
 -- the store has each object under the id of the object

@@ -20,7 +20,7 @@ returns-clause-adds g c =
     let A : Noted → Type 0 = λ n. kind_at n.types c.args.id.now ≡ None in
     let P : Noted → Type 0 = λ n. AddsObject n c.args.id.now o new in
     subst P c.self.view_is
-    (adds_object old new c.args.id.now o c.args.links.now (subst A (sym c.self.view_is) c.requires.new) (record { name = c.requires.name; sized = omega arith })
+    (adds_object old new c.args.id.now o c.args.links.now (subst A (sym c.self.view_is) c.requires.new) (record { name = c.requires.name; bytes = λ i. omega (arith, c.type_inv.body i); sized = omega arith })
     c.requires.reads c.in_default-put.ensures c.in_default.ensures)
 
 pub invariant_of-self-in_default-put : goal.invariant_of-self-in_default-put

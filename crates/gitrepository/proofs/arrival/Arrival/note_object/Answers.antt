@@ -16,7 +16,7 @@ invariant_of-self-2 g c =
     let inside = c.self.inside in let needs = c.note_object.new.self in
     let object : ReadObject = record { id = c.args.id.now; kind = c.args.kind } in
     let noted = c.in_default.ensures.noted in
-    let name : IsNameOf c.args.id.now (object_of c.args.kind c.args.body.now) = record { name = sym c.requires; sized = omega arith } in
+    let name : IsNameOf c.args.id.now (object_of c.args.kind c.args.body.now) = record { name = sym c.requires; bytes = λ i. omega (arith, c.type_inv.body i); sized = omega arith } in
     let this : IsReadObject needs object =
       record { body = c.args.body.now; name = name; links = noted.links; reads = noted.reads; each = noted.each } in
     (c.self.invariant.0,
