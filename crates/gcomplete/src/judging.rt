@@ -26,9 +26,9 @@ pub trait ObjectSource<A: Allocator + Copy> {
 /// The reason why [`judge`] fails.
 #[derive(Drop)]
 pub enum JudgeFault<F: Drop> {
-    /// The object with this id cannot be read.
+    /// The source failed to read the object with this id.
     Source { id: Oid, fault: F },
-    /// An object is refused.
+    /// An object is refused, or out of memory.
     Batch(BatchFault),
     /// The objects name more ids than the limit.
     TooMany,
