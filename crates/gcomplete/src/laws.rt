@@ -41,9 +41,9 @@ pub fn sent_is_noted()
 {}
 
 /// Proves that a closed store accepts what an honest server sends, or that two different texts have
-/// the same SHA-1. The server's store is closed too, and the server knows some ids that the client's
-/// store holds. Each link of a sent object leads to a sent object, or to an object that these ids
-/// reach at the server.
+/// the same SHA-1. The server's store is closed too, and the server knows some ids that the
+/// client's store holds. Each link of a sent object leads to a sent object, or to an object that
+/// these ids reach at the server.
 pub fn sent_is_fit()
     ensures { SentIsFit }
 {}

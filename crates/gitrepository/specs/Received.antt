@@ -16,8 +16,8 @@ pub record IsInPack (objects : List IndexedEntry) (link : Link) : Type 0 where
 abbrev pub Leads : List Link → List IndexedEntry → Link → Type 0
 Leads prerequisites objects link = IsInPack objects link ⊎ Contains prerequisites link
 
--- There is a well-formed object with this type, whose SHA-1 is this id. Each of its links leads to an object of the pack
--- or to a prerequisite. The definition does not say that the pack contains the bytes of the object.
+-- There is a well-formed object with this type, whose SHA-1 is this id. Each of its links leads to an object of the
+-- pack or to a prerequisite. The definition does not say that the pack contains the bytes of the object.
 abbrev pub IsLinkedEntry : List Link → List IndexedEntry → IndexedEntry → Type 0
 IsLinkedEntry prerequisites objects object = IsLinked (Leads prerequisites objects) (object_id object) object.kind
 

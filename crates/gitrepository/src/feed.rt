@@ -32,9 +32,9 @@ pub struct Received<S: Spool + Drop, A: Allocator + Copy> {
 }
 
 impl<S: Spool + Drop, A: Allocator + Copy> Received<S, A> {
-    /// Proves that for each id and type of the index there is an object, whose SHA-1 is the id. Each
-    /// link of this object leads to an object of the index or to a prerequisite. The contract does
-    /// not say that the pack contains this object.
+    /// Proves that for each id and type of the index there is an object, whose SHA-1 is the id.
+    /// Each link of this object leads to an object of the index or to a prerequisite. The contract
+    /// does not say that the pack contains this object.
     pub fn laws(&self)
         ensures { ∥ AreLinked self.now.prerequisites.items self.now.index.entries ∥₁ }
     {

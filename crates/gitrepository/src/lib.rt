@@ -33,13 +33,13 @@
 //!   the indexer returns describes an object, or is a tree or blob that a tag names. In the second
 //!   case the entry of the tag is also returned.
 //! - The spool that stores a received pack was given exactly the received bytes, in order.
-//! - For each id and type in the index of a [`Received`] pack, there is an object of this type whose
-//!   SHA-1 is the id. The parts of the object that contain links are well-formed. Each object that
-//!   it names is in the index, or is one of the prerequisites of the pack. In both cases the named
-//!   object has the expected type ([`Received::laws`]).
-//! - A store is closed if each object that its objects name is in the store, with the expected type.
-//!   Suppose a closed store has the prerequisites of a received pack. Then it stays closed when the
-//!   objects of the pack are added, or two different texts have the same SHA-1 ([`laws`]).
+//! - For each id and type in the index of a [`Received`] pack, there is an object of this type
+//!   whose SHA-1 is the id. The parts of the object that contain links are well-formed. Each object
+//!   that it names is in the index, or is one of the prerequisites of the pack. In both cases the
+//!   named object has the expected type ([`Received::laws`]).
+//! - A store is closed if each object that its objects name is in the store, with the expected
+//!   type. Suppose a closed store has the prerequisites of a received pack. Then it stays closed
+//!   when the objects of the pack are added, or two different texts have the same SHA-1 ([`laws`]).
 //! - [`install_files`] installs a pack in a [`PackFolder`], and then its index. After `Ok` both
 //!   files exist, with the bytes that they were given. A file gets its final name only once both
 //!   files are written and synced. After a fault the folder has both files, only the pack, or

@@ -38,8 +38,8 @@ impl<F: ObjectFiles, A: Allocator + Copy> TypeStore<A> for ObjectReader<'_, F, A
 }
 
 /// Checks that the index of a pack has exactly the objects that were read. Checks also that each
-/// named object is in the pack or in the store, with the expected type. Returns the prerequisites of the pack: the
-/// ids and types of the named objects that are only in the store.
+/// named object is in the pack or in the store, with the expected type. Returns the prerequisites
+/// of the pack: the ids and types of the named objects that are only in the store.
 ///
 /// Fails with `Refused` if the index has other objects than those that were read. Otherwise fails
 /// with the fault of the first named object that is missing, cannot be read or has another type.

@@ -94,10 +94,10 @@ impl<A: Allocator + Copy> Needs<A> {
 
     /// Records which objects the given object names.
     ///
-    /// Fails with `TooLarge` if a commit, a tree or a tag has too many bytes, or if the objects name
-    /// too many ids. Fails with `Parents` if a commit has too many parents, and with `Malformed` if
-    /// the object is malformed. Fails with `Type` if an id was recorded with another type, or with
-    /// `Memory` if out of memory. After a fault, some of the ids may be recorded.
+    /// Fails with `TooLarge` if a commit, a tree or a tag has too many bytes, or if the objects
+    /// name too many ids. Fails with `Parents` if a commit has too many parents, and with
+    /// `Malformed` if the object is malformed. Fails with `Type` if an id was recorded with another
+    /// type, or with `Memory` if out of memory. After a fault, some of the ids may be recorded.
     pub(crate) fn note_object(
         &mut self,
         alloc: A,
