@@ -53,8 +53,8 @@
 //! No contract can describe the contents of a system file. So the proofs about received packs say
 //! nothing about the objects of the store, except that the store returned the types of all
 //! prerequisites. They also rely on the file system, which must return the pack as it was written.
-//! The id of an object is checked when [`open_repository`] or [`check_repository`] reads it, but not
-//! when the packer reads it.
+//! The id of an object is checked when [`open_repository`] or [`check_repository`] reads it, but
+//! not when the packer reads it.
 //!
 //! # Differences from Git
 //!
