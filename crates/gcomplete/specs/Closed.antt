@@ -23,7 +23,7 @@ pub data Reaches (s : Store) : Id → Id → Type 0 where
   here : {a : Id} → Reaches s a a
   onward : {a c : Id} (link : Link) → HasLink s a link → Reaches s link.id c → Reaches s a c
 
--- an id is complete in a store: the store holds everything that the id reaches
+-- An id is complete in a store: the store holds everything that the id reaches. A malformed object reaches only itself.
 abbrev pub IsComplete : Store → Id → Type 0
 IsComplete s a = (b : Id) → Reaches s a b → Holds s b
 
@@ -31,12 +31,12 @@ IsComplete s a = (b : Id) → Reaches s a b → Holds s b
 abbrev pub LeadsIn : Store → Link → Type 0
 LeadsIn s link = kind_in s link.id ≡ Some link.kind
 
--- the object has links, and each of them leads to an object of the store
+-- the object is well-formed, and each of its links leads to an object of the store, which has the type of the link
 pub record HasAllLinks (s : Store) (o : GitObject) : Type 0 where
   pub links : List Link
   pub reads : HasLinks o links
   pub each : All (LeadsIn s) links
 
--- a store is closed: the links of all its objects lead to objects of the store
+-- A store is closed: all its objects are well-formed, and their links lead to objects of the store.
 abbrev pub IsClosed : Store → Type 0
 IsClosed s = (a : Id) (o : GitObject) → s a ≡ Some o → HasAllLinks s o

@@ -35,7 +35,7 @@ pub enum JudgeFault<F: Drop> {
         /// The fault of the source.
         fault: F,
     },
-    /// An object is refused, or a link leads to an object of another type.
+    /// An object is refused, a link leads to an object of another type, or out of memory.
     Batch(BatchFault),
     /// The objects name more ids than the limit.
     TooMany,

@@ -35,14 +35,15 @@ pub fn linked_is_closed()
 {}
 
 /// Proves that adding an object of a server to a batch of the server's objects fails only if out of
-/// memory.
+/// memory. The server's store is closed.
 pub fn sent_is_noted()
     ensures { SentIsNoted }
 {}
 
 /// Proves that a closed store accepts what an honest server sends, or that two different texts have
-/// the same SHA-1. The server knows some ids that the store holds, and sends everything that these
-/// ids do not reach.
+/// the same SHA-1. The server's store is closed too, and the server knows some ids that the
+/// client's store holds. Each link of a sent object leads to a sent object, or to an object that
+/// these ids reach at the server.
 pub fn sent_is_fit()
     ensures { SentIsFit }
 {}

@@ -14,8 +14,8 @@
 //! # Proved
 //!
 //! - Each id in a [`ClosedStore`] is the SHA-1 of the type and bytes of an object. Each link of the
-//!   object leads to another object of the store, which has the type of the link. So the store
-//!   holds everything that its objects reach ([`ClosedStore::laws`]).
+//!   object leads to an object of the store, which has the type of the link. So the store holds
+//!   everything that its objects reach ([`ClosedStore::laws`]).
 //! - [`ClosedStore::add_all`] refuses a batch only if an id of the batch has another type in the
 //!   store, if a link leads to no object, or if out of memory. After a fault the store is
 //!   unchanged.
@@ -24,10 +24,11 @@
 //!   to one id with different types, or if out of memory.
 //! - [`judge`] returns a store that has an object for each of the given ids. This relies on the
 //!   source, which computes the id of each object that it returns.
-//! - If two stores have an object with the same id, both objects have the same bytes, or their
-//!   texts have the same SHA-1 although they differ. So if a ref is complete in a client's store,
-//!   the client has the same bytes as the server for everything that the ref reaches at the server
-//!   ([`laws`]). This holds no matter who sent the objects.
+//! - If two stores have an object with the same id, both objects have the same type and bytes, or
+//!   their texts have the same SHA-1 although they differ. So if a client's store is complete for
+//!   a ref, it has the same bytes as the server for everything the ref reaches there. The exception
+//!   is two different texts with the same SHA-1 ([`laws`]). This holds no matter who sent the
+//!   objects.
 //! - Objects of a closed store are still complete when they are read again from elsewhere, or two
 //!   different texts have the same SHA-1. This relies on two facts: the id of each object is
 //!   checked when the object is read, as in [`ClosedStore::is_judged`], and each object still
@@ -35,7 +36,9 @@
 //! - A closed store stays closed when objects are added whose links lead to the store or to one
 //!   another, or two different texts have the same SHA-1 ([`laws::linked_is_closed`]).
 //! - Objects from an honest server are refused only if out of memory, or if two different texts
-//!   have the same SHA-1.
+//!   have the same SHA-1 ([`laws::sent_is_noted`], [`laws::sent_is_fit`]). The server's own store
+//!   must be closed. Each link of a sent object leads to a sent object, or to an object that ids of
+//!   the client's store reach at the server.
 //! - No call panics, overflows or reads out of bounds, and every call returns.
 //!
 //! The links of an object are defined in `gitobject`. A gitlink in a tree is not a link, because
@@ -49,11 +52,16 @@
 //! - Git compares an incoming object with the stored object of the same id. Here only the types are
 //!   compared, because no bytes are kept. If an object is added again, its links are not read
 //!   again.
+//! - Only the parts of an object that contain links are checked. git-fsck(1) checks more.
 //!
 //! # What the contracts do not rule out
 //!
 //! - No contract rules out that two objects of the same type have the same id. Then the links of
 //!   the second object are not read.
+//! - No contract says that a store from [`judge`] has the objects that the source returned.
+//!   The contract says only that objects with these ids and types exist.
+//! - If several faults apply, no contract says which one [`Batch::add`] or [`ClosedStore::add_all`]
+//!   returns. No contract says that a fault or [`Batch::need`] names the first object or link.
 //! - No contract rules out that [`judge`] reads an object twice, or reads objects that the given
 //!   ids do not reach. It may fail with `TooMany` at any limit, and its fault may name an object
 //!   other than the one that was not read.

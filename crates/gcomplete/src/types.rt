@@ -13,8 +13,9 @@ use std::alloc::{AllocError, Allocator};
 use std::hash::{BuildHasherDefault, DefaultHasher};
 use std::marker::Model;
 
-/// The hasher of ids. A peer chooses the ids that its objects name, so the hasher is one for which
-/// it is hard to find ids with the same hash.
+/// The hasher of ids. A peer chooses the ids that its objects name, so it should not be able to
+/// construct ids with the same hash. The keys of `DefaultHasher` are fixed, so the peer can still
+/// search for such ids.
 pub(crate) type IdHasher = BuildHasherDefault<DefaultHasher>;
 
 /// A map from ids to the types of objects, in the order of insertion. Contracts treat a `TypeMap`

@@ -6,3 +6,4 @@ pub mod RefLemmas
 pub mod PartLemmas
 pub mod LinkLemmas
 pub mod LawLemmas
+pub mod CheckLemmas

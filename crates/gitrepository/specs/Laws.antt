@@ -1,11 +1,11 @@
 -- Laws that follow from the definitions of received packs.
-use Rattle.std.specs.Prelude.{◌⊎◌, ℕ, List, All, map}
+use Rattle.std.specs.Prelude.{◌≡◌, ◌≢◌, ◌⊎◌, List, All, Contains, map}
 use Rattle.gname.specs.Ids.{Id}
 use Rattle.gitobject.specs.declared.links.Link.{Link}
 use Rattle.gitobject.specs.declared.types.ObjectType.{ObjectType}
 use Rattle.gcomplete.specs.Closed.{IsClosed, LeadsIn}
 use Rattle.gcomplete.specs.Linked.{HasClosed}
-use Rattle.gcomplete.specs.Naming.{IsCollision, IsNamed}
+use Rattle.gcomplete.specs.Naming.{IsNamed}
 use Rattle.gcomplete.specs.Stores.{Store, Types}
 use Rattle.gitpack.specs.Indexes.{object_id}
 use Rattle.gitpack.specs.declared.indexing.IndexedEntry.{IndexedEntry}
@@ -18,13 +18,18 @@ type_of object = (object_id object, object.kind)
 abbrev pub types_of : List IndexedEntry → Types
 types_of objects = map type_of objects
 
--- two different texts have the same SHA-1
-abbrev pub HasCollision : Type 0
-HasCollision = (text other : List ℕ) × IsCollision text other
+-- two objects of the pack have the same id, but different types
+pub record HasTwoTypes (objects : List IndexedEntry) : Type 0 where
+  pub object : IndexedEntry
+  pub other : IndexedEntry
+  pub first : Contains objects object
+  pub second : Contains objects other
+  pub same : object_id object ≡ object_id other
+  pub differ : object.kind ≢ other.kind
 
 -- The links of the objects of a pack lead to objects of the pack or to prerequisites, which a closed store has. Then the
--- store stays closed if the objects of the pack are added, or two different texts have the same SHA-1.
+-- store stays closed if the objects of the pack are added, or two objects of the pack have one id and different types.
 abbrev pub PacksKeepClosed : Type 0
 PacksKeepClosed =
     (prerequisites : List Link) (objects : List IndexedEntry) (s : Store) → IsNamed s → IsClosed s
-    → AreLinked prerequisites objects → All (LeadsIn s) prerequisites → HasClosed (types_of objects) s ⊎ HasCollision
+    → AreLinked prerequisites objects → All (LeadsIn s) prerequisites → HasClosed (types_of objects) s ⊎ HasTwoTypes objects

@@ -5,5 +5,6 @@ pub mod Installing
 pub mod MemoryFolders
 pub mod Parts
 pub mod Received
+pub mod Checking
 pub mod steps
 pub mod Laws

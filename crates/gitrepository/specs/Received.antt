@@ -12,12 +12,13 @@ pub record IsInPack (objects : List IndexedEntry) (link : Link) : Type 0 where
   pub id : object_id object ≡ link.id
   pub kind : object.kind ≡ link.kind
 
--- the link leads to an object of the pack, or to a prerequisite: the id and the type of an object that must be elsewhere
+-- The link leads to an object of the pack, or to a prerequisite. A prerequisite is the id and the type of an object that
+-- must be elsewhere.
 abbrev pub Leads : List Link → List IndexedEntry → Link → Type 0
 Leads prerequisites objects link = IsInPack objects link ⊎ Contains prerequisites link
 
--- the id of the object is the SHA-1 of its type and bytes, and each of its links leads to an object of the pack or to a
--- prerequisite
+-- There is a well-formed object with this type, whose SHA-1 is this id. Each of its links leads to an object of the
+-- pack or to a prerequisite. The definition does not say that the pack contains the bytes of the object.
 abbrev pub IsLinkedEntry : List Link → List IndexedEntry → IndexedEntry → Type 0
 IsLinkedEntry prerequisites objects object = IsLinked (Leads prerequisites objects) (object_id object) object.kind
 
@@ -25,7 +26,7 @@ IsLinkedEntry prerequisites objects object = IsLinked (Leads prerequisites objec
 abbrev pub AreLinked : List Link → List IndexedEntry → Type 0
 AreLinked prerequisites objects = All (IsLinkedEntry prerequisites objects) objects
 
--- The reader of the store returned the type of the link for the id of the link. The definition says nothing more, because
--- contracts cannot describe the contents of system files.
+-- The definition says nothing, because contracts cannot describe the contents of system files. The reader of the store
+-- returned the type of the link for the id of the link.
 abbrev pub IsStored : Link → Type 0
 IsStored link = ⊤

@@ -17,7 +17,8 @@ use std::alloc::Allocator;
 use std::marker::Model;
 
 /// A received pack and its index. The id of each object of the index is the SHA-1 of its type and
-/// bytes. Each object that it names is in the index or is a prerequisite ([`Received::laws`]).
+/// bytes. Each object that these objects name is in the index or is a prerequisite
+/// ([`Received::laws`]).
 #[derive(Drop)]
 pub struct Received<S: Spool + Drop, A: Allocator + Copy> {
     /// The pack as received.
@@ -31,8 +32,9 @@ pub struct Received<S: Spool + Drop, A: Allocator + Copy> {
 }
 
 impl<S: Spool + Drop, A: Allocator + Copy> Received<S, A> {
-    /// Proves that the id of each object of the index is the SHA-1 of its type and bytes, and that
-    /// each link of each object leads to an object of the index or to a prerequisite.
+    /// Proves that for each id and type of the index there is an object, whose SHA-1 is the id.
+    /// Each link of this object leads to an object of the index or to a prerequisite. The contract
+    /// does not say that the pack contains this object.
     pub fn laws(&self)
         ensures { ∥ AreLinked self.now.prerequisites.items self.now.index.entries ∥₁ }
     {
@@ -81,7 +83,8 @@ impl<S: Spool + Drop, A: Allocator + Copy> StoreFeed<S, A> {
         feed_pack(&mut self.pack, piece, &mut inspector)
     }
 
-    /// Indexes the complete pack. Returns the pack, its index and its graph entries.
+    /// Indexes the complete pack, and checks that the objects named by its objects exist. Returns
+    /// the received pack and its graph entries.
     pub(crate) fn finish<F: ObjectFiles>(
         self,
         reader: &mut ObjectReader<'_, F, A>,

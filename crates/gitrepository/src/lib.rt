@@ -33,13 +33,13 @@
 //!   the indexer returns describes an object, or is a tree or blob that a tag names. In the second
 //!   case the entry of the tag is also returned.
 //! - The spool that stores a received pack was given exactly the received bytes, in order.
-//! - For each object in the index of a [`Received`] pack, the id is the SHA-1 of its type and
-//!   bytes, and the bytes are well-formed. Each object that it names is in the index, or is one of
-//!   the prerequisites of the pack. In both cases the named object has the expected type
-//!   ([`Received::laws`]). The prerequisites are only the objects whose type the store returned.
-//! - A store is closed if each object that its objects name is in the store. If a closed store has
-//!   the prerequisites of a received pack, it stays closed when the objects of the pack are added.
-//!   Otherwise two different texts have the same SHA-1 ([`laws`]).
+//! - For each id and type in the index of a [`Received`] pack, there is an object of this type
+//!   whose SHA-1 is the id. The parts of the object that contain links are well-formed. Each object
+//!   that it names is in the index, or is one of the prerequisites of the pack. In both cases the
+//!   named object has the expected type ([`Received::laws`]).
+//! - A store is closed if each object that its objects name is in the store, with the expected
+//!   type. Suppose a closed store has the prerequisites of a received pack. Then it stays closed
+//!   when the objects of the pack are added, or two different texts have the same SHA-1 ([`laws`]).
 //! - [`install_files`] installs a pack in a [`PackFolder`], and then its index. After `Ok` both
 //!   files exist, with the bytes that they were given. A file gets its final name only once both
 //!   files are written and synced. After a fault the folder has both files, only the pack, or
@@ -53,8 +53,8 @@
 //! No contract can describe the contents of a system file. So the proofs about received packs say
 //! nothing about the objects of the store, except that the store returned the types of all
 //! prerequisites. They also rely on the file system, which must return the pack as it was written.
-//! The id of an object is checked when [`open_repository`] or [`check_repository`] reads it, but not
-//! when the packer reads it.
+//! The id of an object is checked when [`open_repository`] or [`check_repository`] reads it, but
+//! not when the packer reads it.
 //!
 //! # Differences from Git
 //!
@@ -108,7 +108,10 @@
 //! - No contract says which repository formats are opened or refused. No contract covers the result
 //!   of [`is_bare`], or the names and ids of peeled refs in a new repository.
 //! - The indexer may leave out an entry, or return an entry for an object that the pack does not
-//!   have. The index of a received pack may leave out an object of the pack.
+//!   have. The index of a received pack may leave out an object of the pack. It may have an object
+//!   that the pack does not have, or state a wrong offset or CRC-32.
+//! - The prerequisites may include an object that no object of the pack names. No public contract
+//!   says that the store returned their types.
 //! - The store may return the type of an object that it does not have, or that is malformed.
 //! - The indexer compares objects that the store already has. No contract covers these comparisons,
 //!   or states when the indexer reads an object. The indexer can miss a loose object that is added

@@ -37,13 +37,13 @@ impl<F: ObjectFiles, A: Allocator + Copy> TypeStore<A> for ObjectReader<'_, F, A
     }
 }
 
-/// Checks that the index of a pack has only objects that were read, and that each named object is
-/// in the pack or in the store, with the expected type. Returns the prerequisites of the pack: the
-/// ids and types of the named objects that are only in the store.
+/// Checks that the index of a pack has exactly the objects that were read. Checks also that each
+/// named object is in the pack or in the store, with the expected type. Returns the prerequisites
+/// of the pack: the ids and types of the named objects that are only in the store.
 ///
-/// Fails with `Refused` if the index has an object that was not read. Otherwise fails with the
-/// fault of the first named object that is missing or has another type. Fails with `Memory` if out
-/// of memory.
+/// Fails with `Refused` if the index has other objects than those that were read. Otherwise fails
+/// with the fault of the first named object that is missing, cannot be read or has another type.
+/// Fails with `Memory` if out of memory.
 pub(crate) fn check_links<S: TypeStore<A>, A: Allocator + Copy>(
     alloc: A,
     store: &mut S,
@@ -72,7 +72,7 @@ fn sorted<A: Allocator + Copy>(objects: Vec<ReadObject, A>) -> Vec<ReadObject, A
     objects
 }
 
-// Returns whether each object of the index is the object at the same position of `objects`.
+// Returns whether both lists are equally long, and have the same ids and types at each position.
 fn were_read(objects: &[ReadObject], pack: &[IndexedEntry]) -> bool
     ensures { IsTrue result → (needs : Types) → AreReadObjects needs objects.now
         → All (IsReadEntry needs) pack.now }

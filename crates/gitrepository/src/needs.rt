@@ -92,8 +92,12 @@ impl<A: Allocator + Copy> Needs<A> {
         self.types.at(place)
     }
 
-    /// Records which objects the given object names. Fails with `TooLarge` if a commit, a tree or a
-    /// tag has too many bytes, and with `Parents` if a commit has too many parents.
+    /// Records which objects the given object names.
+    ///
+    /// Fails with `TooLarge` if a commit, a tree or a tag has too many bytes, or if the objects
+    /// name too many ids. Fails with `Parents` if a commit has too many parents, and with
+    /// `Malformed` if the object is malformed. Fails with `Type` if an id was recorded with another
+    /// type, or with `Memory` if out of memory. After a fault, some of the ids may be recorded.
     pub(crate) fn note_object(
         &mut self,
         alloc: A,
@@ -184,7 +188,8 @@ impl<A: Allocator + Copy> Needs<A> {
     }
 
     // Records the id and the expected type of a named object. Fails with `TooLarge` if the pack
-    // names too many objects.
+    // names too many objects, or with `Type` if the id was recorded with another type. Fails with
+    // `Memory` if out of memory.
     fn note(&mut self, link: &Link) -> Result<(), RepositoryFault<A>>
         ensures noted { OnOk result (IsNeeded self.new link.now) }
         ensures keeps { KeepsTypes self.old self.new }

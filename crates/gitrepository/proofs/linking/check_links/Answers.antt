@@ -13,5 +13,5 @@ pub returns-clause-linked : goal.returns-clause-linked
 returns-clause-linked g c =
     let needs = c.args.needs.now in let pack = c.args.pack.now in
     let read : All (IsReadEntry needs) pack =
-      c.if-not-were_read.ensures refl needs (subst (AreReadObjects needs) (sym c.as_slice.ensures.value) (c.sorted-objects.ensures needs c.requires)) in
+    c.if-not-were_read.ensures refl needs (subst (AreReadObjects needs) (sym c.as_slice.ensures.value) (c.sorted-objects.ensures needs c.requires)) in
     IfOk-weaker c.check_needs.result _ (λ links. AreLinked links.items pack) (λ links leads. all_linked links.items pack needs read leads) c.check_needs.ensures.leads

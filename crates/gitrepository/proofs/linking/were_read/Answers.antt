@@ -14,8 +14,8 @@ loop-place-preserved c needs all =
     let within : k < length objects = omega (arith, inside, c.if-objects-pack.false) in
     All-more (IsReadEntry needs) pack k entry inside (c.loop-place.invariant needs all)
     (subst (IsReadEntry needs) c.index-pack-place.is
-        (same_read needs object entry same.0 same.1
-            (subst (IsReadObject needs) (sym c.index-objects-place.is) (All-get_or (IsReadObject needs) objects k object within all))))
+    (same_read needs object entry same.0 same.1
+    (subst (IsReadObject needs) (sym c.index-objects-place.is) (All-get_or (IsReadObject needs) objects k object within all))))
 
 pub returns : goal.returns
 returns c is needs all =

@@ -14,9 +14,14 @@ loop-place-preserved g c =
     let more = length-filter_more is_commit_or_tag types k pair (slice_get_within types k pair c.at-kind.ensures.at) in
     let test = ap is_commit_or_tag at ∙ sym c.is_commit_or_tag.ensures in
     let old = c.loop-place.invariant in
+    let done = length (filter is_commit_or_tag (take k types)) in
     elim c.if-is_commit_or_tag.branch [
-      | then-is_commit_or_tag w ↦ (w.count-is ∙ ap (λ n. n + 1) old.0 ∙ sym (more ∙ ap (λ b. length (filter is_commit_or_tag (take k types)) + cond b 1 0) (test ∙ w.if-is_commit_or_tag.true)), let n = w.count-is in omega (arith, old.1))
-      | else-is_commit_or_tag w ↦ (w.count-is ∙ old.0 ∙ sym (more ∙ ap (λ b. length (filter is_commit_or_tag (take k types)) + cond b 1 0) (test ∙ w.if-is_commit_or_tag.false)), let n = w.count-is in omega (arith, old.1))
+      | then-is_commit_or_tag w ↦
+          let total = more ∙ ap (λ b. done + cond b 1 0) (test ∙ w.if-is_commit_or_tag.true) in let now = w.count-is in
+          (omega (arith, old.0, total, now), omega (arith, old.1, now))
+      | else-is_commit_or_tag w ↦
+          let total = more ∙ ap (λ b. done + cond b 1 0) (test ∙ w.if-is_commit_or_tag.false) in let now = w.count-is in
+          (omega (arith, old.0, total, now), omega (arith, old.1, now))
     ]
 
 pub returns : goal.returns

@@ -18,7 +18,8 @@ invariant_of-self-2 g c =
     let noted = c.in_default.ensures.noted in
     let name : IsNameOf c.args.id.now (object_of c.args.kind c.args.body.now) = record { name = sym c.requires; bytes = λ i. omega (arith, c.type_inv.body i); sized = omega arith } in
     let this : IsReadObject needs object =
-      record { body = c.args.body.now; name = name; links = noted.links; reads = noted.reads; each = noted.each } in
-    (c.self.invariant.0,
-    read_pushed needs inside.objects.items c.push.new.self.items object _ c.push.ensures.items
-    (read_more inside.needs needs c.note_object.ensures.keeps inside.objects.items c.self.invariant.1) this)
+    record { body = c.args.body.now; name = name; links = noted.links; reads = noted.reads; each = noted.each } in (
+      c.self.invariant.0,
+      read_pushed needs inside.objects.items c.push.new.self.items object _ c.push.ensures.items
+          (read_more inside.needs needs c.note_object.ensures.keeps inside.objects.items c.self.invariant.1) this,
+    )
