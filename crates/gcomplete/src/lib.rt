@@ -7,8 +7,9 @@
 //! - A [`ClosedStore`] receives a whole batch if each link of the batch leads to an object of the
 //!   batch or of the store. Otherwise the store stays unchanged, and the fault names the object,
 //!   its link and the cause.
-//! - The function [`judge`] reads everything that some ids reach from an [`ObjectSource`], such as
-//!   a Git directory, and returns a [`ClosedStore`] of these objects.
+//! - The function [`read_reachable`] reads everything that an id reaches from an [`ObjectSource`],
+//!   such as a Git directory, into a batch. The function [`judge`] does this for a list of ids, and
+//!   returns a [`ClosedStore`] of these objects.
 //! - A [`TypeMap`] maps ids to types.
 //!
 //! # Proved
@@ -60,11 +61,14 @@
 //!   the second object are not read.
 //! - No contract says that a store from [`judge`] has the objects that the source returned.
 //!   The contract says only that objects with these ids and types exist.
+//! - [`read_reachable`] may read nothing but the object with the given id. Then
+//!   [`ClosedStore::add_all`] and [`judge`] fail with `Missing`, although the source has every
+//!   object.
 //! - If several faults apply, no contract says which one [`Batch::add`] or [`ClosedStore::add_all`]
 //!   returns. No contract says that a fault or [`Batch::need`] names the first object or link.
 //! - No contract rules out that [`judge`] reads an object twice, or reads objects that the given
-//!   ids do not reach. It may fail with `TooMany` at any limit, and its fault may name an object
-//!   other than the one that was not read.
+//!   ids do not reach. The same holds for [`read_reachable`]. Both may fail with `TooMany` at any
+//!   limit, and a fault may name an object other than the one that was not read.
 //! - Any call that allocates may fail if out of memory, and no contract says when. No contract
 //!   covers time or memory use. A batch keeps each id that its objects name, and there may be many.
 //!
