@@ -27,8 +27,9 @@ pub record HasTwoTypes (objects : List IndexedEntry) : Type 0 where
   pub same : object_id object ≡ object_id other
   pub differ : object.kind ≢ other.kind
 
--- The links of the objects of a pack lead to objects of the pack or to prerequisites, which a closed store has. Then the
--- store stays closed if the objects of the pack are added, or two objects of the pack have one id and different types.
+-- The links of the objects of a pack lead to objects of the pack or to prerequisites, which a closed store has. Then
+-- the store stays closed if the objects of the pack are added. Otherwise two objects of the pack have the same id and
+-- different types.
 abbrev pub PacksKeepClosed : Type 0
 PacksKeepClosed =
     (prerequisites : List Link) (objects : List IndexedEntry) (s : Store) → IsNamed s → IsClosed s

@@ -12,8 +12,8 @@ pub record IsInPack (objects : List IndexedEntry) (link : Link) : Type 0 where
   pub id : object_id object ≡ link.id
   pub kind : object.kind ≡ link.kind
 
--- The link leads to an object of the pack, or to a prerequisite. A prerequisite is the id and the type of an object that
--- must be elsewhere.
+-- The link leads to an object of the pack, or to a prerequisite. A prerequisite is the id and the type of an object
+-- that must be elsewhere.
 abbrev pub Leads : List Link → List IndexedEntry → Link → Type 0
 Leads prerequisites objects link = IsInPack objects link ⊎ Contains prerequisites link
 
