@@ -518,6 +518,7 @@ def damaged(folder, ours):
         check(f"a {kind} is missing: no clone", done.status == 128 or kind == "tag", done)
         done = gitrepo("check", path)
         check(f"a {kind} is missing: gitrepo check names it", done.status == 1 and id in done.told, done)
+        check(f"a {kind} is missing: gitrepo check says what names it", (" names it)" in done.told) == (kind != "tag"), done)
     path = add_history(new_repository(f"{folder}/served/changed.git"), 80, 63)
     change_an_entry(path, git(path, "rev-parse", f"{BRANCH}^{{tree}}"))
     done = attempt("git", "clone", "--quiet", "--mirror", ours.url("changed.git"), f"{folder}/changed.git")
