@@ -1,5 +1,7 @@
 //! Standard output.
 
+ghost use Rattle.std.specs.Prelude.{◌≤◌, IfOk, length};
+
 use crate::fault::Fault;
 use crate::sentences::Sentence;
 use gitwords::{Shown, clean_byte};
@@ -41,7 +43,9 @@ impl<W: Write> Output<W> {
     }
 
     // Writes the front of the bytes.
-    fn write_front(&mut self, buf: &[u8]) -> io::Result<usize> {
+    fn write_front(&mut self, buf: &[u8]) -> io::Result<usize>
+        ensures { IfOk result (λ count. count ≤ length buf.now) }
+    {
         if !self.is_terminal {
             return self.writer.write(buf);
         }
