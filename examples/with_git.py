@@ -504,7 +504,7 @@ def unreachable_trees(folder):
     git(copy, "mktree", "--missing", data=line.encode())
     with GitDaemon(f"{folder}/unreachable", before=["-c", f"uploadpack.packObjectsHook={hook}"]) as server:
         refuses("a pack names an incomplete tree", gitrepo("fetch", copy, server.url("source.git"), HEADS), blob)
-    check("a pack names an incomplete tree: no ref moves", refs(copy) == {}, refs(copy))
+    check("a pack names an incomplete tree: no ref moves", refs(copy) == "", refs(copy))
     check("a pack names an incomplete tree: nothing left behind", not left_behind(copy), left_behind(copy))
 
 
