@@ -518,6 +518,7 @@ def damaged(folder, ours):
         check(f"a {kind} is missing: no clone", done.status == 128 or kind == "tag", done)
         done = gitrepo("check", path)
         check(f"a {kind} is missing: gitrepo check names it", done.status == 1 and id in done.told, done)
+        check(f"a {kind} is missing: gitrepo check says what names it", (" names it)" in done.told) == (kind != "tag"), done)
     path = add_history(new_repository(f"{folder}/served/changed.git"), 80, 63)
     change_an_entry(path, git(path, "rev-parse", f"{BRANCH}^{{tree}}"))
     done = attempt("git", "clone", "--quiet", "--mirror", ours.url("changed.git"), f"{folder}/changed.git")
@@ -631,6 +632,24 @@ def words(folder, theirs):
     check("no progress where standard error is no terminal", done and done.told == "", done)
 
 
+def standard_streams(folder, ours):
+    """A full disk under standard output is named. A closed standard stream leaves no room for the connection."""
+    url, before = ours.url("one-pack.git"), len(ours.log())
+    with open("/dev/full", "w") as full:
+        for what in (["--version"], ["ls", url]):
+            done = subprocess.run([PROGRAM, *what], env=ENV, stdout=full, stderr=subprocess.PIPE, text=True, timeout=60)
+            says = is_sentence(done.stderr) and "standard output: no storage space" in done.stderr
+            check(f"gitrepo {what[0]} on a full disk: refused in a sentence", done.returncode == 1 and says, done)
+    for closed in (0, 1, 2):
+        copy = f"{folder}/closed-{closed}"
+        words = [PROGRAM, "clone", "--progress", url, copy]
+        done = subprocess.run(words, env=ENV, stderr=subprocess.DEVNULL, preexec_fn=lambda: os.close(closed), timeout=60)
+        check(f"a clone without standard stream {closed}", done.returncode == 0 and not faults_of(copy), done)
+    time.sleep(0.5)
+    lines = ours.log()[before:]
+    check("no progress goes into a connection", len(lines) == 7 and not [it for it in lines if "refused" in it], lines)
+
+
 def status_of(process):
     """The status with which a process ends in time, or nothing."""
     try:
@@ -687,6 +706,7 @@ def try_all(folder):
         many_tips(folder, ours, theirs)
         many_commits(folder, ours, theirs)
         large_pack(folder, ours, theirs)
+        standard_streams(folder, ours)
         check("no connection so far had a fault", not [it for it in ours.log() if "cannot" in it or "fault" in it], ours.log())
         broken_refs(folder, ours)
         damaged(folder, ours)

@@ -7,7 +7,7 @@ ghost use Rattle.gitprogram.specs.declared.cloning.ServerHead.TheVariants.{Branc
 
 use crate::directory::{Directories, open_fault};
 use crate::fault::Fault;
-use crate::fetching::{Fetch, Wanted, progress_of, receive};
+use crate::fetching::{Fetch, StoredFetch, Wanted, progress_of, receive};
 use crate::opening::repository_fault;
 use crate::progress::Progress;
 use crate::remote::{Remote, tips_of};
@@ -306,7 +306,7 @@ fn keep<'r, R: Files>(
     alloc: Global,
     found: &Directories,
     new: NewRepository<'r, R, Global>,
-    fetch: Fetch<'r, R>,
+    fetch: StoredFetch<'r, R>,
 ) -> Result<(), Fault> {
     let Fetch {
         client,

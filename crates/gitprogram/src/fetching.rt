@@ -79,16 +79,20 @@ type StoredIndexer<'t, 'f, 'r, R> = StoreIndexer<
 /// A pack that a Git directory on disk received.
 pub(crate) type StoredReceived<'r, R> = Received<StoredSpool<'r, R, Global>, Global>;
 
-/// A completed transfer, before the pack is installed and the refs are updated.
+/// A completed transfer, before the pack is installed and the refs are updated. `P` is the type of
+/// a received pack.
 #[derive(Drop)]
-pub(crate) struct Fetch<'r, R: Files> {
+pub(crate) struct Fetch<P: Drop> {
     /// The client's repository after the transfer, and its earlier refs.
     pub(crate) client: Client,
     /// The report of the fetch.
     pub(crate) fetched: Fetched<Global>,
     /// The received pack, or `None` if no pack was received.
-    pub(crate) received: Option<StoredReceived<'r, R>>,
+    pub(crate) received: Option<P>,
 }
+
+/// A completed transfer into a Git directory on disk.
+pub(crate) type StoredFetch<'r, R> = Fetch<StoredReceived<'r, R>>;
 
 // Whether to print the report, and whether standard output is a terminal.
 #[derive(Clone, Copy)]
@@ -207,7 +211,7 @@ fn conclude<'r, R>(
     rt: &'r R,
     found: &Directories,
     report: Report,
-    outcome: Result<Fetch<'r, R>, Fault>,
+    outcome: Result<StoredFetch<'r, R>, Fault>,
 ) -> Result<(), Fault>
 where
     R: Files + Print + AllocGlobal,
@@ -415,11 +419,14 @@ fn print_report<R: Print + AllocGlobal>(
         return Ok(());
     }
     let mut stdout = Output::new(io::writer(rt), is_terminal);
-    let mut output = ToWrite::new(&mut stdout);
-    match send_report(rt.alloc(), fetched, &mut output) {
+    let sent = {
+        let mut output = ToWrite::new(&mut stdout);
+        send_report(rt.alloc(), fetched, &mut output)
+    };
+    match sent {
         Ok(()) => Ok(()),
         Err(ProgramFault::Memory) => Err(Fault::Memory),
-        Err(_) => Err(Fault::of(rt.alloc(), Sentence::NoOutput)),
+        Err(_) => Err(stdout.take_fault(rt.alloc())),
     }
 }
 
@@ -430,7 +437,7 @@ pub(crate) fn receive<'r, R, E>(
     found: &'r Directories,
     wanted: Wanted<'_>,
     progress: &mut Progress<'_, E>,
-) -> Result<Fetch<'r, R>, Fault>
+) -> Result<StoredFetch<'r, R>, Fault>
 where
     R: Files + AllocGlobal + Net,
     E: Write,
@@ -454,7 +461,7 @@ fn receive_with<'r, R, E>(
     indexer: &StoredIndexer<'_, '_, 'r, R>,
     wanted: Wanted<'_>,
     progress: &mut Progress<'_, E>,
-) -> Result<Fetch<'r, R>, Fault>
+) -> Result<StoredFetch<'r, R>, Fault>
 where
     R: Files + AllocGlobal + Net,
     E: Write,
@@ -494,7 +501,7 @@ fn receive_into<'r, R, E>(
     indexer: &StoredIndexer<'_, '_, 'r, R>,
     wanted: Wanted<'_>,
     progress: &mut Progress<'_, E>,
-) -> Result<Fetch<'r, R>, Fault>
+) -> Result<StoredFetch<'r, R>, Fault>
 where
     R: Files + AllocGlobal + Net,
     E: Write,

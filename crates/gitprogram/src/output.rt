@@ -1,8 +1,11 @@
 //! Standard output.
 
+ghost use Rattle.std.specs.Prelude.{◌≤◌, IfOk, length};
+
 use crate::fault::Fault;
 use crate::sentences::Sentence;
 use gitwords::{Shown, clean_byte};
+use std::alloc::Global;
 use std::io;
 use std::io::Write;
 
@@ -14,6 +17,8 @@ const PIECE: usize = 512;
 pub(crate) struct Output<W> {
     writer: W,
     is_terminal: bool,
+    // The error of the last failed write.
+    error: Option<io::Error>,
 }
 
 impl<W: Write> Output<W> {
@@ -22,12 +27,25 @@ impl<W: Write> Output<W> {
         Output {
             writer,
             is_terminal,
+            error: None,
         }
     }
-}
 
-impl<W: Write> Write for Output<W> {
-    fn write(&mut self, buf: &[u8]) -> io::Result<usize> {
+    /// Returns the fault for a failed write. The cause is the error of the last one.
+    pub(crate) fn take_fault(&mut self, alloc: Global) -> Fault {
+        let error = self.error.take();
+        Fault::of(
+            alloc,
+            Sentence::Output {
+                error: error.as_ref(),
+            },
+        )
+    }
+
+    // Writes the front of the bytes.
+    fn write_front(&mut self, buf: &[u8]) -> io::Result<usize>
+        ensures { IfOk result (λ count. count ≤ length buf.now) }
+    {
         if !self.is_terminal {
             return self.writer.write(buf);
         }
@@ -37,6 +55,19 @@ impl<W: Write> Write for Output<W> {
         }
         let count = buf.len().min(PIECE);
         self.writer.write(&piece[..count])
+    }
+}
+
+impl<W: Write> Write for Output<W> {
+    fn write(&mut self, buf: &[u8]) -> io::Result<usize> {
+        match self.write_front(buf) {
+            Ok(count) => Ok(count),
+            Err(error) => {
+                let kind = error.kind();
+                self.error = Some(error);
+                Err(io::Error::from(kind))
+            }
+        }
     }
 
     fn flush(&mut self) -> io::Result<()> {
@@ -56,8 +87,9 @@ pub(crate) fn print_peer<R: Print + AllocGlobal>(
     is_terminal: bool,
     text: &[u8],
 ) -> Result<(), Fault> {
-    match Output::new(io::writer(rt), is_terminal).write_all(text) {
+    let mut output = Output::new(io::writer(rt), is_terminal);
+    match output.write_all(text) {
         Ok(()) => Ok(()),
-        Err(_) => Err(Fault::of(rt.alloc(), Sentence::NoOutput)),
+        Err(_) => Err(output.take_fault(rt.alloc())),
     }
 }

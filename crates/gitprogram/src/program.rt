@@ -7,20 +7,25 @@ use crate::cloning::clone_remote;
 use crate::fault::Fault;
 use crate::fetching::fetch_remote;
 use crate::listing::list_refs;
+use crate::output::print;
 use crate::sentences::Sentence;
 use crate::serving::serve;
 use crate::uploading::upload_pack;
 use gitwords::{Answer, GitrepoCommand, Stream, read_words};
+use std::env;
+use std::fs::File;
 use std::io::{ErrorKind, IsTerminal, Write};
 use std::net::Net;
 use std::rt::{Clock, Env, Files};
-use std::{env, io};
 
 // The exit status for a failed command.
 const FAILED: u8 = 1;
 
 // The exit status for wrong arguments.
 const WRONG_USAGE: u8 = 2;
+
+// The path of the null device.
+const NULL_DEVICE: &str = "/dev/null";
 
 /// Runs `gitrepo` with the arguments, files, standard streams and sockets of the runtime. Error
 /// messages, progress and the connection log are written to `stderr`. If `is_terminal` is set,
@@ -33,6 +38,11 @@ where
     R: Env + Files + Input + Print + AllocGlobal + Clock + Net,
     W: Write + IsTerminal,
 {
+    // A closed standard stream leaves its descriptor free. Without these files, the next file or
+    // socket would get the descriptor, and messages would be written into it.
+    let _input = File::open(rt, NULL_DEVICE);
+    let _output = File::open(rt, NULL_DEVICE);
+    let _errors = File::open(rt, NULL_DEVICE);
     let words = match arguments(rt) {
         Ok(words) => words,
         Err(kind) => return refuse_arguments(rt, kind, stderr),
@@ -64,15 +74,15 @@ fn refuse_arguments<R: AllocGlobal, W: Write>(rt: &R, kind: ErrorKind, errors: &
 
 // Prints the answer to arguments that select no command: help, the version, or the usage after a
 // mistake. Returns the exit status.
-fn print_answer<R: Print, W: Write>(rt: &R, answer: &Answer, errors: &mut W) -> u8 {
+fn print_answer<R: Print + AllocGlobal, W: Write>(rt: &R, answer: &Answer, errors: &mut W) -> u8 {
     if let Answer::Memory = answer {
         return finish(Err(Fault::Memory), errors);
     }
     let text = answer.text().as_bytes();
     match answer.stream() {
         Stream::Output => {
-            if io::writer(rt).write_all(text).is_err() {
-                return FAILED;
+            if let Err(fault) = print(rt, text) {
+                return finish(Err(fault), errors);
             }
         }
         Stream::Error => {

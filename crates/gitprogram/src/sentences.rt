@@ -126,7 +126,9 @@ pub(crate) enum Sentence<'a> {
     /// The client of `upload-pack` did not request version 2.
     NoVersion2,
     /// Writing to standard output failed.
-    NoOutput,
+    Output {
+        error: Option<&'a io::Error>,
+    },
 }
 
 impl fmt::Display for Sentence<'_> {
@@ -197,7 +199,10 @@ impl fmt::Display for Sentence<'_> {
                 "GIT_PROTOCOL does not ask for version 2: use git -c protocol.version=2, \
                 and let sshd accept GIT_PROTOCOL",
             ),
-            Sentence::NoOutput => f.write_str("cannot write to standard output"),
+            Sentence::Output { error: Some(error) } => {
+                write_refused("write to ", "standard output", error, f)
+            }
+            Sentence::Output { error: None } => f.write_str("cannot write to standard output"),
         }
     }
 }

@@ -4,3 +4,6 @@ pub mod HistoryLemmas
 pub mod PutLemmas
 pub mod RefLemmas
 pub mod PartLemmas
+pub mod LinkLemmas
+pub mod LawLemmas
+pub mod CheckLemmas

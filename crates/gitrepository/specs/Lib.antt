@@ -4,3 +4,7 @@ pub mod Repositories
 pub mod Installing
 pub mod MemoryFolders
 pub mod Parts
+pub mod Received
+pub mod Checking
+pub mod steps
+pub mod Laws

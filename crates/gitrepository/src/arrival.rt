@@ -5,44 +5,21 @@ ghost use Rattle.gdag.specs.Graphs.{Holds};
 ghost use Rattle.gitobject.specs.Naming.{id_of};
 ghost use Rattle.gitobject.specs.declared.types.ObjectType.TheVariants as types;
 ghost use Rattle.gitrepository.specs.Entries.{IsRead};
+ghost use Rattle.gitrepository.specs.Received.{AreLinked};
 ghost use Rattle.gobject.specs.declared.node.Entry.{Entry};
 
 use crate::fault::{ObjectCause, RepositoryFault};
+use crate::linking::{TypeStore, check_links};
+use crate::needs::{Needs, ReadObject};
 use crate::nodes::{entry_of, leaf};
 use crate::tips::Tips;
-use ggraph::{Entry, IdHasher, MAX_PARENTS};
-use gitobject::{Link, ObjectType, links_of, split_entry, tag_link};
+use ggraph::Entry;
+use gitobject::{Link, ObjectType, tag_link};
 use gitobjects::{Found, LooseFolders, ObjectFiles, ObjectReader, ObjectStore, StoreFault};
 use gitpack::{IndexedPack, ObjectVisitor, PackFileFault};
 use gname::Oid;
-use indexmap::IndexMap;
 use std::alloc::Allocator;
-use std::hash::BuildHasherDefault;
 use std::marker::Model;
-
-// The maximum memory for the commits and tags of a pack, and for all ids that its objects name: 112
-// MiB. Without this limit, a small pack of deltas could use up all memory.
-const MAX_KEPT: usize = 117_440_512;
-
-// The number of bytes of memory that are counted for each named id. Spare table slots and allocator
-// overhead are included.
-const NEED_BYTES: usize = 56;
-
-// The number of bytes of memory that are counted for each commit or tag.
-const ENTRY_BYTES: usize = 96;
-
-// The number of bytes of memory that are counted for each parent.
-const PARENT_BYTES: usize = 34;
-
-// The length of the tree line of a commit.
-const TREE_LINE: usize = 46;
-
-// The length of a parent line of a commit.
-const PARENT_LINE: usize = 48;
-
-// The maximum size of a commit, a tree or a tag: 64 MiB. A tree of this size has about two
-// million entries.
-const MAX_NON_BLOB: usize = 67_108_864;
 
 /// The objects read so far from an incoming pack, and the objects that they name. Contracts treat
 /// an `Arrival` as the list of its graph entries.
@@ -50,10 +27,10 @@ const MAX_NON_BLOB: usize = 67_108_864;
 pub(crate) struct Arrival<A: Allocator + Copy> {
     alloc: A,
     entries: Vec<Entry<A>, A>,
-    // The expected type of each named object, by id.
-    needs: IndexMap<Oid, ObjectType, IdHasher, A>,
-    // The number of bytes of `MAX_KEPT` that are still unused.
-    room: usize,
+    // All objects read so far.
+    objects: Vec<ReadObject, A>,
+    // The ids that these objects name.
+    needs: Needs<A>,
     folders: LooseFolders,
     fault: Option<RepositoryFault<A>>,
 }
@@ -74,12 +51,14 @@ impl<A: Allocator + Copy> Model for Arrival<A> {
     ghost use Rattle.std.specs.Prelude.{All, List};
     ghost use Rattle.gobject.specs.declared.node.Entry.{Entry};
     ghost use Rattle.gitrepository.specs.Entries.{IsRead};
+    ghost use Rattle.gitrepository.specs.steps.Arriving.{AreReadObjects};
 
     ghost Value = { List (Entry A) };
 
     ghost view = { λ a. a.entries.items };
 
-    ghost invariant = { λ a. All (IsRead a.entries.items) a.entries.items };
+    ghost invariant = { λ a. All (IsRead a.entries.items) a.entries.items
+        × AreReadObjects a.needs a.objects.items };
 }
 
 impl<A: Allocator + Copy> Arrival<A> {
@@ -88,8 +67,8 @@ impl<A: Allocator + Copy> Arrival<A> {
         Arrival {
             alloc,
             entries: Vec::new(alloc),
-            needs: IndexMap::with_hasher(alloc, BuildHasherDefault::new()),
-            room: MAX_KEPT,
+            objects: Vec::new(alloc),
+            needs: Needs::new(alloc),
             folders: LooseFolders::new(),
             fault: None,
         }
@@ -106,26 +85,27 @@ impl<A: Allocator + Copy> Arrival<A> {
     }
 
     /// Checks that each object named by an object of the pack is in the pack or in the store, with
-    /// the expected type. Returns the graph entries of the pack.
-    pub(crate) fn into_entries<F: ObjectFiles>(
+    /// the expected type. Returns the graph entries and the prerequisites of the pack.
+    pub(crate) fn into_parts<S: TypeStore<A>>(
         self,
-        reader: &mut ObjectReader<'_, F, A>,
+        store: &mut S,
         pack: &IndexedPack<A>,
-    ) -> Result<Vec<Entry<A>, A>, RepositoryFault<A>>
-        ensures { IfOk result (λ entries. All (IsRead entries.items) entries.items) }
+    ) -> Result<(Vec<Entry<A>, A>, Vec<Link, A>), RepositoryFault<A>>
+        ensures entries { IfOk result (λ it. All (IsRead it.0.items) it.0.items) }
+        ensures linked { IfOk result (λ it. AreLinked it.1.items pack.now.entries) }
+        ensures stored { IfOk result (λ it. All S.has it.1.items) }
     {
-        let Arrival { entries, needs, .. } = self;
-        for (id, kind) in &needs {
-            check_need(
-                reader,
-                pack,
-                Link {
-                    id: *id,
-                    kind: *kind,
-                },
-            )?;
+        let Arrival {
+            alloc,
+            entries,
+            objects,
+            needs,
+            ..
+        } = self;
+        match check_links(alloc, store, pack.entries(), objects, &needs) {
+            Ok(prerequisites) => Ok((entries, prerequisites)),
+            Err(fault) => Err(fault),
         }
-        Ok(entries)
     }
 
     // Returns the location of an object in the store, or `None` if the store lacks the object.
@@ -147,7 +127,7 @@ impl<A: Allocator + Copy> Arrival<A> {
     ) -> Result<(), RepositoryFault<A>>
         requires { id_of kind body.now ≡ id.now }
     {
-        self.need_links(id, kind, body)?;
+        self.note_object(id, kind, body)?;
         match kind {
             ObjectType::Commit => self.push_object(id, kind, body),
             ObjectType::Tag => self.record_tag(id, body),
@@ -169,88 +149,22 @@ impl<A: Allocator + Copy> Arrival<A> {
         }
     }
 
-    // Records which objects the given object names. Fails with `TooLarge` if a commit, a tree or a
-    // tag has too many bytes, and with `Parents` if a commit has too many parents.
-    fn need_links(
+    // Records the id and the type of an object, and the ids that the object names.
+    fn note_object(
         &mut self,
         id: &Oid,
         kind: ObjectType,
         body: &[u8],
-    ) -> Result<(), RepositoryFault<A>> {
-        if kind != ObjectType::Blob && body.len() > MAX_NON_BLOB {
-            return Err(RepositoryFault::Pack(PackFileFault::TooLarge));
+    ) -> Result<(), RepositoryFault<A>>
+        requires { id_of kind body.now ≡ id.now }
+        ensures { self.new ≡ self.old }
+    {
+        if let Err(fault) = self.needs.note_object(self.alloc, id, kind, body) {
+            return Err(fault);
         }
-        match kind {
-            ObjectType::Blob => Ok(()),
-            ObjectType::Tree => self.need_entries(id, body),
-            ObjectType::Commit if has_too_many_parents(body) => {
-                Err(RepositoryFault::object_fault(id, ObjectCause::Parents))
-            }
-            ObjectType::Commit | ObjectType::Tag => self.need_all(id, kind, body),
-        }
-    }
-
-    // Records which objects a commit or tag names, and subtracts the memory for the commit or tag
-    // from `room`.
-    fn need_all(
-        &mut self,
-        id: &Oid,
-        kind: ObjectType,
-        body: &[u8],
-    ) -> Result<(), RepositoryFault<A>> {
-        let links = match links_of(self.alloc, kind, body) {
-            Ok(links) => links,
-            Err(fault) => return Err(RepositoryFault::of_object(id, fault)),
-        };
-        self.take_room(bytes_of(kind, links.len()))?;
-        for link in &links {
-            self.need(*link)?;
-        }
-        Ok(())
-    }
-
-    // Records which objects a tree names, one by one. A list of the named objects would need more
-    // memory than the tree.
-    fn need_entries(&mut self, id: &Oid, body: &[u8]) -> Result<(), RepositoryFault<A>> {
-        let mut rest = body;
-        for _entry in 0..body.len() {
-            if rest.is_empty() {
-                break;
-            }
-            let Some((entry, after)) = split_entry(rest) else {
-                return Err(RepositoryFault::object_fault(id, ObjectCause::Malformed));
-            };
-            if let Some(link) = entry.link() {
-                self.need(link)?;
-            }
-            rest = after;
-        }
-        Ok(())
-    }
-
-    // Records the id and the expected type of a named object. Fails with `TooLarge` if the pack
-    // names too many objects.
-    fn need(&mut self, link: Link) -> Result<(), RepositoryFault<A>> {
-        match self.needs.get(&link.id).copied() {
-            Some(kind) if kind == link.kind => Ok(()),
-            Some(_) => Err(RepositoryFault::object_fault(&link.id, ObjectCause::Type)),
-            None => {
-                self.take_room(NEED_BYTES)?;
-                self.needs.insert(link.id, link.kind)?;
-                Ok(())
-            }
-        }
-    }
-
-    // Subtracts `bytes` from `room`, the memory that remains. Fails with `TooLarge` if `room` is
-    // less than `bytes`.
-    fn take_room(&mut self, bytes: usize) -> Result<(), RepositoryFault<A>> {
-        match self.room.checked_sub(bytes) {
-            Some(room) => {
-                self.room = room;
-                Ok(())
-            }
-            None => Err(RepositoryFault::Pack(PackFileFault::TooLarge)),
+        match self.objects.push(ReadObject { id: *id, kind }) {
+            Ok(()) => Ok(()),
+            Err(_) => Err(RepositoryFault::Memory),
         }
     }
 
@@ -282,32 +196,6 @@ impl<A: Allocator + Copy> Arrival<A> {
     }
 }
 
-// Returns the number of bytes of memory to count for a commit or tag that names `links` objects. A
-// tag may need a second entry, for a tree or blob that it names. The first object that a commit
-// names is its tree, which is not a parent.
-fn bytes_of(kind: ObjectType, links: usize) -> usize {
-    let (entries, parents) = match kind {
-        ObjectType::Tag => (2 * ENTRY_BYTES, links),
-        _ => (ENTRY_BYTES, links.saturating_sub(1)),
-    };
-    PARENT_BYTES.saturating_mul(parents).saturating_add(entries)
-}
-
-// Returns whether a commit has more parent lines than a graph allows. Lines of the commit message
-// do not count.
-fn has_too_many_parents(commit: &[u8]) -> bool {
-    (0..MAX_PARENTS.saturating_add(1)).all(|number| is_parent_line(commit, number))
-}
-
-// Returns whether line `number` after the tree line names a parent.
-fn is_parent_line(commit: &[u8], number: usize) -> bool {
-    let start = number.saturating_mul(PARENT_LINE).saturating_add(TREE_LINE);
-    match commit.get(start..) {
-        Some(rest) => rest.starts_with(b"parent "),
-        None => false,
-    }
-}
-
 // Returns the graph entry for the tree or blob that a tag names, or `None` if the tag names a
 // commit or a tag.
 fn named_leaf<A: Allocator + Copy>(alloc: A, tag: &[u8]) -> Option<Entry<A>>
@@ -325,23 +213,6 @@ fn named_leaf<A: Allocator + Copy>(alloc: A, tag: &[u8]) -> Option<Entry<A>>
             node: leaf(alloc),
         }),
         ObjectType::Commit | ObjectType::Tag => None,
-    }
-}
-
-// Checks that a named object is in the pack or in the store, with the expected type.
-fn check_need<F: ObjectFiles, A: Allocator + Copy>(
-    reader: &mut ObjectReader<'_, F, A>,
-    pack: &IndexedPack<A>,
-    need: Link,
-) -> Result<(), RepositoryFault<A>> {
-    let kind = match pack.find(&need.id) {
-        Some(entry) => entry.kind,
-        None => reader.kind_of(&need.id)?,
-    };
-    if kind == need.kind {
-        Ok(())
-    } else {
-        Err(RepositoryFault::object_fault(&need.id, ObjectCause::Type))
     }
 }
 

@@ -1,42 +1,57 @@
 //! Checking the connectivity of a repository: whether every object that its refs reach exists.
 
-ghost use Rattle.std.specs.Prelude.{◌≡◌, [], IfOk, length};
-ghost use Rattle.gdag.specs.Graphs as graphs;
-ghost use Rattle.gitrepository.specs.Repositories.{IsHistory};
+ghost use Rattle.std.specs.Prelude.{◌≡◌, All, IfOk, OnOk};
+ghost use Rattle.gcomplete.specs.Batches.{KeepsTypes};
+ghost use Rattle.gcomplete.specs.Judging.{IsKept};
+ghost use Rattle.gitrepository.specs.Checking.{AreRefsKept, IsChecked, IsHeadKept};
 
-use crate::fault::{CheckFault, RepositoryFault};
-use crate::gather::Gathering;
-use crate::history::History;
+use crate::fault::{CheckFault, ObjectCause, RepositoryFault};
+use gcomplete::{Batch, BatchFault, ClosedStore, JudgeFault, ObjectSource, read_reachable};
 use ggraph::{Head, Refs};
-use gitcommitgraph::CommitGraph;
+use gitobject::ObjectType;
 use gitobjects::{ObjectFiles, ObjectReader};
 use gitrefs::GitDirectory;
-use gname::Oid;
+use gname::{Oid, RefName};
 use std::alloc::Allocator;
 use std::fs::Files;
+
+// The maximum number of ids that the objects may name. Memory ends sooner.
+const MAX_NAMED: usize = 4_294_967_295;
 
 /// The numbers of refs and objects in a checked repository.
 #[derive(Clone, Copy, Debug, PartialEq, Eq, Drop)]
 pub struct Checked {
     /// The number of refs below `refs/`.
     pub refs: usize,
-    /// The number of commits and tags that the refs and HEAD reach, plus the trees and blobs that
-    /// refs, HEAD and tags point to.
+    /// The number of commits and tags that the refs and HEAD reach.
     pub nodes: usize,
     /// The number of all objects that the refs and HEAD reach.
-    pub objects: u32,
+    pub objects: usize,
+}
+
+// The objects that a reader reads.
+#[derive(Drop)]
+struct Source<'r, 'f, F: ObjectFiles, A: Allocator + Copy> {
+    reader: &'r mut ObjectReader<'f, F, A>,
+}
+
+impl<'r, 'f, F: ObjectFiles, A: Allocator + Copy> Source<'r, 'f, F, A> {
+    fn new(reader: &'r mut ObjectReader<'f, F, A>) -> Source<'r, 'f, F, A> {
+        Source { reader }
+    }
 }
 
 /// Checks that the refs and HEAD of a Git directory reach no missing object. The id of each object
-/// is recomputed. A malformed ref file makes the check fail. The commit-graph is not used.
+/// is recomputed, and the type of each named object is checked. A malformed ref file makes the
+/// check fail. The commit-graph is not used.
 ///
 /// The reader must read the objects of the same directory. The reader can be used again after any
 /// fault.
 ///
 /// Fails with `Ref` at the first malformed ref file, or at the first missing or malformed object.
 /// The fault names the ref, and the file or object. Refs are checked in the order of their names.
-/// Fails with `Repository` if the refs cannot be read. Fails with `Repository` or `Ref` if there
-/// are too many commits and tags, or if out of memory.
+/// Fails with `Repository` if the refs cannot be read. Fails with `Repository` or `Ref` if out of
+/// memory.
 pub fn check_repository<R: Files, F: ObjectFiles, A: Allocator + Copy>(
     directory: &GitDirectory<'_, R, A>,
     reader: &mut ObjectReader<'_, F, A>,
@@ -61,60 +76,93 @@ pub fn check_refs<F: ObjectFiles, A: Allocator + Copy>(
     refs: &Refs<A>,
     head: &Head<A>,
 ) -> Result<Checked, CheckFault<A>>
-    ensures { IfOk result (λ checked. (graph : graphs.History A) × IsHistory [] graph
-        × (checked.refs ≡ length refs.now) × (checked.nodes ≡ length graph.entries)) }
+    ensures { IfOk result (IsChecked refs.now head.now) }
 {
     let alloc = reader.store().allocator();
-    let none = CommitGraph::new(alloc);
-    let mut history = History::new(alloc, &none);
-    let mut gathering = Gathering::new(reader, true);
-    for pair in refs.as_slice() {
-        if let Err(fault) = check_ref(&mut history, &mut gathering, &pair.1) {
-            return Err(CheckFault::of_ref(alloc, &pair.0, fault));
-        }
-    }
-    if let Err(fault) = check_head(&mut history, &mut gathering, head) {
-        return Err(CheckFault::of_head(alloc, fault));
-    }
-    let objects = gathering.sent_count();
-    match history.into_graph() {
-        Ok(graph) => Ok(Checked {
+    let mut source = Source::new(reader);
+    let mut batch = Batch::new(alloc);
+    read_refs(alloc, &mut source, &mut batch, refs.as_slice())?;
+    read_head(alloc, &mut source, &mut batch, head)?;
+    let mut store = ClosedStore::new(alloc);
+    match store.add_all(batch) {
+        Ok(()) => Ok(Checked {
             refs: refs.len(),
-            nodes: graph.len(),
-            objects,
+            nodes: store.commits_and_tags(),
+            objects: store.len(),
         }),
-        Err(fault) => Err(CheckFault::Repository(fault)),
+        Err(fault) => Err(CheckFault::Repository(of_batch(&fault))),
     }
 }
 
-// Checks the objects that a detached HEAD reaches, except objects that `history` already has.
-fn check_head<F: ObjectFiles, A: Allocator + Copy>(
-    history: &mut History<'_, A>,
-    gathering: &mut Gathering<'_, '_, F, A>,
+// Reads everything that the refs reach.
+fn read_refs<F: ObjectFiles, A: Allocator + Copy>(
+    alloc: A,
+    source: &mut Source<'_, '_, F, A>,
+    batch: &mut Batch<A>,
+    refs: &[(RefName<A>, Oid)],
+) -> Result<(), CheckFault<A>>
+    ensures { OnOk result (AreRefsKept batch.new.types refs.now) }
+{
+    for pair in refs {
+        if let Err(fault) = read_reachable(source, batch, &pair.1, MAX_NAMED) {
+            return Err(CheckFault::of_ref(alloc, &pair.0, of_judge(fault)));
+        }
+    }
+    Ok(())
+}
+
+// Reads everything that a detached HEAD reaches.
+fn read_head<F: ObjectFiles, A: Allocator + Copy>(
+    alloc: A,
+    source: &mut Source<'_, '_, F, A>,
+    batch: &mut Batch<A>,
     head: &Head<A>,
-) -> Result<(), RepositoryFault<A>>
-    ensures { history.new.commits ≡ history.old.commits }
+) -> Result<(), CheckFault<A>>
+    ensures kept { OnOk result (IsHeadKept batch.new.types head.now) }
+    ensures keeps { OnOk result (KeepsTypes batch.old.types batch.new.types) }
 {
     match head {
-        Head::Id(id) => check_ref(history, gathering, id),
+        Head::Id(id) => match read_reachable(source, batch, id, MAX_NAMED) {
+            Ok(()) => Ok(()),
+            Err(fault) => Err(CheckFault::of_head(alloc, of_judge(fault))),
+        },
         Head::None | Head::Symref(_) => Ok(()),
     }
 }
 
-// Checks the objects that this id reaches, except objects that `history` already has.
-fn check_ref<F: ObjectFiles, A: Allocator + Copy>(
-    history: &mut History<'_, A>,
-    gathering: &mut Gathering<'_, '_, F, A>,
-    id: &Oid,
-) -> Result<(), RepositoryFault<A>>
-    ensures { history.new.commits ≡ history.old.commits }
-{
-    let first = history.len();
-    history.add(&mut *gathering.reader, id)?;
-    for place in first..history.len() {
-        if let Some(id) = history.id_at(place) {
-            gathering.send(&id)?;
+impl<F: ObjectFiles, A: Allocator + Copy> ObjectSource<A> for Source<'_, '_, F, A> {
+    type Fault = RepositoryFault<A>;
+
+    fn read_object(&mut self, id: &Oid) -> Result<(ObjectType, Vec<u8, A>), RepositoryFault<A>> {
+        match self.reader.read_checked(id) {
+            Ok(object) => Ok((object.kind, object.body)),
+            Err(fault) => Err(RepositoryFault::from(fault)),
         }
     }
-    Ok(())
+}
+
+// Converts the fault of reading what a ref reaches.
+fn of_judge<A: Allocator + Copy>(fault: JudgeFault<RepositoryFault<A>>) -> RepositoryFault<A> {
+    match fault {
+        JudgeFault::Source {
+            by: Some(by),
+            fault: RepositoryFault::Store(fault),
+            ..
+        } => RepositoryFault::Named { by, fault },
+        JudgeFault::Source { fault, .. } => fault,
+        JudgeFault::Batch(fault) => of_batch(&fault),
+        JudgeFault::TooMany => RepositoryFault::Memory,
+    }
+}
+
+// Converts the fault of an object.
+fn of_batch<A: Allocator + Copy>(fault: &BatchFault) -> RepositoryFault<A> {
+    match fault {
+        BatchFault::Malformed { id } => RepositoryFault::object_fault(id, ObjectCause::Malformed),
+        BatchFault::Collision { id } => RepositoryFault::object_fault(id, ObjectCause::Type),
+        BatchFault::Clash { link, .. } | BatchFault::Missing { link, .. } => {
+            RepositoryFault::object_fault(&link.id, ObjectCause::Type)
+        }
+        BatchFault::Memory => RepositoryFault::Memory,
+    }
 }

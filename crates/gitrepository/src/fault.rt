@@ -50,6 +50,13 @@ pub enum RepositoryFault<A: Allocator + Copy> {
     Memory,
     /// An object is missing, or a file that holds objects is refused.
     Store(StoreFault<A>),
+    /// An object that another object names is missing, or a file that holds it is refused.
+    Named {
+        /// The id of the object that names it.
+        by: Oid,
+        /// The fault, which names the missing object or the file.
+        fault: StoreFault<A>,
+    },
     /// The refs cannot be read or written.
     Refs(RefFault<A>),
     /// An object is refused.
@@ -223,6 +230,7 @@ impl<A: Allocator + Copy> fmt::Display for RepositoryFault<A> {
         match self {
             RepositoryFault::Memory => f.write_str(OUT_OF_MEMORY_TEXT),
             RepositoryFault::Store(fault) => write!(f, "{fault}"),
+            RepositoryFault::Named { by, fault } => write_named(by, fault, f),
             RepositoryFault::Refs(fault) => write!(f, "{fault}"),
             RepositoryFault::Object { id, cause } => write_object(id, *cause, f),
             RepositoryFault::Objects => write!(
@@ -243,11 +251,26 @@ fn write_object<W: fmt::Write>(
     cause: ObjectCause,
     f: &mut fmt::Formatter<W>,
 ) -> fmt::Result {
+    write_id(id, f)?;
+    write!(f, " {cause}")
+}
+
+// Writes the message for a named object that cannot be read.
+fn write_named<W: fmt::Write, A: Allocator + Copy>(
+    by: &Oid,
+    fault: &StoreFault<A>,
+    f: &mut fmt::Formatter<W>,
+) -> fmt::Result {
+    write!(f, "{fault} (")?;
+    write_id(by, f)?;
+    f.write_str(" names it)")
+}
+
+fn write_id<W: fmt::Write>(id: &Oid, f: &mut fmt::Formatter<W>) -> fmt::Result {
     let mut digits = [0; MAX_ID_TEXT];
     let count = id.to_hex(&mut digits);
     f.write_str("object ")?;
-    f.write_str(str::from_utf8(&digits[..count]).unwrap_or(""))?;
-    write!(f, " {cause}")
+    f.write_str(str::from_utf8(&digits[..count]).unwrap_or(""))
 }
 
 // Writes the message for a pack fault.

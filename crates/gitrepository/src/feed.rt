@@ -3,24 +3,43 @@
 ghost use Rattle.std.specs.Prelude.{◌≡◌, ◌++◌, [], ℕ, IfOk, OnOk};
 ghost use Rattle.gitpack.specs.Packs.{IsFramed};
 ghost use Rattle.gitrepository.specs.Packs.{IsIndexed};
+ghost use Rattle.gitrepository.specs.Received.{AreLinked};
 
 use crate::arrival::{Arrival, Inspector};
 use crate::fault::RepositoryFault;
 use crate::limits::PACK_LIMITS;
 use crate::tips::Tips;
 use ggraph::Entry;
+use gitobject::Link;
 use gitobjects::{ObjectFiles, ObjectReader};
 use gitpack::{IncomingPack, IndexedPack, PackFileFault, Spool, SpoolFault};
 use std::alloc::Allocator;
 use std::marker::Model;
 
-/// A received pack and its index.
+/// A received pack and its index. The id of each object of the index is the SHA-1 of its type and
+/// bytes. Each object that these objects name is in the index or is a prerequisite
+/// ([`Received::laws`]).
 #[derive(Drop)]
 pub struct Received<S: Spool + Drop, A: Allocator + Copy> {
     /// The pack as received.
     pub pack: S,
     /// The index of the pack.
     pub index: IndexedPack<A>,
+    /// The prerequisites of the pack: the ids and types of the objects that its objects name, and
+    /// that are only in the store.
+    pub prerequisites: Vec<Link, A>,
+    ghost linked: { ∥ AreLinked prerequisites.items index.entries ∥₁ },
+}
+
+impl<S: Spool + Drop, A: Allocator + Copy> Received<S, A> {
+    /// Proves that for each id and type of the index there is an object, whose SHA-1 is the id.
+    /// Each link of this object leads to an object of the index or to a prerequisite. The contract
+    /// does not say that the pack contains this object.
+    pub fn laws(&self)
+        ensures { ∥ AreLinked self.now.prerequisites.items self.now.index.entries ∥₁ }
+    {
+        let _ = &self.pack;
+    }
 }
 
 /// A partly received pack, and a record of its objects. Contracts treat a `StoreFeed` as the bytes
@@ -64,7 +83,8 @@ impl<S: Spool + Drop, A: Allocator + Copy> StoreFeed<S, A> {
         feed_pack(&mut self.pack, piece, &mut inspector)
     }
 
-    /// Indexes the complete pack. Returns the pack, its index and its graph entries.
+    /// Indexes the complete pack, and checks that the objects named by its objects exist. Returns
+    /// the received pack and its graph entries.
     pub(crate) fn finish<F: ObjectFiles>(
         self,
         reader: &mut ObjectReader<'_, F, A>,
@@ -74,11 +94,16 @@ impl<S: Spool + Drop, A: Allocator + Copy> StoreFeed<S, A> {
         ensures entries { IfOk result (λ it. IsIndexed self it.1.items) }
     {
         let StoreFeed { pack, mut arrival } = self;
-        let received = {
+        let (pack, index) = {
             let mut inspector = Inspector::new(&mut arrival, reader, tips);
             finish_pack(pack, &mut inspector)?
         };
-        let entries = arrival.into_entries(reader, &received.index)?;
+        let (entries, prerequisites) = arrival.into_parts(reader, &index)?;
+        let received = Received {
+            pack,
+            index,
+            prerequisites,
+        };
         Ok((received, entries))
     }
 }
@@ -98,13 +123,12 @@ fn feed_pack<F: ObjectFiles, S: Spool + Drop, A: Allocator + Copy>(
 fn finish_pack<F: ObjectFiles, S: Spool + Drop, A: Allocator + Copy>(
     pack: IncomingPack<S, A>,
     inspector: &mut Inspector<'_, '_, '_, '_, F, A>,
-) -> Result<Received<S, A>, RepositoryFault<A>>
-    ensures bytes { IfOk result (λ received. S.bytes received.pack ≡ pack) }
-    ensures frame { IfOk result (λ received. (count : ℕ)
-        × IsFramed count received.index.checksum pack) }
+) -> Result<(S, IndexedPack<A>), RepositoryFault<A>>
+    ensures bytes { IfOk result (λ it. S.bytes it.0 ≡ pack) }
+    ensures frame { IfOk result (λ it. (count : ℕ) × IsFramed count it.1.checksum pack) }
 {
     match pack.finish(inspector) {
-        Ok((pack, index)) => Ok(Received { pack, index }),
+        Ok(parts) => Ok(parts),
         Err(PackFileFault::Refused) => Err(refusal(inspector.take_fault())),
         Err(fault) => Err(RepositoryFault::from(fault)),
     }

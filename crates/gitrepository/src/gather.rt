@@ -58,11 +58,6 @@ impl<'r, 'f, F: ObjectFiles, A: Allocator + Copy> Gathering<'r, 'f, F, A> {
         }
     }
 
-    /// Returns the number of objects to send.
-    pub(crate) fn sent_count(&self) -> u32 {
-        self.fates.sent_count()
-    }
-
     /// Marks an object as sent, with the trees and blobs it reaches, unless its fate is already
     /// decided.
     pub(crate) fn send(&mut self, id: &Oid) -> Result<(), RepositoryFault<A>> {

@@ -78,14 +78,6 @@ impl<'g, A: Allocator + Copy> History<'g, A> {
         self.graph.len()
     }
 
-    /// Returns the id of the object at this position, or `None` past the last object.
-    pub(crate) fn id_at(&self, place: usize) -> Option<Oid> {
-        match self.graph.at(place) {
-            Some((id, _node)) => Some(*id),
-            None => None,
-        }
-    }
-
     /// Adds the object with this id, and everything it reaches.
     pub(crate) fn add<F: ObjectFiles>(
         &mut self,

@@ -94,7 +94,7 @@ pub fn install_pack<'r, R: Files, A: Allocator + Copy>(
     git_dir: &str,
     received: Received<StoredSpool<'r, R, A>, A>,
 ) -> Result<KeptPack<'r, R, A>, RepositoryFault<A>> {
-    let Received { pack, index } = received;
+    let Received { pack, index, .. } = received;
     if index.entries().is_empty() {
         return Ok(KeptPack::none(files));
     }

@@ -23,8 +23,9 @@
 //!   the commits or the tagged object that the bytes name, in order. Parents precede their
 //!   children. Each ref points to an entry of the graph.
 //! - [`open_tips`] and [`lead_with_newest`] return only refs that point to entries of the graph.
-//! - The nodes that [`check_refs`] counts are the entries of a graph. Each entry describes an
-//!   object.
+//! - If [`check_refs`] succeeds, a closed store has an object for the id of each ref and of a
+//!   detached HEAD. So each of these ids is complete: the store has everything that it reaches,
+//!   with trees and blobs. The returned numbers count the refs, and the objects of this store.
 //! - A sent pack consists of a header, as many entries as the header says, and the SHA-1 of all
 //!   preceding bytes. Each entry of a sent pack has a well-formed header. The pack has at most
 //!   `gparts::MAX_PARTS` bytes. The concatenation of the returned parts is the pack. If the call
@@ -33,6 +34,14 @@
 //!   the indexer returns describes an object, or is a tree or blob that a tag names. In the second
 //!   case the entry of the tag is also returned.
 //! - The spool that stores a received pack was given exactly the received bytes, in order.
+//! - For each id and type in the index of a [`Received`] pack, there is an object of this type
+//!   whose SHA-1 is the id. The parts of the object that contain links are well-formed. Each object
+//!   that it names is in the index, or is one of the prerequisites of the pack. In both cases the
+//!   named object has the expected type ([`Received::laws`]).
+//! - A store is closed if each object that its objects name is in the store, with the expected
+//!   type. Suppose a closed store has the prerequisites of a received pack. Then it stays closed
+//!   when the objects of the pack are added, unless two different objects have the same id
+//!   ([`laws`]).
 //! - [`install_files`] installs a pack in a [`PackFolder`], and then its index. After `Ok` both
 //!   files exist, with the bytes that they were given. A file gets its final name only once both
 //!   files are written and synced. After a fault the folder has both files, only the pack, or
@@ -40,6 +49,14 @@
 //! - [`MemoryFolder`] is a [`PackFolder`] that records all files it receives.
 //! - For any contents of the files, no call panics, overflows or reads out of bounds, and every
 //!   call returns.
+//!
+//! # What the proofs rely on
+//!
+//! No contract can describe the contents of a system file. So the proofs about received packs say
+//! nothing about the objects of the store. They also rely on the file system, which must return the
+//! pack as it was written.
+//! The id of an object is checked when [`open_repository`] or [`check_repository`] reads it, but
+//! not when the packer reads it.
 //!
 //! # Differences from Git
 //!
@@ -85,18 +102,23 @@
 //! - [`open_tips`] may find objects other than those of the refs, or may peel a tag to the wrong
 //!   object. The function trusts the peeled ids in `packed-refs`, as Git does.
 //! - [`lead_with_newest`] may leave refs out, or put other refs first.
-//! - [`check_refs`] may accept a repository whose objects are missing or malformed, and may count
-//!   the nodes of another graph. No contract covers the number of objects that it returns. The
-//!   function [`check_repository`] has no contract.
+//! - No contract says that the closed store of [`check_refs`] has the bytes that the reader
+//!   returned, or only objects that the refs reach. The function [`check_repository`] has no
+//!   contract.
 //! - [`Tips`] may lose an id or have other ids, and [`add_leaves`] may add or remove other nodes.
 //!   No contract covers the result of [`Tips::contains`].
 //! - No contract says which repository formats are opened or refused. No contract covers the result
 //!   of [`is_bare`], or the names and ids of peeled refs in a new repository.
 //! - The indexer may leave out an entry, or return an entry for an object that the pack does not
-//!   have. It may accept a pack with a malformed object.
-//! - The indexer looks up the named objects, and compares objects that the store already has. No
-//!   contract covers these look-ups and comparisons, or states when the indexer reads an object.
-//!   The indexer can miss a loose object that is added while a pack arrives.
+//!   have. The index of a received pack may leave out an object of the pack. It may have an object
+//!   that the pack does not have, or state a wrong offset or CRC-32.
+//! - The prerequisites may include an object of the pack, or one that no object of the pack names.
+//!   No public contract says that the store returned their types. No contract covers the limit on
+//!   memory for the ids that a pack names.
+//! - The store may return the type of an object that it does not have, or that is malformed.
+//! - The indexer compares objects that the store already has. No contract covers these comparisons,
+//!   or states when the indexer reads an object. The indexer can miss a loose object that is added
+//!   while a pack arrives.
 //! - A parent of a commit in the graph may be a tag, a tree or a blob. The types of parents are
 //!   checked, but no contract covers this check.
 //! - [`PackCounts`] and [`StorePacker::counts`] have no contract, because they serve only
@@ -124,9 +146,9 @@
 //! `gparts` defines packers that return parts, and `ggraph` and `gdag` define graphs. `gobject`
 //! defines the objects of a graph, and `grefs` defines refs. `gitobjects` reads objects,
 //! `gitcommitgraph` reads commit-graphs, `gitrefs` reads refs, and `gitconfig` reads settings.
-//! `gitpack` reads and writes packs, and `gitobject` parses the ids that objects name. `gzlib`
-//! deflates, `gname` defines ids, `indexmap` defines maps by id, and `sha1` computes the trailer of
-//! a pack.
+//! `gitpack` reads and writes packs, `gitobject` parses links, and `gcomplete` defines closed
+//! stores. `gzlib` deflates, `gname` defines ids, `indexmap` defines maps by id, and `sha1`
+//! computes the trailer of a pack.
 #![tactic(auto)]
 
 mod arrival;
@@ -143,9 +165,12 @@ mod history;
 mod indexer;
 mod install;
 mod kept;
+pub mod laws;
 mod leaves;
 mod limits;
+mod linking;
 mod memory_folder;
+mod needs;
 mod new_repository;
 mod newest;
 mod nodes;
@@ -174,6 +199,7 @@ pub use crate::indexer::StoreIndexer;
 pub use crate::install::{install_files, install_pack};
 pub use crate::kept::KeptPack;
 pub use crate::leaves::add_leaves;
+pub use crate::linking::TypeStore;
 pub use crate::memory_folder::{MemoryFolder, PackFile};
 pub use crate::new_repository::NewRepository;
 pub use crate::newest::lead_with_newest;

@@ -1,0 +1,9 @@
+pub mod Parts
+pub mod Names
+pub mod Closing
+pub mod Linking
+pub mod Batching
+pub mod Keeping
+pub mod Sending
+pub mod Tests
+pub mod Kept

@@ -1,0 +1,11 @@
+pub mod Stores
+pub mod Closed
+pub mod Naming
+pub mod Linked
+pub mod Batches
+pub mod Adding
+pub mod Rereading
+pub mod Sending
+pub mod Judging
+pub mod Laws
+pub mod steps

@@ -1,0 +1,32 @@
+-- The objects of a received pack (git-index-pack(1), "--strict"; git-fsck(1)).
+use Rattle.std.specs.Prelude.{◌≡◌, ◌⊎◌, ⊤, List, All, Contains}
+use Rattle.gcomplete.specs.Linked.{IsLinked}
+use Rattle.gitobject.specs.declared.links.Link.{Link}
+use Rattle.gitpack.specs.Indexes.{object_id}
+use Rattle.gitpack.specs.declared.indexing.IndexedEntry.{IndexedEntry}
+
+-- the pack has an object with the id and the type of the link
+pub record IsInPack (objects : List IndexedEntry) (link : Link) : Type 0 where
+  pub object : IndexedEntry
+  pub among : Contains objects object
+  pub id : object_id object ≡ link.id
+  pub kind : object.kind ≡ link.kind
+
+-- The link leads to an object of the pack, or to a prerequisite. A prerequisite is the id and the type of an object
+-- that must be elsewhere.
+abbrev pub Leads : List Link → List IndexedEntry → Link → Type 0
+Leads prerequisites objects link = IsInPack objects link ⊎ Contains prerequisites link
+
+-- There is a well-formed object with this type, whose SHA-1 is this id. Each of its links leads to an object of the
+-- pack or to a prerequisite. The definition does not say that the pack contains the bytes of the object.
+abbrev pub IsLinkedEntry : List Link → List IndexedEntry → IndexedEntry → Type 0
+IsLinkedEntry prerequisites objects object = IsLinked (Leads prerequisites objects) (object_id object) object.kind
+
+-- the same for each object of the pack
+abbrev pub AreLinked : List Link → List IndexedEntry → Type 0
+AreLinked prerequisites objects = All (IsLinkedEntry prerequisites objects) objects
+
+-- The definition says nothing, because contracts cannot describe the contents of system files. The reader of the store
+-- returned the type of the link for the id of the link.
+abbrev pub IsStored : Link → Type 0
+IsStored link = ⊤
