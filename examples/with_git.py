@@ -487,6 +487,27 @@ def broken_refs(folder, ours):
     check("a fetch with --prune, no ref is broken", done and refs(mirror) == good, done)
 
 
+def unreachable_trees(folder):
+    """A pack names a tree that the client has, but no ref reaches it and its blob is missing. So the pack is refused."""
+    source = new_repository(f"{folder}/unreachable/source.git")
+    blob = git(source, "hash-object", "-w", "--stdin", data=b"a\n")
+    line = f"100644 blob {blob}\tfile\n"
+    inner = git(source, "mktree", data=line.encode())
+    outer = git(source, "mktree", data=f"040000 tree {inner}\tfolder\n".encode())
+    commit = git(source, "commit-tree", "-m", "a", outer)
+    git(source, "update-ref", BRANCH, commit)
+    hook = f"{folder}/unreachable/hook"
+    with open(hook, "w") as file:
+        file.write(f"#!/bin/sh\ncat > /dev/null\nprintf '{commit}\\n{outer}\\n' | git pack-objects --stdout -q\n")
+    os.chmod(hook, 0o755)
+    copy = new_repository(f"{folder}/unreachable/copy.git")
+    git(copy, "mktree", "--missing", data=line.encode())
+    with GitDaemon(f"{folder}/unreachable", before=["-c", f"uploadpack.packObjectsHook={hook}"]) as server:
+        refuses("a pack names an incomplete tree", gitrepo("fetch", copy, server.url("source.git"), HEADS), blob)
+    check("a pack names an incomplete tree: no ref moves", refs(copy) == "", refs(copy))
+    check("a pack names an incomplete tree: nothing left behind", not left_behind(copy), left_behind(copy))
+
+
 def change_an_entry(path, id):
     """Changes a byte of the entry of an object, in the only pack."""
     (index,) = [name for name in os.listdir(f"{path}/objects/pack") if name.endswith(".idx")]
@@ -710,6 +731,7 @@ def try_all(folder):
         check("no connection so far had a fault", not [it for it in ours.log() if "cannot" in it or "fault" in it], ours.log())
         broken_refs(folder, ours)
         damaged(folder, ours)
+        unreachable_trees(folder)
         kinds(folder, ours, theirs)
         paths(folder, ours)
         words(folder, theirs)
