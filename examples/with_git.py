@@ -485,6 +485,15 @@ def broken_refs(folder, ours):
         os.remove(f"{path}/refs/heads/{name}")
     done = attempt("git", "-C", mirror, "fetch", "--quiet", "--prune", "origin")
     check("a fetch with --prune, no ref is broken", done and refs(mirror) == good, done)
+    git(path, "pack-refs", "--all")
+    line = f" {BRANCH}\n".encode()
+    write(f"{path}/packed-refs", read(f"{path}/packed-refs").replace(line, line + b"1" * 40 + b" refs/heads/missing\n"))
+    done = attempt("git", "ls-remote", ours.url("broken-refs.git"))
+    check("git ls-remote, the object of a packed ref is missing: the ref is listed", done and b"refs/heads/missing" in done.out, done)
+    done = attempt("git", "-C", mirror, "fetch", "--quiet", "--prune", "origin")
+    check("a fetch with --prune, the object of a packed ref is missing: refused", done.status and "cannot be read" in done.told, done)
+    check("a fetch with --prune, the object of a packed ref is missing: nothing is deleted", refs(mirror) == good, refs(mirror))
+    refuses("gitrepo check, the object of a packed ref is missing", gitrepo("check", path), "refs/heads/missing", "1" * 40)
 
 
 def unreachable_trees(folder):

@@ -61,8 +61,8 @@ impl From<AllocError> for NotOpened {
 pub(crate) enum Extent {
     /// The whole history.
     Whole(Server<Global>),
-    /// Only the objects that refs point to, and their peeled objects. A server with this extent can
-    /// answer only ls-refs.
+    /// Only the objects that refs point to, and their peeled objects. Some of these objects may be
+    /// missing. A server with this extent can answer only ls-refs.
     Tips(Server<Global>),
 }
 
@@ -80,13 +80,13 @@ impl Extent {
 /// The refs and HEAD that were read from a Git directory.
 #[derive(Drop)]
 pub(crate) struct Listed {
-    read: PeeledRefs,
+    found: PeeledRefs,
 }
 
 impl Listed {
     /// Returns whether the refs and HEAD of a server equal these refs and this HEAD.
     pub(crate) fn matches(&self, server: &Server<Global>) -> bool {
-        has_refs(server, &self.read.refs, &self.read.head)
+        has_refs(server, &self.found.refs, &self.found.head)
     }
 }
 
@@ -103,7 +103,7 @@ pub(crate) fn read_listed<R: Files, F: ObjectFiles>(
     found: &Directories,
 ) -> Result<Listed, NotOpened> {
     match find_listed(alloc, rt, files, found) {
-        Ok(read) => Ok(Listed { read }),
+        Ok(found) => Ok(Listed { found }),
         Err(fault) => Err(not_opened(alloc, found, &fault)),
     }
 }
@@ -136,7 +136,7 @@ pub(crate) fn open_for_ls_refs<F: ObjectFiles>(
 // A repository that was opened to answer ls-refs.
 #[derive(Drop)]
 enum Opened {
-    // Only the objects that refs point to.
+    // Only the objects that refs point to. Some of them may be missing.
     Tips(Repository<Global>),
     // The whole history.
     Whole(Repository<Global>),
@@ -149,11 +149,11 @@ fn read_for_ls_refs<F: ObjectFiles>(
     listed: Listed,
 ) -> Result<Opened, RepositoryFault<Global>> {
     let path = found.common.as_str();
-    if let Some(tips) = open_tips(files, alloc, path, &listed.read)? {
+    if let Some(tips) = open_tips(files, alloc, path, &listed.found)? {
         return Ok(Opened::Tips(tips));
     }
     let mut reader = open_reader(alloc, files, path)?;
-    let PeeledRefs { refs, head, .. } = listed.read;
+    let PeeledRefs { refs, head, .. } = listed.found;
     let whole = read_history(alloc, files, path, &mut reader, &refs, head)?;
     Ok(Opened::Whole(whole))
 }

@@ -84,8 +84,8 @@ impl<S: Spool + Drop, A: Allocator + Copy> StoreFeed<S, A> {
         feed_pack(&mut self.pack, piece, &mut inspector)
     }
 
-    /// Indexes the complete pack, and checks that the objects named by its objects exist. If such an
-    /// object is a tree of the store, everything that it reaches must exist, too. Returns the
+    /// Indexes the complete pack, and checks that the objects named by its objects exist. If such
+    /// an object is a tree of the store, everything that it reaches must exist, too. Returns the
     /// received pack and its graph entries.
     pub(crate) fn finish<F: ObjectFiles>(
         self,

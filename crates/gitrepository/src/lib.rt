@@ -61,8 +61,8 @@
 //! # Differences from Git
 //!
 //! - A tree or blob that a ref or tag points to counts as a commit without parents.
-//! - A ref whose object is missing is not part of the repository. Git also leaves the ref out, and
-//!   prints a warning. If HEAD points to a missing object, the repository is refused.
+//! - [`open_repository`] and [`open_refs`] leave out a ref whose object is missing. [`open_tips`]
+//!   may return such a ref. If HEAD points to a missing object, the repository is refused.
 //! - The packer packs a list of commits and tags. If a parent of a listed commit is not in the
 //!   list, the packer assumes that the client has the parent. It also assumes that the client has
 //!   everything that the tree of the parent reaches.

@@ -29,13 +29,13 @@ struct Tag {
 /// needs nothing more. If `packed-refs` lists a peeled object for a tag, the tag counts as pointing
 /// directly to that object.
 ///
-/// Looks up only the objects whose peeled objects `packed-refs` does not list, as Git does. All
-/// other objects may be missing. [`crate::open_repository`] and [`crate::open_refs`] find out.
+/// Looks up only the objects whose peeled objects `packed-refs` does not list. All other objects
+/// may be missing. [`crate::open_refs`] looks up every object.
 ///
-/// Returns `None` if an object that is looked up is missing or unreadable, if there are too many
-/// objects, or if `packed-refs` contradicts itself or a tag that was read. The caller must then
-/// call [`crate::open_repository`] or [`crate::open_refs`]. Fails for the same reasons as
-/// [`QuickReader::open`], or if out of memory.
+/// Returns `None` if an object that is looked up is missing or unreadable, or if there are too many
+/// objects. Returns `None` also if `packed-refs` contradicts itself, or a tag that was read. The
+/// caller must then call [`crate::open_repository`] or [`crate::open_refs`]. Fails for the same
+/// reasons as [`QuickReader::open`], or if out of memory.
 pub fn open_tips<F: ObjectFiles, A: Allocator + Copy>(
     files: &F,
     alloc: A,
@@ -114,7 +114,8 @@ fn unpeeled_ids<A: Allocator + Copy>(
 }
 
 // Adds the object with this id, and its peeled object. Returns `false` if an object cannot be
-// added.
+// added, or if the graph has the object with another peeled object. An id of zeros is no peeled
+// object.
 fn add_tip<A: Allocator + Copy>(
     graph: &mut Graph<A>,
     id: &Oid,
@@ -122,7 +123,8 @@ fn add_tip<A: Allocator + Copy>(
 ) -> Result<bool, RepositoryFault<A>> {
     match peel {
         Peel::Itself => add_leaf(graph, id),
-        Peel::To(_) if graph.contains(id) => Ok(true),
+        Peel::To(target) if is_zero(target) => Ok(false),
+        Peel::To(target) if graph.contains(id) => Ok(graph.peel(id) == Some(*target)),
         Peel::To(target) => {
             let tag = Tag {
                 id: *id,
@@ -131,6 +133,11 @@ fn add_tip<A: Allocator + Copy>(
             Ok(add_leaf(graph, target)? && add_tag(graph, tag)?)
         }
     }
+}
+
+// Returns whether all bytes of an id are zero.
+fn is_zero(id: &Oid) -> bool {
+    id.as_bytes().iter().all(|byte| *byte == 0)
 }
 
 // Adds an object, the tags that it leads to, and its peeled object. Looks up the type of each of
