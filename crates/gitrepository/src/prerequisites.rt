@@ -8,8 +8,9 @@ use gitpack::IndexedPack;
 use std::alloc::Allocator;
 
 /// Checks that the store or the received pack has everything that the trees among these
-/// prerequisites reach. The links of the pack's objects were checked before. The store may have trees that no ref reaches, such as those of a killed fetch. Objects that they name may
-/// be missing.
+/// prerequisites reach. The links of the pack's objects were checked before. The store may have
+/// trees that no ref reaches, such as those of a killed fetch. Objects that they name may be
+/// missing.
 ///
 /// Commits and tags are not checked, because the session looks up their history in its graph.
 ///
