@@ -148,12 +148,17 @@ fn read_for_ls_refs<F: ObjectFiles>(
     found: &Directories,
     listed: Listed,
 ) -> Result<Opened, RepositoryFault<Global>> {
+    let Listed { found: listed } = listed;
     let path = found.common.as_str();
-    if let Some(tips) = open_tips(files, alloc, path, &listed.found)? {
+    if let Some(tips) = open_tips(files, alloc, path, &listed)? {
         return Ok(Opened::Tips(tips));
     }
     let mut reader = open_reader(alloc, files, path)?;
-    let PeeledRefs { refs, head, .. } = listed.found;
+    let PeeledRefs {
+        refs,
+        head,
+        peels: _peels,
+    } = listed;
     let whole = read_history(alloc, files, path, &mut reader, &refs, head)?;
     Ok(Opened::Whole(whole))
 }
