@@ -201,12 +201,12 @@ class Gitrepo(Server):
 
 
 class GitDaemon(Server):
-    """`git daemon`."""
+    """`git daemon`, with words for Git before the command, such as `-c name=value`."""
 
-    def __init__(self, base, *more):
+    def __init__(self, base, *more, before=()):
         with socket.create_server(("127.0.0.1", 0)) as free:
             self.port = free.getsockname()[1]
-        words = ["git", "daemon", "--listen=127.0.0.1", f"--port={self.port}", "--reuseaddr", "--export-all"]
+        words = ["git", *before, "daemon", "--listen=127.0.0.1", f"--port={self.port}", "--reuseaddr", "--export-all"]
         words += ["--informative-errors", f"--base-path={base}", *more, base]
         self.process = subprocess.Popen(words, stderr=subprocess.DEVNULL, env=ENV)
         wait_for(self.port)

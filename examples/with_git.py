@@ -485,6 +485,36 @@ def broken_refs(folder, ours):
         os.remove(f"{path}/refs/heads/{name}")
     done = attempt("git", "-C", mirror, "fetch", "--quiet", "--prune", "origin")
     check("a fetch with --prune, no ref is broken", done and refs(mirror) == good, done)
+    git(path, "pack-refs", "--all")
+    line = f" {BRANCH}\n".encode()
+    write(f"{path}/packed-refs", read(f"{path}/packed-refs").replace(line, line + b"1" * 40 + b" refs/heads/missing\n"))
+    done = attempt("git", "ls-remote", ours.url("broken-refs.git"))
+    check("git ls-remote, the object of a packed ref is missing: the ref is listed", done and b"refs/heads/missing" in done.out, done)
+    done = attempt("git", "-C", mirror, "fetch", "--quiet", "--prune", "origin")
+    check("a fetch with --prune, the object of a packed ref is missing: refused", done.status and "cannot be read" in done.told, done)
+    check("a fetch with --prune, the object of a packed ref is missing: nothing is deleted", refs(mirror) == good, refs(mirror))
+    refuses("gitrepo check, the object of a packed ref is missing", gitrepo("check", path), "refs/heads/missing", "1" * 40)
+
+
+def unreachable_trees(folder):
+    """A pack names a tree that the client has, but no ref reaches it and its blob is missing. So the pack is refused."""
+    source = new_repository(f"{folder}/unreachable/source.git")
+    blob = git(source, "hash-object", "-w", "--stdin", data=b"a\n")
+    line = f"100644 blob {blob}\tfile\n"
+    inner = git(source, "mktree", data=line.encode())
+    outer = git(source, "mktree", data=f"040000 tree {inner}\tfolder\n".encode())
+    commit = git(source, "commit-tree", "-m", "a", outer)
+    git(source, "update-ref", BRANCH, commit)
+    hook = f"{folder}/unreachable/hook"
+    with open(hook, "w") as file:
+        file.write(f"#!/bin/sh\ncat > /dev/null\nprintf '{commit}\\n{outer}\\n' | git pack-objects --stdout -q\n")
+    os.chmod(hook, 0o755)
+    copy = new_repository(f"{folder}/unreachable/copy.git")
+    git(copy, "mktree", "--missing", data=line.encode())
+    with GitDaemon(f"{folder}/unreachable", before=["-c", f"uploadpack.packObjectsHook={hook}"]) as server:
+        refuses("a pack names an incomplete tree", gitrepo("fetch", copy, server.url("source.git"), HEADS), blob)
+    check("a pack names an incomplete tree: no ref moves", refs(copy) == "", refs(copy))
+    check("a pack names an incomplete tree: nothing left behind", not left_behind(copy), left_behind(copy))
 
 
 def change_an_entry(path, id):
@@ -710,6 +740,7 @@ def try_all(folder):
         check("no connection so far had a fault", not [it for it in ours.log() if "cannot" in it or "fault" in it], ours.log())
         broken_refs(folder, ours)
         damaged(folder, ours)
+        unreachable_trees(folder)
         kinds(folder, ours, theirs)
         paths(folder, ours)
         words(folder, theirs)

@@ -16,7 +16,7 @@ pub fn names_are_shared()
 {}
 
 /// Proves that if an id is complete in one store, this store has everything that the id reaches in
-/// another store, with the same bytes, or that two different texts have the same SHA-1.
+/// another store. The bytes are the same, or two different texts have the same SHA-1.
 pub fn complete_is_the_same()
     ensures { CompleteIsTheSame }
 {}

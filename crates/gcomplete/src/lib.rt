@@ -20,9 +20,9 @@
 //! - [`ClosedStore::add_all`] refuses a batch only if an id of the batch has another type in the
 //!   store, if a link leads to no object, or if out of memory. After a fault the store is
 //!   unchanged.
-//! - [`Batch::add`] records exactly the links of the added objects. It refuses an object only if
-//!   the object is malformed, if another object has the same id and another type, if two links lead
-//!   to one id with different types, or if out of memory.
+//! - [`Batch::add`] records exactly the links of the added objects. It refuses an object that is
+//!   malformed, or whose id belongs to an object of another type. It also refuses an object if two
+//!   links lead to one id with different types. Otherwise it fails only if out of memory.
 //! - [`judge`] returns a store that has an object for each of the given ids. This relies on the
 //!   source, which computes the id of each object that it returns.
 //! - If two stores have an object with the same id, both objects have the same type and bytes, or

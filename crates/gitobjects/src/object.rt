@@ -46,8 +46,8 @@ const MAX_LOOSE_HEAD: usize = 32;
 
 /// Returns the loose object whose file has these bytes. The bytes must be exactly one zlib stream.
 ///
-/// Fails with `Stream` if the stream is malformed, with `Loose` if its text is malformed, or with
-/// `Memory` if out of memory.
+/// Fails with `ObjectSize` if the object is too large, with `Stream` if the stream is malformed, or
+/// with `Loose` if its text is malformed. Fails with `Memory` if out of memory.
 pub(crate) fn read_loose<A: Allocator + Copy>(
     alloc: A,
     inflater: &mut Inflater,
@@ -57,6 +57,7 @@ pub(crate) fn read_loose<A: Allocator + Copy>(
     match inflater.inflate(stream, &mut text, MAX_OBJECT + MAX_LOOSE_HEAD) {
         Ok(length) if length == stream.len() => object_of(alloc, text.as_slice()),
         Ok(_) => Err(Cause::Stream),
+        Err(InflateFault::Long) => Err(Cause::ObjectSize),
         Err(InflateFault::Memory) => Err(Cause::Memory),
         Err(_) => Err(Cause::Stream),
     }

@@ -27,8 +27,8 @@ pub(crate) trait Disk {
     /// Returns the current refs and HEAD of a repository.
     fn list(&self, found: &Directories) -> Result<Listed, NotOpened>;
 
-    /// Reads the objects that these refs and HEAD point to. If a quick look-up does not find one of
-    /// these objects, reads the whole history.
+    /// Opens a repository to answer ls-refs. If the objects that these refs and HEAD point to cannot
+    /// be determined without the history, reads the whole history.
     fn open_for_ls_refs(&self, found: &Directories, listed: Listed) -> Result<Extent, NotOpened>;
 
     /// Returns the modification time of the pack directory, or `None` if the time is unknown.

@@ -9,9 +9,9 @@
 //!   sends a pack entry by entry, and holds one entry and at most 10 possible delta bases in
 //!   memory. `serve` logs one line per connection.
 //! - `upload-pack` serves one connection on standard input and output (git-upload-pack(1)).
-//! - `serve` and `upload-pack` answer ls-refs from the objects that refs point to. They read the
-//!   history at the first fetch request. If the history is incomplete, the request is refused, as
-//!   in Git.
+//! - `serve` and `upload-pack` answer ls-refs from the refs, the peeled ids in `packed-refs`, and
+//!   the objects of all other refs. They read the history at the first fetch request. If the history
+//!   is incomplete, the request is refused, as in Git.
 //! - `clone` and `fetch` store the received pack unchanged, and then update the refs. `ls` prints
 //!   the refs of a server as git-ls-remote(1) does. `check` checks the connectivity of the refs.
 //! - A failed command prints one sentence on standard error, and exits with status 1. The exit
@@ -58,7 +58,9 @@
 //! - `core.sharedRepository` and `core.logAllRefUpdates` are ignored: new files have the default
 //!   permissions, and no reflog is written.
 //! - `serve` and `upload-pack` refuse a repository if a ref file is malformed, or if the object of
-//!   a ref is missing. Git lists such a ref, and refuses only a client that wants it.
+//!   a ref is missing. If the header of `packed-refs` has `fully-peeled`, the objects of its refs
+//!   are looked up only when a client requests objects. Git lists a broken ref, and refuses only a
+//!   client that wants it.
 //! - `serve` and `upload-pack` serve only protocol version 2. `upload-pack` does not check
 //!   who owns a repository.
 //! - A request has at most 65,537 wants, 65,536 haves and 1,024 ref prefixes. If a client connects
@@ -78,7 +80,8 @@
 //! following:
 //!
 //! - Any number of repositories may be cached, and an object store may never be closed. The server
-//!   may list the refs of a cached repository even if their objects have since been removed.
+//!   may list the refs of a cached repository even if their objects have since been removed. A
+//!   wrong peeled id may stay listed until a ref or HEAD changes.
 //! - `Repositories` may find a wrong repository or report a wrong error text. A packer may fail
 //!   with a wrong fault. A pack may have objects of another repository, or lack objects that the
 //!   client needs.

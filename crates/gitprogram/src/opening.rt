@@ -8,8 +8,8 @@ use crate::fault::Fault;
 use crate::sentences::Sentence;
 use ganswer::Server;
 use ggraph::{Head, Refs, Repository};
-use gitobjects::{ObjectFiles, ObjectReader, QuickReader, StoreFault};
-use gitrefs::{PackedPeels, PeeledRefs};
+use gitobjects::{ObjectFiles, ObjectReader, StoreFault};
+use gitrefs::PeeledRefs;
 use gitrepository::{
     FormFault, RepositoryFault, StorePacker, Tips, add_leaves, check_form, lead_with_newest,
     open_refs, open_repository, open_store, open_tips, read_commit_graph,
@@ -61,8 +61,8 @@ impl From<AllocError> for NotOpened {
 pub(crate) enum Extent {
     /// The whole history.
     Whole(Server<Global>),
-    /// Only the objects that refs point to, and their peeled objects. A server with this extent can
-    /// answer only ls-refs.
+    /// Only the objects that refs point to, and their peeled objects. Some of these objects may be
+    /// missing. A server with this extent can answer only ls-refs.
     Tips(Server<Global>),
 }
 
@@ -80,15 +80,13 @@ impl Extent {
 /// The refs and HEAD that were read from a Git directory.
 #[derive(Drop)]
 pub(crate) struct Listed {
-    refs: Refs<Global>,
-    head: Head<Global>,
-    peels: PackedPeels,
+    found: PeeledRefs,
 }
 
 impl Listed {
     /// Returns whether the refs and HEAD of a server equal these refs and this HEAD.
     pub(crate) fn matches(&self, server: &Server<Global>) -> bool {
-        has_refs(server, &self.refs, &self.head)
+        has_refs(server, &self.found.refs, &self.found.head)
     }
 }
 
@@ -105,7 +103,7 @@ pub(crate) fn read_listed<R: Files, F: ObjectFiles>(
     found: &Directories,
 ) -> Result<Listed, NotOpened> {
     match find_listed(alloc, rt, files, found) {
-        Ok(PeeledRefs { refs, head, peels }) => Ok(Listed { refs, head, peels }),
+        Ok(found) => Ok(Listed { found }),
         Err(fault) => Err(not_opened(alloc, found, &fault)),
     }
 }
@@ -120,8 +118,8 @@ fn find_listed<R: Files, F: ObjectFiles>(
     Ok(found.refs(alloc, rt).read_peeled_refs()?)
 }
 
-/// Reads the objects that refs and HEAD point to, because ls-refs needs no other objects. If a
-/// `QuickReader` does not find one of these objects, this function reads the whole history.
+/// Opens a repository to answer ls-refs, which needs only the objects that refs and HEAD point to.
+/// If these objects cannot be determined without the history, reads the whole history.
 pub(crate) fn open_for_ls_refs<F: ObjectFiles>(
     alloc: Global,
     files: &F,
@@ -138,7 +136,7 @@ pub(crate) fn open_for_ls_refs<F: ObjectFiles>(
 // A repository that was opened to answer ls-refs.
 #[derive(Drop)]
 enum Opened {
-    // Only the objects that refs point to.
+    // Only the objects that refs point to. Some of them may be missing.
     Tips(Repository<Global>),
     // The whole history.
     Whole(Repository<Global>),
@@ -150,12 +148,13 @@ fn read_for_ls_refs<F: ObjectFiles>(
     found: &Directories,
     listed: Listed,
 ) -> Result<Opened, RepositoryFault<Global>> {
+    let Listed { found: listed } = listed;
     let path = found.common.as_str();
-    if let Some(tips) = find_tips(alloc, files, path, &listed)? {
+    if let Some(tips) = open_tips(files, alloc, path, &listed)? {
         return Ok(Opened::Tips(tips));
     }
     let mut reader = open_reader(alloc, files, path)?;
-    let Listed {
+    let PeeledRefs {
         refs,
         head,
         peels: _peels,
@@ -171,18 +170,6 @@ fn is_same_head(one: &Head<Global>, other: &Head<Global>) -> bool {
         (Head::Symref(one), Head::Symref(other)) => one.name() == other.name(),
         _ => false,
     }
-}
-
-// Returns the objects that refs and HEAD point to, or `None` if a `QuickReader` does not find one
-// of these objects. No pack stays open after this call.
-fn find_tips<F: ObjectFiles>(
-    alloc: Global,
-    files: &F,
-    path: &str,
-    listed: &Listed,
-) -> Result<Option<Repository<Global>>, RepositoryFault<Global>> {
-    let mut reader = QuickReader::open(files, alloc, path)?;
-    open_tips(&mut reader, &listed.peels, &listed.refs, &listed.head)
 }
 
 /// Opens the objects of a repository whose history has been read.

@@ -65,7 +65,7 @@
 //! contents in a file that it should replace. No contract says for which reason a name that is not
 //! UTF-8 is refused.
 //!
-//! No contract says what a [`PackedPeels`] contains. Its ids come from `packed-refs`, which can
+//! No contract says what [`PeeledRefs::peels`] contains. Its ids come from `packed-refs`, which can
 //! list wrong ids.
 //!
 //! Name conflicts are checked before files are locked, so a conflict with a ref that Git packs at
@@ -108,6 +108,6 @@ pub use crate::locked::{commit_file, prepare_ref};
 pub use crate::loose::{LooseRef, parse_loose_ref};
 pub use crate::packed::{PackedRef, parse_packed_refs};
 pub use crate::packed_text::{packed_refs_text, peeled_refs_text};
-pub use crate::peels::{PackedPeels, Peel};
+pub use crate::peels::Peel;
 pub use crate::reading::PeeledRefs;
 pub use crate::update::RefUpdate;

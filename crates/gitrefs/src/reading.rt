@@ -5,8 +5,8 @@ use crate::fault::{Cause, RefFault, TextFault};
 use crate::loose::{LooseRef, name_of, parse_loose_ref};
 use crate::packed::{PackedRef, parse_packed_refs};
 use crate::path::{FilePath, is_absent};
-use crate::peels::{PackedPeels, is_fully_peeled};
-use crate::values::{Values, head_of, refs_of, unless_null};
+use crate::peels::{Peel, is_fully_peeled, peel_of};
+use crate::values::{NamedValue, ResolvedRefs, Values, head_of, refs_of, unless_null};
 use gname::RefName;
 use grefs::{Head, Refs, RefsFault};
 use std::alloc::{AllocError, Allocator, Global};
@@ -45,8 +45,9 @@ pub struct PeeledRefs<A: Allocator + Copy = Global> {
     pub refs: Refs<A>,
     /// The `HEAD` of the Git directory.
     pub head: Head<A>,
-    /// The peeled objects in `packed-refs`.
-    pub peels: PackedPeels<A>,
+    /// For each ref, in the same order, the peeled object of the object that the ref points to. The
+    /// entry is `None` if `packed-refs` does not list the peeled object.
+    pub peels: Vec<Option<Peel>, A>,
 }
 
 // The state of reading all loose refs: the directories to read, and the refs read so far.
@@ -67,9 +68,8 @@ impl<R: Files, A: Allocator + Copy> GitDirectory<'_, R, A> {
     /// malformed, and with `Refs` if there are too many refs. Fails with `System` if a system call
     /// fails, or with `Memory` if out of memory.
     pub fn read_refs(&self) -> Result<(Refs<A>, Head<A>), RefFault<A>> {
-        let mut values = self.read_loose_values()?;
-        add_packed(&mut values, self.packed_refs()?.refs)?;
-        self.refs_and_head(values)
+        let PeeledRefs { refs, head, .. } = self.resolve(self.read_values()?)?;
+        Ok((refs, head))
     }
 
     /// Reads the refs below `refs/` and HEAD, as [`GitDirectory::read_refs`] does, and the peeled
@@ -79,31 +79,23 @@ impl<R: Files, A: Allocator + Copy> GitDirectory<'_, R, A> {
     /// Also fails with `Malformed` at the first broken ref ([`GitDirectory::broken_ref`]). A server
     /// must not ignore a broken ref, because `git fetch --prune` would delete the client's copy.
     pub fn read_peeled_refs(&self) -> Result<PeeledRefs<A>, RefFault<A>> {
-        let mut values = self.read_loose_values()?;
-        let packed = self.packed_refs()?;
-        let peels = if packed.are_peeled {
-            PackedPeels::of_refs(self.alloc, packed.refs.as_slice())?
-        } else {
-            PackedPeels::none(self.alloc)
-        };
-        add_packed(&mut values, packed.refs)?;
+        let values = self.read_values()?;
         if let Some(name) = first_broken(&values) {
             return Err(self.fault_of(name, Cause::Malformed));
         }
-        let (refs, head) = self.refs_and_head(values)?;
-        Ok(PeeledRefs { refs, head, peels })
+        self.resolve(values)
     }
 
     // Resolves the refs below `refs/` and HEAD from the unresolved values of all refs.
-    fn refs_and_head(&self, values: Values<A>) -> Result<(Refs<A>, Head<A>), RefFault<A>> {
+    fn resolve(&self, values: Values<A>) -> Result<PeeledRefs<A>, RefFault<A>> {
         let head = head_of(self.alloc, &values)?;
-        let refs = match refs_of(self.alloc, values) {
+        let ResolvedRefs { refs, peels } = match refs_of(self.alloc, values) {
             Ok(refs) => refs,
             Err(RefsFault::Memory) => return Err(RefFault::Memory),
             Err(RefsFault::Refs) => return Err(RefFault::at(self.alloc, self.path, Cause::Refs)),
         };
         match head {
-            Some(head) => Ok((refs, head)),
+            Some(head) => Ok(PeeledRefs { refs, head, peels }),
             None => Err(self.fault_of(&RefName::head(self.alloc)?, Cause::Malformed)),
         }
     }
@@ -115,8 +107,7 @@ impl<R: Files, A: Allocator + Copy> GitDirectory<'_, R, A> {
     /// Fails with `Malformed` if `packed-refs` is malformed. Fails with `System` if a system call
     /// fails, or with `Memory` if out of memory.
     pub fn broken_ref(&self) -> Result<Option<(RefName<A>, RefFault<A>)>, RefFault<A>> {
-        let mut values = self.read_loose_values()?;
-        add_packed(&mut values, self.packed_refs()?.refs)?;
+        let values = self.read_values()?;
         match first_broken(&values) {
             Some(name) => {
                 let fault = self.fault_of(name, Cause::Malformed);
@@ -124,6 +115,13 @@ impl<R: Files, A: Allocator + Copy> GitDirectory<'_, R, A> {
             }
             None => Ok(None),
         }
+    }
+
+    // Reads HEAD and the refs below `refs/`, sorted by name, without resolving symbolic refs.
+    fn read_values(&self) -> Result<Values<A>, RefFault<A>> {
+        let mut values = self.read_loose_values()?;
+        add_packed(&mut values, self.packed_refs()?)?;
+        Ok(values)
     }
 
     // Reads HEAD and the loose refs below `refs/`, without resolving symbolic refs.
@@ -134,7 +132,7 @@ impl<R: Files, A: Allocator + Copy> GitDirectory<'_, R, A> {
         };
         let head = RefName::head(self.alloc)?;
         if let RefEntry::Ref(value) = self.look(&head)? {
-            walk.values.push(head, value)?;
+            push_loose(&mut walk.values, head, value)?;
         }
         self.read_loose(&mut walk)?;
         Ok(walk.values)
@@ -216,7 +214,7 @@ impl<R: Files, A: Allocator + Copy> GitDirectory<'_, R, A> {
             RefEntry::Empty => Ok(()),
             RefEntry::Directory => Ok(walk.directories.push(text)?),
             RefEntry::Ref(value) => {
-                walk.values.push(name, value)?;
+                push_loose(&mut walk.values, name, value)?;
                 Ok(())
             }
         }
@@ -297,21 +295,37 @@ impl<R: Files, A: Allocator + Copy> GitDirectory<'_, R, A> {
 
 // Returns the name of the first broken ref, or `None` if no ref is broken.
 fn first_broken<A: Allocator + Copy>(values: &Values<A>) -> Option<&RefName<A>> {
-    for value in values.as_slice() {
-        if value.1.is_none() {
-            return Some(&value.0);
+    for named in values.as_slice() {
+        if named.value.is_none() {
+            return Some(&named.name);
         }
     }
     None
 }
 
-// Adds the refs of `packed-refs`. Loose refs with the same names take precedence.
+// Adds HEAD or a loose ref.
+fn push_loose<A: Allocator + Copy>(
+    values: &mut Values<A>,
+    name: RefName<A>,
+    value: Option<LooseRef<A>>,
+) -> Result<(), AllocError> {
+    let peel = None;
+    values.push(NamedValue { name, value, peel })
+}
+
+// Adds the refs of `packed-refs`, and sorts all refs. Loose refs with the same names take
+// precedence.
 fn add_packed<A: Allocator + Copy>(
     values: &mut Values<A>,
-    refs: Vec<PackedRef<A>, A>,
+    packed: PackedRefs<A>,
 ) -> Result<(), AllocError> {
+    let PackedRefs { refs, are_peeled } = packed;
     for packed in refs {
-        values.push(packed.name, unless_null(LooseRef::Id(packed.id)))?;
+        values.push(NamedValue {
+            name: packed.name,
+            value: unless_null(LooseRef::Id(packed.id)),
+            peel: peel_of(are_peeled, packed.peeled),
+        })?;
     }
     values.sort()
 }

@@ -1,6 +1,7 @@
 //! The values in ref files, and the resolution of symbolic refs.
 
 use crate::loose::LooseRef;
+use crate::peels::Peel;
 use gname::{Oid, RefName};
 use grefs::{Head, Refs, RefsFault, Target};
 use std::alloc::{AllocError, Allocator};
@@ -10,12 +11,31 @@ use std::iter::zip;
 // `SYMREF_MAXDEPTH`).
 const MAX_DEPTH: usize = 5;
 
+/// The name of a ref or `HEAD`, with its unresolved value.
+#[derive(Drop)]
+pub(crate) struct NamedValue<A: Allocator + Copy> {
+    /// The name.
+    pub(crate) name: RefName<A>,
+    /// The value, or `None` if the ref is malformed or its id is all zeros.
+    pub(crate) value: Option<LooseRef<A>>,
+    /// The peeled object of the object that the ref points to, if `packed-refs` lists it.
+    pub(crate) peel: Option<Peel>,
+}
+
 /// The names of refs and `HEAD`, each with its unresolved value.
 #[derive(Drop)]
 pub(crate) struct Values<A: Allocator + Copy> {
-    // The refs, sorted by name after a call of `sort`. A malformed ref, or a ref whose id is all
-    // zeros, has the value `None`.
-    values: Vec<(RefName<A>, Option<LooseRef<A>>), A>,
+    // The refs, sorted by name after a call of `sort`.
+    values: Vec<NamedValue<A>, A>,
+}
+
+/// Refs, and the peeled objects of the objects that they point to.
+#[derive(Drop)]
+pub(crate) struct ResolvedRefs<A: Allocator + Copy> {
+    /// The refs below `refs/`.
+    pub(crate) refs: Refs<A>,
+    /// For each ref, in the same order, the peeled object if `packed-refs` lists it.
+    pub(crate) peels: Vec<Option<Peel>, A>,
 }
 
 impl<A: Allocator + Copy> Values<A> {
@@ -26,55 +46,51 @@ impl<A: Allocator + Copy> Values<A> {
         }
     }
 
-    /// Adds a ref, with the value `None` if its file is malformed or its id is all zeros. If two
-    /// refs have the same name, the ref that was added first takes precedence.
-    pub(crate) fn push(
-        &mut self,
-        name: RefName<A>,
-        value: Option<LooseRef<A>>,
-    ) -> Result<(), AllocError> {
-        self.values.push((name, value))?;
+    /// Adds a ref. If two refs have the same name, the ref that was added first takes precedence.
+    pub(crate) fn push(&mut self, value: NamedValue<A>) -> Result<(), AllocError> {
+        self.values.push(value)?;
         Ok(())
     }
 
     /// Sorts the refs by name, and keeps only the first ref of each name. A caller must call `sort`
     /// before any function except `push`.
     pub(crate) fn sort(&mut self) -> Result<(), AllocError> {
-        if self.values.is_sorted_by(|one, next| one.0 < next.0) {
+        if self.values.is_sorted_by(|one, next| one.name < next.name) {
             return Ok(());
         }
-        self.values.sort_by(|one, other| one.0.cmp(&other.0))?;
-        self.values.dedup_by(|later, earlier| later.0 == earlier.0);
+        self.values.sort_by(|one, other| one.name.cmp(&other.name))?;
+        self.values
+            .dedup_by(|later, earlier| later.name == earlier.name);
         Ok(())
     }
 
     /// Returns the refs, sorted by name.
-    pub(crate) fn as_slice(&self) -> &[(RefName<A>, Option<LooseRef<A>>)] {
+    pub(crate) fn as_slice(&self) -> &[NamedValue<A>] {
         self.values.as_slice()
     }
 
-    // Returns the value of the ref with this name, or `None` if there is no such ref.
-    fn get(&self, name: &RefName<A>) -> Option<&Option<LooseRef<A>>> {
+    // Returns the ref with this name, or `None` if there is no such ref.
+    fn get(&self, name: &RefName<A>) -> Option<&NamedValue<A>> {
         let place = self
             .values
-            .binary_search_by(|value| value.0.cmp(name))
+            .binary_search_by(|value| value.name.cmp(name))
             .ok()?;
-        Some(&self.values.get(place)?.1)
+        self.values.get(place)
     }
 
-    // Returns the id that each ref resolves to, in the order of the refs. The id is `None` for
-    // `HEAD`, and for a ref that does not resolve.
-    fn ids(&self, alloc: A) -> Result<Vec<Option<Oid>, A>, AllocError> {
-        let mut ids = Vec::with_capacity(alloc, self.values.len())?;
+    // Returns the id that each ref resolves to, and its peeled object if `packed-refs` lists it, in
+    // the order of the refs. The id is `None` for `HEAD`, and for a ref that does not resolve.
+    fn targets(&self, alloc: A) -> Result<Vec<Option<(Oid, Option<Peel>)>, A>, AllocError> {
+        let mut targets = Vec::with_capacity(alloc, self.values.len())?;
         for value in &self.values {
-            let id = if value.0.is_head() {
+            let target = if value.name.is_head() {
                 None
             } else {
-                resolve(self, &value.1)
+                resolve(self, value)
             };
-            ids.push(id)?;
+            targets.push(target)?;
         }
-        Ok(ids)
+        Ok(targets)
     }
 }
 
@@ -91,14 +107,17 @@ fn is_null<A: Allocator + Copy>(value: &LooseRef<A>) -> bool {
     }
 }
 
-// Returns the id that a ref with the value `first` resolves to, or `None` if the ref does not
-// resolve.
-fn resolve<A: Allocator + Copy>(values: &Values<A>, first: &Option<LooseRef<A>>) -> Option<Oid> {
-    let mut value = first;
+// Returns the id that the ref `first` resolves to, and its peeled object if `packed-refs` lists it.
+// Returns `None` if the ref does not resolve.
+fn resolve<A: Allocator + Copy>(
+    values: &Values<A>,
+    first: &NamedValue<A>,
+) -> Option<(Oid, Option<Peel>)> {
+    let mut at = first;
     for _ in 0..MAX_DEPTH {
-        match value {
-            Some(LooseRef::Id(id)) => return Some(*id),
-            Some(LooseRef::Symref(next)) => value = values.get(next)?,
+        match &at.value {
+            Some(LooseRef::Id(id)) => return Some((*id, at.peel)),
+            Some(LooseRef::Symref(next)) => at = values.get(next)?,
             None => return None,
         }
     }
@@ -109,15 +128,19 @@ fn resolve<A: Allocator + Copy>(values: &Values<A>, first: &Option<LooseRef<A>>)
 pub(crate) fn refs_of<A: Allocator + Copy>(
     alloc: A,
     values: Values<A>,
-) -> Result<Refs<A>, RefsFault> {
-    let ids = values.ids(alloc)?;
+) -> Result<ResolvedRefs<A>, RefsFault> {
+    let targets = values.targets(alloc)?;
     let mut refs = Refs::new(alloc);
-    for (value, id) in zip(values.values, ids) {
-        if let Some(id) = id {
-            refs.set(value.0, id)?;
+    let mut peels = Vec::with_capacity(alloc, targets.len())?;
+    for (value, target) in zip(values.values, targets) {
+        if let Some((id, peel)) = target {
+            refs.set(value.name, id)?;
+            if let Err(_) = peels.push(peel) {
+                return Err(RefsFault::Memory);
+            }
         }
     }
-    Ok(refs)
+    Ok(ResolvedRefs { refs, peels })
 }
 
 /// Returns HEAD with the last ref name in its chain of symbolic refs, or with the id of a detached
@@ -129,10 +152,15 @@ pub(crate) fn head_of<A: Allocator + Copy>(
 ) -> Result<Option<Head<A>>, AllocError> {
     let mut name = RefName::head(alloc)?;
     for _ in 0..MAX_DEPTH {
-        match values.get(&name) {
-            Some(Some(LooseRef::Symref(next))) => name = next.copy_in(alloc)?,
-            Some(Some(LooseRef::Id(id))) if name.is_head() => return Ok(Some(Head::Id(*id))),
-            None if name.is_head() => return Ok(Some(Head::None)),
+        let Some(at) = values.get(&name) else {
+            if name.is_head() {
+                return Ok(Some(Head::None));
+            }
+            break;
+        };
+        match &at.value {
+            Some(LooseRef::Symref(next)) => name = next.copy_in(alloc)?,
+            Some(LooseRef::Id(id)) if name.is_head() => return Ok(Some(Head::Id(*id))),
             _ => break,
         }
     }

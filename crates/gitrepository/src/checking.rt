@@ -5,18 +5,15 @@ ghost use Rattle.gcomplete.specs.Batches.{KeepsTypes};
 ghost use Rattle.gcomplete.specs.Judging.{IsKept};
 ghost use Rattle.gitrepository.specs.Checking.{AreRefsKept, IsChecked, IsHeadKept};
 
-use crate::fault::{CheckFault, ObjectCause, RepositoryFault};
-use gcomplete::{Batch, BatchFault, ClosedStore, JudgeFault, ObjectSource, read_reachable};
+use crate::fault::{CheckFault, RepositoryFault};
+use crate::source::{MAX_NAMED, Source, fault_of_batch, fault_of_judge};
+use gcomplete::{Batch, ClosedStore, read_reachable};
 use ggraph::{Head, Refs};
-use gitobject::ObjectType;
 use gitobjects::{ObjectFiles, ObjectReader};
 use gitrefs::GitDirectory;
 use gname::{Oid, RefName};
 use std::alloc::Allocator;
 use std::fs::Files;
-
-// The maximum number of ids that the objects may name. Memory ends sooner.
-const MAX_NAMED: usize = 4_294_967_295;
 
 /// The numbers of refs and objects in a checked repository.
 #[derive(Clone, Copy, Debug, PartialEq, Eq, Drop)]
@@ -27,18 +24,6 @@ pub struct Checked {
     pub nodes: usize,
     /// The number of all objects that the refs and HEAD reach.
     pub objects: usize,
-}
-
-// The objects that a reader reads.
-#[derive(Drop)]
-struct Source<'r, 'f, F: ObjectFiles, A: Allocator + Copy> {
-    reader: &'r mut ObjectReader<'f, F, A>,
-}
-
-impl<'r, 'f, F: ObjectFiles, A: Allocator + Copy> Source<'r, 'f, F, A> {
-    fn new(reader: &'r mut ObjectReader<'f, F, A>) -> Source<'r, 'f, F, A> {
-        Source { reader }
-    }
 }
 
 /// Checks that the refs and HEAD of a Git directory reach no missing object. The id of each object
@@ -90,7 +75,7 @@ pub fn check_refs<F: ObjectFiles, A: Allocator + Copy>(
             nodes: store.commits_and_tags(),
             objects: store.len(),
         }),
-        Err(fault) => Err(CheckFault::Repository(of_batch(&fault))),
+        Err(fault) => Err(CheckFault::Repository(fault_of_batch(&fault))),
     }
 }
 
@@ -105,7 +90,7 @@ fn read_refs<F: ObjectFiles, A: Allocator + Copy>(
 {
     for pair in refs {
         if let Err(fault) = read_reachable(source, batch, &pair.1, MAX_NAMED) {
-            return Err(CheckFault::of_ref(alloc, &pair.0, of_judge(fault)));
+            return Err(CheckFault::of_ref(alloc, &pair.0, fault_of_judge(fault)));
         }
     }
     Ok(())
@@ -124,45 +109,8 @@ fn read_head<F: ObjectFiles, A: Allocator + Copy>(
     match head {
         Head::Id(id) => match read_reachable(source, batch, id, MAX_NAMED) {
             Ok(()) => Ok(()),
-            Err(fault) => Err(CheckFault::of_head(alloc, of_judge(fault))),
+            Err(fault) => Err(CheckFault::of_head(alloc, fault_of_judge(fault))),
         },
         Head::None | Head::Symref(_) => Ok(()),
-    }
-}
-
-impl<F: ObjectFiles, A: Allocator + Copy> ObjectSource<A> for Source<'_, '_, F, A> {
-    type Fault = RepositoryFault<A>;
-
-    fn read_object(&mut self, id: &Oid) -> Result<(ObjectType, Vec<u8, A>), RepositoryFault<A>> {
-        match self.reader.read_checked(id) {
-            Ok(object) => Ok((object.kind, object.body)),
-            Err(fault) => Err(RepositoryFault::from(fault)),
-        }
-    }
-}
-
-// Converts the fault of reading what a ref reaches.
-fn of_judge<A: Allocator + Copy>(fault: JudgeFault<RepositoryFault<A>>) -> RepositoryFault<A> {
-    match fault {
-        JudgeFault::Source {
-            by: Some(by),
-            fault: RepositoryFault::Store(fault),
-            ..
-        } => RepositoryFault::Named { by, fault },
-        JudgeFault::Source { fault, .. } => fault,
-        JudgeFault::Batch(fault) => of_batch(&fault),
-        JudgeFault::TooMany => RepositoryFault::Memory,
-    }
-}
-
-// Converts the fault of an object.
-fn of_batch<A: Allocator + Copy>(fault: &BatchFault) -> RepositoryFault<A> {
-    match fault {
-        BatchFault::Malformed { id } => RepositoryFault::object_fault(id, ObjectCause::Malformed),
-        BatchFault::Collision { id } => RepositoryFault::object_fault(id, ObjectCause::Type),
-        BatchFault::Clash { link, .. } | BatchFault::Missing { link, .. } => {
-            RepositoryFault::object_fault(&link.id, ObjectCause::Type)
-        }
-        BatchFault::Memory => RepositoryFault::Memory,
     }
 }

@@ -8,6 +8,7 @@ ghost use Rattle.gitrepository.specs.Received.{AreLinked};
 use crate::arrival::{Arrival, Inspector};
 use crate::fault::RepositoryFault;
 use crate::limits::PACK_LIMITS;
+use crate::prerequisites::check_trees;
 use crate::tips::Tips;
 use ggraph::Entry;
 use gitobject::Link;
@@ -83,8 +84,9 @@ impl<S: Spool + Drop, A: Allocator + Copy> StoreFeed<S, A> {
         feed_pack(&mut self.pack, piece, &mut inspector)
     }
 
-    /// Indexes the complete pack, and checks that the objects named by its objects exist. Returns
-    /// the received pack and its graph entries.
+    /// Indexes the complete pack, and checks that the objects named by its objects exist. If such
+    /// an object is a tree of the store, everything that it reaches must exist, too. Returns the
+    /// received pack and its graph entries.
     pub(crate) fn finish<F: ObjectFiles>(
         self,
         reader: &mut ObjectReader<'_, F, A>,
@@ -99,6 +101,7 @@ impl<S: Spool + Drop, A: Allocator + Copy> StoreFeed<S, A> {
             finish_pack(pack, &mut inspector)?
         };
         let (entries, prerequisites) = arrival.into_parts(reader, &index)?;
+        check_trees(reader, prerequisites.as_slice())?;
         let received = Received {
             pack,
             index,

@@ -4,7 +4,7 @@ use crate::fates::{Fate, Fates};
 use crate::fault::{ObjectCause, RepositoryFault};
 use crate::path_hash::PathHash;
 use ggraph::Entry;
-use gitobject::{Link, ObjectFault, ObjectType, commit_links, split_entry, tag_link};
+use gitobject::{Link, ObjectFault, ObjectType, commit_links, split_entry};
 use gitobjects::{Found, Object, ObjectFiles, ObjectReader, StoreFault};
 use gname::Oid;
 use std::alloc::Allocator;
@@ -16,7 +16,7 @@ pub(crate) fn gather<F: ObjectFiles, A: Allocator + Copy>(
     reader: &mut ObjectReader<'_, F, A>,
     entries: &[Entry<A>],
 ) -> Result<Fates<A>, RepositoryFault<A>> {
-    let mut gathering = Gathering::new(reader, false);
+    let mut gathering = Gathering::new(reader);
     gathering.send_all(entries)?;
     gathering.leave_out_parents(entries)?;
     gathering.send_trees(entries)?;
@@ -37,24 +37,17 @@ pub(crate) struct Gathering<'r, 'f, F: ObjectFiles, A: Allocator + Copy> {
     alloc: A,
     pub(crate) reader: &'r mut ObjectReader<'f, F, A>,
     fates: Fates<A>,
-    // Whether to read each object and check its id and type.
-    is_strict: bool,
 }
 
 impl<'r, 'f, F: ObjectFiles, A: Allocator + Copy> Gathering<'r, 'f, F, A> {
-    /// Returns a `Gathering` in which no fate is decided. If `is_strict` is set, the id and
-    /// the type of each object are checked.
-    pub(crate) fn new(
-        reader: &'r mut ObjectReader<'f, F, A>,
-        is_strict: bool,
-    ) -> Gathering<'r, 'f, F, A> {
+    /// Returns a `Gathering` in which no fate is decided.
+    pub(crate) fn new(reader: &'r mut ObjectReader<'f, F, A>) -> Gathering<'r, 'f, F, A> {
         let alloc = reader.store().allocator();
         let fates = Fates::new(alloc);
         Gathering {
             alloc,
             reader,
             fates,
-            is_strict,
         }
     }
 
@@ -132,7 +125,7 @@ impl<'r, 'f, F: ObjectFiles, A: Allocator + Copy> Gathering<'r, 'f, F, A> {
     // Decides the fates of all objects that a tree, or the tree of a commit, reaches. Skips the
     // object that a tag names, because the caller adds that object separately.
     fn walk_from(&mut self, id: &Oid, fate: Fate) -> Result<(), RepositoryFault<A>> {
-        let object = self.read_object(id)?;
+        let object = self.reader.read(id)?;
         let body = object.body.as_slice();
         let mut trees = Vec::new(self.alloc);
         match object.kind {
@@ -141,30 +134,9 @@ impl<'r, 'f, F: ObjectFiles, A: Allocator + Copy> Gathering<'r, 'f, F, A> {
                 self.settle_link(tree, fate, &mut trees)?;
             }
             ObjectType::Tree => self.walk_entries(id, body, fate, &mut trees)?,
-            ObjectType::Tag => self.check_tag(id, body)?,
-            ObjectType::Blob => {}
+            ObjectType::Tag | ObjectType::Blob => {}
         }
         self.walk_trees(trees)
-    }
-
-    // Checks the id and the type of the object that a tag names, if `is_strict` is set.
-    fn check_tag(&mut self, id: &Oid, body: &[u8]) -> Result<(), RepositoryFault<A>> {
-        if !self.is_strict {
-            return Ok(());
-        }
-        match tag_link(body) {
-            Some(link) => self.check_object(link),
-            None => Err(RepositoryFault::object_fault(id, ObjectCause::Malformed)),
-        }
-    }
-
-    // Checks the id and the type of a named object.
-    fn check_object(&mut self, link: Link) -> Result<(), RepositoryFault<A>> {
-        if self.reader.read_checked(&link.id)?.kind == link.kind {
-            Ok(())
-        } else {
-            Err(RepositoryFault::object_fault(&link.id, ObjectCause::Type))
-        }
     }
 
     // Returns the id and the type of the tree that a commit names.
@@ -192,22 +164,11 @@ impl<'r, 'f, F: ObjectFiles, A: Allocator + Copy> Gathering<'r, 'f, F, A> {
         Ok(())
     }
 
-    fn read_object(&mut self, id: &Oid) -> Result<Object<A>, RepositoryFault<A>> {
-        if self.is_strict {
-            Ok(self.reader.read_checked(id)?)
-        } else {
-            Ok(self.reader.read(id)?)
-        }
-    }
-
     // Reads the object at this location.
     fn read_found(&mut self, id: &Oid, found: Found) -> Result<Object<A>, RepositoryFault<A>> {
-        if self.is_strict {
-            return self.read_object(id);
-        }
         match self.reader.read_found(id, found)? {
             Some(object) => Ok(object),
-            None => self.read_object(id),
+            None => Ok(self.reader.read(id)?),
         }
     }
 
@@ -261,10 +222,6 @@ impl<'r, 'f, F: ObjectFiles, A: Allocator + Copy> Gathering<'r, 'f, F, A> {
                 found,
                 fate,
             })?;
-            return Ok(());
-        }
-        if self.is_strict {
-            return self.check_object(link);
         }
         Ok(())
     }

@@ -4,9 +4,10 @@
 ghost use Rattle.gitrepository.specs.Laws.{PacksKeepClosed};
 
 /// Proves that a closed store that has the prerequisites of a received pack stays closed when the
-/// objects of the pack are added. There are two exceptions: two objects of the pack have the same
-/// id and different types, or an object of the pack has the same id as a different object of the
-/// store. A store is closed if the links of all its objects lead to objects of the store.
+/// objects of the pack are added. There are two exceptions. Two objects of the pack may have the
+/// same id and different types. An object of the pack may also have the same id as a different
+/// object of the store. A store is closed if the links of all its objects lead to objects of the
+/// store.
 pub fn packs_keep_closed()
     ensures { PacksKeepClosed }
 {}

@@ -4,9 +4,10 @@ ghost use Rattle.std.specs.Prelude.{◌↔◌, IsTrue};
 ghost use Rattle.gitrepository.specs.Entries.{IsLeafType};
 
 use crate::fault::{ObjectCause, RepositoryFault};
-use crate::gather::Gathering;
 use crate::nodes::leaf;
+use crate::source::{MAX_NAMED, Source, fault_of_judge};
 use crate::tips::Tips;
+use gcomplete::judge;
 use ggraph::{Entry, Graph};
 use gitobject::ObjectType;
 use gitobjects::{ObjectFiles, ObjectReader, StoreFault};
@@ -17,8 +18,9 @@ use std::alloc::Allocator;
 /// only if the store has everything that the object reaches. In the graph, trees and blobs count
 /// as commits without parents, which are always connected. A client requests no connected objects.
 ///
-/// Fails with `Store` if an object cannot be read, with `Objects` if the graph is full, or with
-/// `Memory` if out of memory. After a fault, some objects may have been added.
+/// Fails with `Store` or `Named` if an object cannot be read, or with `Object` if an object is
+/// malformed or has another type. Fails with `Objects` if the graph is full, or with `Memory` if out
+/// of memory. After a fault, some objects may have been added.
 pub fn add_leaves<F: ObjectFiles, A: Allocator + Copy>(
     reader: &mut ObjectReader<'_, F, A>,
     graph: &mut Graph<A>,
@@ -49,11 +51,18 @@ fn is_complete<F: ObjectFiles, A: Allocator + Copy>(
     reader: &mut ObjectReader<'_, F, A>,
     id: &Oid,
 ) -> Result<bool, RepositoryFault<A>> {
-    let mut gathering = Gathering::new(reader, true);
-    match gathering.send(id) {
-        Ok(()) => Ok(true),
-        Err(RepositoryFault::Store(StoreFault::Missing(_))) => Ok(false),
-        Err(fault) => Err(fault),
+    let alloc = reader.store().allocator();
+    let mut source = Source::new(reader);
+    let Err(fault) = judge(alloc, &mut source, &[*id], MAX_NAMED) else {
+        return Ok(true);
+    };
+    match fault_of_judge(fault) {
+        RepositoryFault::Store(StoreFault::Missing(_)) => Ok(false),
+        RepositoryFault::Named {
+            fault: StoreFault::Missing(_),
+            ..
+        } => Ok(false),
+        fault => Err(fault),
     }
 }
 

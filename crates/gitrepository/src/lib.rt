@@ -61,8 +61,8 @@
 //! # Differences from Git
 //!
 //! - A tree or blob that a ref or tag points to counts as a commit without parents.
-//! - A ref whose object is missing is not part of the repository. Git also leaves the ref out, and
-//!   prints a warning. If HEAD points to a missing object, the repository is refused.
+//! - [`open_repository`] and [`open_refs`] leave out a ref whose object is missing. [`open_tips`]
+//!   may return such a ref. If HEAD points to a missing object, the repository is refused.
 //! - The packer packs a list of commits and tags. If a parent of a listed commit is not in the
 //!   list, the packer assumes that the client has the parent. It also assumes that the client has
 //!   everything that the tree of the parent reaches.
@@ -81,7 +81,8 @@
 //! - A multi-pack index, bitmaps, grafts and replace refs are not read. A shallow repository, a
 //!   partial clone, SHA-256 ids, a reftable and an unknown extension are refused.
 //! - When a pack is received, each object that the pack's objects name must exist. If a named
-//!   object is only in the store, the objects that it names are not looked up.
+//!   object is a tree of the store, everything that the tree reaches must exist. Git does not look
+//!   up what is reachable from refs.
 //!
 //! # What the contracts do not rule out
 //!
@@ -179,7 +180,9 @@ mod outgoing;
 mod packer;
 mod parts;
 mod path_hash;
+mod prerequisites;
 mod ref_tips;
+mod source;
 mod spools;
 mod stored_folder;
 mod stored_spool;
@@ -199,7 +202,6 @@ pub use crate::indexer::StoreIndexer;
 pub use crate::install::{install_files, install_pack};
 pub use crate::kept::KeptPack;
 pub use crate::leaves::add_leaves;
-pub use crate::linking::TypeStore;
 pub use crate::memory_folder::{MemoryFolder, PackFile};
 pub use crate::new_repository::NewRepository;
 pub use crate::newest::lead_with_newest;

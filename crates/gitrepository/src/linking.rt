@@ -19,7 +19,7 @@ use gname::Oid;
 use std::alloc::Allocator;
 
 /// A store that returns the types of its objects.
-pub trait TypeStore<A: Allocator + Copy> {
+pub(crate) trait TypeStore<A: Allocator + Copy> {
     // The links that lead to an object of the store, which has the type of the link.
     ghost has: { Link → Type 0 };
 

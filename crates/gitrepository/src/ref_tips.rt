@@ -6,12 +6,13 @@ ghost use Rattle.gitrepository.specs.Repositories.{AreHeld};
 use crate::fault::RepositoryFault;
 use crate::nodes::leaf;
 use crate::opening::held_refs;
-use ggraph::{Entry, Graph, GraphFault, Head, Kind, Node, Parents, Refs, Repository};
+use ggraph::{Entry, Graph, GraphFault, Head, Kind, Node, Parents, Repository};
 use gitobject::{ObjectType, tag_link};
 use gitobjects::{ObjectFiles, QuickReader};
-use gitrefs::{PackedPeels, Peel};
+use gitrefs::{Peel, PeeledRefs};
 use gname::Oid;
 use std::alloc::{AllocError, Allocator};
+use std::iter::zip;
 
 // The maximum length of a chain of tags.
 const MAX_TAGS: usize = 64;
@@ -28,123 +29,115 @@ struct Tag {
 /// needs nothing more. If `packed-refs` lists a peeled object for a tag, the tag counts as pointing
 /// directly to that object.
 ///
-/// Returns `None` if an object is missing or unreadable, if there are too many objects, or if
-/// `packed-refs` contradicts itself or a tag that was read. The caller must then call
-/// [`crate::open_repository`] or [`crate::open_refs`]. Fails only if out of memory.
+/// Looks up only the objects whose peeled objects `packed-refs` does not list. All other objects
+/// may be missing. [`crate::open_refs`] looks up every object.
+///
+/// Returns `None` if an object that is looked up is missing or unreadable, or if there are too many
+/// objects. Returns `None` also if `packed-refs` contradicts itself, or a tag that was read. The
+/// caller must then call [`crate::open_repository`] or [`crate::open_refs`]. Fails for the same
+/// reasons as [`QuickReader::open`], or if out of memory.
 pub fn open_tips<F: ObjectFiles, A: Allocator + Copy>(
-    reader: &mut QuickReader<'_, F, A>,
-    peels: &PackedPeels<A>,
-    listed: &Refs<A>,
-    head: &Head<A>,
+    files: &F,
+    alloc: A,
+    git_dir: &str,
+    listed: &PeeledRefs<A>,
 ) -> Result<Option<Repository<A>>, RepositoryFault<A>>
     ensures { IfOk result (λ found. IfSome found (λ repository.
         AreHeld repository.graph repository.refs)) }
 {
-    let alloc = reader.allocator();
-    let peels = held_peels(reader, peels)?;
-    let mut graph = Graph::new(alloc);
-    graph.make_room(peels.prefixes.len());
-    for pair in listed.as_slice() {
-        if !add_tip(&mut graph, reader, &peels, &pair.1)? {
-            return Ok(None);
-        }
-    }
-    if let Head::Id(id) = head {
-        if !add_tip(&mut graph, reader, &peels, id)? {
-            return Ok(None);
-        }
-    }
-    let refs = held_refs(alloc, &graph, listed)?;
-    let head = head.copy_in(alloc)?;
+    let Some(graph) = graph_of_tips(files, alloc, git_dir, listed)? else {
+        return Ok(None);
+    };
+    let refs = held_refs(alloc, &graph, &listed.refs)?;
+    let head = listed.head.copy_in(alloc)?;
     Ok(Some(Repository { graph, refs, head }))
 }
 
-// The peeled ids that `packed-refs` lists for objects in the store, sorted by the first eight bytes
-// of the object's id.
-#[derive(Drop)]
-struct HeldPeels<A: Allocator + Copy> {
-    peels: Vec<(Oid, Peel), A>,
-    // The first eight bytes of each object's id as a number, in the order of `peels`.
-    prefixes: Vec<u64, A>,
-}
-
-impl<A: Allocator + Copy> HeldPeels<A> {
-    // Returns the peeled id of the object with this id, or `None` if the list lacks the object. The
-    // search can also miss an object if two ids begin with the same eight bytes. The caller then
-    // reads the object.
-    fn get(&self, id: &Oid) -> Option<Peel> {
-        let place = self.prefixes.binary_search(&prefix_of(id)).ok()?;
-        match self.peels.get(place) {
-            Some(pair) if pair.0 == *id => Some(pair.1),
-            _ => None,
+// Returns the graph of the objects that refs and HEAD point to. Opens the objects of the Git
+// directory only if an object must be looked up.
+fn graph_of_tips<F: ObjectFiles, A: Allocator + Copy>(
+    files: &F,
+    alloc: A,
+    git_dir: &str,
+    listed: &PeeledRefs<A>,
+) -> Result<Option<Graph<A>>, RepositoryFault<A>> {
+    let mut graph = Graph::new(alloc);
+    graph.make_room(listed.refs.len());
+    if !add_peeled(&mut graph, listed)? {
+        return Ok(None);
+    }
+    let unpeeled = unpeeled_ids(alloc, listed)?;
+    if unpeeled.is_empty() {
+        return Ok(Some(graph));
+    }
+    let mut reader = QuickReader::open(files, alloc, git_dir)?;
+    for id in &unpeeled {
+        if !add_read(&mut graph, &mut reader, id)? {
+            return Ok(None);
         }
     }
-
-    // Returns whether the list has the object with this id.
-    fn has(&self, id: &Oid) -> bool {
-        self.get(id).is_some()
-    }
+    Ok(Some(graph))
 }
 
-// Returns those entries of `peels` whose objects are in the store. Looks up the objects in the
-// order of their ids, so that each part of a pack index is read once.
-fn held_peels<F: ObjectFiles, A: Allocator + Copy>(
-    reader: &mut QuickReader<'_, F, A>,
-    peels: &PackedPeels<A>,
-) -> Result<HeldPeels<A>, AllocError> {
-    let alloc = reader.allocator();
-    let listed = peels.as_slice();
-    let mut peels = Vec::with_capacity(alloc, listed.len())?;
-    for pair in listed {
-        if reader.holds(&pair.0)? {
-            peels.push(*pair)?;
-        }
-    }
-    let prefixes = peels.iter().map(|pair| prefix_of(&pair.0)).collect(alloc)?;
-    Ok(HeldPeels { peels, prefixes })
-}
-
-// Returns the first eight bytes of an id as a big-endian number. Numbers are compared faster than
-// ids.
-fn prefix_of(id: &Oid) -> u64 {
-    match id.as_bytes().first_chunk::<8>() {
-        Some(prefix) => u64::from_be_bytes(*prefix),
-        None => 0,
-    }
-}
-
-// Adds the object with this id, and its peeled object. Returns `false` if an object is missing or
-// malformed, or cannot be added.
-fn add_tip<F: ObjectFiles, A: Allocator + Copy>(
+// Adds the objects whose peeled objects `packed-refs` lists. Returns `false` if an object cannot be
+// added.
+fn add_peeled<A: Allocator + Copy>(
     graph: &mut Graph<A>,
-    reader: &mut QuickReader<'_, F, A>,
-    peels: &HeldPeels<A>,
-    id: &Oid,
+    listed: &PeeledRefs<A>,
 ) -> Result<bool, RepositoryFault<A>> {
-    let Some(peel) = peels.get(id) else {
-        return add_read(graph, reader, id);
-    };
-    match peel_target(&peel) {
-        None => add_leaf(graph, id),
-        Some(target) => {
-            if graph.contains(id) {
-                return Ok(true);
+    for (pair, peel) in zip(listed.refs.as_slice(), listed.peels.as_slice()) {
+        if let Some(peel) = peel {
+            if !add_tip(graph, &pair.1, peel)? {
+                return Ok(false);
             }
-            if !peels.has(&target) {
-                return add_read(graph, reader, id);
-            }
-            let tag = Tag { id: *id, target };
-            Ok(add_leaf(graph, &target)? && add_tag(graph, tag)?)
+        }
+    }
+    Ok(true)
+}
+
+// Returns the ids that a detached HEAD and refs point to, and whose peeled objects `packed-refs`
+// does not list.
+fn unpeeled_ids<A: Allocator + Copy>(
+    alloc: A,
+    listed: &PeeledRefs<A>,
+) -> Result<Vec<Oid, A>, AllocError> {
+    let mut ids = Vec::new(alloc);
+    for (pair, peel) in zip(listed.refs.as_slice(), listed.peels.as_slice()) {
+        if peel.is_none() {
+            ids.push(pair.1)?;
+        }
+    }
+    if let Head::Id(id) = &listed.head {
+        ids.push(*id)?;
+    }
+    Ok(ids)
+}
+
+// Adds the object with this id, and its peeled object. Returns `false` if an object cannot be
+// added, or if the graph has the object with another peeled object. An id of zeros is no peeled
+// object.
+fn add_tip<A: Allocator + Copy>(
+    graph: &mut Graph<A>,
+    id: &Oid,
+    peel: &Peel,
+) -> Result<bool, RepositoryFault<A>> {
+    match peel {
+        Peel::Itself => add_leaf(graph, id),
+        Peel::To(target) if is_zero(target) => Ok(false),
+        Peel::To(target) if graph.contains(id) => Ok(graph.peel(id) == Some(*target)),
+        Peel::To(target) => {
+            let tag = Tag {
+                id: *id,
+                target: *target,
+            };
+            Ok(add_leaf(graph, target)? && add_tag(graph, tag)?)
         }
     }
 }
 
-// Returns the id of a tag's peeled object, or `None` if the object with this `Peel` is not a tag.
-fn peel_target(peel: &Peel) -> Option<Oid> {
-    match peel {
-        Peel::Itself => None,
-        Peel::To(target) => Some(*target),
-    }
+// Returns whether all bytes of an id are zero.
+fn is_zero(id: &Oid) -> bool {
+    id.as_bytes().iter().all(|byte| *byte == 0)
 }
 
 // Adds an object, the tags that it leads to, and its peeled object. Looks up the type of each of

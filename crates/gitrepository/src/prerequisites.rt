@@ -1,0 +1,28 @@
+//! The objects of the store that the objects of a received pack name.
+
+use crate::fault::RepositoryFault;
+use crate::gather::Gathering;
+use gitobject::{Link, ObjectType};
+use gitobjects::{ObjectFiles, ObjectReader};
+use std::alloc::Allocator;
+
+/// Checks that the store has everything that the trees among these prerequisites reach. The store
+/// may have trees that no ref reaches, such as those of a killed fetch. Objects that they name may
+/// be missing.
+///
+/// Commits and tags are not checked, because the session looks up their history in its graph.
+///
+/// Fails at the first missing object or malformed tree.
+pub(crate) fn check_trees<F: ObjectFiles, A: Allocator + Copy>(
+    reader: &mut ObjectReader<'_, F, A>,
+    prerequisites: &[Link],
+) -> Result<(), RepositoryFault<A>> {
+    // Nothing is sent: `send` only visits everything that a tree reaches.
+    let mut gathering = Gathering::new(reader);
+    for link in prerequisites {
+        if link.kind == ObjectType::Tree {
+            gathering.send(&link.id)?;
+        }
+    }
+    Ok(())
+}
