@@ -130,25 +130,40 @@ fn add_refs<A: Allocator + Copy>(
 }
 
 // Returns the peeled object at this position, or `None` if it is not known.
-fn known_peel(peels: &[Option<Peel>], place: usize) -> Option<Peel> {
-    *peels.get(place)?
+fn known_peel(peels: &[Option<Peel>], place: usize) -> Option<&Peel> {
+    peels.get(place)?.as_ref()
 }
 
 // Adds the object with this id, and its peeled object. Returns `false` if an object cannot be
 // added, or if the graph has the object with another peeled object. Returns `false` also if `peel`
-// is `None` and the graph lacks the object. An id of zeros is no peeled object.
+// is `None` and the graph lacks the object.
 fn add_ref<A: Allocator + Copy>(
     graph: &mut Graph<A>,
     id: &Oid,
-    peel: Option<Peel>,
+    peel: Option<&Peel>,
 ) -> Result<bool, RepositoryFault<A>>
     ensures held { IfOk result (λ is_added. IsTrue is_added → Holds graph.new.entries id.now) }
     ensures keeps { KeepsHeld graph.old.entries graph.new.entries }
 {
     match peel {
-        Some(Peel::Itself) => add_leaf(graph, id),
-        Some(Peel::To(target)) => add_peeled_tag(graph, id, target),
+        Some(peel) => add_tip(graph, id, peel),
         None => Ok(graph.contains(id)),
+    }
+}
+
+// Adds the object with this id, and its peeled object. Returns `false` if an object cannot be
+// added, or if the graph has the object with another peeled object.
+fn add_tip<A: Allocator + Copy>(
+    graph: &mut Graph<A>,
+    id: &Oid,
+    peel: &Peel,
+) -> Result<bool, RepositoryFault<A>>
+    ensures held { IfOk result (λ is_added. IsTrue is_added → Holds graph.new.entries id.now) }
+    ensures keeps { KeepsHeld graph.old.entries graph.new.entries }
+{
+    match peel {
+        Peel::Itself => add_leaf(graph, id),
+        Peel::To(target) => add_peeled_tag(graph, id, target),
     }
 }
 
@@ -157,21 +172,27 @@ fn add_ref<A: Allocator + Copy>(
 fn add_peeled_tag<A: Allocator + Copy>(
     graph: &mut Graph<A>,
     id: &Oid,
-    target: Oid,
+    target: &Oid,
 ) -> Result<bool, RepositoryFault<A>>
     ensures held { IfOk result (λ is_added. IsTrue is_added → Holds graph.new.entries id.now) }
     ensures keeps { KeepsHeld graph.old.entries graph.new.entries }
 {
-    if is_zero(&target) {
+    if is_zero(target) {
         return Ok(false);
     }
     if graph.contains(id) {
-        return Ok(graph.peel(id) == Some(target));
+        return Ok(graph.peel(id) == Some(*target));
     }
-    if !add_leaf(graph, &target)? {
+    if !add_leaf(graph, target)? {
         return Ok(false);
     }
-    add_tag(graph, Tag { id: *id, target })
+    add_tag(
+        graph,
+        Tag {
+            id: *id,
+            target: *target,
+        },
+    )
 }
 
 // Returns whether all bytes of an id are zero.
