@@ -12,7 +12,7 @@ loop-place-preserved g c =
     let P : List ℕ × List ℕ → Type 0 = λ ref. Holds new ref.1 in
     All-more P refs place c.index-refs-place.result c.loop-place-test.true
     (refs_still_held old new c.add_ref.ensures.keeps (take place refs) c.loop-place.invariant)
-    (subst P c.index-refs-place.is c.add_ref.ensures.held)
+    (subst P c.index-refs-place.is (c.in_ok-add_ref.ensures.held c.if-not-branch.false))
 
 pub returns : goal.returns
 returns g c =
