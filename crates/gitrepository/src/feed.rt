@@ -101,7 +101,7 @@ impl<S: Spool + Drop, A: Allocator + Copy> StoreFeed<S, A> {
             finish_pack(pack, &mut inspector)?
         };
         let (entries, prerequisites) = arrival.into_parts(reader, &index)?;
-        check_trees(reader, prerequisites.as_slice())?;
+        check_trees(reader, &index, prerequisites.as_slice())?;
         let received = Received {
             pack,
             index,

@@ -6,6 +6,7 @@ use crate::path_hash::PathHash;
 use ggraph::Entry;
 use gitobject::{Link, ObjectFault, ObjectType, commit_links, split_entry};
 use gitobjects::{Found, Object, ObjectFiles, ObjectReader, StoreFault};
+use gitpack::IndexedPack;
 use gname::Oid;
 use std::alloc::Allocator;
 
@@ -37,6 +38,8 @@ pub(crate) struct Gathering<'r, 'f, F: ObjectFiles, A: Allocator + Copy> {
     alloc: A,
     pub(crate) reader: &'r mut ObjectReader<'f, F, A>,
     fates: Fates<A>,
+    // A received pack, whose objects need no fate.
+    received: Option<&'r IndexedPack<A>>,
 }
 
 impl<'r, 'f, F: ObjectFiles, A: Allocator + Copy> Gathering<'r, 'f, F, A> {
@@ -48,6 +51,26 @@ impl<'r, 'f, F: ObjectFiles, A: Allocator + Copy> Gathering<'r, 'f, F, A> {
             alloc,
             reader,
             fates,
+            received: None,
+        }
+    }
+
+    /// Returns a `Gathering` in which no fate is decided. The objects of the received pack need no
+    /// fate, and the walk stops at them.
+    pub(crate) fn beside(
+        reader: &'r mut ObjectReader<'f, F, A>,
+        received: &'r IndexedPack<A>,
+    ) -> Gathering<'r, 'f, F, A> {
+        let mut gathering = Gathering::new(reader);
+        gathering.received = Some(received);
+        gathering
+    }
+
+    // Returns whether the received pack has the object with this id.
+    fn is_received(&self, id: &Oid) -> bool {
+        match self.received {
+            Some(received) => received.find(id).is_some(),
+            None => false,
         }
     }
 
@@ -109,9 +132,9 @@ impl<'r, 'f, F: ObjectFiles, A: Allocator + Copy> Gathering<'r, 'f, F, A> {
     }
 
     // Sets the fate of an undecided object, and returns its location. Returns `None` if the fate
-    // was already decided.
+    // was already decided, or if the received pack has the object.
     fn settle(&mut self, id: &Oid, fate: Fate) -> Result<Option<Found>, RepositoryFault<A>> {
-        if self.fates.of_loose(id) != Fate::Undecided {
+        if self.is_received(id) || self.fates.of_loose(id) != Fate::Undecided {
             return Ok(None);
         }
         let found = self.locate(id)?;

@@ -154,11 +154,11 @@ where
 {
     type Feed = StoreFeed<P::Spool, A>;
 
-    ghost indexes = { λ _ bytes entries. IsIndexed bytes entries };
+    ghost indexes = { λ bytes entries. IsIndexed bytes entries };
 
-    ghost index_fails = { λ _ _ _. ⊤ };
+    ghost index_fails = { λ _ _. ⊤ };
 
-    ghost fed = { λ _ feed bytes. feed ≡ bytes };
+    ghost fed = { λ feed bytes. feed ≡ bytes };
 
     fn start(&self, alloc: A) -> Result<StoreFeed<P::Spool, A>, IndexFault> {
         Ok(StoreFeed::new(alloc, self.spools.open()))

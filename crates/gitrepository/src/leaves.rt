@@ -19,8 +19,8 @@ use std::alloc::Allocator;
 /// as commits without parents, which are always connected. A client requests no connected objects.
 ///
 /// Fails with `Store` or `Named` if an object cannot be read, or with `Object` if an object is
-/// malformed or has another type. Fails with `Objects` if the graph is full, or with `Memory` if out
-/// of memory. After a fault, some objects may have been added.
+/// malformed or has another type. Fails with `Objects` if the graph is full, or with `Memory` if
+/// out of memory. After a fault, some objects may have been added.
 pub fn add_leaves<F: ObjectFiles, A: Allocator + Copy>(
     reader: &mut ObjectReader<'_, F, A>,
     graph: &mut Graph<A>,

@@ -91,8 +91,8 @@ fn is_stored<F: ObjectFiles, A: Allocator + Copy>(
     }
 }
 
-/// Returns the refs whose objects the graph holds.
-pub(crate) fn held_refs<A: Allocator + Copy>(
+// Returns the refs whose objects the graph holds.
+fn held_refs<A: Allocator + Copy>(
     alloc: A,
     graph: &Graph<A>,
     listed: &Refs<A>,

@@ -4,21 +4,24 @@ use crate::fault::RepositoryFault;
 use crate::gather::Gathering;
 use gitobject::{Link, ObjectType};
 use gitobjects::{ObjectFiles, ObjectReader};
+use gitpack::IndexedPack;
 use std::alloc::Allocator;
 
-/// Checks that the store has everything that the trees among these prerequisites reach. The store
-/// may have trees that no ref reaches, such as those of a killed fetch. Objects that they name may
-/// be missing.
+/// Checks that the store or the received pack has everything that the trees among these
+/// prerequisites reach. The links of the pack's objects were checked before. The store may have
+/// trees that no ref reaches, such as those of a killed fetch. Objects that they name may be
+/// missing.
 ///
 /// Commits and tags are not checked, because the session looks up their history in its graph.
 ///
 /// Fails at the first missing object or malformed tree.
 pub(crate) fn check_trees<F: ObjectFiles, A: Allocator + Copy>(
     reader: &mut ObjectReader<'_, F, A>,
+    received: &IndexedPack<A>,
     prerequisites: &[Link],
 ) -> Result<(), RepositoryFault<A>> {
     // Nothing is sent: `send` only visits everything that a tree reaches.
-    let mut gathering = Gathering::new(reader);
+    let mut gathering = Gathering::beside(reader, received);
     for link in prerequisites {
         if link.kind == ObjectType::Tree {
             gathering.send(&link.id)?;

@@ -1,16 +1,16 @@
 //! The objects that refs point to, without their history.
 
-ghost use Rattle.std.specs.Prelude.{IfOk, IfSome};
-ghost use Rattle.gitrepository.specs.Repositories.{AreHeld};
+ghost use Rattle.std.specs.Prelude.{IfOk, IfSome, IsTrue};
+ghost use Rattle.gdag.specs.Graphs.{Holds};
+ghost use Rattle.gitrepository.specs.Repositories.{AreHeld, KeepsHeld};
 
 use crate::fault::RepositoryFault;
 use crate::nodes::leaf;
-use crate::opening::held_refs;
 use ggraph::{Entry, Graph, GraphFault, Head, Kind, Node, Parents, Repository};
 use gitobject::{ObjectType, tag_link};
 use gitobjects::{ObjectFiles, QuickReader};
 use gitrefs::{Peel, PeeledRefs};
-use gname::Oid;
+use gname::{Oid, RefName};
 use std::alloc::{AllocError, Allocator};
 use std::iter::zip;
 
@@ -48,7 +48,7 @@ pub fn open_tips<F: ObjectFiles, A: Allocator + Copy>(
     let Some(graph) = graph_of_tips(files, alloc, git_dir, listed)? else {
         return Ok(None);
     };
-    let refs = held_refs(alloc, &graph, &listed.refs)?;
+    let refs = listed.refs.copy_in(alloc)?;
     let head = listed.head.copy_in(alloc)?;
     Ok(Some(Repository { graph, refs, head }))
 }
@@ -60,42 +60,25 @@ fn graph_of_tips<F: ObjectFiles, A: Allocator + Copy>(
     alloc: A,
     git_dir: &str,
     listed: &PeeledRefs<A>,
-) -> Result<Option<Graph<A>>, RepositoryFault<A>> {
+) -> Result<Option<Graph<A>>, RepositoryFault<A>>
+    ensures { IfOk result (λ found. IfSome found (λ graph. AreHeld graph listed.now.refs)) }
+{
     let mut graph = Graph::new(alloc);
     graph.make_room(listed.refs.len());
-    if !add_peeled(&mut graph, listed)? {
-        return Ok(None);
-    }
-    let unpeeled = unpeeled_ids(alloc, listed)?;
-    if unpeeled.is_empty() {
-        return Ok(Some(graph));
-    }
-    let mut reader = QuickReader::open(files, alloc, git_dir)?;
-    for id in &unpeeled {
-        if !add_read(&mut graph, &mut reader, id)? {
+    let ids = unpeeled_ids(alloc, listed)?;
+    if !ids.is_empty() {
+        let mut reader = QuickReader::open(files, alloc, git_dir)?;
+        if !add_unpeeled(&mut graph, &mut reader, ids.as_slice())? {
             return Ok(None);
         }
+    }
+    if !add_refs(&mut graph, listed.refs.as_slice(), listed.peels.as_slice())? {
+        return Ok(None);
     }
     Ok(Some(graph))
 }
 
-// Adds the objects whose peeled objects `packed-refs` lists. Returns `false` if an object cannot be
-// added.
-fn add_peeled<A: Allocator + Copy>(
-    graph: &mut Graph<A>,
-    listed: &PeeledRefs<A>,
-) -> Result<bool, RepositoryFault<A>> {
-    for (pair, peel) in zip(listed.refs.as_slice(), listed.peels.as_slice()) {
-        if let Some(peel) = peel {
-            if !add_tip(graph, &pair.1, peel)? {
-                return Ok(false);
-            }
-        }
-    }
-    Ok(true)
-}
-
-// Returns the ids that a detached HEAD and refs point to, and whose peeled objects `packed-refs`
+// Returns the ids that refs and a detached HEAD point to, and whose peeled objects `packed-refs`
 // does not list.
 fn unpeeled_ids<A: Allocator + Copy>(
     alloc: A,
@@ -113,26 +96,103 @@ fn unpeeled_ids<A: Allocator + Copy>(
     Ok(ids)
 }
 
+// Looks up the objects with these ids, and adds them and their peeled objects. Returns `false` if
+// an object is missing or malformed, or cannot be added.
+fn add_unpeeled<F: ObjectFiles, A: Allocator + Copy>(
+    graph: &mut Graph<A>,
+    reader: &mut QuickReader<'_, F, A>,
+    ids: &[Oid],
+) -> Result<bool, RepositoryFault<A>> {
+    for id in ids {
+        if !add_read(graph, reader, id)? {
+            return Ok(false);
+        }
+    }
+    Ok(true)
+}
+
+// Adds the objects whose peeled objects are known. `peels` has the peeled object of each ref, in
+// the order of the refs. Returns `false` if an object cannot be added, or if the graph lacks an
+// object whose peeled object is not known.
+fn add_refs<A: Allocator + Copy>(
+    graph: &mut Graph<A>,
+    refs: &[(RefName<A>, Oid)],
+    peels: &[Option<Peel>],
+) -> Result<bool, RepositoryFault<A>>
+    ensures { IfOk result (λ is_added. IsTrue is_added → AreHeld graph.new refs.now) }
+{
+    for (place, pair) in refs.iter().enumerate() {
+        if !add_ref(graph, &pair.1, known_peel(peels, place))? {
+            return Ok(false);
+        }
+    }
+    Ok(true)
+}
+
+// Returns the peeled object at this position, or `None` if it is not known.
+fn known_peel(peels: &[Option<Peel>], place: usize) -> Option<&Peel> {
+    peels.get(place)?.as_ref()
+}
+
 // Adds the object with this id, and its peeled object. Returns `false` if an object cannot be
-// added, or if the graph has the object with another peeled object. An id of zeros is no peeled
-// object.
+// added, or if the graph has the object with another peeled object. Returns `false` also if `peel`
+// is `None` and the graph lacks the object.
+fn add_ref<A: Allocator + Copy>(
+    graph: &mut Graph<A>,
+    id: &Oid,
+    peel: Option<&Peel>,
+) -> Result<bool, RepositoryFault<A>>
+    ensures held { IfOk result (λ is_added. IsTrue is_added → Holds graph.new.entries id.now) }
+    ensures keeps { KeepsHeld graph.old.entries graph.new.entries }
+{
+    match peel {
+        Some(peel) => add_tip(graph, id, peel),
+        None => Ok(graph.contains(id)),
+    }
+}
+
+// Adds the object with this id, and its peeled object. Returns `false` if an object cannot be
+// added, or if the graph has the object with another peeled object.
 fn add_tip<A: Allocator + Copy>(
     graph: &mut Graph<A>,
     id: &Oid,
     peel: &Peel,
-) -> Result<bool, RepositoryFault<A>> {
+) -> Result<bool, RepositoryFault<A>>
+    ensures held { IfOk result (λ is_added. IsTrue is_added → Holds graph.new.entries id.now) }
+    ensures keeps { KeepsHeld graph.old.entries graph.new.entries }
+{
     match peel {
         Peel::Itself => add_leaf(graph, id),
-        Peel::To(target) if is_zero(target) => Ok(false),
-        Peel::To(target) if graph.contains(id) => Ok(graph.peel(id) == Some(*target)),
-        Peel::To(target) => {
-            let tag = Tag {
-                id: *id,
-                target: *target,
-            };
-            Ok(add_leaf(graph, target)? && add_tag(graph, tag)?)
-        }
+        Peel::To(target) => add_peeled_tag(graph, id, target),
     }
+}
+
+// Adds a tag and its peeled object. Returns `false` if an object cannot be added, or if the graph
+// has the tag with another peeled object. An id of zeros is no peeled object.
+fn add_peeled_tag<A: Allocator + Copy>(
+    graph: &mut Graph<A>,
+    id: &Oid,
+    target: &Oid,
+) -> Result<bool, RepositoryFault<A>>
+    ensures held { IfOk result (λ is_added. IsTrue is_added → Holds graph.new.entries id.now) }
+    ensures keeps { KeepsHeld graph.old.entries graph.new.entries }
+{
+    if is_zero(target) {
+        return Ok(false);
+    }
+    if graph.contains(id) {
+        return Ok(graph.peel(id) == Some(*target));
+    }
+    if !add_leaf(graph, target)? {
+        return Ok(false);
+    }
+    add_tag(
+        graph,
+        Tag {
+            id: *id,
+            target: *target,
+        },
+    )
 }
 
 // Returns whether all bytes of an id are zero.
@@ -199,10 +259,10 @@ fn add_tags<A: Allocator + Copy>(
 }
 
 // Adds a tag. Returns `false` if the graph already has another node for the tag's id, or is full.
-fn add_tag<A: Allocator + Copy>(
-    graph: &mut Graph<A>,
-    tag: Tag,
-) -> Result<bool, RepositoryFault<A>> {
+fn add_tag<A: Allocator + Copy>(graph: &mut Graph<A>, tag: Tag) -> Result<bool, RepositoryFault<A>>
+    ensures held { IfOk result (λ is_added. IsTrue is_added → Holds graph.new.entries tag.id) }
+    ensures keeps { KeepsHeld graph.old.entries graph.new.entries }
+{
     let parents = Parents::from_slice(graph.allocator(), &[tag.target])?;
     let kind = Kind::Tag;
     add(graph, &tag.id, Node { kind, parents })
@@ -210,10 +270,10 @@ fn add_tag<A: Allocator + Copy>(
 
 // Adds an object that is not a tag. Returns `false` if the graph already has another node for the
 // object's id, or is full.
-fn add_leaf<A: Allocator + Copy>(
-    graph: &mut Graph<A>,
-    id: &Oid,
-) -> Result<bool, RepositoryFault<A>> {
+fn add_leaf<A: Allocator + Copy>(graph: &mut Graph<A>, id: &Oid) -> Result<bool, RepositoryFault<A>>
+    ensures held { IfOk result (λ is_added. IsTrue is_added → Holds graph.new.entries id.now) }
+    ensures keeps { KeepsHeld graph.old.entries graph.new.entries }
+{
     let node = leaf(graph.allocator());
     add(graph, id, node)
 }
@@ -222,7 +282,10 @@ fn add<A: Allocator + Copy>(
     graph: &mut Graph<A>,
     id: &Oid,
     node: Node<A>,
-) -> Result<bool, RepositoryFault<A>> {
+) -> Result<bool, RepositoryFault<A>>
+    ensures held { IfOk result (λ is_added. IsTrue is_added → Holds graph.new.entries id.now) }
+    ensures keeps { KeepsHeld graph.old.entries graph.new.entries }
+{
     match graph.insert(Entry { id: *id, node }) {
         Ok(_) => Ok(true),
         Err(GraphFault::Memory) => Err(RepositoryFault::Memory),
