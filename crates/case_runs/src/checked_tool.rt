@@ -36,11 +36,11 @@ impl<A: Allocator + Copy> Packer<A> for CheckedTool<'_, '_> {
 impl<A: Allocator + Copy> Indexer<A> for CheckedTool<'_, '_> {
     type Feed = ReceivedPack<A>;
 
-    ghost indexes = { λ _ pack list. ⊤ };
+    ghost indexes = { λ pack list. ⊤ };
 
-    ghost index_fails = { λ _ pack fault. ⊤ };
+    ghost index_fails = { λ pack fault. ⊤ };
 
-    ghost fed = { λ _ feed pack. ⊤ };
+    ghost fed = { λ feed pack. ⊤ };
 
     fn start(&self, alloc: A) -> Result<ReceivedPack<A>, IndexFault> {
         self.indexer_check.note_start();

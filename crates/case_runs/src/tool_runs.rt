@@ -10,7 +10,7 @@ use crate::report::format_report;
 use case_text::{PackTool, Program, Trouble};
 use gclient::{FetchFault, Fetched, GitFetch, PackOptions, Repo, fetch_git, fetch_over};
 use gcmd::{ProgramFault, Spec, StreamLimit, cmd_failed, finish, send_text};
-use ggraph::{Head, Indexer, SaveFault, save};
+use ggraph::{Head, Indexer, KeepsNothing, SaveFault, save};
 use gpkt::{Sink, Source};
 use gserve::{ExchangeEnd, OnePack, serve, serve_one};
 use std::alloc::Allocator;
@@ -157,7 +157,7 @@ fn fetch_over_devices<A: Allocator + Copy, K: Indexer<A>, I: Source, O: Sink>(
         ends,
         options: PackOptions::default(),
     };
-    fetch_git(repo, input, output, indexer, &fetch)
+    fetch_git(repo, input, output, &mut KeepsNothing::new(indexer), &fetch)
 }
 
 /// Prints a fault, and returns the result of the run.

@@ -35,11 +35,11 @@ impl<A: Allocator + Copy> Packer<A> for Tools {
 impl<A: Allocator + Copy> Indexer<A> for Tools {
     type Feed = ReceivedPack<A>;
 
-    ghost indexes = { λ _ pack list. ⊤ };
+    ghost indexes = { λ pack list. ⊤ };
 
-    ghost index_fails = { λ _ pack fault. ⊤ };
+    ghost index_fails = { λ pack fault. ⊤ };
 
-    ghost fed = { λ _ feed pack. ⊤ };
+    ghost fed = { λ feed pack. ⊤ };
 
     fn start(&self, alloc: A) -> Result<ReceivedPack<A>, IndexFault> {
         self.indexer().start(alloc)

@@ -268,6 +268,18 @@ module _ {A S W : Type 0} (indexes : Indexes A) (index_fails : IndexFails) (star
       kept) still
   not_closed r s a b c last new cause before next closes = absurd closes
 
+-- the end of a conversation leaves the graph unchanged
+pub closed_graph : {A : Type 0} (session : SessionState A) (old new : RepoState A) (output : Output)
+    (result : Result (Settled A) (FetchFault A)) → Closes session old output new result
+    → new.graph.entries ≡ old.graph.entries
+closed_graph {A} session old new output (Ok settled) (passes, asks, settles) =
+    ap (λ (h : History A). h.entries) settles.0.graph
+closed_graph {A} session old new output (Err (fetch.Client (client.Repo cause))) (passes, settles) =
+    ap (λ (r : RepoState A). r.graph.entries) (refusals_change_nothing.settling old new session.asks cause settles)
+closed_graph {A} session old new output (Err fetch.WriteFailed) (fails, same) =
+    ap (λ (r : RepoState A). r.graph.entries) same
+closed_graph session old new output (Err _) closes = absurd closes
+
 -- ---- the request for refs
 
 -- a conversation so far: the session and the repository have one object format, and `BeganOn` holds for the first graph

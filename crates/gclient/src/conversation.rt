@@ -8,6 +8,7 @@ ghost use Rattle.gdag.specs.Walks.{CountsReached};
 ghost use Rattle.gclientrepo.specs.Repos.{IsConnectedRepo};
 ghost use Rattle.gclientrepo.specs.Settling.{Settles};
 ghost use Rattle.gsession.specs.Bounds.{BeganOn};
+ghost use Rattle.gsession.specs.Keeping.{KeepsOn};
 ghost use Rattle.gsession.specs.Sessions.{max_specs, tips_of};
 ghost use Rattle.gsession.specs.declared.stage.Stage.TheVariants.{Fetching, Settling};
 ghost use Rattle.gclient.specs.Conversations.{FetchesOver, Start, start_for, start_of};
@@ -20,8 +21,8 @@ use crate::turn::{ask, fetch, hear};
 use gclientrepo::Repo;
 use gfetchreply::{PackLimit, StreamLimit};
 use ggrammar::Ends;
-use ggraph::Indexer;
 use ggraph::graph_laws::distinct_are_once;
+use ggraph::{Indexer, KeepingIndexer, KeepsNothing};
 use gname::RefName;
 use gpkt::laws::reads_join;
 use gpkt::{PacketBuffer, PacketReader, PacketWriter, Sink, Source};
@@ -55,7 +56,7 @@ pub fn fetch_over<S: Source, W: Sink, A: Allocator + Copy, K: Indexer<A>>(
     limit: PackLimit,
     ends: Ends,
 ) -> Result<Fetched<A>, FetchFault<A>>
-    ensures fetches { FetchesOver (K.indexes indexer.now) (K.index_fails indexer.now)
+    ensures fetches { FetchesOver K.indexes K.index_fails
         (start_of repo.old specs.now limit ends)
         (input_of S.remaining S.is_down source.old source.new)
         (output_of W.contents W.passed_on W.is_down sink.old sink.new) repo.new result }
@@ -76,19 +77,21 @@ pub fn fetch_over<S: Source, W: Sink, A: Allocator + Copy, K: Indexer<A>>(
         ends,
         options: PackOptions::default(),
     };
-    fetch_over_with(repo, source, sink, indexer, &plan)
+    fetch_over_with(repo, source, sink, &mut KeepsNothing::new(indexer), &plan)
 }
 
-/// Fetches like [`fetch_over`], with options for packs. The options contain the limits on the
-/// wants, the haves and the acknowledged ids.
-pub fn fetch_over_with<S: Source, W: Sink, A: Allocator + Copy, K: Indexer<A>>(
+/// Fetches like [`fetch_over`], with an indexer that has a store, and with options for packs. The
+/// options contain the limits on the wants, the haves and the acknowledged ids. If the indexer keeps
+/// every object of the repository before the call, it does so after the call, whatever the server
+/// sends.
+pub fn fetch_over_with<S: Source, W: Sink, A: Allocator + Copy, K: KeepingIndexer<A>>(
     repo: &mut Repo<A>,
     source: &mut S,
     sink: &mut W,
-    indexer: &K,
+    indexer: &mut K,
     plan: &FetchPlan<'_, A>,
 ) -> Result<Fetched<A>, FetchFault<A>>
-    ensures fetches { FetchesOver (K.indexes indexer.now) (K.index_fails indexer.now)
+    ensures fetches { FetchesOver K.indexes K.index_fails
         (start_for repo.old plan.now.specs.now plan.now.limit plan.now.ends plan.now.options)
         (input_of S.remaining S.is_down source.old source.new)
         (output_of W.contents W.passed_on W.is_down sink.old sink.new) repo.new result }
@@ -100,6 +103,8 @@ pub fn fetch_over_with<S: Source, W: Sink, A: Allocator + Copy, K: Indexer<A>>(
     ensures bound { IfOk result (λ fetched. (held parents : ℕ)
         → CountsReached repo.old.graph.entries (tips_of repo.old) held parents
         → fetched.requests ≤ held + 1) }
+    ensures keeps { KeepsOn (K.keeps indexer.old) (K.keeps indexer.new) repo.old.graph.entries
+        repo.new.graph.entries }
     ensures source_loans { S.loans source.new ≡ S.loans source.old }
     ensures sink_loans { W.loans sink.new ≡ W.loans sink.old }
 {
@@ -113,15 +118,15 @@ pub fn fetch_over_with<S: Source, W: Sink, A: Allocator + Copy, K: Indexer<A>>(
 
 // Fetches from the source, and sends the requests through the writer. Requires that the writer has
 // not failed.
-fn fetch_to<S: Source, W: Sink, A: Allocator + Copy, K: Indexer<A>>(
+fn fetch_to<S: Source, W: Sink, A: Allocator + Copy, K: KeepingIndexer<A>>(
     repo: &mut Repo<A>,
     source: &mut S,
     writer: &mut PacketWriter<W>,
-    indexer: &K,
+    indexer: &mut K,
     plan: &FetchPlan<'_, A>,
 ) -> Result<Fetched<A>, FetchFault<A>>
     requires { writer.old.failed ≡ false }
-    ensures fetches { FetchesOver (K.indexes indexer.now) (K.index_fails indexer.now)
+    ensures fetches { FetchesOver K.indexes K.index_fails
         (start_for repo.old plan.now.specs.now plan.now.limit plan.now.ends plan.now.options)
         (input_of S.remaining S.is_down source.old source.new)
         (output_of W.contents W.passed_on W.is_down writer.old.sink writer.new.sink) repo.new
@@ -129,6 +134,8 @@ fn fetch_to<S: Source, W: Sink, A: Allocator + Copy, K: Indexer<A>>(
     ensures bound { IfOk result (λ fetched. (held parents : ℕ)
         → CountsReached repo.old.graph.entries (tips_of repo.old) held parents
         → fetched.requests ≤ held + 1) }
+    ensures keeps { KeepsOn (K.keeps indexer.old) (K.keeps indexer.new) repo.old.graph.entries
+        repo.new.graph.entries }
     ensures source_loans { S.loans source.new ≡ S.loans source.old }
     ensures sink_loans { W.loans writer.new.sink ≡ W.loans writer.old.sink }
 {
@@ -145,18 +152,18 @@ fn fetch_to<S: Source, W: Sink, A: Allocator + Copy, K: Indexer<A>>(
 }
 
 // Holds the conversation of a session that has begun. Returns the result of the conversation.
-fn converse<S: Source, W: Sink, A: Allocator + Copy, K: Indexer<A>>(
+fn converse<S: Source, W: Sink, A: Allocator + Copy, K: KeepingIndexer<A>>(
     repo: &mut Repo<A>,
     session: &mut Session<A>,
     reader: &mut PacketReader<S, A>,
     writer: &mut PacketWriter<W>,
-    indexer: &K,
+    indexer: &mut K,
 ) -> Result<Fetched<A>, FetchFault<A>>
     requires reader { reader.old.failed ≡ false }
     requires writer { writer.old.failed ≡ false }
     requires begun { HasBegun session.old repo.old }
     requires few { length session.old.refspecs ≤ max_specs }
-    ensures fetches { FetchesOver (K.indexes indexer.now) (K.index_fails indexer.now)
+    ensures fetches { FetchesOver K.indexes K.index_fails
         (start_with session.old repo.old)
         (input_of S.remaining S.is_down reader.old.source reader.new.source)
         (output_of W.contents W.passed_on W.is_down writer.old.sink writer.new.sink) repo.new
@@ -164,6 +171,8 @@ fn converse<S: Source, W: Sink, A: Allocator + Copy, K: Indexer<A>>(
     ensures bound { IfOk result (λ fetched. (held parents : ℕ)
         → CountsReached repo.old.graph.entries (tips_of repo.old) held parents
         → fetched.requests ≤ held + 1) }
+    ensures keeps { KeepsOn (K.keeps indexer.old) (K.keeps indexer.new) repo.old.graph.entries
+        repo.new.graph.entries }
     ensures source_loans { S.loans reader.new.source ≡ S.loans reader.old.source }
     ensures sink_loans { W.loans writer.new.sink ≡ W.loans writer.old.sink }
 {
@@ -181,18 +190,18 @@ fn converse<S: Source, W: Sink, A: Allocator + Copy, K: Indexer<A>>(
 
 // Reads the advertisement, sends all requests and reads all replies. Returns the target of the
 // server's HEAD if HEAD is unborn and a refspec fetches HEAD, and `None` otherwise.
-fn talk<S: Source, W: Sink, A: Allocator + Copy, K: Indexer<A>>(
+fn talk<S: Source, W: Sink, A: Allocator + Copy, K: KeepingIndexer<A>>(
     repo: &mut Repo<A>,
     session: &mut Session<A>,
     reader: &mut PacketReader<S, A>,
     writer: &mut PacketWriter<W>,
-    indexer: &K,
+    indexer: &mut K,
 ) -> Result<Option<RefName<A>>, FetchFault<A>>
     requires reader { reader.old.failed ≡ false }
     requires writer { writer.old.failed ≡ false }
     requires begun { HasBegun session.old repo.old }
     requires few { length session.old.refspecs ≤ max_specs }
-    ensures talks { Talks (K.indexes indexer.now) (K.index_fails indexer.now)
+    ensures talks { Talks K.indexes K.index_fails
         (start_with session.old repo.old)
         (input_of S.remaining S.is_down reader.old.source reader.new.source)
         (output_of W.contents W.passed_on W.is_down writer.old.sink writer.new.sink) session.new
@@ -200,6 +209,8 @@ fn talk<S: Source, W: Sink, A: Allocator + Copy, K: Indexer<A>>(
     ensures settles_next { OnOk result (session.new.stage ≡ Settling) }
     ensures began { OnOk result (BeganOn repo.old.graph.entries session.new) }
     ensures goes_on { OnOk result (writer.new.failed ≡ false) }
+    ensures keeps { KeepsOn (K.keeps indexer.old) (K.keeps indexer.new) repo.old.graph.entries
+        repo.new.graph.entries }
     ensures source_loans { S.loans reader.new.source ≡ S.loans reader.old.source }
     ensures sink_loans { W.loans writer.new.sink ≡ W.loans writer.old.sink }
 {
@@ -220,12 +231,12 @@ fn talk<S: Source, W: Sink, A: Allocator + Copy, K: Indexer<A>>(
 // Requests objects in rounds until the server sends a pack. The caller has already begun the
 // conversation. In the contract, `source` and `sink` are the source and the sink at the beginning
 // of the conversation.
-fn fetch_all<S: Source, W: Sink, A: Allocator + Copy, K: Indexer<A>>(
+fn fetch_all<S: Source, W: Sink, A: Allocator + Copy, K: KeepingIndexer<A>>(
     repo: &mut Repo<A>,
     session: &mut Session<A>,
     reader: &mut PacketReader<S, A>,
     writer: &mut PacketWriter<W>,
-    indexer: &K,
+    indexer: &mut K,
 ) -> Result<(), FetchFault<A>>
     requires reader { reader.old.failed ≡ false }
     requires writer { writer.old.failed ≡ false }
@@ -234,17 +245,19 @@ fn fetch_all<S: Source, W: Sink, A: Allocator + Copy, K: Indexer<A>>(
     requires format { session.old.format ≡ repo.old.graph.format }
     requires began { BeganOn repo.old.graph.entries session.old }
     ensures talks { (start : Start A) (source : S) (sink : W) (unborn : Option Name)
-        → HasTalked (K.indexes indexer.now) (K.index_fails indexer.now) start
+        → HasTalked K.indexes K.index_fails start
         (input_of S.remaining S.is_down source reader.old.source)
         (output_of W.contents W.passed_on W.is_down sink writer.old.sink)
         (client_of session.old repo.old unborn)
-        → TalksTo (K.indexes indexer.now) (K.index_fails indexer.now) start
+        → TalksTo K.indexes K.index_fails start
         (input_of S.remaining S.is_down source reader.new.source)
         (output_of W.contents W.passed_on W.is_down sink writer.new.sink)
         (client_of session.new repo.new unborn) result }
     ensures settles_next { OnOk result (session.new.stage ≡ Settling) }
     ensures began { OnOk result (BeganOn repo.old.graph.entries session.new) }
     ensures goes_on { OnOk result (writer.new.failed ≡ false) }
+    ensures keeps { KeepsOn (K.keeps indexer.old) (K.keeps indexer.new) repo.old.graph.entries
+        repo.new.graph.entries }
     ensures source_loans { S.loans reader.new.source ≡ S.loans reader.old.source }
     ensures sink_loans { W.loans writer.new.sink ≡ W.loans writer.old.sink }
 {

@@ -6,6 +6,7 @@ ghost use Rattle.gdag.specs.Reach.{Grows};
 ghost use Rattle.gdag.specs.Walks.{CountsReached};
 ghost use Rattle.gclientrepo.specs.Repos.{IsConnectedRepo};
 ghost use Rattle.gclientrepo.specs.Settling.{Settles};
+ghost use Rattle.gsession.specs.Keeping.{KeepsOn};
 ghost use Rattle.gsession.specs.Sessions.{tips_of};
 ghost use Rattle.gclient.specs.Conversations.{start_for};
 ghost use Rattle.gclient.specs.GitFetches.{FetchesGit};
@@ -17,7 +18,7 @@ use crate::greeting::greet;
 use gclientrepo::Repo;
 use gfetchreply::StreamLimit;
 use ggrammar::Ends;
-use ggraph::Indexer;
+use ggraph::KeepingIndexer;
 use ghello::Hello;
 use gpkt::{Sink, Source};
 use grefs::Spec;
@@ -47,14 +48,14 @@ pub struct GitFetch<'a, A: Allocator + Copy> {
 /// Fails with `WriteFailed` (27) if the sink fails before the first line is flushed. The client
 /// then reads nothing, and the repository is unchanged. Otherwise fails like `fetch_over_with`.
 /// After every fault the refs are unchanged, and the graph has lost no objects.
-pub fn fetch_git<S: Source, W: Sink, A: Allocator + Copy, K: Indexer<A>>(
+pub fn fetch_git<S: Source, W: Sink, A: Allocator + Copy, K: KeepingIndexer<A>>(
     repo: &mut Repo<A>,
     source: &mut S,
     sink: &mut W,
-    indexer: &K,
+    indexer: &mut K,
     fetch: &GitFetch<'_, A>,
 ) -> Result<Fetched<A>, FetchFault<A>>
-    ensures fetches { FetchesGit (K.indexes indexer.now) (K.index_fails indexer.now)
+    ensures fetches { FetchesGit K.indexes K.index_fails
         (start_for repo.old fetch.now.specs.now fetch.now.limit fetch.now.ends fetch.now.options)
         fetch.now.hello.now
         (input_of S.remaining S.is_down source.old source.new)
@@ -67,6 +68,8 @@ pub fn fetch_git<S: Source, W: Sink, A: Allocator + Copy, K: Indexer<A>>(
     ensures bound { IfOk result (λ fetched. (held parents : ℕ)
         → CountsReached repo.old.graph.entries (tips_of repo.old) held parents
         → fetched.requests ≤ held + 1) }
+    ensures keeps { KeepsOn (K.keeps indexer.old) (K.keeps indexer.new) repo.old.graph.entries
+        repo.new.graph.entries }
     ensures source_loans { S.loans source.new ≡ S.loans source.old }
     ensures sink_loans { W.loans sink.new ≡ W.loans sink.old }
 {

@@ -2,24 +2,24 @@
 
 ghost use Rattle.gclient.specs.Laws.{EndsAreFew, FailingKeepsRefs, FetchingGrows, NextIsFew, RoundsAreAsked, TalksAreFew};
 
-use ggraph::Indexer;
+use ggraph::KeepingIndexer;
 use gsession::laws::{
     began_begins, began_stays_on, calls_go_on, counted_are_few, requests_are_counted,
 };
 use std::alloc::Allocator;
 
 /// Proves that a session counts as many rounds as its conversation has requests for objects.
-pub fn rounds_are_asked<A: Allocator + Copy, K: Indexer<A>>()
-    ensures { (k : K) → RoundsAreAsked (K.indexes k) (K.index_fails k) }
+pub fn rounds_are_asked<A: Allocator + Copy, K: KeepingIndexer<A>>()
+    ensures { RoundsAreAsked K.indexes K.index_fails }
 {}
 
 /// Proves that a conversation has at most N + 1 requests for objects, if the local refs reached N
 /// ids when the conversation began. The bound holds for any bytes from the server, and also for a
 /// failed conversation.
-pub fn requests_are_few<A: Allocator + Copy, K: Indexer<A>>()
-    ensures talks { (k : K) → TalksAreFew (K.indexes k) (K.index_fails k) }
-    ensures next { (k : K) → NextIsFew (K.indexes k) (K.index_fails k) }
-    ensures ends { (k : K) → EndsAreFew (K.indexes k) (K.index_fails k) }
+pub fn requests_are_few<A: Allocator + Copy, K: KeepingIndexer<A>>()
+    ensures talks { TalksAreFew K.indexes K.index_fails }
+    ensures next { NextIsFew K.indexes K.index_fails }
+    ensures ends { EndsAreFew K.indexes K.index_fails }
 {
     began_begins::<A>();
     began_stays_on::<A, K>();
@@ -30,7 +30,7 @@ pub fn requests_are_few<A: Allocator + Copy, K: Indexer<A>>()
 
 /// Proves that during a conversation, completed or failed, the graph of the repository only gains
 /// objects. A failed conversation leaves the refs unchanged.
-pub fn fetching_only_grows<A: Allocator + Copy, K: Indexer<A>>()
-    ensures grows { (k : K) → FetchingGrows (K.indexes k) (K.index_fails k) }
-    ensures refs { (k : K) → FailingKeepsRefs (K.indexes k) (K.index_fails k) }
+pub fn fetching_only_grows<A: Allocator + Copy, K: KeepingIndexer<A>>()
+    ensures grows { FetchingGrows K.indexes K.index_fails }
+    ensures refs { FailingKeepsRefs K.indexes K.index_fails }
 {}

@@ -4,6 +4,7 @@ ghost use Rattle.std.specs.Prelude.{◌≡◌, ℕ, true, false, Option, None, I
 ghost use Rattle.gname.specs.Names.{Name};
 ghost use Rattle.gpkt.specs.Sending.{input_of, output_of};
 ghost use Rattle.gclientrepo.specs.Repos.{IsConnectedRepo};
+ghost use Rattle.gsession.specs.Keeping.{KeepsOn};
 ghost use Rattle.gsession.specs.Offering.{AreOffersOf};
 ghost use Rattle.gsession.specs.Requesting.{is_due};
 ghost use Rattle.gsession.specs.Sessions.{IsBegun, IsSession};
@@ -14,7 +15,7 @@ ghost use Rattle.gclient.specs.steps.Conversations.{AsksServer, HearsServer, Tak
 use crate::fault::FetchFault;
 use crate::send::send_request;
 use gclientrepo::Repo;
-use ggraph::{Indexer, Offers};
+use ggraph::{KeepingIndexer, Offers};
 use ghello::read_advert;
 use gpkt::{PacketReader, PacketWriter, Sink, Source};
 use gsession::laws::offers_stay;
@@ -71,13 +72,13 @@ pub(crate) fn ask<W: Sink, A: Allocator + Copy>(
 }
 
 /// Sends the session's next request for objects, like [`ask`], and reads the reply.
-pub(crate) fn fetch<S: Source, W: Sink, A: Allocator + Copy, K: Indexer<A>>(
+pub(crate) fn fetch<S: Source, W: Sink, A: Allocator + Copy, K: KeepingIndexer<A>>(
     repo: &mut Repo<A>,
     session: &mut Session<A>,
     offers: &mut Option<Offers<A>>,
     reader: &mut PacketReader<S, A>,
     writer: &mut PacketWriter<W>,
-    indexer: &K,
+    indexer: &mut K,
 ) -> Result<Taken, FetchFault<A>>
     requires reader { reader.old.failed ≡ false }
     requires writer { writer.old.failed ≡ false }
@@ -86,7 +87,7 @@ pub(crate) fn fetch<S: Source, W: Sink, A: Allocator + Copy, K: Indexer<A>>(
     requires format { session.old.format ≡ repo.old.graph.format }
     requires offers { IfSome offers.old (AreOffersOf session.old repo.old.graph.entries) }
     ensures turns { (unborn : Option Name)
-        → TakesTurn (K.indexes indexer.now) (K.index_fails indexer.now)
+        → TakesTurn K.indexes K.index_fails
         (client_of session.old repo.old unborn)
         (input_of S.remaining S.is_down reader.old.source reader.new.source)
         (output_of W.contents W.passed_on W.is_down writer.old.sink writer.new.sink)
@@ -95,13 +96,15 @@ pub(crate) fn fetch<S: Source, W: Sink, A: Allocator + Copy, K: Indexer<A>>(
     ensures offers { IfOk result (λ taken. (common : ℕ) → taken ≡ Round common
         → IfSome offers.new (AreOffersOf session.new repo.old.graph.entries)) }
     ensures goes_on { OnOk result ((reader.new.failed ≡ false) × (writer.new.failed ≡ false)) }
+    ensures keeps { KeepsOn (K.keeps indexer.old) (K.keeps indexer.new) repo.old.graph.entries
+        repo.new.graph.entries }
     ensures source_loans { S.loans reader.new.source ≡ S.loans reader.old.source }
     ensures sink_loans { W.loans writer.new.sink ≡ W.loans writer.old.sink }
 {
     // Laws that the proof uses.
     offers_stay::<A, K>();
     ask(repo, session, offers, writer)?;
-    let taken = session.take_reply(repo, reader, indexer)?;
+    let taken = session.take_reply_into(repo, reader, indexer)?;
     // Laws that the proof uses.
     session.laws();
     Ok(taken)

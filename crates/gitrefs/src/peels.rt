@@ -14,7 +14,7 @@ pub enum Peel {
 
 /// Returns the peeled object of a ref in `packed-refs`. `are_peeled` is whether the header claims
 /// that the peeled id of each tag is listed. `peeled` is the peeled id that is listed for the ref.
-/// Returns `None` if the file does not tell.
+/// Returns `None` if the file does not say.
 pub(crate) fn peel_of(are_peeled: bool, peeled: Option<Oid>) -> Option<Peel> {
     match peeled {
         _ if !are_peeled => None,

@@ -31,47 +31,48 @@ pub trait Packer<A: Allocator + Copy> {
 ///
 /// The relation `indexes` states which entries the indexer may return for the bytes of a whole
 /// pack, and `index_fails` states the possible faults. The relation `fed` states which bytes may
-/// have led to a state of the indexer.
+/// have led to a state of the indexer. These relations belong to the type of the indexer, and not
+/// to its value.
 pub trait Indexer<A: Allocator + Copy> {
     /// The state of the indexer after it has received a part of a pack.
     type Feed: Drop;
 
-    ghost indexes: { Self → List ℕ → List (Entry A) → Type 0 };
+    ghost indexes: { List ℕ → List (Entry A) → Type 0 };
 
-    ghost index_fails: { Self → List ℕ → IndexFault → Type 0 };
+    ghost index_fails: { List ℕ → IndexFault → Type 0 };
 
-    ghost fed: { Self → Self.Feed → List ℕ → Type 0 };
+    ghost fed: { Self.Feed → List ℕ → Type 0 };
 
     /// Returns the state before the first piece. Fails only with a fault that `index_fails` allows
     /// for every pack.
     fn start(&self, alloc: A) -> Result<Self::Feed, IndexFault>
         ensures { MatchResult result
-            (λ feed. fed self.now feed [])
-            (λ fault. ((bytes : List ℕ) → index_fails self.now bytes fault)) };
+            (λ feed. fed feed [])
+            (λ fault. ((bytes : List ℕ) → index_fails bytes fault)) };
 
     /// Feeds the next piece of a pack. Fails only with a fault that `index_fails` allows for every
     /// pack that begins with the pieces so far, including this piece. After a fault the feed can't
     /// be used further.
     fn feed(&self, feed: &mut Self::Feed, piece: &[u8]) -> Result<(), IndexFault>
         ensures { MatchResult result
-            (λ _. ((given : List ℕ) → fed self.now feed.old given
-            → fed self.now feed.new (given ++ piece.now)))
-            (λ fault. ((given more : List ℕ) → fed self.now feed.old given
-            → index_fails self.now ((given ++ piece.now) ++ more) fault)) };
+            (λ _. ((given : List ℕ) → fed feed.old given
+            → fed feed.new (given ++ piece.now)))
+            (λ fault. ((given more : List ℕ) → fed feed.old given
+            → index_fails ((given ++ piece.now) ++ more) fault)) };
 
     /// Returns the entries of the pack whose pieces were fed, in order. Fails only with a fault
     /// that `index_fails` allows for the pack that consists of these pieces.
     fn finish(&self, feed: Self::Feed) -> Result<Vec<Entry<A>, A>, IndexFault>
         ensures { MatchResult result
-            (λ entries. ((given : List ℕ) → fed self.now feed given
-            → indexes self.now given entries.items))
-            (λ fault. ((given : List ℕ) → fed self.now feed given
-            → index_fails self.now given fault)) };
+            (λ entries. ((given : List ℕ) → fed feed given
+            → indexes given entries.items))
+            (λ fault. ((given : List ℕ) → fed feed given
+            → index_fails given fault)) };
 
     /// Returns the entries of a whole pack, in order. Fails as `start`, `feed` and `finish` do.
     fn index(&self, alloc: A, bytes: &[u8]) -> Result<Vec<Entry<A>, A>, IndexFault>
-        ensures { MatchResult result (λ entries. indexes self.now bytes.now entries.items)
-            (λ fault. index_fails self.now bytes.now fault) }
+        ensures { MatchResult result (λ entries. indexes bytes.now entries.items)
+            (λ fault. index_fails bytes.now fault) }
     {
         let mut feed = self.start(alloc)?;
         self.feed(&mut feed, bytes)?;
@@ -91,5 +92,5 @@ pub trait Faithful<A: Allocator + Copy>: Packer<A> + Indexer<A> {
     /// function does nothing at run time.
     fn loses_nothing(&self)
         ensures { LosesNothing (Self.packs self.now) (Self.pack_fails self.now)
-            (Self.indexes self.now) (Self.index_fails self.now) (image self.now) };
+            Self.indexes Self.index_fails (image self.now) };
 }

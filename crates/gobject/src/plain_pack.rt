@@ -50,11 +50,11 @@ impl<A: Allocator + Copy> Packer<A> for PlainPack {
 impl<A: Allocator + Copy> Indexer<A> for PlainPack {
     type Feed = PlainFeed<A>;
 
-    ghost indexes = { λ _ bytes list. IsPack bytes list };
+    ghost indexes = { λ bytes list. IsPack bytes list };
 
-    ghost index_fails = { λ _ bytes. IndexRefuses A bytes };
+    ghost index_fails = { λ bytes. IndexRefuses A bytes };
 
-    ghost fed = { λ _ feed bytes. Fed feed bytes };
+    ghost fed = { λ feed bytes. Fed feed bytes };
 
     fn start(&self, alloc: A) -> Result<PlainFeed<A>, IndexFault> {
         Ok(PlainFeed::new(alloc))

@@ -9,3 +9,4 @@ pub mod NextLaws
 pub mod OfferLemmas
 pub mod CallLemmas
 pub mod LawLemmas
+pub mod KeepingLemmas

@@ -6,6 +6,7 @@ pub mod TakingRefs
 pub mod TakingReplies
 pub mod SettlingRefs
 pub mod Calls
+pub mod Keeping
 pub mod Bounds
 pub mod Laws
 pub mod Faults

@@ -9,7 +9,7 @@ ghost use Rattle.gsession.specs.Sessions.{max_specs};
 
 use crate::MAX_SPECS;
 use gfetchreply::laws::reads_exactly;
-use ggraph::Indexer;
+use ggraph::KeepingIndexer;
 use ggraph::graph_laws::{
     connected_stays_connected, distinct_are_once, growing_keeps, offers_are_exact,
     reached_are_counted, reaching_goes_on,
@@ -44,17 +44,17 @@ pub fn began_stays<A: Allocator + Copy>()
 
 /// Proves that `BeganOn` still holds for a session after every call, successful or not, if the
 /// graph only gained objects.
-pub fn began_stays_on<A: Allocator + Copy, K: Indexer<A>>()
-    ensures { (k : K) → BeganStaysOn (K.indexes k) (K.index_fails k) }
+pub fn began_stays_on<A: Allocator + Copy, K: KeepingIndexer<A>>()
+    ensures { BeganStaysOn K.indexes K.index_fails }
 {
     began_stays::<A>();
 }
 
 /// Proves that the session offered each common id, and each have of the open request, in one of its
 /// batches.
-pub fn names_were_offered<A: Allocator + Copy, K: Indexer<A>>()
+pub fn names_were_offered<A: Allocator + Copy, K: KeepingIndexer<A>>()
     ensures begins { BeginsOffered A }
-    ensures stays { (k : K) → OfferedStays (K.indexes k) (K.index_fails k) }
+    ensures stays { OfferedStays K.indexes K.index_fails }
 {
     distinct_are_once();
 }
@@ -70,23 +70,23 @@ pub fn offers_are_new<A: Allocator + Copy>()
 /// Proves that a session that accepted the reply to a request with `done` can settle, and makes no
 /// more requests.
 #[tactic(auto, using(crate::proofs::LawLemmas::done_is_last))]
-pub fn done_is_last<A: Allocator + Copy, K: Indexer<A>>()
-    ensures { (k : K) → DoneIsLast (K.indexes k) (K.index_fails k) }
+pub fn done_is_last<A: Allocator + Copy, K: KeepingIndexer<A>>()
+    ensures { DoneIsLast K.indexes K.index_fails }
 {}
 
 /// Proves that no request follows a request with `done`, even if later calls fail.
 #[tactic(auto, using(crate::proofs::BoundLemmas::done_laws))]
-pub fn none_follows_done<A: Allocator + Copy, K: Indexer<A>>()
+pub fn none_follows_done<A: Allocator + Copy, K: KeepingIndexer<A>>()
     ensures last { DoneAsksLast A }
-    ensures stays { (k : K) → LastStays (K.indexes k) (K.index_fails k) }
+    ensures stays { LastStays K.indexes K.index_fails }
     ensures none { NoneFollows A }
 {}
 
 /// Proves that a session has made at most as many requests for objects as it has offered ids, or
 /// one more if it has made its last request.
-pub fn requests_are_counted<A: Allocator + Copy, K: Indexer<A>>()
+pub fn requests_are_counted<A: Allocator + Copy, K: KeepingIndexer<A>>()
     ensures begins { BeginsCounted A }
-    ensures stays { (k : K) → CountedStays (K.indexes k) (K.index_fails k) }
+    ensures stays { CountedStays K.indexes K.index_fails }
 {
     offers_are_exact::<A>();
 }
@@ -112,14 +112,14 @@ pub fn counted_are_few<A: Allocator + Copy>()
 
 /// Proves that no call changes the tips or the parameters of a session, and that every call keeps
 /// all offered ids.
-pub fn calls_go_on<A: Allocator + Copy, K: Indexer<A>>()
-    ensures { (k : K) → EachGoesOn (K.indexes k) (K.index_fails k) }
+pub fn calls_go_on<A: Allocator + Copy, K: KeepingIndexer<A>>()
+    ensures { EachGoesOn K.indexes K.index_fails }
 {}
 
 /// Proves that every call has one of the effects that `Does` lists, for example a new request or
 /// the end of the session.
-pub fn calls_do<A: Allocator + Copy, K: Indexer<A>>()
-    ensures { (k : K) → EachDoes (K.indexes k) (K.index_fails k) }
+pub fn calls_do<A: Allocator + Copy, K: KeepingIndexer<A>>()
+    ensures { EachDoes K.indexes K.index_fails }
 {}
 
 /// Proves that an open request for objects has the session's wants, and that its haves include each
@@ -177,17 +177,17 @@ pub fn haves_are_held<A: Allocator + Copy>()
 }
 
 /// Proves that the walk that selects haves remains valid after a reply with only acknowledgments.
-pub fn offers_stay<A: Allocator + Copy, K: Indexer<A>>()
-    ensures { (k : K) → OffersStay (K.indexes k) (K.index_fails k) }
+pub fn offers_stay<A: Allocator + Copy, K: KeepingIndexer<A>>()
+    ensures { OffersStay K.indexes K.index_fails }
 {
     distinct_are_once();
 }
 
 /// Proves that the common ids after a reply are the old common ids and the acknowledged ids. After
 /// every call, each common id was common before the call, or was a have of the open request.
-pub fn commons_are_haves<A: Allocator + Copy, K: Indexer<A>>()
-    ensures replies { (k : K) → RepliesAddCommons (K.indexes k) (K.index_fails k) }
-    ensures calls { (k : K) → CommonsAreHaves (K.indexes k) (K.index_fails k) }
+pub fn commons_are_haves<A: Allocator + Copy, K: KeepingIndexer<A>>()
+    ensures replies { RepliesAddCommons K.indexes K.index_fails }
+    ensures calls { CommonsAreHaves K.indexes K.index_fails }
 {
     distinct_are_once();
 }
@@ -195,15 +195,15 @@ pub fn commons_are_haves<A: Allocator + Copy, K: Indexer<A>>()
 /// Proves that a reply, accepted or rejected, only adds objects to the graph, and leaves refs and
 /// marks unchanged.
 #[tactic(auto, using(crate::proofs::LawLemmas::taking_only_grows))]
-pub fn taking_only_grows<A: Allocator + Copy, K: Indexer<A>>()
-    ensures { (k : K) → TakingOnlyGrows (K.indexes k) (K.index_fails k) }
+pub fn taking_only_grows<A: Allocator + Copy, K: KeepingIndexer<A>>()
+    ensures { TakingOnlyGrows K.indexes K.index_fails }
 {}
 
 /// Proves that the bytes of a fetch reply, and the result of reading the reply, determine the next
 /// state of the session. This state does not depend on the objects that the indexer returns.
 #[tactic(auto, using(crate::proofs::LawLemmas::taking_is_decided))]
-pub fn taking_is_decided<A: Allocator + Copy, K: Indexer<A>>()
-    ensures { (k : K) → TakingIsDecided (K.indexes k) (K.index_fails k) }
+pub fn taking_is_decided<A: Allocator + Copy, K: KeepingIndexer<A>>()
+    ensures { TakingIsDecided K.indexes K.index_fails }
 {
     reads_exactly();
 }
@@ -220,10 +220,10 @@ pub fn listing_is_decided<A: Allocator + Copy>()
 /// Proves that each call of a session that is over fails with `NoOpenRequest`, reads nothing and
 /// changes nothing.
 #[tactic(auto, using(crate::proofs::LawLemmas::over_laws))]
-pub fn over_refuses<A: Allocator + Copy, K: Indexer<A>>()
+pub fn over_refuses<A: Allocator + Copy, K: KeepingIndexer<A>>()
     ensures hear { OverHearsNone A }
     ensures request { OverRequestsNone A }
     ensures take_ls { OverTakesNoRefs A }
-    ensures take_reply { (k : K) → OverTakesNoReply (K.indexes k) (K.index_fails k) }
+    ensures take_reply { OverTakesNoReply K.indexes K.index_fails }
     ensures settle { OverSettlesNone A }
 {}

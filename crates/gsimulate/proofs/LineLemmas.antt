@@ -8,7 +8,7 @@ use Rattle.gscenario.specs.declared.fault.ScenarioFault.{ScenarioFault}
 use Rattle.gscenario.specs.declared.fault.ScenarioFault.TheVariants as scenario
 use Rattle.gworld.specs.declared.fault.WorldFault.{WorldFault}
 use Rattle.gworld.specs.declared.fault.WorldFault.TheVariants as world
-use Rattle.gsimulate.specs.Faults.{disagreement, scenario_line, simulation_fault_line, world_line, wrong_line}
+use Rattle.gsimulate.specs.Faults.{disagreement, scenario_line, simulation_fault_line, unkept, world_line, wrong_line}
 use Rattle.gsimulate.specs.declared.fault.SimulationFault.{SimulationFault}
 
 module _ {X : Type 0} (line : X → List ℕ) (xs : List X) (place : ℕ) where
@@ -44,6 +44,11 @@ prints_no_memory errors fault same h = subst (λ (f : ScenarioFault). Prints err
 pub prints_disagreement : (errors : Output) (fault : WorldFault) (id : List ℕ) → fault ≡ world.Disagree id → Prints errors (disagreement id)
     → Prints errors (world_line fault)
 prints_disagreement errors fault id same h = subst (λ (f : WorldFault). Prints errors (world_line f)) (sym same) h
+
+-- if `fault` is about an id that is not kept and this id is reported, then `fault` is reported
+pub prints_unkept : (errors : Output) (fault : WorldFault) (id : List ℕ) → fault ≡ world.NotKept id → Prints errors (unkept id)
+    → Prints errors (world_line fault)
+prints_unkept errors fault id same h = subst (λ (f : WorldFault). Prints errors (world_line f)) (sym same) h
 
 -- if `fault` is a difference in object formats and the line for two formats is printed, then `fault` is reported
 pub prints_two_formats : (errors : Output) (fault : WorldFault) → fault ≡ world.TwoFormats → Prints errors (codes "gitv2: fault 97 TwoFormats\n")

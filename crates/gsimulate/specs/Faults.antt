@@ -40,8 +40,13 @@ scenario_line scenario.Memory = memory_line
 abbrev pub disagreement : Id → Bytes
 disagreement id = codes "gitv2: fault 90 Disagree " ++ (id_text id ++ codes "\n")
 
+-- the line for an id that the client holds and its indexer does not keep
+abbrev pub unkept : Id → Bytes
+unkept id = codes "gitv2: fault 98 NotKept " ++ (id_text id ++ codes "\n")
+
 abbrev pub world_line : WorldFault → Bytes
 world_line (world.Disagree id) = disagreement id
+world_line (world.NotKept id) = unkept id
 world_line world.TwoFormats = codes "gitv2: fault 97 TwoFormats\n"
 
 abbrev pub simulation_fault_line : {A : Type 0} → SimulationFault A → Bytes

@@ -4,7 +4,7 @@ ghost use Rattle.std.specs.Prelude.{◌≡◌, ◌+◌, ◌≤◌, ◌++◌, len
 ghost use Rattle.gcmd.specs.Printing.{fault_line};
 ghost use Rattle.gcmd.specs.Programs.{Prints};
 ghost use Rattle.gpkt.specs.Sending.{output_of};
-ghost use Rattle.gsimulate.specs.Faults.{disagreement, scenario_line, simulation_fault_line, world_line, wrong_line};
+ghost use Rattle.gsimulate.specs.Faults.{disagreement, scenario_line, simulation_fault_line, unkept, world_line, wrong_line};
 ghost use Rattle.gsimulate.specs.Simulating.{ExitsWith};
 
 use crate::fault::SimulationFault;
@@ -83,6 +83,7 @@ fn print_world<A: Allocator + Copy, E: Sink>(fault: &WorldFault, errors: &mut E)
     match fault {
         WorldFault::TwoFormats => print_line::<A, E>(b"gitv2: fault 97 TwoFormats\n", errors),
         WorldFault::Disagree { id } => print_disagreement::<A, E>(id, errors),
+        WorldFault::NotKept { id } => print_unkept::<A, E>(id, errors),
     }
 }
 
@@ -122,6 +123,26 @@ fn disagreement(id: &Oid) -> ArrayVec<u8, MAX_LINE>
 {
     let mut text = ArrayVec::new();
     add(b"gitv2: fault 90 Disagree ", &mut text);
+    add_id(id, &mut text);
+    add(b"\n", &mut text);
+    text
+}
+
+// Prints the fault for an id that the client holds and its indexer does not keep.
+fn print_unkept<A: Allocator + Copy, E: Sink>(id: &Oid, errors: &mut E)
+    ensures printed { Prints (output_of E.contents E.passed_on E.is_down errors.old errors.new)
+        (unkept id.now) }
+    ensures loans { E.loans errors.new ≡ E.loans errors.old }
+{
+    let text = unkept(id);
+    print_line::<A, E>(text.as_slice(), errors);
+}
+
+fn unkept(id: &Oid) -> ArrayVec<u8, MAX_LINE>
+    ensures { result.items ≡ unkept id.now }
+{
+    let mut text = ArrayVec::new();
+    add(b"gitv2: fault 98 NotKept ", &mut text);
     add_id(id, &mut text);
     add(b"\n", &mut text);
     text

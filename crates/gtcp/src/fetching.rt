@@ -6,6 +6,7 @@ ghost use Rattle.gdag.specs.Walks.{CountsReached};
 ghost use Rattle.gpkt.specs.Change.{change_of};
 ghost use Rattle.gclientrepo.specs.Repos.{IsConnectedRepo};
 ghost use Rattle.gclientrepo.specs.Settling.{Settles};
+ghost use Rattle.gsession.specs.Keeping.{KeepsOn};
 ghost use Rattle.gsession.specs.Sessions.{tips_of};
 ghost use Rattle.gclient.specs.Conversations.{start_for, start_of};
 ghost use Rattle.gtcp.specs.steps.Sockets.{FetchesBetween, ListsBetween};
@@ -17,7 +18,7 @@ use crate::timer::Silence;
 use gclient::{FetchFault, Fetched, GitFetch, PackOptions, Repo, Spec, fetch_git, list_git};
 use gfetchreply::{PackLimit, StreamLimit};
 use ggrammar::{Ends, MessageFault};
-use ggraph::Indexer;
+use ggraph::{Indexer, KeepingIndexer, KeepsNothing};
 use ghello::Hello;
 use glsreply::LsReply;
 use gname::Prefix;
@@ -52,7 +53,7 @@ where
     A: Allocator + Copy,
     K: Indexer<A>,
     S: Read + Write + OpenStream + Drop,
-    ensures fetches { FetchesOn (K.indexes indexer.now) (K.index_fails indexer.now)
+    ensures fetches { FetchesOn K.indexes K.index_fails
         (start_of repo.old specs.now limit ends) (record { path = path.now; host = host.now })
         repo.new result }
     ensures settled { IfOk result (λ fetched. Settles repo.new.graph.entries repo.old.refs
@@ -77,23 +78,25 @@ where
         ends,
         options: PackOptions::default(),
     };
-    fetch_git_on(stream, repo, indexer, &fetch)
+    fetch_git_on(stream, repo, &mut KeepsNothing::new(indexer), &fetch)
 }
 
-/// Fetches like [`fetch_on`], with a given first line and with options for packs.
+/// Fetches like [`fetch_on`], with a given first line, with options for packs, and with an indexer
+/// that has a store. If the indexer keeps every object of the repository before the call, it does so
+/// after the call, whatever the server sends.
 ///
 /// Fails like `fetch_on`, but never because of the host or the path.
 pub fn fetch_git_on<A, K, S>(
     stream: S,
     repo: &mut Repo<A>,
-    indexer: &K,
+    indexer: &mut K,
     fetch: &GitFetch<'_, A>,
 ) -> Result<Fetched<A>, FetchFault<A>>
 where
     A: Allocator + Copy,
-    K: Indexer<A>,
+    K: KeepingIndexer<A>,
     S: Read + Write + OpenStream + Drop,
-    ensures fetches { FetchesFrom (K.indexes indexer.now) (K.index_fails indexer.now)
+    ensures fetches { FetchesFrom K.indexes K.index_fails
         (start_for repo.old fetch.now.specs.now fetch.now.limit fetch.now.ends fetch.now.options)
         fetch.now.hello.now repo.new result }
     ensures settled { IfOk result (λ fetched. Settles repo.new.graph.entries repo.old.refs
@@ -101,6 +104,8 @@ where
     ensures refs { OnErr result (repo.new.refs ≡ repo.old.refs) }
     ensures grows { Grows repo.old.graph.entries repo.new.graph.entries }
     ensures connected_refs { IsConnectedRepo repo.new }
+    ensures keeps { KeepsOn (K.keeps indexer.old) (K.keeps indexer.new) repo.old.graph.entries
+        repo.new.graph.entries }
     ensures bound { IfOk result (λ fetched. (held parents : ℕ)
         → CountsReached repo.old.graph.entries (tips_of repo.old) held parents
         → fetched.requests ≤ held + 1) }
@@ -112,14 +117,14 @@ where
 pub(crate) fn fetch_from<A, K, S>(
     peer: &Peer<S, Silence>,
     repo: &mut Repo<A>,
-    indexer: &K,
+    indexer: &mut K,
     fetch: &GitFetch<'_, A>,
 ) -> Result<Fetched<A>, FetchFault<A>>
 where
     A: Allocator + Copy,
-    K: Indexer<A>,
+    K: KeepingIndexer<A>,
     S: Read + Write + OpenStream,
-    ensures fetches { FetchesFrom (K.indexes indexer.now) (K.index_fails indexer.now)
+    ensures fetches { FetchesFrom K.indexes K.index_fails
         (start_for repo.old fetch.now.specs.now fetch.now.limit fetch.now.ends fetch.now.options)
         fetch.now.hello.now repo.new result }
     ensures settled { IfOk result (λ fetched. Settles repo.new.graph.entries repo.old.refs
@@ -127,6 +132,8 @@ where
     ensures refs { OnErr result (repo.new.refs ≡ repo.old.refs) }
     ensures grows { Grows repo.old.graph.entries repo.new.graph.entries }
     ensures connected_refs { IsConnectedRepo repo.new }
+    ensures keeps { KeepsOn (K.keeps indexer.old) (K.keeps indexer.new) repo.old.graph.entries
+        repo.new.graph.entries }
     ensures bound { IfOk result (λ fetched. (held parents : ℕ)
         → CountsReached repo.old.graph.entries (tips_of repo.old) held parents
         → fetched.requests ≤ held + 1) }
@@ -147,14 +154,14 @@ where
 }
 
 // Fetches over a reader and a writer.
-fn fetch_between<A: Allocator + Copy, K: Indexer<A>, R: Read, W: Write>(
+fn fetch_between<A: Allocator + Copy, K: KeepingIndexer<A>, R: Read, W: Write>(
     reader: &mut R,
     writer: &mut W,
     repo: &mut Repo<A>,
-    indexer: &K,
+    indexer: &mut K,
     fetch: &GitFetch<'_, A>,
 ) -> Result<Fetched<A>, FetchFault<A>>
-    ensures fetches { FetchesBetween (K.indexes indexer.now) (K.index_fails indexer.now)
+    ensures fetches { FetchesBetween K.indexes K.index_fails
         (start_for repo.old fetch.now.specs.now fetch.now.limit fetch.now.ends fetch.now.options)
         fetch.now.hello.now
         (change_of R.remaining reader.old reader.new) (change_of W.contents writer.old writer.new)
@@ -164,6 +171,8 @@ fn fetch_between<A: Allocator + Copy, K: Indexer<A>, R: Read, W: Write>(
     ensures refs { OnErr result (repo.new.refs ≡ repo.old.refs) }
     ensures grows { Grows repo.old.graph.entries repo.new.graph.entries }
     ensures connected_refs { IsConnectedRepo repo.new }
+    ensures keeps { KeepsOn (K.keeps indexer.old) (K.keeps indexer.new) repo.old.graph.entries
+        repo.new.graph.entries }
     ensures bound { IfOk result (λ fetched. (held parents : ℕ)
         → CountsReached repo.old.graph.entries (tips_of repo.old) held parents
         → fetched.requests ≤ held + 1) }

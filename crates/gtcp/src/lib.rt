@@ -19,8 +19,9 @@
 //!   end with a response-end packet. The fetch starts with the first line for the given host and
 //!   path, and has every guarantee of `gclient::fetch_over`. If the first line can't be composed,
 //!   or memory for the buffers runs out, the repository is unchanged.
-//! - [`fetch_git_on`] fetches like [`fetch_on`], with a given first line and with options for
-//!   packs.
+//! - [`fetch_git_on`] fetches like [`fetch_on`], with a given first line, with options for packs,
+//!   and with an indexer that has a store. If the store keeps each object of the graph before the
+//!   call, it keeps each object of the graph after the call.
 //! - [`ls_on`] lists the refs with the given prefixes over a `git://` connection. A listing fails
 //!   if there are more than 64 prefixes. A listing and a fetch fail if the host or the path is not
 //!   well-formed.

@@ -15,7 +15,7 @@ use gclient::{FetchFault, Fetched, GitFetch, PackOptions, Repo, Spec, fetch_git}
 use gcmd::ProgramFault;
 use gfetchreply::StreamLimit;
 use ggrammar::{Ends, MessageFault};
-use ggraph::PlainPack;
+use ggraph::{KeepsNothing, PlainPack};
 use ghello::Hello;
 use gpkt::memory::SliceSource;
 use gpkt::{Down, FromRead, PacketWriter, Sink, Source, ToWrite};
@@ -377,7 +377,8 @@ fn fetch_as_client<A: Allocator + Copy, S: Source, W: Sink>(
         ends: Ends::Plain,
         options: PackOptions::default(),
     };
-    fetch_git(repo, answers, requests, &PlainPack, &fetch)
+    let mut indexer = KeepsNothing::new(&PlainPack);
+    fetch_git(repo, answers, requests, &mut indexer, &fetch)
 }
 
 // Returns the first line of the client.

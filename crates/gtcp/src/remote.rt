@@ -28,7 +28,7 @@ use gcmd::{
 };
 use gfetchreply::{PackLimit, StreamLimit};
 use ggrammar::Ends;
-use ggraph::PlainPack;
+use ggraph::{KeepsNothing, PlainPack};
 use glockfile::Storage;
 use glsreply::LsReply;
 use gname::Prefix;
@@ -392,7 +392,7 @@ where
         ends: fetch.ends,
         options: PackOptions::default(),
     };
-    match fetch_from(&peer, repo, &PlainPack, &git_fetch) {
+    match fetch_from(&peer, repo, &mut KeepsNothing::new(&PlainPack), &git_fetch) {
         Ok(fetched) => Ok(fetched),
         Err(fault) => Err(ProgramFault::Fetch(fault)),
     }

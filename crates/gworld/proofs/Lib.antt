@@ -5,6 +5,7 @@ pub mod Steps
 pub mod Faults
 pub mod Promised
 pub mod CodeLemmas
+pub mod Keeping
 pub mod Runs
 pub mod Starting
 pub mod Kept

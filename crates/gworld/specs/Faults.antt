@@ -23,6 +23,10 @@ no_such = 93
 abbrev pub out_of_turn : ℕ
 out_of_turn = 83
 
+-- the client holds or would hold an object whose id its indexer does not keep
+abbrev pub not_kept : ℕ
+not_kept = 98
+
 -- ---- the numbers of faults that may occur even without forged bytes
 
 -- the client does not have enough memory to read a reply
@@ -67,6 +71,7 @@ too_many_refs = 69
 abbrev pub world_fault_row : WorldFault → FaultRow
 world_fault_row world.TwoFormats = (97, codes "TwoFormats")
 world_fault_row (world.Disagree id) = (disagreement, codes "Disagree")
+world_fault_row (world.NotKept id) = (not_kept, codes "NotKept")
 
 -- the number and the name of the fault of a run: out of memory
 abbrev pub run_fault_row : {A : Type 0} → RunFault A → FaultRow
@@ -76,6 +81,7 @@ run_fault_row (run.Memory outcomes) = scenario_fault_row scenario.Memory
 abbrev pub world_fault_text : WorldFault → Bytes
 world_fault_text world.TwoFormats = codes "server and client have two object formats"
 world_fault_text (world.Disagree id) = codes "server and client hold an id with two objects"
+world_fault_text (world.NotKept id) = codes "the client holds an id that its indexer does not keep"
 
 abbrev pub run_fault_text : {A : Type 0} → RunFault A → Bytes
 run_fault_text (run.Memory outcomes) = scenario_fault_text scenario.Memory

@@ -5,6 +5,7 @@ pub mod Runs
 pub mod Sound
 pub mod Promises
 pub mod Starts
+pub mod KeepingWorlds
 pub mod Laws
 pub mod Fetching
 pub mod Events

@@ -34,6 +34,7 @@ CannotStart server repo world.TwoFormats = repo.graph.format ≢ server.graph.fo
 CannotStart server repo (world.Disagree id) =
     (repo.graph.format ≡ server.graph.format)
     × IsFirstDisagreement server.graph.entries repo.graph.entries id
+CannotStart server repo (world.NotKept id) = ⊥
 
 -- the result of making a world: a new world of exactly these parts, or the reason why they can't form a world
 abbrev pub Starts : {A K : Type 0} → Server A → RepoState A → K → Result (WorldOf A K) WorldFault → Type 0

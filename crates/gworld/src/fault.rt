@@ -22,6 +22,10 @@ pub(crate) const NO_SUCH_INDEX: u32 = 93;
 /// is at the wrong stage.
 pub(crate) const NO_OPEN_REQUEST: u32 = 83;
 
+/// The number of the fault for an event that adds an object at the client, if the client's indexer
+/// does not keep the id of the object.
+pub(crate) const NOT_KEPT: u32 = 98;
+
 /// The reason why a server and a client's repository can't form a world.
 #[derive(Clone, Copy, Debug, PartialEq, Eq, Drop)]
 pub enum WorldFault {
@@ -30,6 +34,9 @@ pub enum WorldFault {
     /// Fault 90: server and client hold different objects under `id`. The fault gives the first
     /// such id, in the order of the server's objects.
     Disagree { id: Oid },
+    /// Fault 98: the client holds `id`, which its indexer does not keep. The fault gives the first
+    /// such id, in the order of the client's objects.
+    NotKept { id: Oid },
 }
 
 impl WorldFault {
@@ -54,6 +61,7 @@ impl WorldFault {
         match self {
             WorldFault::TwoFormats => (97, "TwoFormats"),
             WorldFault::Disagree { .. } => (DISAGREE, "Disagree"),
+            WorldFault::NotKept { .. } => (NOT_KEPT, "NotKept"),
         }
     }
 }
@@ -66,6 +74,9 @@ impl fmt::Display for WorldFault {
             WorldFault::TwoFormats => f.write_str("server and client have two object formats"),
             WorldFault::Disagree { .. } => f.write_str(
                 "server and client hold an id with two objects",
+            ),
+            WorldFault::NotKept { .. } => f.write_str(
+                "the client holds an id that its indexer does not keep",
             ),
         }
     }

@@ -2,13 +2,14 @@
 //! the session awaits.
 
 ghost use Rattle.std.specs.Prelude.{◌≡◌, IsOkUnless, IsSome, MatchResult, alloc_error, take, Some};
+ghost use Rattle.gsession.specs.Keeping.{KeepsOn};
 ghost use Rattle.gworld.specs.steps.Bringing.{IsAwaited, TakesIfOpen, objects_outcome, refs_outcome};
 ghost use Rattle.gworld.specs.Taking.{TakesObjects, TakesRefs, code_of};
 ghost use Rattle.gworld.specs.declared.outcome.Outcome.TheVariants as outcome;
 
 use crate::outcome::Outcome;
 use gclientrepo::Repo;
-use ggraph::Indexer;
+use ggraph::KeepingIndexer;
 use gpkt::memory::SliceSource;
 use gpkt::{PacketBuffer, PacketReader};
 use grequest::Request;
@@ -39,16 +40,18 @@ fn awaited_reply<A: Allocator + Copy>(session: &Session<A>) -> AwaitedReply
 
 /// Passes the bytes to the session as the reply to its open request. Returns `None` if the session
 /// awaits no reply.
-pub(crate) fn take_bytes<A: Allocator + Copy, K: Indexer<A>>(
+pub(crate) fn take_bytes<A: Allocator + Copy, I: KeepingIndexer<A>>(
     session: &mut Session<A>,
     repo: &mut Repo<A>,
     bytes: &[u8],
-    indexer: &K,
+    indexer: &mut I,
 ) -> Result<Option<Outcome>, AllocError>
-    ensures { MatchResult result
-        (λ took. TakesIfOpen (K.indexes indexer.now) (K.index_fails indexer.now)
+    ensures takes { MatchResult result
+        (λ took. TakesIfOpen I.indexes I.index_fails
         session.old.pending session.old repo.old bytes.now took session.new repo.new)
         (λ _. (session.new ≡ session.old) × (repo.new ≡ repo.old) × IsSome session.old.pending) }
+    ensures keeps { KeepsOn (I.keeps indexer.old) (I.keeps indexer.new)
+        repo.old.graph.entries repo.new.graph.entries }
 {
     match awaited_reply(session) {
         AwaitedReply::Nothing => Ok(None),
@@ -100,20 +103,22 @@ pub(crate) fn outcome_of_fault<A: Allocator + Copy>(fault: ClientFault<A>) -> Ou
 }
 
 // Passes the bytes to the session as the fetch reply.
-fn take_objects<A: Allocator + Copy, K: Indexer<A>>(
+fn take_objects<A: Allocator + Copy, I: KeepingIndexer<A>>(
     session: &mut Session<A>,
     repo: &mut Repo<A>,
     bytes: &[u8],
-    indexer: &K,
+    indexer: &mut I,
 ) -> Result<Outcome, AllocError>
-    ensures { MatchResult result
-        (λ outcome. TakesObjects (K.indexes indexer.now) (K.index_fails indexer.now) session.old
+    ensures takes { MatchResult result
+        (λ outcome. TakesObjects I.indexes I.index_fails session.old
         repo.old bytes.now outcome session.new repo.new)
         (λ _. (session.new ≡ session.old) × (repo.new ≡ repo.old)) }
+    ensures keeps { KeepsOn (I.keeps indexer.old) (I.keeps indexer.new)
+        repo.old.graph.entries repo.new.graph.entries }
 {
     let buffer = line_buffer(repo.graph().allocator())?;
     let mut reader = PacketReader::with_buffer(buffer, SliceSource::new(bytes));
-    let result = session.take_reply(repo, &mut reader, indexer);
+    let result = session.take_reply_into(repo, &mut reader, indexer);
     Ok(objects_outcome(result))
 }
 

@@ -17,6 +17,10 @@
 //!   outcomes. The run stops only before an event that needs memory (`NeedsMemory`,
 //!   specs/Runs.antt). An event that fails at once with fault 83 (`NoOpenRequest`), 90 (`Disagree`)
 //!   or 93 (no such index) needs no memory.
+//! - A [`KeepingWorld`] has a client whose indexer keeps objects in a store. The indexer keeps each
+//!   object of the client's repository after any run, even after forged bytes. The indexer still
+//!   keeps all that it kept before the run. The event `ClientAdd` fails with 98 (`NotKept`) if the
+//!   indexer does not keep the object's id.
 //! - **Each ref of the client is connected, for any outcomes, any forged bytes, and any packer and
 //!   indexer.** A ref is connected if the client holds its whole history. The session makes at most
 //!   N + 1 requests for objects, if the client's refs reached N ids when the session began. If no
@@ -78,12 +82,14 @@
 
 mod fault;
 mod incoming;
+mod keeping_world;
 pub mod laws;
 mod outcome;
 mod parts;
 mod world;
 
 pub use crate::fault::{RunFault, WorldFault};
+pub use crate::keeping_world::KeepingWorld;
 pub use crate::outcome::Outcome;
 pub use crate::world::World;
 pub use gscenario::{Event, Scenario, ScenarioFault};

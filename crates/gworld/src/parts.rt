@@ -9,6 +9,7 @@ ghost use Rattle.gworld.specs.declared.outcome.Outcome.TheVariants as outcome;
 mod changes;
 mod deliver;
 mod happen;
+mod run;
 mod serve;
 mod session;
 mod start;

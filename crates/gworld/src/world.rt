@@ -11,7 +11,7 @@ use crate::outcome::Outcome;
 use crate::parts::Parts;
 use ganswer::Server;
 use gclientrepo::Repo;
-use ggraph::{Indexer, Packer};
+use ggraph::{Indexer, KeepsNothing, Packer};
 use gscenario::Event;
 use std::alloc::{Allocator, Global};
 use std::marker::Model;
@@ -33,7 +33,7 @@ impl<K: Packer<A> + Indexer<A> + Drop, A: Allocator + Copy> Model for World<K, A
     ghost view = { λ it. record { tools = it.tools; world = it.parts } };
 
     ghost invariant = { λ it. IsSound
-        (tools_of (K.packs it.tools) (K.pack_fails it.tools) (K.indexes it.tools) (K.index_fails it.tools)) it.parts };
+        (tools_of (K.packs it.tools) (K.pack_fails it.tools) K.indexes K.index_fails) it.parts };
 }
 
 impl<K: Packer<A> + Indexer<A> + Drop, A: Allocator + Copy> World<K, A> {
@@ -110,14 +110,15 @@ impl<K: Packer<A> + Indexer<A> + Drop, A: Allocator + Copy> World<K, A> {
         ensures runs { MatchResult result
             (λ outcomes. RunWith (Promises (tools_of (K.packs self.old.tools)
             (K.pack_fails self.old.tools)
-            (K.indexes self.old.tools) (K.index_fails self.old.tools)))
+            K.indexes K.index_fails))
             self.old.world events.now outcomes.items self.new.world)
             (λ fault. RunsFront (Promises (tools_of (K.packs self.old.tools)
             (K.pack_fails self.old.tools)
-            (K.indexes self.old.tools) (K.index_fails self.old.tools)))
+            K.indexes K.index_fails))
             self.old.world events.now (outcomes_before fault) self.new.world) }
     {
-        let result = self.parts.run_events(events, &self.tools);
+        let mut indexer = KeepsNothing::new(&self.tools);
+        let result = self.parts.run_events(events, &self.tools, &mut indexer);
         // Laws that the proof uses.
         self.parts.laws();
         result

@@ -46,11 +46,11 @@ impl<A: Allocator + Copy> Packer<A> for Records {
 impl<A: Allocator + Copy> Indexer<A> for Records {
     type Feed = Vec<u8, A>;
 
-    ghost indexes = { λ _ pack list. ⊤ };
+    ghost indexes = { λ pack list. ⊤ };
 
-    ghost index_fails = { λ _ pack fault. ⊤ };
+    ghost index_fails = { λ pack fault. ⊤ };
 
-    ghost fed = { λ _ feed pack. ⊤ };
+    ghost fed = { λ feed pack. ⊤ };
 
     fn start(&self, alloc: A) -> Result<Vec<u8, A>, IndexFault> {
         Ok(Vec::new(alloc))

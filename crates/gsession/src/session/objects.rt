@@ -1,7 +1,10 @@
 //! Reading fetch replies.
 
-ghost use Rattle.std.specs.Prelude.{◌≡◌, ◌++◌, false, All, Contains, MatchOption, MatchResult, OnOk, length};
+ghost use Rattle.std.specs.Prelude.{◌≡◌, ◌++◌, false, All, Contains, IfOk, MatchOption, MatchResult, OnOk, length};
+ghost use Rattle.gname.specs.Ids.{Id};
 ghost use Rattle.gpkt.specs.Change.{change_of};
+ghost use Rattle.gpkt.specs.Packets.{Bytes};
+ghost use Rattle.gsession.specs.steps.Calls.{MayHaveFed};
 
 use crate::acks::{first_strange, with_acks};
 use crate::fault::ClientFault;
@@ -11,8 +14,8 @@ use crate::stage::Stage;
 use crate::taken::Taken;
 use gclientrepo::Repo;
 use gfetchreply::{FetchHead, FetchReading, StreamLimit, read_fetch_reply_into_in};
-use ggraph::Indexer;
 use ggraph::graph_laws::distinct_are_once;
+use ggraph::{Entry, IndexFault, Indexer, KeepingIndexer, KeepsNothing};
 use gname::Oid;
 use gpkt::{PacketReader, Source};
 use grequest::Request;
@@ -25,6 +28,7 @@ impl<A: Allocator + Copy> Session<A> {
     ghost use Rattle.gdag.specs.Levels.{distinct_of};
     ghost use Rattle.gdag.specs.Reach.{Grows};
     ghost use Rattle.grequest.specs.Asked.{FetchAsked, is_direct};
+    ghost use Rattle.gsession.specs.Keeping.{KeepsOn};
     ghost use Rattle.gsession.specs.Sessions.{AreCommons, LeavesReplies};
     ghost use Rattle.gsession.specs.steps.Calls.{AnswersRead, AnswersReply, FitsHead, IsAcksFault, IsStrangeAck, MayHaveFed};
     ghost use Rattle.gsession.specs.TakingReplies.{Awaits, AwaitsObjects, HasPack, TakesReply, after_acks, reading_for};
@@ -46,10 +50,30 @@ impl<A: Allocator + Copy> Session<A> {
         reader: &mut PacketReader<S, B>,
         indexer: &K,
     ) -> Result<Taken, ClientFault<A>>
-        ensures takes { TakesReply (K.indexes indexer.now) (K.index_fails indexer.now) self.old
-            repo.old
+        ensures takes { TakesReply K.indexes K.index_fails self.old repo.old
             (change_of S.remaining reader.old.source reader.new.source) self.new repo.new result }
         ensures grows { Grows repo.old.graph.entries repo.new.graph.entries }
+        ensures reader { LeavesReplies S.is_down reader.old reader.new result }
+        ensures loans { S.loans reader.new.source ≡ S.loans reader.old.source }
+    {
+        self.take_reply_into(repo, reader, &mut KeepsNothing::new(indexer))
+    }
+
+    /// Reads a reply like [`Session::take_reply`], with an indexer that has a store. If the indexer
+    /// keeps every object of the repository before the call, it does so after the call, whatever
+    /// the server sends. It still keeps all that it kept before, and may keep objects of a pack that
+    /// the graph then rejects.
+    pub fn take_reply_into<S: Source, K: KeepingIndexer<A>, B: Allocator + Copy>(
+        &mut self,
+        repo: &mut Repo<A>,
+        reader: &mut PacketReader<S, B>,
+        indexer: &mut K,
+    ) -> Result<Taken, ClientFault<A>>
+        ensures takes { TakesReply K.indexes K.index_fails self.old repo.old
+            (change_of S.remaining reader.old.source reader.new.source) self.new repo.new result }
+        ensures grows { Grows repo.old.graph.entries repo.new.graph.entries }
+        ensures keeps { KeepsOn (K.keeps indexer.old) (K.keeps indexer.new)
+            repo.old.graph.entries repo.new.graph.entries }
         ensures reader { LeavesReplies S.is_down reader.old reader.new result }
         ensures loans { S.loans reader.new.source ≡ S.loans reader.old.source }
     {
@@ -61,15 +85,16 @@ impl<A: Allocator + Copy> Session<A> {
 
     // Reads the fetch reply, if the open request is for objects. A fault does not yet end the
     // session.
-    fn read_objects<S: Source, K: Indexer<A>, B: Allocator + Copy>(
+    fn read_objects<S: Source, K: KeepingIndexer<A>, B: Allocator + Copy>(
         &mut self,
         repo: &mut Repo<A>,
         reader: &mut PacketReader<S, B>,
-        indexer: &K,
+        indexer: &mut K,
     ) -> Result<Taken, ClientFault<A>>
-        ensures takes { AnswersReply (K.indexes indexer.now) (K.index_fails indexer.now) self.old
-            repo.old
+        ensures takes { AnswersReply K.indexes K.index_fails self.old repo.old
             (change_of S.remaining reader.old.source reader.new.source) self.new repo.new result }
+        ensures keeps { KeepsOn (K.keeps indexer.old) (K.keeps indexer.new)
+            repo.old.graph.entries repo.new.graph.entries }
         ensures reader { LeavesReplies S.is_down reader.old reader.new result }
         ensures loans { S.loans reader.new.source ≡ S.loans reader.old.source }
     {
@@ -77,9 +102,11 @@ impl<A: Allocator + Copy> Session<A> {
             return Err(ClientFault::NoOpenRequest);
         };
         let alloc = self.allocator();
-        let mut feed = PackFeed::start(alloc, indexer);
-        match read_fetch_reply_into_in(reader, reading, &mut feed, alloc) {
-            Ok(head) => self.take_head(repo, head, feed),
+        let mut feed = PackFeed::start(alloc, &*indexer);
+        let read = read_fetch_reply_into_in(reader, reading, &mut feed, alloc);
+        let feed = feed.into_feed();
+        match read {
+            Ok(head) => self.take_head(repo, head, indexer, feed),
             Err(fault) => Err(ClientFault::Message(fault)),
         }
     }
@@ -105,24 +132,26 @@ impl<A: Allocator + Copy> Session<A> {
     }
 
     // Updates the session and the repository with the content of a complete reply.
-    fn take_head<K: Indexer<A>>(
+    fn take_head<K: KeepingIndexer<A>>(
         &mut self,
         repo: &mut Repo<A>,
         head: FetchHead<A>,
-        feed: PackFeed<'_, K, A>,
+        indexer: &mut K,
+        feed: Result<K::Feed, IndexFault>,
     ) -> Result<Taken, ClientFault<A>>
         requires { (asked : FetchAsked) × Awaits self.old asked × FitsHead asked (head_in head) }
-        ensures { (asked : FetchAsked) (reply : FetchReply) → Awaits self.old asked
+        ensures answers { (asked : FetchAsked) (reply : FetchReply) → Awaits self.old asked
             → head_in head ≡ head_of reply
-            → MayHaveFed (K.fed feed.entry.indexer.now) (K.index_fails feed.entry.indexer.now)
-            feed.entry.feed (pack_of reply)
-            → AnswersRead (K.indexes feed.entry.indexer.now) (K.index_fails feed.entry.indexer.now)
-            asked.haves self.old repo.old reply self.new repo.new result }
+            → MayHaveFed K.fed K.index_fails feed (pack_of reply)
+            → AnswersRead K.indexes K.index_fails asked.haves self.old repo.old reply self.new
+            repo.new result }
+        ensures keeps { KeepsOn (K.keeps indexer.old) (K.keeps indexer.new)
+            repo.old.graph.entries repo.new.graph.entries }
     {
         match head {
             FetchHead::Acks(acks) => self.take_acks(acks.ids()),
-            FetchHead::Ready(acks) => self.take_pack(repo, acks.ids(), feed),
-            FetchHead::Pack => self.take_pack(repo, &[], feed),
+            FetchHead::Ready(acks) => self.take_pack(repo, acks.ids(), indexer, feed),
+            FetchHead::Pack => self.take_pack(repo, &[], indexer, feed),
         }
     }
 
@@ -145,24 +174,26 @@ impl<A: Allocator + Copy> Session<A> {
     }
 
     // Updates the session and the repository after a reply with a pack, with or without
-    // acknowledgments.
-    fn take_pack<K: Indexer<A>>(
+    // acknowledgments. The indexer keeps the objects of the pack before the graph gains them.
+    fn take_pack<K: KeepingIndexer<A>>(
         &mut self,
         repo: &mut Repo<A>,
         acks: &[Oid],
-        feed: PackFeed<'_, K, A>,
+        indexer: &mut K,
+        feed: Result<K::Feed, IndexFault>,
     ) -> Result<Taken, ClientFault<A>>
         requires { AwaitsObjects self.old }
-        ensures { (asked : FetchAsked) (reply : FetchReply) → Awaits self.old asked
+        ensures answers { (asked : FetchAsked) (reply : FetchReply) → Awaits self.old asked
             → acknowledged_by reply ≡ acks.now
             → HasPack reply
-            → MayHaveFed (K.fed feed.entry.indexer.now) (K.index_fails feed.entry.indexer.now)
-            feed.entry.feed (pack_of reply)
-            → AnswersRead (K.indexes feed.entry.indexer.now) (K.index_fails feed.entry.indexer.now)
-            asked.haves self.old repo.old reply self.new repo.new result }
+            → MayHaveFed K.fed K.index_fails feed (pack_of reply)
+            → AnswersRead K.indexes K.index_fails asked.haves self.old repo.old reply self.new
+            repo.new result }
+        ensures keeps { KeepsOn (K.keeps indexer.old) (K.keeps indexer.new)
+            repo.old.graph.entries repo.new.graph.entries }
     {
         self.check_acks(acks)?;
-        let entries = feed.finish()?;
+        let entries = finish(indexer, feed)?;
         let commons = with_acks(self.allocator(), self.commons.as_slice(), acks)?;
         let added = repo.insert_all(entries)?;
         self.commons = commons;
@@ -197,5 +228,26 @@ impl<A: Allocator + Copy> Session<A> {
             Some(Request::Fetch(asked)) => asked.haves(),
             Some(Request::Empty | Request::Ls(_)) | None => &[],
         }
+    }
+}
+
+// Returns the entries of a pack whose last piece was fed, and keeps the objects of the pack. Fails
+// with the indexer's first fault.
+fn finish<K: KeepingIndexer<A>, A: Allocator + Copy>(
+    indexer: &mut K,
+    feed: Result<K::Feed, IndexFault>,
+) -> Result<Vec<Entry<A>, A>, IndexFault>
+    ensures answers { MatchResult result
+        (λ entries. ((bytes : Bytes) → MayHaveFed K.fed K.index_fails feed bytes
+        → K.indexes bytes entries.items))
+        (λ fault. ((bytes : Bytes) → MayHaveFed K.fed K.index_fails feed bytes
+        → K.index_fails bytes fault)) }
+    ensures kept { IfOk result (λ entries. All (λ entry. K.keeps indexer.new entry.id)
+        entries.items) }
+    ensures stays { (id : Id) → K.keeps indexer.old id → K.keeps indexer.new id }
+{
+    match feed {
+        Ok(feed) => indexer.finish(feed),
+        Err(fault) => Err(fault),
     }
 }

@@ -7,19 +7,21 @@ use Rattle.gobject.specs.declared.node.Entry.{Entry}
 use Rattle.gdag.specs.Laws.{AgreesWith}
 use Rattle.gclientrepo.specs.Repos.{RepoState}
 use Rattle.grequest.specs.Asked.{Asked, Ls, Fetches}
+use Rattle.gsession.specs.Keeping.{KeepsOn}
 use Rattle.gsession.specs.Sessions.{SessionState}
 use Rattle.gsession.specs.declared.fault.ClientFault.{ClientFault}
 use Rattle.gsession.specs.declared.taken.LsTaken.{LsTaken}
 use Rattle.gsession.specs.declared.taken.Taken.{Taken}
 use Rattle.gsession.specs.declared.taken.Taken.TheVariants.{Round, PackTaken}
 use Rattle.gworld.specs.Faults.{out_of_turn}
-use Rattle.gworld.specs.Promises.{Promises}
+use Rattle.gworld.specs.KeepingWorlds.{KeptPromises}
 use Rattle.gworld.specs.Runs.{RunWith}
 use Rattle.gworld.specs.Sound.{IsSound}
 use Rattle.gworld.specs.Events.{Disagrees}
 use Rattle.gworld.specs.Taking.{IsFullAnswer, TakesBytes, code_of}
 use Rattle.gworld.specs.Worlds.{Kept, PackTools, WorldState, reply_bytes}
 use Rattle.gscenario.specs.declared.event.Event.{Event}
+use Rattle.gscenario.specs.declared.event.Event.TheVariants as event
 use Rattle.gworld.specs.declared.outcome.Outcome.{Outcome}
 use Rattle.gworld.specs.declared.outcome.Outcome.TheVariants as outcomes
 use Rattle.gworld.specs.declared.incoming.AwaitedReply.{AwaitedReply}
@@ -61,11 +63,19 @@ module _ {A : Type 0} (indexes : Indexes A) (index_fails : IndexFails) where
       TakesBytes indexes index_fails asked s repo (take count (reply_bytes kept.reply)) outcome after new
       × (IsTrue marked ↔ IsFullAnswer kept asked count outcome)
 
--- the events happen with these outcomes, each step keeps its promises, and the run ends in a sound world
-pub record RunsSoundly {A : Type 0} (tools : PackTools A) (w : WorldState A) (events : List (Event A))
-    (outcomes : List Outcome) (new : WorldState A) : Type 0 where
+-- The event `Deliver` or `Forge` leaves an indexer that keeps the client's new graph if it kept the old graph. Any other
+-- event leaves the indexer unchanged.
+abbrev pub KeepsAt : {A I : Type 0} → (I → Id → Type 0) → Event A → I → I → List (Entry A) → List (Entry A) → Type 0
+KeepsAt keeps (event.Deliver number count) before after old new = KeepsOn (keeps before) (keeps after) old new
+KeepsAt keeps (event.Forge bytes) before after old new = KeepsOn (keeps before) (keeps after) old new
+KeepsAt keeps _ before after old new = after ≡ before
+
+-- The events happen with these outcomes, and the run ends in a sound world. Each step keeps its promises, or it adds an
+-- object at the client that is not kept, and is refused.
+pub record RunsSoundly {A : Type 0} (tools : PackTools A) (before after : Id → Type 0) (w : WorldState A)
+    (events : List (Event A)) (outcomes : List Outcome) (new : WorldState A) : Type 0 where
   pub sound : IsSound tools new
-  pub run : RunWith (Promises tools) w events outcomes new
+  pub run : RunWith (KeptPromises tools before after) w events outcomes new
 
 -- ---- making a world
 
@@ -78,3 +88,12 @@ AgreesAt {A} server client place =
 abbrev pub DisagreesAt : {A : Type 0} → List (Entry A) → List (Entry A) → ℕ → Id → Type 0
 DisagreesAt {A} server client place id =
     (entry : Entry A) × (slice_get server place ≡ Some entry) × Disagrees client entry × (id ≡ entry.id)
+
+-- the id at this position of the graph is kept
+abbrev pub IsKeptAt : {A : Type 0} → (Id → Type 0) → List (Entry A) → ℕ → Type 0
+IsKeptAt {A} keeps g place = (entry : Entry A) → slice_get g place ≡ Some entry → keeps entry.id
+
+-- this id is at this position of the graph, and it is not kept
+abbrev pub IsUnkeptAt : {A : Type 0} → (Id → Type 0) → List (Entry A) → ℕ → Id → Type 0
+IsUnkeptAt {A} keeps g place id =
+    (entry : Entry A) × (slice_get g place ≡ Some entry) × ¬ (keeps entry.id) × (id ≡ entry.id)

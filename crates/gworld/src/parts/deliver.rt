@@ -1,6 +1,7 @@
 //! The delivery of replies to the client.
 
 ghost use Rattle.std.specs.Prelude.{◌≡◌, ◌↔◌, MatchResult, slice_get, IsSome, IsTrue, IfOk, Some};
+ghost use Rattle.gsession.specs.Keeping.{KeepsOn};
 ghost use Rattle.gworld.specs.Taking.{IsPackTaken};
 ghost use Rattle.gworld.specs.steps.Bringing.{BringsTo};
 ghost use Rattle.gworld.specs.Events.{Delivers, Forges, waiting_session};
@@ -12,7 +13,7 @@ use crate::incoming::{front, take_bytes};
 use crate::outcome::Outcome;
 use gclientrepo::Repo;
 use ggrammar::Ends;
-use ggraph::Indexer;
+use ggraph::KeepingIndexer;
 use gpkt::PacketWriter;
 use gpkt::memory::VecSink;
 use gserve::write_reply;
@@ -47,17 +48,19 @@ impl<A: Allocator + Copy> KeptReply<A> {
 impl<A: Allocator + Copy> Parts<A> {
     /// Delivers the first `count` bytes of a kept reply as the reply to the open request. Delivers
     /// all bytes of a shorter reply.
-    pub(crate) fn deliver<K: Indexer<A>>(
+    pub(crate) fn deliver<I: KeepingIndexer<A>>(
         &mut self,
         number: usize,
         count: usize,
-        indexer: &K,
+        indexer: &mut I,
     ) -> Result<Outcome, AllocError>
-        ensures { MatchResult result
-            (λ outcome. Delivers (K.indexes indexer.now) (K.index_fails indexer.now) self.old
+        ensures brings { MatchResult result
+            (λ outcome. Delivers I.indexes I.index_fails self.old
             (slice_get self.old.kept number) count (waiting_session self.old.session) outcome self.new)
             (λ _. (self.new ≡ self.old)
             × IsSome (slice_get self.old.kept number) × IsSome (waiting_session self.old.session)) }
+        ensures keeps { KeepsOn (I.keeps indexer.old) (I.keeps indexer.new)
+            self.old.repo.graph.entries self.new.repo.graph.entries }
     {
         match kept_at(&self.kept, number) {
             None => Ok(Outcome::Fault {
@@ -82,15 +85,17 @@ impl<A: Allocator + Copy> Parts<A> {
     }
 
     /// Delivers forged bytes as the reply to the open request.
-    pub(crate) fn forge<K: Indexer<A>>(
+    pub(crate) fn forge<I: KeepingIndexer<A>>(
         &mut self,
         bytes: &[u8],
-        indexer: &K,
+        indexer: &mut I,
     ) -> Result<Outcome, AllocError>
-        ensures { MatchResult result
-            (λ outcome. Forges (K.indexes indexer.now) (K.index_fails indexer.now) self.old
+        ensures brings { MatchResult result
+            (λ outcome. Forges I.indexes I.index_fails self.old
             bytes.now (waiting_session self.old.session) outcome self.new)
             (λ _. (self.new ≡ self.old) × IsSome (waiting_session self.old.session)) }
+        ensures keeps { KeepsOn (I.keeps indexer.old) (I.keeps indexer.new)
+            self.old.repo.graph.entries self.new.repo.graph.entries }
     {
         match &mut self.session {
             None => {
@@ -124,19 +129,21 @@ struct Delivery<'a, A: Allocator + Copy> {
 }
 
 // Delivers a kept reply to the session, and updates the flag `answered`.
-fn bring<A: Allocator + Copy, K: Indexer<A>>(
+fn bring<A: Allocator + Copy, I: KeepingIndexer<A>>(
     delivery: Delivery<'_, A>,
     session: &mut Session<A>,
     repo: &mut Repo<A>,
     mark: &mut bool,
-    indexer: &K,
+    indexer: &mut I,
 ) -> Result<Outcome, AllocError>
-    ensures { MatchResult result
-        (λ outcome. BringsTo (K.indexes indexer.now) (K.index_fails indexer.now)
+    ensures brings { MatchResult result
+        (λ outcome. BringsTo I.indexes I.index_fails
         delivery.entry.kept.now delivery.entry.count
         session.old.pending session.old repo.old mark.old outcome session.new repo.new mark.new)
         (λ _. (session.new ≡ session.old) × (repo.new ≡ repo.old) × (mark.new ≡ mark.old)
         × IsSome session.old.pending) }
+    ensures keeps { KeepsOn (I.keeps indexer.old) (I.keeps indexer.new)
+        repo.old.graph.entries repo.new.graph.entries }
 {
     if session.open_request().is_none() {
         return Ok(Outcome::Fault {

@@ -2,7 +2,9 @@
 
 ghost use Rattle.std.specs.Prelude.{◌≡◌, ◌≢◌, ◌<◌, length, MatchBool, MatchOption, MatchResult};
 ghost use Rattle.gdag.specs.Reach.{Agree};
-ghost use Rattle.gworld.specs.steps.Bringing.{AgreesAt, DisagreesAt};
+ghost use Rattle.gsession.specs.Keeping.{KeepsGraph};
+ghost use Rattle.gworld.specs.KeepingWorlds.{IsFirstUnkept};
+ghost use Rattle.gworld.specs.steps.Bringing.{AgreesAt, DisagreesAt, IsKeptAt, IsUnkeptAt};
 ghost use Rattle.gworld.specs.Starts.{CanStart, CannotStart, IsFirstDisagreement};
 ghost use Rattle.gworld.specs.Worlds.{new_world};
 
@@ -11,8 +13,8 @@ use super::changes::agrees;
 use crate::fault::WorldFault;
 use ganswer::Server;
 use gclientrepo::Repo;
-use ggraph::Graph;
 use ggraph::graph_laws::positions_are_nodes;
+use ggraph::{Graph, KeepingIndexer};
 use gname::Oid;
 use std::alloc::Allocator;
 
@@ -44,6 +46,16 @@ impl<A: Allocator + Copy> Parts<A> {
             forged: false,
             answered: false,
         }
+    }
+
+    /// Returns the first id of the client's repository, in insertion order, that the indexer does
+    /// not keep. Returns `None` if the indexer keeps each id.
+    pub(crate) fn first_unkept<I: KeepingIndexer<A>>(&self, indexer: &I) -> Option<Oid>
+        ensures { MatchOption result
+            (KeepsGraph (I.keeps indexer.now) self.now.repo.graph.entries)
+            (IsFirstUnkept (I.keeps indexer.now) self.now.repo.graph.entries) }
+    {
+        first_unkept(self.repo.graph(), indexer)
     }
 
     /// Returns the client's repository.
@@ -117,6 +129,42 @@ fn disagreement_at<A: Allocator + Copy>(
                 Some(*id)
             }
         }
+        None => None,
+    }
+}
+
+// Returns the first id of the graph, in insertion order, that the indexer does not keep. Returns
+// `None` if the indexer keeps each id.
+fn first_unkept<A: Allocator + Copy, I: KeepingIndexer<A>>(
+    graph: &Graph<A>,
+    indexer: &I,
+) -> Option<Oid>
+    ensures { MatchOption result (KeepsGraph (I.keeps indexer.now) graph.now.entries)
+        (IsFirstUnkept (I.keeps indexer.now) graph.now.entries) }
+{
+    // Laws that the proof uses.
+    positions_are_nodes::<A>();
+    for place in 0..graph.len() {
+        if let Some(id) = unkept_at(graph, indexer, place) {
+            return Some(id);
+        }
+    }
+    None
+}
+
+// Returns the id at position `place` of the graph if the indexer does not keep this id, or `None`
+// otherwise.
+fn unkept_at<A: Allocator + Copy, I: KeepingIndexer<A>>(
+    graph: &Graph<A>,
+    indexer: &I,
+    place: usize,
+) -> Option<Oid>
+    requires { place < length graph.now.entries }
+    ensures { MatchOption result (IsKeptAt (I.keeps indexer.now) graph.now.entries place)
+        (IsUnkeptAt (I.keeps indexer.now) graph.now.entries place) }
+{
+    match graph.at(place) {
+        Some((id, _)) => { if indexer.has(id) { None } else { Some(*id) } }
         None => None,
     }
 }

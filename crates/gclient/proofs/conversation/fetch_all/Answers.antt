@@ -7,6 +7,7 @@ use Rattle.gclient.specs.declared.fault.FetchFault.{FetchFault}
 use Rattle.gclient.proofs.TurnLemmas.{round_began, round_taken, rounds_within, turn_kept}
 use Rattle.gclient.proofs.StepLemmas.{err_of}
 use Rattle.gclient.proofs.TalkLemmas.{talk_failed, talked_more}
+use Rattle.gsession.proofs.KeepingLemmas.{keeps_none, keeps_then}
 use Rattle.gclient.proofs.conversation.fetch_all.Goals as goal
 
 pub rounds-init : goal.rounds-init
@@ -21,14 +22,15 @@ rounds-init g c =
       began = c.requires.began;
       repo = refl;
       offers = tt;
+      keeps = keeps_none (g.K.KeepingIndexer.keeps c.args.indexer.now) c.args.repo.now.graph.entries;
       source_loans = refl;
       sink_loans = refl;
     }
 
 pub rounds-preserved : goal.rounds-preserved
 rounds-preserved g c =
-    let indexes = g.K.Indexer.indexes c.args.indexer.now in
-    let fails = g.K.Indexer.index_fails c.args.indexer.now in
+    let indexes = g.K.KeepingIndexer.indexes in
+    let fails = g.K.KeepingIndexer.index_fails in
     let remaining = g.S.Source.remaining in
     let source_down = g.S.Source.is_down in
     let contents = g.W.Sink.contents in
@@ -59,14 +61,17 @@ rounds-preserved g c =
       offers = subst (λ (r : RepoState g.row.A.Denot).
           IfSome c.fetch.new.offers (AreOffersOf c.fetch.new.session r.graph.entries)) (sym step.1)
           (c.in_ok-fetch.ensures.offers c.in-Round.common c.in-Round.is);
+      keeps = keeps_then (g.K.KeepingIndexer.keeps c.args.indexer.now) (g.K.KeepingIndexer.keeps at.indexer)
+          (g.K.KeepingIndexer.keeps c.fetch.new.indexer) c.args.repo.now.graph.entries at.repo.graph.entries
+          c.fetch.new.repo.graph.entries at.invariant.keeps c.in_ok-fetch.ensures.keeps;
       source_loans = c.in_ok-fetch.ensures.source_loans ∙ at.invariant.source_loans;
       sink_loans = c.in_ok-fetch.ensures.sink_loans ∙ at.invariant.sink_loans;
     }
 
 pub rounds-smaller : goal.rounds-smaller
 rounds-smaller g c =
-    let indexes = g.K.Indexer.indexes c.args.indexer.now in
-    let fails = g.K.Indexer.index_fails c.args.indexer.now in
+    let indexes = g.K.KeepingIndexer.indexes in
+    let fails = g.K.KeepingIndexer.index_fails in
     let remaining = g.S.Source.remaining in
     let source_down = g.S.Source.is_down in
     let contents = g.W.Sink.contents in
@@ -91,8 +96,8 @@ rounds-smaller g c =
 
 pub returns-in_err-fetch-clause-talks : goal.returns-in_err-fetch-clause-talks
 returns-in_err-fetch-clause-talks g c =
-    let indexes = g.K.Indexer.indexes c.args.indexer.now in
-    let fails = g.K.Indexer.index_fails c.args.indexer.now in
+    let indexes = g.K.KeepingIndexer.indexes in
+    let fails = g.K.KeepingIndexer.index_fails in
     let remaining = g.S.Source.remaining in
     let source_down = g.S.Source.is_down in
     let contents = g.W.Sink.contents in
@@ -113,8 +118,8 @@ returns-in_err-fetch-clause-talks g c =
 
 pub returns-in-PackTaken-clause-talks : goal.returns-in-PackTaken-clause-talks
 returns-in-PackTaken-clause-talks g c =
-    let indexes = g.K.Indexer.indexes c.args.indexer.now in
-    let fails = g.K.Indexer.index_fails c.args.indexer.now in
+    let indexes = g.K.KeepingIndexer.indexes in
+    let fails = g.K.KeepingIndexer.index_fails in
     let remaining = g.S.Source.remaining in
     let source_down = g.S.Source.is_down in
     let contents = g.W.Sink.contents in
@@ -133,11 +138,25 @@ returns-in-PackTaken-clause-settles_next g c =
 
 pub returns-in-PackTaken-clause-began : goal.returns-in-PackTaken-clause-began
 returns-in-PackTaken-clause-began g c =
-    let indexes = g.K.Indexer.indexes c.args.indexer.now in
-    let fails = g.K.Indexer.index_fails c.args.indexer.now in
+    let indexes = g.K.KeepingIndexer.indexes in
+    let fails = g.K.KeepingIndexer.index_fails in
     let at = c.rounds in
     let old = client_of at.session at.repo None in
     let new = client_of c.fetch.new.session c.fetch.new.repo None in
     let turned = c.in_ok-fetch.ensures.turns None in
     round_began indexes fails c.began_stays.ensures c.args.repo.now old turned.0.turn new at.invariant.repo
     at.invariant.began turned.0.is_turn
+
+pub returns-in_err-fetch-clause-keeps : goal.returns-in_err-fetch-clause-keeps
+returns-in_err-fetch-clause-keeps g c =
+    let at = c.rounds in
+    keeps_then (g.K.KeepingIndexer.keeps c.args.indexer.now) (g.K.KeepingIndexer.keeps at.indexer)
+    (g.K.KeepingIndexer.keeps c.fetch.new.indexer) c.args.repo.now.graph.entries at.repo.graph.entries
+    c.fetch.new.repo.graph.entries at.invariant.keeps c.in_err-fetch.ensures.keeps
+
+pub returns-in-PackTaken-clause-keeps : goal.returns-in-PackTaken-clause-keeps
+returns-in-PackTaken-clause-keeps g c =
+    let at = c.rounds in
+    keeps_then (g.K.KeepingIndexer.keeps c.args.indexer.now) (g.K.KeepingIndexer.keeps at.indexer)
+    (g.K.KeepingIndexer.keeps c.fetch.new.indexer) c.args.repo.now.graph.entries at.repo.graph.entries
+    c.fetch.new.repo.graph.entries at.invariant.keeps c.in_ok-fetch.ensures.keeps

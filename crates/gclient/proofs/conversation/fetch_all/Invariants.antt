@@ -3,6 +3,7 @@
 use Rattle.std.proofs.Common.{◌≡◌, ◌-◌, ℕ, List, length, false, IfSome, Option, None}
 use Rattle.gpkt.specs.Sending.{input_of, output_of}
 use Rattle.gsession.specs.Bounds.{BeganOn}
+use Rattle.gsession.specs.Keeping.{KeepsOn}
 use Rattle.gsession.specs.Offering.{AreOffersOf}
 use Rattle.gsession.specs.declared.stage.Stage.TheVariants.{Fetching}
 use Rattle.gclient.specs.Conversations.{Start}
@@ -12,11 +13,11 @@ use Rattle.gclient.proofs.conversation.fetch_all.Given as goal
 abbrev pub invariant-rounds : goal.invariant-rounds
 invariant-rounds g l = record {
   talked : (start : Start g.row.A.Denot) (source : g.row.S.Denot) (sink : g.row.W.Denot) (unborn : Option (List ℕ))
-      → HasTalked (g.K.Indexer.indexes l.indexer) (g.K.Indexer.index_fails l.indexer) start
+      → HasTalked g.K.KeepingIndexer.indexes g.K.KeepingIndexer.index_fails start
       (input_of g.S.Source.remaining g.S.Source.is_down source l.initial.reader.source)
       (output_of g.W.Sink.contents g.W.Sink.passed_on g.W.Sink.is_down sink l.initial.writer.sink)
       (client_of l.initial.session l.initial.repo unborn)
-      → HasTalked (g.K.Indexer.indexes l.indexer) (g.K.Indexer.index_fails l.indexer) start
+      → HasTalked g.K.KeepingIndexer.indexes g.K.KeepingIndexer.index_fails start
       (input_of g.S.Source.remaining g.S.Source.is_down source l.reader.source)
       (output_of g.W.Sink.contents g.W.Sink.passed_on g.W.Sink.is_down sink l.writer.sink)
       (client_of l.session l.repo unborn);
@@ -28,6 +29,8 @@ invariant-rounds g l = record {
   began : BeganOn l.initial.repo.graph.entries l.session;
   repo : l.repo ≡ l.initial.repo;
   offers : IfSome l.offers (AreOffersOf l.session l.repo.graph.entries);
+  keeps : KeepsOn (g.K.KeepingIndexer.keeps l.initial.indexer) (g.K.KeepingIndexer.keeps l.indexer)
+      l.initial.repo.graph.entries l.repo.graph.entries;
   source_loans : g.S.Source.loans l.reader.source ≡ g.S.Source.loans l.initial.reader.source;
   sink_loans : g.W.Sink.loans l.writer.sink ≡ g.W.Sink.loans l.initial.writer.sink;
 }

@@ -6,8 +6,8 @@ use Rattle.gclient.proofs.conversation.fetch_over.Goals as goal
 
 pub returns-clause-fetches : goal.returns-clause-fetches
 returns-clause-fetches g c =
-    let indexes = g.K.Indexer.indexes c.args.indexer.now in
-    let fails = g.K.Indexer.index_fails c.args.indexer.now in
+    let indexes = g.K.Indexer.indexes in
+    let fails = g.K.Indexer.index_fails in
     let repo = c.args.repo.now in
     let specs = c.args.specs.now in
     let input = input_of g.S.Source.remaining g.S.Source.is_down c.args.source.now c.fetch_over_with.new.source in

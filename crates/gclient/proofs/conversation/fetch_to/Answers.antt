@@ -7,12 +7,13 @@ use Rattle.gclient.specs.declared.fault.FetchFault.{FetchFault}
 use Rattle.gclient.specs.declared.fetched.Fetched.{Fetched}
 use Rattle.gclient.specs.declared.fault.FetchFault.TheVariants as fetch
 use Rattle.gclient.proofs.StepLemmas.{err_of}
+use Rattle.gsession.proofs.KeepingLemmas.{keeps_none}
 use Rattle.gclient.proofs.conversation.fetch_to.Goals as goal
 
 pub returns-in_err-session-clause-fetches : goal.returns-in_err-session-clause-fetches
 returns-in_err-session-clause-fetches g c =
-    let indexes = g.K.Indexer.indexes c.args.indexer.now in
-    let fails = g.K.Indexer.index_fails c.args.indexer.now in
+    let indexes = g.K.KeepingIndexer.indexes in
+    let fails = g.K.KeepingIndexer.index_fails in
     let start = start_for c.args.repo.now c.args.plan.now.specs.now c.args.plan.now.limit c.args.plan.now.ends c.args.plan.now.options in
     let input = input_of g.S.Source.remaining g.S.Source.is_down c.args.source.now c.args.source.now in
     let output = output_of g.W.Sink.contents g.W.Sink.passed_on g.W.Sink.is_down c.args.writer.now.sink
@@ -38,8 +39,8 @@ heads same = cc
 
 pub returns-clause-fetches : goal.returns-clause-fetches
 returns-clause-fetches g c =
-    let indexes = g.K.Indexer.indexes c.args.indexer.now in
-    let fails = g.K.Indexer.index_fails c.args.indexer.now in
+    let indexes = g.K.KeepingIndexer.indexes in
+    let fails = g.K.KeepingIndexer.index_fails in
     let start = start_for c.args.repo.now c.args.plan.now.specs.now c.args.plan.now.limit c.args.plan.now.ends c.args.plan.now.options in
     let read = λ (s t : g.row.S.Denot). input_of g.S.Source.remaining g.S.Source.is_down s t in
     let output = output_of g.W.Sink.contents g.W.Sink.passed_on g.W.Sink.is_down c.args.writer.now.sink
@@ -60,3 +61,9 @@ returns-clause-fetches g c =
     (subst (λ (s : Start g.row.A.Denot). FetchesOver indexes fails s (read c.with_buffer-reader.result.source.now after)
     output c.converse-fetched.new.repo c.converse-fetched.result)
     same c.converse-fetched.ensures.fetches))
+
+pub returns-in_err-session-clause-keeps : goal.returns-in_err-session-clause-keeps
+returns-in_err-session-clause-keeps g c = keeps_none (g.K.KeepingIndexer.keeps c.args.indexer.now) c.args.repo.now.graph.entries
+
+pub returns-in-Err-clause-keeps : goal.returns-in-Err-clause-keeps
+returns-in-Err-clause-keeps g c = keeps_none (g.K.KeepingIndexer.keeps c.args.indexer.now) c.args.repo.now.graph.entries

@@ -6,6 +6,7 @@ use Rattle.gclient.specs.declared.fault.FetchFault.TheVariants as fetch
 use Rattle.gclient.proofs.StepLemmas.{err_of, fresh_is_begun, is_heard, refs_held, refs_pending, refs_wanted}
 use Rattle.gclient.proofs.TalkLemmas.{has_listed, not_heard, talk_failed, talked_none}
 use Rattle.gclient.proofs.TurnLemmas.{not_asked, not_listed}
+use Rattle.gsession.proofs.KeepingLemmas.{keeps_none}
 use Rattle.gclient.proofs.conversation.talk.Goals as goal
 
 pub hear-requires-clause-begun : goal.hear-requires-clause-begun
@@ -14,8 +15,8 @@ hear-requires-clause-begun g c =
 
 pub returns-in_err-hear-clause-talks : goal.returns-in_err-hear-clause-talks
 returns-in_err-hear-clause-talks g c =
-    let indexes = g.K.Indexer.indexes c.args.indexer.now in
-    let fails = g.K.Indexer.index_fails c.args.indexer.now in
+    let indexes = g.K.KeepingIndexer.indexes in
+    let fails = g.K.KeepingIndexer.index_fails in
     let repo = c.args.repo.now in
     let start = start_with c.args.session.now repo in
     let first = c.args.reader.now.source in
@@ -47,8 +48,8 @@ ask-requires-clause-format g c =
 
 pub returns-in_err-ask-clause-talks : goal.returns-in_err-ask-clause-talks
 returns-in_err-ask-clause-talks g c =
-    let indexes = g.K.Indexer.indexes c.args.indexer.now in
-    let fails = g.K.Indexer.index_fails c.args.indexer.now in
+    let indexes = g.K.KeepingIndexer.indexes in
+    let fails = g.K.KeepingIndexer.index_fails in
     let repo = c.args.repo.now in
     let start = start_with c.args.session.now repo in
     let first = c.args.reader.now.source in
@@ -76,8 +77,8 @@ returns-in_err-ask-clause-talks g c =
 
 pub returns-in_err-taken-clause-talks : goal.returns-in_err-taken-clause-talks
 returns-in_err-taken-clause-talks g c =
-    let indexes = g.K.Indexer.indexes c.args.indexer.now in
-    let fails = g.K.Indexer.index_fails c.args.indexer.now in
+    let indexes = g.K.KeepingIndexer.indexes in
+    let fails = g.K.KeepingIndexer.index_fails in
     let repo = c.args.repo.now in
     let start = start_with c.args.session.now repo in
     let first = c.args.reader.now.source in
@@ -111,7 +112,7 @@ returns-in_err-taken-clause-talks g c =
 
 pub returns-then-taken-eq0-clause-talks : goal.returns-then-taken-eq0-clause-talks
 returns-then-taken-eq0-clause-talks g c =
-    (has_listed (g.K.Indexer.indexes c.args.indexer.now) (g.K.Indexer.index_fails c.args.indexer.now)
+    (has_listed g.K.KeepingIndexer.indexes g.K.KeepingIndexer.index_fails
     g.S.Source.remaining g.S.Source.is_down g.W.Sink.contents g.W.Sink.passed_on g.W.Sink.is_down
     c.reads_join.ensures.join c.distinct_are_once.ensures c.began_stays.ensures c.args.repo.now
     c.in_ok-hear.ensures.whole c.args.reader.now.source c.hear.new.reader.source c.take_ls.new.reader.source
@@ -127,7 +128,7 @@ returns-then-taken-eq0-clause-settles_next g c =
 
 pub returns-then-taken-eq0-clause-began : goal.returns-then-taken-eq0-clause-began
 returns-then-taken-eq0-clause-began g c =
-    (has_listed (g.K.Indexer.indexes c.args.indexer.now) (g.K.Indexer.index_fails c.args.indexer.now)
+    (has_listed g.K.KeepingIndexer.indexes g.K.KeepingIndexer.index_fails
     g.S.Source.remaining g.S.Source.is_down g.W.Sink.contents g.W.Sink.passed_on g.W.Sink.is_down
     c.reads_join.ensures.join c.distinct_are_once.ensures c.began_stays.ensures c.args.repo.now
     c.in_ok-hear.ensures.whole c.args.reader.now.source c.hear.new.reader.source c.take_ls.new.reader.source
@@ -148,7 +149,7 @@ fetch_all-requires-clause-pending g c =
 
 pub fetch_all-requires-clause-format : goal.fetch_all-requires-clause-format
 fetch_all-requires-clause-format g c =
-    (has_listed (g.K.Indexer.indexes c.args.indexer.now) (g.K.Indexer.index_fails c.args.indexer.now)
+    (has_listed g.K.KeepingIndexer.indexes g.K.KeepingIndexer.index_fails
     g.S.Source.remaining g.S.Source.is_down g.W.Sink.contents g.W.Sink.passed_on g.W.Sink.is_down
     c.reads_join.ensures.join c.distinct_are_once.ensures c.began_stays.ensures c.args.repo.now
     c.in_ok-hear.ensures.whole c.args.reader.now.source c.hear.new.reader.source c.take_ls.new.reader.source
@@ -159,7 +160,7 @@ fetch_all-requires-clause-format g c =
 
 pub fetch_all-requires-clause-began : goal.fetch_all-requires-clause-began
 fetch_all-requires-clause-began g c =
-    (has_listed (g.K.Indexer.indexes c.args.indexer.now) (g.K.Indexer.index_fails c.args.indexer.now)
+    (has_listed g.K.KeepingIndexer.indexes g.K.KeepingIndexer.index_fails
     g.S.Source.remaining g.S.Source.is_down g.W.Sink.contents g.W.Sink.passed_on g.W.Sink.is_down
     c.reads_join.ensures.join c.distinct_are_once.ensures c.began_stays.ensures c.args.repo.now
     c.in_ok-hear.ensures.whole c.args.reader.now.source c.hear.new.reader.source c.take_ls.new.reader.source
@@ -170,7 +171,7 @@ fetch_all-requires-clause-began g c =
 
 pub returns-in_err-fetch_all-clause-talks : goal.returns-in_err-fetch_all-clause-talks
 returns-in_err-fetch_all-clause-talks g c =
-    let talked = (has_listed (g.K.Indexer.indexes c.args.indexer.now) (g.K.Indexer.index_fails c.args.indexer.now)
+    let talked = (has_listed g.K.KeepingIndexer.indexes g.K.KeepingIndexer.index_fails
     g.S.Source.remaining g.S.Source.is_down g.W.Sink.contents g.W.Sink.passed_on g.W.Sink.is_down
     c.reads_join.ensures.join c.distinct_are_once.ensures c.began_stays.ensures c.args.repo.now
     c.in_ok-hear.ensures.whole c.args.reader.now.source c.hear.new.reader.source c.take_ls.new.reader.source
@@ -179,8 +180,8 @@ returns-in_err-fetch_all-clause-talks g c =
     c.in_ok-hear.ensures.hears c.in_ok-ask.ensures.asks.1 c.in_ok-ask.ensures.asks.2 c.in_ok-taken.ensures.takes
     c.in_ok-taken.ensures.reader.2).talked in
     let start = start_with c.args.session.now c.args.repo.now in
-    subst (λ (r : Result (Option (List ℕ)) (FetchFault g.row.A.Denot)). Talks (g.K.Indexer.indexes c.args.indexer.now)
-    (g.K.Indexer.index_fails c.args.indexer.now) start
+    subst (λ (r : Result (Option (List ℕ)) (FetchFault g.row.A.Denot)). Talks g.K.KeepingIndexer.indexes
+    g.K.KeepingIndexer.index_fails start
     (input_of g.S.Source.remaining g.S.Source.is_down c.args.reader.now.source c.fetch_all.new.reader.source)
     (output_of g.W.Sink.contents g.W.Sink.passed_on g.W.Sink.is_down c.args.writer.now.sink c.fetch_all.new.writer.sink)
     c.fetch_all.new.session c.fetch_all.new.repo r)
@@ -191,7 +192,7 @@ returns-in_err-fetch_all-clause-talks g c =
 
 pub returns-clause-talks : goal.returns-clause-talks
 returns-clause-talks g c =
-    let talked = (has_listed (g.K.Indexer.indexes c.args.indexer.now) (g.K.Indexer.index_fails c.args.indexer.now)
+    let talked = (has_listed g.K.KeepingIndexer.indexes g.K.KeepingIndexer.index_fails
     g.S.Source.remaining g.S.Source.is_down g.W.Sink.contents g.W.Sink.passed_on g.W.Sink.is_down
     c.reads_join.ensures.join c.distinct_are_once.ensures c.began_stays.ensures c.args.repo.now
     c.in_ok-hear.ensures.whole c.args.reader.now.source c.hear.new.reader.source c.take_ls.new.reader.source
@@ -201,3 +202,15 @@ returns-clause-talks g c =
     c.in_ok-taken.ensures.reader.2).talked in
     c.in_ok-fetch_all.ensures.talks (start_with c.args.session.now c.args.repo.now) c.args.reader.now.source
     c.args.writer.now.sink c.in_ok-taken.taken.unborn talked
+
+pub returns-in_err-hear-clause-keeps : goal.returns-in_err-hear-clause-keeps
+returns-in_err-hear-clause-keeps g c = keeps_none (g.K.KeepingIndexer.keeps c.args.indexer.now) c.args.repo.now.graph.entries
+
+pub returns-in_err-ask-clause-keeps : goal.returns-in_err-ask-clause-keeps
+returns-in_err-ask-clause-keeps g c = keeps_none (g.K.KeepingIndexer.keeps c.args.indexer.now) c.args.repo.now.graph.entries
+
+pub returns-in_err-taken-clause-keeps : goal.returns-in_err-taken-clause-keeps
+returns-in_err-taken-clause-keeps g c = keeps_none (g.K.KeepingIndexer.keeps c.args.indexer.now) c.args.repo.now.graph.entries
+
+pub returns-then-taken-eq0-clause-keeps : goal.returns-then-taken-eq0-clause-keeps
+returns-then-taken-eq0-clause-keeps g c = keeps_none (g.K.KeepingIndexer.keeps c.args.indexer.now) c.args.repo.now.graph.entries

@@ -2,4 +2,4 @@ use Rattle.gclient.proofs.CountLemmas.{rounds_are_asked}
 use Rattle.gclient.proofs.laws.rounds_are_asked.Goals as goal
 
 pub returns : goal.returns
-returns g c = λ k. rounds_are_asked (g.K.Indexer.indexes k) (g.K.Indexer.index_fails k)
+returns g c = rounds_are_asked g.K.KeepingIndexer.indexes g.K.KeepingIndexer.index_fails

@@ -3,8 +3,8 @@ use Rattle.gsession.proofs.laws.commons_are_haves.Goals as goal
 
 pub returns-clause-replies : goal.returns-clause-replies
 returns-clause-replies g c =
-    λ k. replies_add c.distinct_are_once.ensures (g.K.Indexer.indexes k) (g.K.Indexer.index_fails k)
+    replies_add c.distinct_are_once.ensures g.K.KeepingIndexer.indexes g.K.KeepingIndexer.index_fails
 
 pub returns-clause-calls : goal.returns-clause-calls
 returns-clause-calls g c =
-    λ k. commons_are_haves c.distinct_are_once.ensures (g.K.Indexer.indexes k) (g.K.Indexer.index_fails k)
+    commons_are_haves c.distinct_are_once.ensures g.K.KeepingIndexer.indexes g.K.KeepingIndexer.index_fails

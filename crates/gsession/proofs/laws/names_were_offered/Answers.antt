@@ -6,4 +6,4 @@ returns-clause-begins g c = begins_offered
 
 pub returns-clause-stays : goal.returns-clause-stays
 returns-clause-stays g c =
-    λ k. offered_stays c.distinct_are_once.ensures (g.K.Indexer.indexes k) (g.K.Indexer.index_fails k)
+    offered_stays c.distinct_are_once.ensures g.K.KeepingIndexer.indexes g.K.KeepingIndexer.index_fails

@@ -6,4 +6,4 @@ returns-clause-begins g c = begins_counted
 
 pub returns-clause-stays : goal.returns-clause-stays
 returns-clause-stays g c =
-    λ k. counted_stays c.offers_are_exact.ensures (g.K.Indexer.indexes k) (g.K.Indexer.index_fails k)
+    counted_stays c.offers_are_exact.ensures g.K.KeepingIndexer.indexes g.K.KeepingIndexer.index_fails

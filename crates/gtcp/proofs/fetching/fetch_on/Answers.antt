@@ -7,8 +7,8 @@ use Rattle.gtcp.proofs.fetching.fetch_on.Goals as goal
 
 pub returns-clause-fetches : goal.returns-clause-fetches
 returns-clause-fetches g c =
-    let indexes = g.K.Indexer.indexes c.args.indexer.now in
-    let fails = g.K.Indexer.index_fails c.args.indexer.now in
+    let indexes = g.K.Indexer.indexes in
+    let fails = g.K.Indexer.index_fails in
     let repo = c.args.repo.now in
     let new = c.fetch_git_on.new.repo in
     let result = c.fetch_git_on.result in

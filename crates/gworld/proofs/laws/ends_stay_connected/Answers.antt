@@ -4,9 +4,9 @@ use Rattle.gworld.proofs.laws.ends_stay_connected.Goals as goal
 
 pub returns : goal.returns
 returns g c = λ k w new event outcome ends listed.
-    step_connected (tools_of (g.K.Packer.packs k) (g.K.Packer.pack_fails k) (g.K.Indexer.indexes k)
-    (g.K.Indexer.index_fails k))
-    (c.taking_only_grows.ensures k) c.refusals_change_nothing.ensures c.servers_grow.ensures
+    step_connected (tools_of (g.P.Packer.packs k) (g.P.Packer.pack_fails k) g.I.KeepingIndexer.indexes
+    g.I.KeepingIndexer.index_fails)
+    c.taking_only_grows.ensures c.refusals_change_nothing.ensures c.servers_grow.ensures
     (record {
       closed = c.closed_stays.ensures;
       growing = c.connected_repo_stays.ensures;

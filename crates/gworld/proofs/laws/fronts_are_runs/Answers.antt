@@ -6,8 +6,8 @@ use Rattle.gworld.proofs.laws.fronts_are_runs.Goals as goal
 
 pub returns : goal.returns
 returns g c = record {
-  runs = λ k. parted (Step (tools_of (g.K.Packer.packs k) (g.K.Packer.pack_fails k) (g.K.Indexer.indexes k)
-      (g.K.Indexer.index_fails k)));
-  promises = λ k. parted (Promises (tools_of (g.K.Packer.packs k) (g.K.Packer.pack_fails k) (g.K.Indexer.indexes k)
-      (g.K.Indexer.index_fails k)));
+  runs = λ k. parted (Step (tools_of (g.P.Packer.packs k) (g.P.Packer.pack_fails k) g.I.KeepingIndexer.indexes
+      g.I.KeepingIndexer.index_fails));
+  promises = λ k. parted (Promises (tools_of (g.P.Packer.packs k) (g.P.Packer.pack_fails k) g.I.KeepingIndexer.indexes
+      g.I.KeepingIndexer.index_fails));
 }

@@ -4,6 +4,6 @@ use Rattle.gworld.proofs.laws.graphs_only_grow.Goals as goal
 
 pub returns : goal.returns
 returns g c = λ k.
-    let tools = tools_of (g.K.Packer.packs k) (g.K.Packer.pack_fails k) (g.K.Indexer.indexes k)
-    (g.K.Indexer.index_fails k) in
-    graphs_grow tools (c.taking_only_grows.ensures k) c.refusals_change_nothing.ensures c.servers_grow.ensures
+    let tools = tools_of (g.P.Packer.packs k) (g.P.Packer.pack_fails k) g.I.KeepingIndexer.indexes
+    g.I.KeepingIndexer.index_fails in
+    graphs_grow tools c.taking_only_grows.ensures c.refusals_change_nothing.ensures c.servers_grow.ensures

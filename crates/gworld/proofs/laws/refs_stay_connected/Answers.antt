@@ -5,6 +5,6 @@ use Rattle.gworld.proofs.laws.refs_stay_connected.Goals as goal
 
 pub returns : goal.returns
 returns g c = λ k w new events outcomes is run.
-    let tools = tools_of (g.K.Packer.packs k) (g.K.Packer.pack_fails k) (g.K.Indexer.indexes k)
-    (g.K.Indexer.index_fails k) in
+    let tools = tools_of (g.P.Packer.packs k) (g.P.Packer.pack_fails k) g.I.KeepingIndexer.indexes
+    g.I.KeepingIndexer.index_fails in
     kept_on tools AreRefsConnected (λ v e outcome next promised. promised.refs) w new events outcomes is run

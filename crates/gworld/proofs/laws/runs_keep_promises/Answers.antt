@@ -5,8 +5,8 @@ use Rattle.gworld.proofs.laws.runs_keep_promises.Goals as goal
 
 pub returns : goal.returns
 returns g c = record {
-  begins = λ k. starts_soundly (tools_of (g.K.Packer.packs k) (g.K.Packer.pack_fails k) (g.K.Indexer.indexes k)
-      (g.K.Indexer.index_fails k));
-  keeps = λ k. runs_keep (tools_of (g.K.Packer.packs k) (g.K.Packer.pack_fails k) (g.K.Indexer.indexes k)
-      (g.K.Indexer.index_fails k)) (c.steps_keep.ensures k) (c.ends_stay_connected.ensures k);
+  begins = λ k. starts_soundly (tools_of (g.P.Packer.packs k) (g.P.Packer.pack_fails k) g.I.KeepingIndexer.indexes
+      g.I.KeepingIndexer.index_fails);
+  keeps = λ k. runs_keep (tools_of (g.P.Packer.packs k) (g.P.Packer.pack_fails k) g.I.KeepingIndexer.indexes
+      g.I.KeepingIndexer.index_fails) (c.steps_keep.ensures k) (c.ends_stay_connected.ensures k);
 }

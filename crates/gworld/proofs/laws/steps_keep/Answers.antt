@@ -5,8 +5,8 @@ use Rattle.gworld.proofs.laws.steps_keep.Goals as goal
 
 pub returns : goal.returns
 returns g c = λ k.
-    let laws : WorldLaws (tools_of (g.K.Packer.packs k) (g.K.Packer.pack_fails k) (g.K.Indexer.indexes k)
-    (g.K.Indexer.index_fails k)) = record {
+    let laws : WorldLaws (tools_of (g.P.Packer.packs k) (g.P.Packer.pack_fails k) g.I.KeepingIndexer.indexes
+    g.I.KeepingIndexer.index_fails) = record {
       keeps = c.growing_keeps.ensures;
       goes_on = c.growing_goes_on.ensures;
       holds = c.keeping_holds.ensures;
@@ -21,8 +21,8 @@ returns g c = λ k.
       wants = c.wants_are_exact.ensures;
       asks = c.asks_are_of_lines.ensures;
       waits = c.open_is_the_sessions.ensures;
-      commons = c.commons_are_haves.ensures.replies k;
-      grows = c.taking_only_grows.ensures k;
+      commons = c.commons_are_haves.ensures.replies;
+      grows = c.taking_only_grows.ensures;
       refusals = c.refusals_change_nothing.ensures;
       servers = c.servers_grow.ensures;
       reading = record {

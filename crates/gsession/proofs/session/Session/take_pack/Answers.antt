@@ -5,51 +5,52 @@ use Rattle.gfetchreply.specs.FetchHeads.{pack_of}
 use Rattle.gsession.specs.Sessions.{AreCommons, SessionState}
 use Rattle.gsession.specs.steps.Fields.{session_of}
 use Rattle.gsession.specs.declared.stage.Stage.TheVariants.{Settling}
+use Rattle.gsession.proofs.KeepingLemmas.{keeps_more, keeps_none, keeps_stays}
 use Rattle.gsession.proofs.ReplyLemmas.{acked, graph_fault, same_repo, strange_fault}
 use Rattle.gsession.proofs.SessionLemmas.{pack_taken, waits}
 use Rattle.gsession.proofs.session.Session.take_pack.Goals as goal
 
-pub returns-in_err-check_acks : goal.returns-in_err-check_acks
-returns-in_err-check_acks g c = λ asked reply waits same has fed.
+pub returns-in_err-check_acks-clause-answers : goal.returns-in_err-check_acks-clause-answers
+returns-in_err-check_acks-clause-answers g c = λ asked reply waits same has fed.
     let p = err_from_is_err_and c.from_residual.result c.from_residual.ensures.1 in
     rw (p.1, p.2) (
-      strange_fault (g.K.Indexer.indexes c.args.feed.indexer.now) (g.K.Indexer.index_fails c.args.feed.indexer.now)
+      strange_fault g.K.KeepingIndexer.indexes g.K.KeepingIndexer.index_fails
           asked.haves c.args.acks.now c.args.repo.now reply _ same (c.in_err-check_acks.ensures.checks asked waits),
       refl,
       refl,
     )
 
-pub returns-in_err-entries : goal.returns-in_err-entries
-returns-in_err-entries g c = λ asked reply waits same has fed.
+pub returns-in_err-entries-clause-answers : goal.returns-in_err-entries-clause-answers
+returns-in_err-entries-clause-answers g c = λ asked reply waits same has fed.
     let p = err_from_is_err_and c.from_residual-in_err-entries.result c.from_residual-in_err-entries.ensures.1 in
     let checks = c.in_ok-check_acks.ensures.checks asked waits in
     let named = subst (λ (l : List (List ℕ)). All (Contains asked.haves) l) (sym same) checks in
-    rw (p.1, p.2) ((named, has, c.in_err-entries.ensures (pack_of reply) fed), refl, refl)
+    rw (p.1, p.2) ((named, has, c.in_err-entries.ensures.answers (pack_of reply) fed), refl, refl)
 
-pub returns-in_err-commons : goal.returns-in_err-commons
-returns-in_err-commons g c = λ asked reply waits same has fed.
+pub returns-in_err-commons-clause-answers : goal.returns-in_err-commons-clause-answers
+returns-in_err-commons-clause-answers g c = λ asked reply waits same has fed.
     let p = err_from_is_err_and c.from_residual-in_err-commons.result c.from_residual-in_err-commons.ensures.1 in
     let checks = c.in_ok-check_acks.ensures.checks asked waits in
     let named = subst (λ (l : List (List ℕ)). All (Contains asked.haves) l) (sym same) checks in
     rw (p.1, p.2)
-    ((named, λ _. (c.in_ok-entries.entries.items, c.in_ok-entries.ensures (pack_of reply) fed)), refl, refl)
+    ((named, λ _. (c.in_ok-entries.entries.items, c.in_ok-entries.ensures.answers (pack_of reply) fed)), refl, refl)
 
-pub returns-in_err-added : goal.returns-in_err-added
-returns-in_err-added g c = λ asked reply waits same has fed.
+pub returns-in_err-added-clause-answers : goal.returns-in_err-added-clause-answers
+returns-in_err-added-clause-answers g c = λ asked reply waits same has fed.
     let p = err_from_is_err_and c.from_residual-in_err-added.result c.from_residual-in_err-added.ensures.1 in
     let checks = c.in_ok-check_acks.ensures.checks asked waits in
     let named = subst (λ (l : List (List ℕ)). All (Contains asked.haves) l) (sym same) checks in
     let adds = c.in_err-added.ensures.adds in
     rw (p.1, p.2) (
-      graph_fault (g.K.Indexer.indexes c.args.feed.indexer.now) (g.K.Indexer.index_fails c.args.feed.indexer.now)
+      graph_fault g.K.KeepingIndexer.indexes g.K.KeepingIndexer.index_fails
           asked.haves c.args.repo.now reply c.in_err-added.field-0.0 named has
-          (c.in_ok-entries.entries.items, c.in_ok-entries.ensures (pack_of reply) fed, adds.1),
+          (c.in_ok-entries.entries.items, c.in_ok-entries.ensures.answers (pack_of reply) fed, adds.1),
       refl,
       same_repo c.insert_all.new.self c.args.repo.now adds.0 c.in_err-added.ensures.refs c.in_err-added.ensures.known,
     )
 
-pub returns : goal.returns
-returns g c = λ asked reply waits same has fed.
+pub returns-clause-answers : goal.returns-clause-answers
+returns-clause-answers g c = λ asked reply waits same has fed.
     let s = c.args.self.now in
     let checks = c.in_ok-check_acks.ensures.checks asked waits in
     let named = subst (λ (l : List (List ℕ)). All (Contains asked.haves) l) (sym same) checks in
@@ -63,7 +64,7 @@ returns g c = λ asked reply waits same has fed.
             commons,
         (
           c.in_ok-entries.entries.items,
-          c.in_ok-entries.ensures (pack_of reply) fed,
+          c.in_ok-entries.ensures.answers (pack_of reply) fed,
           record {
             adds = c.in_ok-added.ensures.adds;
             refs =
@@ -86,3 +87,24 @@ invariant_of-self g c =
     (subst (λ (l : List (List ℕ)). AreCommons c.args.self.now.options.limits c.args.self.now.format l) (sym is)
     c.in_ok-check_acks.ensures.commons)))
     tt tt
+
+pub returns-in_err-check_acks-clause-keeps : goal.returns-in_err-check_acks-clause-keeps
+returns-in_err-check_acks-clause-keeps g c = keeps_none (g.K.KeepingIndexer.keeps c.args.indexer.now) c.args.repo.now.graph.entries
+
+pub returns-in_err-entries-clause-keeps : goal.returns-in_err-entries-clause-keeps
+returns-in_err-entries-clause-keeps g c =
+    keeps_stays (g.K.KeepingIndexer.keeps c.args.indexer.now) (g.K.KeepingIndexer.keeps c.finish.new.indexer) c.args.repo.now.graph.entries c.args.repo.now.graph.entries c.in_err-entries.ensures.stays refl
+
+pub returns-in_err-commons-clause-keeps : goal.returns-in_err-commons-clause-keeps
+returns-in_err-commons-clause-keeps g c =
+    keeps_stays (g.K.KeepingIndexer.keeps c.args.indexer.now) (g.K.KeepingIndexer.keeps c.finish.new.indexer) c.args.repo.now.graph.entries c.args.repo.now.graph.entries c.in_ok-entries.ensures.stays refl
+
+pub returns-in_err-added-clause-keeps : goal.returns-in_err-added-clause-keeps
+returns-in_err-added-clause-keeps g c =
+    keeps_more (g.K.KeepingIndexer.keeps c.args.indexer.now) (g.K.KeepingIndexer.keeps c.finish.new.indexer) c.args.repo.now.graph.entries c.in_ok-entries.entries.items c.insert_all.new.self.graph.entries c.in_ok-entries.ensures.stays
+    c.in_ok-entries.ensures.kept c.in_err-added.ensures.only
+
+pub returns-clause-keeps : goal.returns-clause-keeps
+returns-clause-keeps g c =
+    keeps_more (g.K.KeepingIndexer.keeps c.args.indexer.now) (g.K.KeepingIndexer.keeps c.finish.new.indexer) c.args.repo.now.graph.entries c.in_ok-entries.entries.items c.insert_all.new.self.graph.entries c.in_ok-entries.ensures.stays
+    c.in_ok-entries.ensures.kept c.in_ok-added.ensures.only

@@ -4,6 +4,7 @@ use Rattle.gworld.proofs.parts.Parts.run_events.Goals as goal
 
 pub returns-in-Err-clause-runs : goal.returns-in-Err-clause-runs
 returns-in-Err-clause-runs g c =
-    let tools = tools_of (g.K.Packer.packs c.args.tools.now) (g.K.Packer.pack_fails c.args.tools.now)
-    (g.K.Indexer.indexes c.args.tools.now) (g.K.Indexer.index_fails c.args.tools.now) in
-    none_runs tools c.args.events.now _ c.in-Err.ensures.0 c.in-Err.ensures.1
+    let tools = tools_of (g.P.Packer.packs c.args.packer.now) (g.P.Packer.pack_fails c.args.packer.now)
+    g.I.KeepingIndexer.indexes g.I.KeepingIndexer.index_fails in
+    let kept = g.I.KeepingIndexer.keeps c.args.indexer.now in
+    none_runs tools kept kept c.args.events.now _ c.in-Err.ensures.0 c.in-Err.ensures.1

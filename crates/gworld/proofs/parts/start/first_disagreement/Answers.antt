@@ -1,5 +1,6 @@
 use Rattle.std.proofs.Common.{◌≤◌, ◌<◌, length, arith, rules}
-use Rattle.gworld.proofs.Starting.{first_found, graphs_agree, one_more_agrees}
+use Rattle.gdag.specs.Laws.{AgreesWith}
+use Rattle.gworld.proofs.Starting.{first_found, graphs_agree, one_more}
 use Rattle.gworld.proofs.parts.start.first_disagreement.Goals as goal
 
 pub returns-in-Some : goal.returns-in-Some
@@ -10,8 +11,8 @@ returns-in-Some g c =
 pub loop-place-preserved : goal.loop-place-preserved
 loop-place-preserved g c =
     let inside : c.loop-place.place < length c.args.server.now.entries = search rules in
-    one_more_agrees c.args.server.now.entries c.args.client.now.entries c.loop-place.place inside c.in_default.ensures
-    c.loop-place.invariant
+    one_more (AgreesWith c.args.client.now.entries) c.args.server.now.entries c.loop-place.place inside
+    c.in_default.ensures c.loop-place.invariant
 
 pub returns : goal.returns
 returns g c =
