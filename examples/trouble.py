@@ -712,11 +712,22 @@ def terminals(folder):
                 check(f"the name {name!r}, {words[0]} on a terminal: it is shown, or refused", b"31mx" in shown or status == 1, shown)
 
 
+def whole_lines(folder):
+    """A line on standard error is one write. A pipe of packets keeps each write apart."""
+    near, far = os.pipe2(os.O_DIRECT)
+    with open(near, "rb", buffering=0) as pipe:
+        subprocess.run([PROGRAM, "check", f"{folder}/none"], stdout=subprocess.DEVNULL, stderr=far)
+        os.close(far)
+        pieces = list(iter(lambda: pipe.read(4096), b""))
+    check("a line on standard error is one write", len(pieces) == 1 and pieces[0].endswith(b"\n"), pieces)
+
+
 # The longest come first.
 STEPS = {
     "silent client": silent_client, "kills": kills, "changing": changing, "lying": lying_servers, "full": full_disks,
     "closing": servers_that_close, "silent": silent_servers, "paths": paths_of_clients, "small disks": small_disks,
     "terminals": terminals, "urls": wrong_urls, "two clones": two_clones, "closed folders": closed_folders,
+    "whole lines": whole_lines,
 }
 # This one takes a minute, and so it is only tried if it is named.
 SLOW = {"deadline": deadline}

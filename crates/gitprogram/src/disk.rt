@@ -27,7 +27,7 @@ pub(crate) trait Disk {
     /// Returns the current refs and HEAD of a repository.
     fn list(&self, found: &Directories) -> Result<Listed, NotOpened>;
 
-    /// Opens a repository to answer ls-refs. If the objects that these refs and HEAD point to cannot
+    /// Opens a repository to answer ls-refs. If the objects that these refs and HEAD point to can't
     /// be determined without the history, reads the whole history.
     fn open_for_ls_refs(&self, found: &Directories, listed: Listed) -> Result<Extent, NotOpened>;
 

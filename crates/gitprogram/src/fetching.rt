@@ -14,7 +14,7 @@ use gclient::{
     fetch_git,
 };
 use gcmd::{Ends, ProgramFault, StreamLimit, send_report};
-use ggraph::{Head, Refs, Repository};
+use ggraph::{Head, Indexer, KeepsNothing, Refs, Repository};
 use gitobject::ObjectType;
 use gitobjects::StoredFiles;
 use gitrefs::RefUpdate as RefMove;
@@ -24,7 +24,7 @@ use gitrepository::{
 use gitwords::{FetchArgs, Verbosity};
 use glsreply::LsReply;
 use gname::{Oid, Prefix, RefName};
-use gpkt::{FromRead, ToWrite};
+use gpkt::{FromRead, Sink, Source, ToWrite};
 use gtcp::{Peer, Silence};
 use std::alloc::{AllocError, Global};
 use std::io;
@@ -635,10 +635,21 @@ where
     };
     let mut source = FromRead::new(&mut reader);
     let mut sink = ToWrite::new(&mut writer);
-    let fetched = fetch_git(repo, &mut source, &mut sink, indexer, &fetch);
+    let fetched = fetch_indexed(repo, &mut source, &mut sink, indexer, &fetch);
     // Bytes in the buffer that could not be written are dropped.
     let (_peer, _unwritten) = writer.into_parts();
     fetched
+}
+
+// Fetches over a source and a sink. Nothing is promised of objects that the indexer stores.
+fn fetch_indexed<S: Source, W: Sink, K: Indexer<Global>>(
+    repo: &mut Repo<Global>,
+    source: &mut S,
+    sink: &mut W,
+    indexer: &K,
+    fetch: &GitFetch<'_, Global>,
+) -> Result<Fetched<Global>, FetchFault<Global>> {
+    fetch_git(repo, source, sink, &mut KeepsNothing::new(indexer), fetch)
 }
 
 // Returns the parameters of the fetch, which allow offset deltas in the pack.

@@ -10,8 +10,8 @@
 //!   memory. `serve` logs one line per connection.
 //! - `upload-pack` serves one connection on standard input and output (git-upload-pack(1)).
 //! - `serve` and `upload-pack` answer ls-refs from the refs, the peeled ids in `packed-refs`, and
-//!   the objects of all other refs. They read the history at the first fetch request. If the history
-//!   is incomplete, the request is refused, as in Git.
+//!   the objects of all other refs. They read the history at the first fetch request. If the
+//!   history is incomplete, the request is refused, as in Git.
 //! - `clone` and `fetch` store the received pack unchanged, and then update the refs. `ls` prints
 //!   the refs of a server as git-ls-remote(1) does. `check` checks the connectivity of the refs.
 //! - A failed command prints one sentence on standard error, and exits with status 1. The exit

@@ -1,4 +1,4 @@
-//! Standard output.
+//! Standard output, and lines on standard error.
 
 ghost use Rattle.std.specs.Prelude.{◌≤◌, IfOk, length};
 
@@ -6,6 +6,7 @@ use crate::fault::Fault;
 use crate::sentences::Sentence;
 use gitwords::{Shown, clean_byte};
 use std::alloc::Global;
+use std::fmt::Display;
 use std::io;
 use std::io::Write;
 
@@ -92,4 +93,13 @@ pub(crate) fn print_peer<R: Print + AllocGlobal>(
         Ok(()) => Ok(()),
         Err(_) => Err(output.take_fault(rt.alloc())),
     }
+}
+
+/// Writes a line to `errors` in one piece, so that lines of several processes do not mix. If memory
+/// runs out, writes the line in several pieces.
+pub(crate) fn write_line<W: Write, D: Display>(alloc: Global, line: &D, errors: &mut W) {
+    let _ = match format!(in alloc; "{line}\n") {
+        Ok(text) => errors.write_all(text.as_bytes()),
+        Err(_) => writeln!(errors, "{line}"),
+    };
 }

@@ -7,16 +7,17 @@ use crate::cloning::clone_remote;
 use crate::fault::Fault;
 use crate::fetching::fetch_remote;
 use crate::listing::list_refs;
-use crate::output::print;
+use crate::output::{print, write_line};
 use crate::sentences::Sentence;
 use crate::serving::serve;
 use crate::uploading::upload_pack;
 use gitwords::{Answer, GitrepoCommand, Stream, read_words};
-use std::env;
+use std::alloc::Global;
 use std::fs::File;
 use std::io::{ErrorKind, IsTerminal, Write};
 use std::net::Net;
 use std::rt::{Clock, Env, Files};
+use std::{env, fmt};
 
 // The exit status for a failed command.
 const FAILED: u8 = 1;
@@ -48,7 +49,10 @@ where
         Err(kind) => return refuse_arguments(rt, kind, stderr),
     };
     match read_words(rt.alloc(), words.as_slice()) {
-        Ok(command) => finish(run_command(rt, &command, is_terminal, stderr), stderr),
+        Ok(command) => {
+            let outcome = run_command(rt, &command, is_terminal, stderr);
+            finish(rt.alloc(), outcome, stderr)
+        },
         Err(answer) => print_answer(rt, &answer, stderr),
     }
 }
@@ -66,9 +70,10 @@ fn arguments<R: Env + AllocGlobal>(rt: &R) -> Result<Vec<String>, ErrorKind> {
 // Prints why the arguments cannot be read, and returns the exit status.
 fn refuse_arguments<R: AllocGlobal, W: Write>(rt: &R, kind: ErrorKind, errors: &mut W) -> u8 {
     if kind == ErrorKind::OutOfMemory {
-        return finish(Err(Fault::Memory), errors);
+        return finish(rt.alloc(), Err(Fault::Memory), errors);
     }
-    let _ = finish(Err(Fault::of(rt.alloc(), Sentence::NotText)), errors);
+    let fault = Fault::of(rt.alloc(), Sentence::NotText);
+    let _ = finish(rt.alloc(), Err(fault), errors);
     WRONG_USAGE
 }
 
@@ -76,13 +81,13 @@ fn refuse_arguments<R: AllocGlobal, W: Write>(rt: &R, kind: ErrorKind, errors: &
 // mistake. Returns the exit status.
 fn print_answer<R: Print + AllocGlobal, W: Write>(rt: &R, answer: &Answer, errors: &mut W) -> u8 {
     if let Answer::Memory = answer {
-        return finish(Err(Fault::Memory), errors);
+        return finish(rt.alloc(), Err(Fault::Memory), errors);
     }
     let text = answer.text().as_bytes();
     match answer.stream() {
         Stream::Output => {
             if let Err(fault) = print(rt, text) {
-                return finish(Err(fault), errors);
+                return finish(rt.alloc(), Err(fault), errors);
             }
         }
         Stream::Error => {
@@ -93,15 +98,26 @@ fn print_answer<R: Print + AllocGlobal, W: Write>(rt: &R, answer: &Answer, error
 }
 
 // Prints the fault if the command failed, and returns the exit status.
-fn finish<W: Write>(outcome: Result<(), Fault>, errors: &mut W) -> u8
+fn finish<W: Write>(alloc: Global, outcome: Result<(), Fault>, errors: &mut W) -> u8
     ensures { MatchResult outcome (λ _. result ≡ 0) (λ _. result ≡ 1) }
 {
     match outcome {
         Ok(()) => 0,
         Err(fault) => {
-            let _ = writeln!(errors, "gitrepo: {fault}");
+            write_line(alloc, &Message(&fault), errors);
             FAILED
         }
+    }
+}
+
+// The line that reports a fault.
+#[derive(Clone, Copy)]
+struct Message<'f>(&'f Fault);
+
+impl fmt::Display for Message<'_> {
+    fn fmt<W: fmt::Write>(&self, f: &mut fmt::Formatter<W>) -> fmt::Result {
+        let fault = self.0;
+        write!(f, "gitrepo: {fault}")
     }
 }
 

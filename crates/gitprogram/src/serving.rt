@@ -5,7 +5,7 @@ use crate::disk::Disk;
 use crate::fault::Fault;
 use crate::limits::limits_beside;
 use crate::notes::Notes;
-use crate::output::print;
+use crate::output::{print, write_line};
 use crate::refusals::{ADDRESS_LIMIT, FULL};
 use crate::repositories::{ClosesStores, Repositories};
 use crate::sentences::Sentence;
@@ -19,10 +19,10 @@ use gparts::PartPacker;
 use gserver::{Host, ServedRepository};
 use mio::net::TcpListener;
 use std::alloc::Global;
-use std::io;
 use std::io::{ErrorKind, Write};
-use std::net::{Net, ToSocketAddrs};
+use std::net::{Net, SocketAddr, ToSocketAddrs};
 use std::rt::{Clock, Files};
+use std::{fmt, io};
 
 /// Serves the repositories below a directory to many clients at once, and logs each connection to
 /// `errors`.
@@ -138,6 +138,20 @@ where
     Ok(())
 }
 
+// The log line for a client that exceeds the connection limit.
+#[derive(Clone, Copy)]
+struct RefusedLine {
+    address: SocketAddr,
+    text: &'static str,
+}
+
+impl fmt::Display for RefusedLine {
+    fn fmt<W: fmt::Write>(&self, f: &mut fmt::Formatter<W>) -> fmt::Result {
+        let RefusedLine { address, text } = self;
+        write!(f, "{address} refused: {text}")
+    }
+}
+
 // Handles the next event of the loop. Returns `false` if there are no more events.
 fn serve_next<'h, R, H, K, E>(
     rt: &R,
@@ -160,7 +174,7 @@ where
         Some(Event::Refused(address, why)) => {
             clients.refuse(packet_of(why));
             let text = log_text_of(why);
-            let _ = writeln!(errors, "{address} refused: {text}");
+            write_line(rt.alloc(), &RefusedLine { address, text }, errors);
         }
         Some(Event::Ended(ended)) => {
             log_ended(rt.alloc(), ended, errors);

@@ -4,6 +4,7 @@ ghost use Rattle.gtalk.specs.Talks.{no_talk};
 
 use crate::fault::Fault;
 use crate::notes::Notes;
+use crate::output::write_line;
 use crate::sentences::{Clean, Sentence};
 use crate::shared::RecordsFault;
 use crate::visitor::Visitor;
@@ -71,7 +72,7 @@ where
         took,
         fault: fault.as_ref(),
     };
-    let _ = writeln!(errors, "{line}");
+    write_line(alloc, &line, errors);
 }
 
 /// Returns the fault of a connection that ended, or `None` if the connection ended without a fault.
