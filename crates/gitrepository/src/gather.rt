@@ -66,12 +66,9 @@ impl<'r, 'f, F: ObjectFiles, A: Allocator + Copy> Gathering<'r, 'f, F, A> {
         gathering
     }
 
-    // Returns whether the received pack has the object with this id.
-    fn is_received(&self, id: &Oid) -> bool {
-        match self.received {
-            Some(received) => received.find(id).is_some(),
-            None => false,
-        }
+    // Returns the type of an object of the received pack, or `None` if the pack lacks the object.
+    fn received_kind(&self, id: &Oid) -> Option<ObjectType> {
+        Some(self.received?.find(id)?.kind)
     }
 
     /// Marks an object as sent, with the trees and blobs it reaches, unless its fate is already
@@ -134,7 +131,7 @@ impl<'r, 'f, F: ObjectFiles, A: Allocator + Copy> Gathering<'r, 'f, F, A> {
     // Sets the fate of an undecided object, and returns its location. Returns `None` if the fate
     // was already decided, or if the received pack has the object.
     fn settle(&mut self, id: &Oid, fate: Fate) -> Result<Option<Found>, RepositoryFault<A>> {
-        if self.is_received(id) || self.fates.of_loose(id) != Fate::Undecided {
+        if self.received_kind(id).is_some() || self.fates.of_loose(id) != Fate::Undecided {
             return Ok(None);
         }
         let found = self.locate(id)?;
@@ -229,13 +226,18 @@ impl<'r, 'f, F: ObjectFiles, A: Allocator + Copy> Gathering<'r, 'f, F, A> {
     }
 
     // Decides the fate of a named object. If the object is a tree whose fate was undecided, it is
-    // added to `trees`.
+    // added to `trees`. Fails if the received pack has the object with another type.
     fn settle_link(
         &mut self,
         link: Link,
         fate: Fate,
         trees: &mut Vec<Tree, A>,
     ) -> Result<(), RepositoryFault<A>> {
+        if let Some(kind) = self.received_kind(&link.id) {
+            if kind != link.kind {
+                return Err(RepositoryFault::object_fault(&link.id, ObjectCause::Type));
+            }
+        }
         let Some(found) = self.settle(&link.id, fate)? else {
             return Ok(());
         };
