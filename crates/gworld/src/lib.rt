@@ -66,6 +66,9 @@
 //!
 //! # What the contracts do not rule out
 //!
+//! If an indexer begins to keep an id during a run of a `KeepingWorld`, an event `ClientAdd` of this
+//! id may succeed or fail with 98. Any event may make the indexer keep more ids.
+//!
 //! A run may stop with `Memory` although memory is available, before its first event or before any
 //! event that needs memory. An event that allocates may report out of memory although memory is
 //! available. The lists of requests and replies may use the allocator of either end. The contracts
