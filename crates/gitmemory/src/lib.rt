@@ -12,8 +12,8 @@
 //! - Each kept id is complete: the store has everything that the id reaches
 //!   ([`MemoryIndexer::laws`]). The definitions are those of `gcomplete`.
 //! - In a world whose client has such a store, each ref of the client is complete after any events
-//!   ([`run_complete`]). The store has each commit, tree, blob and tag that the ref reaches.
-//!   Messages may be lost, repeated, late, truncated or forged.
+//!   ([`run_complete`]). The store has the id of each commit, tree, blob and tag that the ref
+//!   reaches. Messages may be lost, repeated, late, truncated or forged.
 //! - The store keeps the id of each returned entry, and all ids that it kept before. After a fault
 //!   the store is unchanged.
 //! - An accepted pack is a pack of version 2 whose trailer is the SHA-1 of all preceding bytes.
@@ -24,7 +24,7 @@
 //!
 //! # What the contracts do not rule out
 //!
-//! - The clauses are about each closed store of objects with the kept ids and types. Such a store
+//! - The clauses are about each closed store of objects with the kept ids and types. At least one
 //!   exists ([`MemoryIndexer::laws`]), but no contract says that its bytes arrived. A gitlink is no
 //!   link.
 //! - A fetch fails if it requests a tree, a blob, or a tag of one, because these have no entry.

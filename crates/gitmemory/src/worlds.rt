@@ -19,8 +19,8 @@ use gworld::{Event, KeepingWorld, Outcome, RunFault};
 use std::alloc::Allocator;
 
 /// Executes events like [`KeepingWorld::run`]. Afterwards each ref of the client is complete in
-/// every closed store with the kept ids and types. Such a store has each commit, tree, blob and tag
-/// that the ref reaches.
+/// every closed store with the kept ids and types. Each of these stores has each commit, tree, blob
+/// and tag that the ref reaches.
 ///
 /// Fails like [`KeepingWorld::run`]. Each ref is complete after a fault, too.
 pub fn run_complete<P: Packer<A> + Drop, A: Allocator + Copy>(
