@@ -49,8 +49,8 @@ pub use crate::fault::{LoadFault, SaveFault};
 pub use crate::text::{Order, Repository, load, save};
 pub use gdag::{Graph, GraphFault, IdHasher, MAX_NODES, distinct_ids, laws as graph_laws};
 pub use gobject::{
-    Entry, Faithful, IndexFault, Indexer, KeepingIndexer, KeepsNothing, Kind, MAX_PARENTS, Node,
-    PackFault, Packer, Parents, PlainPack,
+    Entry, Faithful, FindingIndexer, IndexFault, Indexer, KeepingIndexer, KeepsNothing, Kind,
+    MAX_PARENTS, Node, PackFault, Packer, Parents, PlainPack,
 };
 pub use grefs::{Head, MAX_REFS, Refs, RefsFault, Target, is_below_refs};
 pub use gwalk::{

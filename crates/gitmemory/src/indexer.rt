@@ -12,7 +12,7 @@ use crate::feed::MemoryFeed;
 use crate::intake::read_pack;
 use gcomplete::{BatchFault, ClosedStore};
 use gname::Oid;
-use gobject::{Entry, IndexFault, KeepingIndexer};
+use gobject::{Entry, FindingIndexer, IndexFault, KeepingIndexer};
 use std::alloc::{Allocator, Global};
 
 /// The ids and types of objects, in memory. It receives packs, and keeps the ids and types of their
@@ -103,7 +103,9 @@ impl<A: Allocator + Copy> KeepingIndexer<A> for MemoryIndexer<A> {
             Err(_) => Err(IndexFault::Other),
         }
     }
+}
 
+impl<A: Allocator + Copy> FindingIndexer<A> for MemoryIndexer<A> {
     /// Returns whether the store has an object with this id.
     fn has(&self, id: &Oid) -> bool {
         self.store.kind_of(id).is_some()

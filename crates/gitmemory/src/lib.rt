@@ -11,9 +11,6 @@
 //!
 //! - Each kept id is complete: the store has everything that the id reaches
 //!   ([`MemoryIndexer::laws`]). The definitions are those of `gcomplete`.
-//! - In a world whose client has such a store, each ref of the client is complete after any events
-//!   ([`run_complete`]). The store has the id of each commit, tree, blob and tag that the ref
-//!   reaches. Messages may be lost, repeated, late, truncated or forged.
 //! - The store keeps the id of each returned entry, and all ids that it kept before. After a fault
 //!   the store is unchanged.
 //! - An accepted pack is a pack of version 2 whose trailer is the SHA-1 of all preceding bytes.
@@ -28,8 +25,6 @@
 //!   exists ([`MemoryIndexer::laws`]), but no contract says that its bytes arrived. A gitlink is no
 //!   link.
 //! - A fetch fails if it requests a tree, a blob, or a tag of one, because these have no entry.
-//! - The promises of `gworld` for honest runs do not apply, because no contract rules out that
-//!   honest packs are refused.
 //! - No contract rules out that a valid pack is refused. No contract says which fault is returned,
 //!   or when memory runs out.
 //! - No contract rules out that an incomplete or malformed pack is accepted. Then no object of it
@@ -42,13 +37,13 @@
 //!   `gobject::MAX_PARENTS` parents.
 //! - No contract covers time or memory use.
 //!
-//! No program of this repository uses this crate, and it has no tests.
+//! The rows of `gitcases` receive packs with this crate. No other program of this repository uses
+//! it.
 //!
 //! # Dependencies
 //!
 //! `gitpack` reads packs, `gitobject` reads objects, and `gcomplete` keeps ids and types. `gobject`
-//! defines entries and indexers, `gdag` defines graphs, `gworld` defines worlds, and `gname`
-//! defines ids.
+//! defines entries and indexers, and `gname` defines ids.
 #![tactic(auto)]
 
 mod feed;
@@ -56,8 +51,6 @@ mod indexer;
 mod intake;
 mod limits;
 mod nodes;
-mod worlds;
 
 pub use crate::feed::MemoryFeed;
 pub use crate::indexer::MemoryIndexer;
-pub use crate::worlds::run_complete;

@@ -1,6 +1,6 @@
 //! Indexers that keep the objects of the packs that they read.
 
-ghost use Rattle.std.specs.Prelude.{◌++◌, ◌↔◌, [], ℕ, List, All, IfOk, IsTrue, MatchResult};
+ghost use Rattle.std.specs.Prelude.{◌++◌, ◌↔◌, ⊤, [], ℕ, List, All, IfOk, IsTrue, MatchResult};
 ghost use Rattle.gname.specs.Ids.{Id};
 ghost use Rattle.gobject.specs.declared.node.Entry.{Entry};
 ghost use Rattle.gobject.specs.declared.fault.IndexFault.{IndexFault};
@@ -11,10 +11,10 @@ use crate::pack::Indexer;
 use gname::Oid;
 use std::alloc::Allocator;
 
-/// An indexer with a store. The indexer keeps the objects of each pack that it accepts.
+/// An indexer with a store. The indexer keeps the id of each entry that it returns.
 ///
 /// The relations `indexes`, `index_fails` and `fed` are those of [`Indexer`]. The relation `keeps`
-/// states which ids the store keeps, with all that the indexer promises of such an id.
+/// states which ids are kept, and may state more of them.
 pub trait KeepingIndexer<A: Allocator + Copy> {
     /// The state of the indexer after it has received a part of a pack.
     type Feed: Drop;
@@ -44,9 +44,9 @@ pub trait KeepingIndexer<A: Allocator + Copy> {
             (λ fault. ((given more : List ℕ) → fed feed.old given
             → index_fails ((given ++ piece.now) ++ more) fault)) };
 
-    /// Keeps the objects of the pack whose pieces were fed, and returns the entries of this pack, in
-    /// order. All that was kept before is still kept, also after a fault. Fails only with a fault
-    /// that `index_fails` allows for the pack that consists of these pieces.
+    /// Returns the entries of the pack whose pieces were fed, in order, and keeps their ids. All
+    /// that was kept before is still kept, also after a fault. Fails only with a fault that
+    /// `index_fails` allows for the pack that consists of these pieces.
     fn finish(&mut self, feed: Self::Feed) -> Result<Vec<Entry<A>, A>, IndexFault>
         ensures answers { MatchResult result
             (λ entries. ((given : List ℕ) → fed feed given → indexes given entries.items))
@@ -54,10 +54,13 @@ pub trait KeepingIndexer<A: Allocator + Copy> {
         ensures kept { IfOk result (λ entries. All (λ entry. keeps self.new entry.id)
             entries.items) }
         ensures stays { (id : Id) → keeps self.old id → keeps self.new id };
+}
 
+/// A [`KeepingIndexer`] whose store can be searched.
+pub trait FindingIndexer<A: Allocator + Copy>: KeepingIndexer<A> {
     /// Returns whether the id is kept.
     fn has(&self, id: &Oid) -> bool
-        ensures { IsTrue result ↔ keeps self.now id.now };
+        ensures { IsTrue result ↔ Self.keeps self.now id.now };
 }
 
 /// An indexer without a store, which promises nothing of an id: `keeps` holds of every id.
@@ -82,7 +85,7 @@ impl<A: Allocator + Copy, K: Indexer<A>> KeepingIndexer<A> for KeepsNothing<'_, 
 
     ghost fed = { K.fed };
 
-    ghost keeps = { λ _ _. Unit {0} };
+    ghost keeps = { λ _ _. ⊤ };
 
     fn start(&self, alloc: A) -> Result<K::Feed, IndexFault> {
         self.indexer.start(alloc)
@@ -95,7 +98,9 @@ impl<A: Allocator + Copy, K: Indexer<A>> KeepingIndexer<A> for KeepsNothing<'_, 
     fn finish(&mut self, feed: K::Feed) -> Result<Vec<Entry<A>, A>, IndexFault> {
         self.indexer.finish(feed)
     }
+}
 
+impl<A: Allocator + Copy, K: Indexer<A>> FindingIndexer<A> for KeepsNothing<'_, K> {
     fn has(&self, _id: &Oid) -> bool {
         true
     }

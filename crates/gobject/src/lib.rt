@@ -16,8 +16,8 @@
 //! - The contracts of [`Indexer`] specify how an indexer reads a pack in pieces. The contract of
 //!   `index`, which reads a whole pack, follows from the contracts of the other calls.
 //! - The contract of [`KeepingIndexer`] specifies an indexer with a store: it keeps each entry that
-//!   it returns, and all that it kept before. [`KeepsNothing`] turns each [`Indexer`] into one that
-//!   has no store.
+//!   it returns, and all that it kept before. A [`FindingIndexer`] can also search its store.
+//!   [`KeepsNothing`] turns each [`Indexer`] into one that has no store.
 //! - A sequence of bytes has at most one bad line, which is the first malformed or missing line. A
 //!   plain pack has no bad line ([`laws`]).
 //! - [`Faithful`] specifies a lossless pair of packer and indexer. A plain pack of a list with
@@ -54,7 +54,7 @@ mod pack;
 mod plain_pack;
 
 pub use crate::fault::{IndexFault, PackFault};
-pub use crate::keeping::{KeepingIndexer, KeepsNothing};
+pub use crate::keeping::{FindingIndexer, KeepingIndexer, KeepsNothing};
 pub use crate::node::{Entry, Kind, MAX_PARENTS, Node, Parents};
 pub use crate::pack::{Faithful, Indexer, Packer};
 pub use crate::plain_pack::PlainPack;

@@ -12,7 +12,7 @@ use Rattle.gclientrepo.specs.Repos.{RepoState}
 use Rattle.gscenario.specs.ScenarioText.{IsScenario, Refuses}
 use Rattle.gscenario.specs.declared.event.Event.{Event}
 use Rattle.gworld.specs.Promises.{Promises}
-use Rattle.gworld.specs.Runs.{RunWith, RunsFront}
+use Rattle.gworld.specs.Runs.{NeedsMemory, RunWith, RunsFront}
 use Rattle.gworld.specs.Starts.{CanStart, CannotStart}
 use Rattle.gworld.specs.Worlds.{PackTools, WorldState, new_world, tools_of}
 use Rattle.gworld.specs.declared.outcome.Outcome.{Outcome}
@@ -99,7 +99,7 @@ pub record IsRun {A : Type 0} (output : Output) (ending : Ending A) (w : WorldSt
 pub record IsStopped {A : Type 0} (w : WorldState A) (events : List (Event A)) : Type 0 where
   pub outcomes : List Outcome
   pub new : WorldState A
-  pub front : RunsFront (Promises (plain_tools A)) w events outcomes new
+  pub front : RunsFront (Promises (plain_tools A)) NeedsMemory w events outcomes new
 
 -- ---- simulations
 

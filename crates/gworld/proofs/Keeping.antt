@@ -107,29 +107,6 @@ module _ {A : Type 0} where
 
   -- ---- the steps of a run
 
-  -- what is kept before an event is kept after it
-  pub adds_kept_on : (e : Event A) (before after : Id → Type 0) → ((id : Id) → before id → after id)
-      → AddsKept before e → AddsKept after e
-  adds_kept_on (event.ClientAdd entry) before after stays kept = stays entry.id kept
-  adds_kept_on (event.Begin specs) before after stays kept = tt
-  adds_kept_on event.Ask before after stays kept = tt
-  adds_kept_on (event.Serve number) before after stays kept = tt
-  adds_kept_on (event.Deliver number count) before after stays kept = tt
-  adds_kept_on (event.Forge bytes) before after stays kept = tt
-  adds_kept_on (event.StrangeRequest bytes) before after stays kept = tt
-  adds_kept_on event.Settle before after stays kept = tt
-  adds_kept_on event.RestartClient before after stays kept = tt
-  adds_kept_on event.RestartServer before after stays kept = tt
-  adds_kept_on (event.ServerAdd entry) before after stays kept = tt
-  adds_kept_on (event.ServerRef name id) before after stays kept = tt
-  adds_kept_on (event.ClientRef name id) before after stays kept = tt
-
-  -- what is not kept after an event was not kept before it
-  pub adds_unkept_before : (e : Event A) (before after : Id → Type 0) → ((id : Id) → before id → after id)
-      → AddsUnkept after e → AddsUnkept before e
-  adds_unkept_before (event.ClientAdd entry) before after stays unkept = λ kept. unkept (stays entry.id kept)
-  adds_unkept_before _ before after stays unkept = absurd unkept
-
   -- no id is unkept if all ids are kept
   pub none_unkept : (e : Event A) (keeps : Id → Type 0) → ((id : Id) → keeps id) → AddsUnkept keeps e → ⊥
   none_unkept (event.ClientAdd entry) keeps all unkept = unkept (all entry.id)

@@ -9,10 +9,13 @@ use Rattle.gdag.proofs.Growing.{at_front}
 use Rattle.gworld.specs.steps.Bringing.{RunsSoundly}
 use Rattle.gworld.specs.Promises.{Promises}
 use Rattle.gworld.specs.Sound.{IsSound, IsUnforgedAndFaithful}
-use Rattle.gworld.specs.KeepingWorlds.{KeptPromises}
+use Rattle.gworld.specs.KeepingWorlds.{KeptNeedsMemory, KeptPromises, KeptWorld}
 use Rattle.gworld.specs.Runs.{NeedsMemory, RunWith, RunsFront, Run, outcomes_before}
 use Rattle.gworld.specs.declared.fault.RunFault.{RunFault}
-use Rattle.gworld.proofs.Keeping.{adds_kept_on, adds_unkept_before, none_unkept}
+use Rattle.gworld.proofs.Keeping.{none_unkept}
+use Rattle.gworld.specs.Faults.{not_kept}
+use Rattle.gsession.specs.Keeping.{KeepsOn}
+use Rattle.gsession.proofs.KeepingLemmas.{keeps_none, keeps_then}
 use Rattle.gworld.specs.Worlds.{PackTools, WorldState, Kept}
 use Rattle.gscenario.specs.declared.event.Event.{Event}
 use Rattle.gworld.specs.declared.outcome.Outcome.{Outcome}
@@ -27,134 +30,149 @@ use Rattle.gworld.specs.declared.outcome.Outcome.TheVariants.{Done, Asked as Ask
 
 -- ---- extending a run
 
-run_goes_on : {A : Type 0} (R : WorldState A → Event A → Outcome → WorldState A → Type 0) (w v u : WorldState A)
-    (events : List (Event A)) (outcomes : List Outcome) (event : Event A) (outcome : Outcome)
+run_goes_on : {A S : Type 0} (R : S → Event A → Outcome → S → Type 0) (w v u : S) (events : List (Event A))
+    (outcomes : List Outcome) (event : Event A) (outcome : Outcome)
     → RunWith R w events outcomes v → R v event outcome u
     → RunWith R w (events ++ event ∷ []) (outcomes ++ outcome ∷ []) u
-run_goes_on {A} R w v u [] [] event outcome same step =
-    (u, subst (λ (x : WorldState A). R x event outcome u) same step, refl)
+run_goes_on {A} {S} R w v u [] [] event outcome same step =
+    (u, subst (λ (x : S). R x event outcome u) same step, refl)
 run_goes_on R w v u (first ∷ events) (told ∷ outcomes) event outcome (next, here, rest) step =
     (next, here, run_goes_on R next v u events outcomes event outcome rest step)
 run_goes_on R w v u _ _ event outcome run step = absurd run
 
 -- ---- runs whose steps have another property
 
-module _ {A : Type 0} (P Q : WorldState A → Event A → Outcome → WorldState A → Type 0)
-    (each : (w : WorldState A) (e : Event A) (outcome : Outcome) (next : WorldState A) → P w e outcome next
-    → Q w e outcome next) where
-  pub run_maps : (w v : WorldState A) (events : List (Event A)) (outcomes : List Outcome) → RunWith P w events outcomes v
-      → RunWith Q w events outcomes v
-  run_maps w v [] [] run = run
-  run_maps w v (first ∷ events) (told ∷ outcomes) (next, here, rest) =
-      (next, each w first told next here, run_maps next v events outcomes rest)
-  run_maps w v _ _ run = absurd run
+module _ {A S T : Type 0} (f : S → T) (P : S → Event A → Outcome → S → Type 0)
+    (Q : T → Event A → Outcome → T → Type 0)
+    (each : (s : S) (e : Event A) (outcome : Outcome) (next : S) → P s e outcome next → Q (f s) e outcome (f next)) where
+  pub run_maps : (s v : S) (events : List (Event A)) (outcomes : List Outcome) → RunWith P s events outcomes v
+      → RunWith Q (f s) events outcomes (f v)
+  run_maps s v [] [] run = ap f run
+  run_maps s v (first ∷ events) (told ∷ outcomes) (next, here, rest) =
+      (f next, each s first told next here, run_maps next v events outcomes rest)
+  run_maps s v _ _ run = absurd run
 
-  pub result_maps : (w v : WorldState A) (events : List (Event A)) (result : Result (Vec Outcome A) (RunFault A))
-      → MatchResult result (λ (o : Vec Outcome A). RunWith P w events o.items v)
-      (λ (f : RunFault A). RunsFront P w events (outcomes_before f) v)
-      → MatchResult result (λ (o : Vec Outcome A). RunWith Q w events o.items v)
-      (λ (f : RunFault A). RunsFront Q w events (outcomes_before f) v)
-  result_maps w v events (Ok outcomes) run = run_maps w v events outcomes.items run
-  result_maps w v events (Err fault) run = record {
-    front = run.front;
-    next = run.next;
-    rest = run.rest;
-    parts = run.parts;
-    run = run_maps w v run.front (outcomes_before fault) run.run;
-    memory = run.memory;
-  }
+  module _ (needs : S → Event A → Type 0) (must : T → Event A → Type 0)
+      (same : (s : S) (e : Event A) → needs s e → must (f s) e) where
+    pub front_maps : (s v : S) (events : List (Event A)) (outcomes : List Outcome)
+        → RunsFront P needs s events outcomes v → RunsFront Q must (f s) events outcomes (f v)
+    front_maps s v events outcomes run = record {
+      front = run.front;
+      next = run.next;
+      rest = run.rest;
+      parts = run.parts;
+      run = run_maps s v run.front outcomes run.run;
+      memory = elim run.memory [
+        | inl none ↦ inl none
+        | inr next ↦ inr (same v run.next next)
+      ];
+    }
 
-module _ {A : Type 0} (tools : PackTools A) where
-  -- a step, if more ids are kept at the end of the run
-  kept_longer : (before mid after : Id → Type 0) → ((id : Id) → mid id → after id)
-      → (w : WorldState A) (e : Event A) (outcome : Outcome) (next : WorldState A)
-      → KeptPromises tools before mid w e outcome next → KeptPromises tools before after w e outcome next
-  kept_longer before mid after stays w e outcome next step =
-      elim step [
-        | inl promised ↦ inl (adds_kept_on e mid after stays promised.0, promised.1)
-        | inr refused ↦ inr refused
-      ]
+    pub result_maps : (s v : S) (events : List (Event A)) (result : Result (Vec Outcome A) (RunFault A))
+        → MatchResult result (λ (o : Vec Outcome A). RunWith P s events o.items v)
+        (λ (fault : RunFault A). RunsFront P needs s events (outcomes_before fault) v)
+        → MatchResult result (λ (o : Vec Outcome A). RunWith Q (f s) events o.items (f v))
+        (λ (fault : RunFault A). RunsFront Q must (f s) events (outcomes_before fault) (f v))
+    result_maps s v events (Ok outcomes) run = run_maps s v events outcomes.items run
+    result_maps s v events (Err fault) run = front_maps s v events (outcomes_before fault) run
 
-  -- a run, if more ids are kept at its end
-  run_longer : (before mid after : Id → Type 0) → ((id : Id) → mid id → after id)
-      → (w v : WorldState A) (events : List (Event A)) (outcomes : List Outcome)
-      → RunWith (KeptPromises tools before mid) w events outcomes v
-      → RunWith (KeptPromises tools before after) w events outcomes v
-  run_longer before mid after stays =
-      run_maps (KeptPromises tools before mid) (KeptPromises tools before after) (kept_longer before mid after stays)
-
-  -- a step, if fewer ids are kept at the start of the run
-  kept_earlier : (before mid after : Id → Type 0) → ((id : Id) → before id → mid id)
-      → (w : WorldState A) (e : Event A) (outcome : Outcome) (next : WorldState A)
-      → KeptPromises tools mid after w e outcome next → KeptPromises tools before after w e outcome next
-  kept_earlier before mid after stays w e outcome next step =
-      elim step [
-        | inl promised ↦ inl promised
-        | inr refused ↦ inr (adds_unkept_before e before mid stays refused.0, refused.1)
-      ]
-
+module _ {A P I : Type 0} (tools : PackTools A) (keeps : I → Id → Type 0) where
   -- if all ids are kept, each step keeps its promises
-  pub none_refused : (before after : Id → Type 0) → ((id : Id) → before id)
-      → (w : WorldState A) (e : Event A) (outcome : Outcome) (next : WorldState A)
-      → KeptPromises tools before after w e outcome next → Promises tools w e outcome next
-  none_refused before after all w e outcome next step =
+  pub none_refused : ((i : I) (id : Id) → keeps i id)
+      → (s : KeptWorld A P I) (e : Event A) (outcome : Outcome) (next : KeptWorld A P I)
+      → KeptPromises tools keeps s e outcome next → Promises tools s.world e outcome next.world
+  none_refused all s e outcome next step =
       elim step [
-        | inl promised ↦ promised.1
-        | inr refused ↦ absurd (none_unkept e before all refused.0)
+        | inl kept ↦ kept.promises
+        | inr refused ↦ absurd (none_unkept e (keeps s.indexer) (all s.indexer) refused.0.0)
       ]
+
+  -- in a run without an event that is refused because its object is not kept, each step keeps its promises
+  pub kept_run : (s new : KeptWorld A P I) (events : List (Event A)) (outcomes : List Outcome)
+      → All (λ (o : Outcome). o ≢ Fault not_kept) outcomes → RunWith (KeptPromises tools keeps) s events outcomes new
+      → RunWith (Promises tools) s.world events outcomes new.world
+  kept_run s new [] [] none run = ap (λ (v : KeptWorld A P I). v.world) run
+  kept_run s new (first ∷ events) (told ∷ outcomes) none (next, here, rest) =
+      let differs : told ≢ Fault not_kept = All-head (λ (o : Outcome). o ≢ Fault not_kept) told outcomes none in
+      let step : Promises tools s.world first told next.world =
+      elim here [
+        | inl kept ↦ kept.promises
+        | inr refused ↦ absurd (differs refused.0.1.0)
+      ] in (
+        next.world,
+        step,
+        kept_run next new events outcomes (All-tail (λ (o : Outcome). o ≢ Fault not_kept) told outcomes none) rest,
+      )
+  kept_run s new _ _ none run = absurd run
+
+  -- what a step keeps
+  abbrev Keeps : KeptWorld A P I → KeptWorld A P I → Type 0
+  Keeps s v = KeepsOn (keeps s.indexer) (keeps v.indexer) s.world.repo.graph.entries v.world.repo.graph.entries
+
+  step_on : (s v : KeptWorld A P I) (e : Event A) (outcome : Outcome) → KeptPromises tools keeps s e outcome v → Keeps s v
+  step_on s v e outcome step =
+      elim step [
+        | inl kept ↦ kept.keeps_on
+        | inr refused ↦
+            rw (refused.1, refused.0.1.1) (keeps_none (keeps s.indexer) s.world.repo.graph.entries)
+      ]
+
+  pub run_keeps : (s new : KeptWorld A P I) (events : List (Event A)) (outcomes : List Outcome)
+      → RunWith (KeptPromises tools keeps) s events outcomes new → Keeps s new
+  run_keeps s new [] [] run =
+      subst (Keeps s) (sym run) (keeps_none (keeps s.indexer) s.world.repo.graph.entries)
+  run_keeps s new (first ∷ events) (told ∷ outcomes) (next, here, rest) =
+      keeps_then (keeps s.indexer) (keeps next.indexer) (keeps new.indexer) s.world.repo.graph.entries
+      next.world.repo.graph.entries new.world.repo.graph.entries (step_on s next first told here)
+      (run_keeps next new events outcomes rest)
+  run_keeps s new _ _ run = absurd run
 
   -- a run that stopped after its first `count` events, because the next event needs memory
-  pub front_runs : (before mid after : Id → Type 0) {w v : WorldState A} (events : List (Event A)) (count : ℕ)
-      (next : Event A) (outcomes : List Outcome) → ((id : Id) → mid id → after id)
-      → count < length events → next ≡ get_or events count next
-      → RunsSoundly tools before mid w (take count events) outcomes v → NeedsMemory v next
-      → RunsFront (KeptPromises tools before after) w events outcomes v
-  front_runs before mid after {w} {v} events count next outcomes stays inside at runs needs = record {
+  pub front_runs : {s v : KeptWorld A P I} (events : List (Event A)) (count : ℕ) (next : Event A)
+      (outcomes : List Outcome) → count < length events → next ≡ get_or events count next
+      → RunsSoundly tools keeps s (take count events) outcomes v → NeedsMemory v.world next
+      → RunsFront (KeptPromises tools keeps) KeptNeedsMemory s events outcomes v
+  front_runs {s} {v} events count next outcomes inside at runs needs = record {
     front = take count events;
     next = next;
     rest = drop (count + 1) events;
     parts = at_front events count next inside at;
-    run = run_longer before mid after stays w v (take count events) outcomes runs.run;
+    run = runs.run;
     memory = inr needs;
   }
 
   -- the run of no events leaves the sound world unchanged
-  pub begins_soundly : (before after : Id → Type 0) {w : WorldState A} (events : List (Event A)) (told : List Outcome)
-      → IsSound tools w → told ≡ [] → RunsSoundly tools before after w (take 0 events) told w
-  begins_soundly before after {w} events told sound is = record {
+  pub begins_soundly : (s : KeptWorld A P I) (events : List (Event A)) (told : List Outcome)
+      → IsSound tools s.world → told ≡ [] → RunsSoundly tools keeps s (take 0 events) told s
+  begins_soundly s events told sound is = record {
     sound = sound;
-    run = subst (λ (list : List Outcome). RunWith (KeptPromises tools before after) w [] list w) (sym is) refl;
+    run = subst (λ (list : List Outcome). RunWith (KeptPromises tools keeps) s [] list s) (sym is) refl;
   }
 
   -- a run that stopped before its first event, because there is not enough memory for the list of outcomes
-  pub none_runs : (before after : Id → Type 0) {w : WorldState A} (events : List (Event A)) (told : List Outcome)
-      → told ≡ [] → events ≢ [] → RunsFront (KeptPromises tools before after) w events told w
-  none_runs before after [] told is some = absurd (some refl)
-  none_runs before after {w} (event ∷ events) told is some = record {
+  pub none_runs : (s : KeptWorld A P I) (events : List (Event A)) (told : List Outcome)
+      → told ≡ [] → events ≢ [] → RunsFront (KeptPromises tools keeps) KeptNeedsMemory s events told s
+  none_runs s [] told is some = absurd (some refl)
+  none_runs s (event ∷ events) told is some = record {
     front = [];
     next = event;
     rest = events;
     parts = refl;
-    run = subst (λ (list : List Outcome). RunWith (KeptPromises tools before after) w [] list w) (sym is) refl;
+    run = subst (λ (list : List Outcome). RunWith (KeptPromises tools keeps) s [] list s) (sym is) refl;
     memory = inl is;
   }
 
   -- a run, extended by one event
-  pub goes_on_soundly : (before mid after : Id → Type 0) {w v u : WorldState A} (events more : List (Event A))
-      (event : Event A) (outcomes told : List Outcome) (outcome : Outcome)
-      → ((id : Id) → before id → mid id) → ((id : Id) → mid id → after id)
-      → RunsSoundly tools before mid w events outcomes v
-      → IsSound tools u × KeptPromises tools mid after v event outcome u
-      → more ≡ events ++ event ∷ [] → told ≡ outcomes ++ outcome ∷ [] → RunsSoundly tools before after w more told u
-  goes_on_soundly before mid after {w} {v} {u} events more event outcomes told outcome so_far stays runs step is also =
-      let longer = run_longer before mid after stays w v events outcomes runs.run in
-      let here = kept_earlier before mid after so_far v event outcome u step.1 in
-      record {
-        sound = step.0;
-        run = rw (is, also)
-            (run_goes_on (KeptPromises tools before after) w v u events outcomes event outcome longer here);
-      }
+  pub goes_on_soundly : {s v u : KeptWorld A P I} (events more : List (Event A)) (event : Event A)
+      (outcomes told : List Outcome) (outcome : Outcome) → RunsSoundly tools keeps s events outcomes v
+      → IsSound tools u.world × KeptPromises tools keeps v event outcome u
+      → more ≡ events ++ event ∷ [] → told ≡ outcomes ++ outcome ∷ [] → RunsSoundly tools keeps s more told u
+  goes_on_soundly {s} {v} {u} events more event outcomes told outcome runs step is also = record {
+    sound = step.0;
+    run = rw (is, also) (run_goes_on (KeptPromises tools keeps) s v u events outcomes event outcome runs.run step.1);
+  }
 
+module _ {A : Type 0} (tools : PackTools A) where
   -- ---- properties that hold after any run
 
   abbrev mark : WorldState A → Bool
@@ -213,7 +231,7 @@ module _ {A : Type 0} (tools : PackTools A) where
 
   pub is_run : (w v : WorldState A) (events : List (Event A)) (outcomes : List Outcome)
       → RunWith (Promises tools) w events outcomes v → Run tools w events outcomes v
-  is_run = run_maps (Promises tools) (Step tools) (λ w e outcome next here. here.step)
+  is_run = run_maps (λ (w : WorldState A). w) (Promises tools) (Step tools) (λ w e outcome next here. here.step)
 
   -- if each step promises `P` for the world after it, and `P` holds before a run, then `P` holds after the run
   pub kept_on : (P : WorldState A → Type 0)

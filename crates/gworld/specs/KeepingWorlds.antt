@@ -4,10 +4,11 @@ use Rattle.gname.specs.Ids.{Id}
 use Rattle.gobject.specs.declared.node.Entry.{Entry}
 use Rattle.gclientrepo.specs.Repos.{RepoState}
 use Rattle.ganswer.specs.Servers.{Server}
-use Rattle.gsession.specs.Keeping.{KeepsGraph}
+use Rattle.gsession.specs.Keeping.{KeepsGraph, KeepsOn}
 use Rattle.gworld.specs.Events.{IsRefused}
 use Rattle.gworld.specs.Faults.{not_kept}
 use Rattle.gworld.specs.Promises.{Promises}
+use Rattle.gworld.specs.Runs.{NeedsMemory}
 use Rattle.gworld.specs.Starts.{CanStart, CannotStart}
 use Rattle.gworld.specs.Worlds.{PackTools, WorldState, new_world}
 use Rattle.gworld.specs.declared.fault.WorldFault.{WorldFault}
@@ -21,6 +22,9 @@ pub record KeptWorld (A P I : Type 0) : Type 0 where
   pub packer : P
   pub indexer : I
   pub world : WorldState A
+
+abbrev pub kept_world : {A P I : Type 0} → P → I → WorldState A → KeptWorld A P I
+kept_world packer indexer w = record { packer = packer; indexer = indexer; world = w }
 
 -- ---- the start of a world
 
@@ -39,7 +43,7 @@ pub record IsFirstUnkept {A : Type 0} (keeps : Id → Type 0) (g : List (Entry A
 abbrev pub StartsKept : {A P I : Type 0} → (I → Id → Type 0) → Server A → RepoState A → P → I
     → Result (KeptWorld A P I) WorldFault → Type 0
 StartsKept keeps server repo packer indexer (Ok made) =
-    (made ≡ record { packer = packer; indexer = indexer; world = new_world server repo })
+    (made ≡ kept_world packer indexer (new_world server repo))
     × CanStart server repo × KeepsGraph (keeps indexer) repo.graph.entries
 StartsKept keeps server repo packer indexer (Err (world.NotKept id)) =
     CanStart server repo × IsFirstUnkept (keeps indexer) repo.graph.entries id
@@ -62,9 +66,21 @@ AddsUnkept keeps _ = ⊥
 abbrev pub RefusesUnkept : {A : Type 0} → (Id → Type 0) → WorldState A → Event A → Outcome → WorldState A → Type 0
 RefusesUnkept keeps w event outcome new = AddsUnkept keeps event × IsRefused not_kept w outcome new
 
--- A step of a run. The indexer keeps the ids `before` at the start of the run, and the ids `after` at its end. The step
--- keeps its promises, or it fails because its event adds an object whose id is not kept.
-abbrev pub KeptPromises : {A : Type 0} → PackTools A → (Id → Type 0) → (Id → Type 0) → WorldState A → Event A → Outcome
-    → WorldState A → Type 0
-KeptPromises tools before after w event outcome new =
-    (AddsKept after event × Promises tools w event outcome new) ⊎ RefusesUnkept before w event outcome new
+-- A step that keeps its promises. If the event is `ClientAdd`, the id of its object is kept. The indexer still keeps all
+-- that it kept before. If it kept each object of the client's graph, it still does.
+pub record PromisesKept {A P I : Type 0} (tools : PackTools A) (keeps : I → Id → Type 0) (s : KeptWorld A P I)
+    (event : Event A) (outcome : Outcome) (new : KeptWorld A P I) : Type 0 where
+  pub adds : AddsKept (keeps s.indexer) event
+  pub promises : Promises tools s.world event outcome new.world
+  pub keeps_on : KeepsOn (keeps s.indexer) (keeps new.indexer) s.world.repo.graph.entries new.world.repo.graph.entries
+
+-- A step keeps its promises. Or its event adds an object whose id is not kept, and fails. Then the indexer is unchanged.
+abbrev pub KeptPromises : {A P I : Type 0} → PackTools A → (I → Id → Type 0) → KeptWorld A P I → Event A → Outcome
+    → KeptWorld A P I → Type 0
+KeptPromises tools keeps s event outcome new =
+    PromisesKept tools keeps s event outcome new
+    ⊎ (RefusesUnkept (keeps s.indexer) s.world event outcome new.world × (new.indexer ≡ s.indexer))
+
+-- the event needs memory
+abbrev pub KeptNeedsMemory : {A P I : Type 0} → KeptWorld A P I → Event A → Type 0
+KeptNeedsMemory s event = NeedsMemory s.world event

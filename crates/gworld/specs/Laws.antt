@@ -1,10 +1,14 @@
 -- Consequences of the definitions of a world.
-use Rattle.std.specs.Prelude.{◌≡◌, ⊤, ℕ, false, List, ◌++◌, All, IfSome}
+use Rattle.std.specs.Prelude.{◌≡◌, ◌≢◌, ⊤, ℕ, false, List, ◌++◌, All, IfSome}
+use Rattle.gname.specs.Ids.{Id}
 use Rattle.gdag.specs.Reach.{Grows}
 use Rattle.grefs.specs.RefLists.{IsRefs}
 use Rattle.gclientrepo.specs.Repos.{RepoState}
 use Rattle.ganswer.specs.Servers.{Server}
+use Rattle.gsession.specs.Keeping.{KeepsOn}
 use Rattle.gsession.specs.Sessions.{IsSession}
+use Rattle.gworld.specs.Faults.{not_kept}
+use Rattle.gworld.specs.KeepingWorlds.{KeptPromises, KeptWorld}
 use Rattle.gworld.specs.Promises.{AreCommonsShared, AreRefsConnected, AreRequestsFew, HonestPromises, Promises}
 use Rattle.gworld.specs.Promises.{SettlesUpToDate, SharesCommons}
 use Rattle.gworld.specs.Runs.{Run, RunWith}
@@ -178,3 +182,20 @@ HonestRunsKeepAll {A} tools =
     (w new : WorldState A) (events : List (Event A)) (outcomes : List Outcome) → w.forged ≡ false
     → All IsNoForge events → RunWith (Promises tools) w events outcomes new
     → RunWith (KeepsAll tools) w events outcomes new
+
+-- ---- worlds with an indexer that has a store
+
+-- in a run without an event that fails with fault 98, each step keeps its promises
+abbrev pub KeptRunsKeepPromises : {A I : Type 0} → (P : Type 0) → PackTools A → (I → Id → Type 0) → Type 0
+KeptRunsKeepPromises {A} {I} P tools keeps =
+    (s new : KeptWorld A P I) (events : List (Event A)) (told : List Outcome)
+    → All (λ outcome. outcome ≢ outcomes.Fault not_kept) told
+    → RunWith (KeptPromises tools keeps) s events told new → RunWith (Promises tools) s.world events told new.world
+
+-- After a run the indexer still keeps all that it kept before. If it kept each object of the client's graph before the
+-- run, it does so after the run.
+abbrev pub KeptRunsKeepOn : {A I : Type 0} → (P : Type 0) → PackTools A → (I → Id → Type 0) → Type 0
+KeptRunsKeepOn {A} {I} P tools keeps =
+    (s new : KeptWorld A P I) (events : List (Event A)) (outcomes : List Outcome)
+    → RunWith (KeptPromises tools keeps) s events outcomes new
+    → KeepsOn (keeps s.indexer) (keeps new.indexer) s.world.repo.graph.entries new.world.repo.graph.entries

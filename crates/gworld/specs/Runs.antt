@@ -11,14 +11,15 @@ use Rattle.gworld.specs.declared.fault.RunFault.{RunFault}
 use Rattle.gworld.specs.declared.fault.RunFault.TheVariants as run
 use Rattle.gworld.specs.declared.outcome.Outcome.{Outcome}
 
--- the events happen one after the other with these outcomes, and each step has the property `P`
-abbrev pub RunWith : {A : Type 0} → (WorldState A → Event A → Outcome → WorldState A → Type 0)
-    → WorldState A → List (Event A) → List Outcome → WorldState A → Type 0
-RunWith P w [] [] new = new ≡ w
-RunWith {A} P w (event ∷ events) (outcome ∷ outcomes) new =
-    (next : WorldState A) × P w event outcome next × RunWith P next events outcomes new
-RunWith P w [] (outcome ∷ outcomes) new = ⊥
-RunWith P w (event ∷ events) [] new = ⊥
+-- The events happen one after the other with these outcomes, and each step has the property `P`. The states are worlds,
+-- or worlds with an indexer.
+abbrev pub RunWith : {A S : Type 0} → (S → Event A → Outcome → S → Type 0) → S → List (Event A) → List Outcome → S
+    → Type 0
+RunWith P s [] [] new = new ≡ s
+RunWith {A} {S} P s (event ∷ events) (outcome ∷ outcomes) new =
+    (next : S) × P s event outcome next × RunWith P next events outcomes new
+RunWith P s [] (outcome ∷ outcomes) new = ⊥
+RunWith P s (event ∷ events) [] new = ⊥
 
 -- the events happen one after the other with these outcomes
 abbrev pub Run : {A : Type 0} → PackTools A → WorldState A → List (Event A) → List Outcome → WorldState A → Type 0
@@ -42,15 +43,15 @@ NeedsMemory w (event.ClientAdd entry) = AgreesWith w.server.graph.entries entry
 NeedsMemory w (event.ClientRef name id) = ⊤
 
 -- A run stopped for lack of memory after the events `front`, which may be empty. The next event did not begin, because
--- it needs memory, or because it is the first event and there is not enough memory for the list of outcomes.
-pub record RunsFront {A : Type 0} (P : WorldState A → Event A → Outcome → WorldState A → Type 0) (w : WorldState A)
-    (events : List (Event A)) (outcomes : List Outcome) (new : WorldState A) : Type 0 where
+-- it needs memory (`needs`), or because it is the first event and there is not enough memory for the list of outcomes.
+pub record RunsFront {A S : Type 0} (P : S → Event A → Outcome → S → Type 0) (needs : S → Event A → Type 0) (s : S)
+    (events : List (Event A)) (outcomes : List Outcome) (new : S) : Type 0 where
   pub front : List (Event A)
   pub next : Event A
   pub rest : List (Event A)
   pub parts : events ≡ front ++ next ∷ rest
-  pub run : RunWith P w front outcomes new
-  pub memory : (outcomes ≡ []) ⊎ NeedsMemory new next
+  pub run : RunWith P s front outcomes new
+  pub memory : (outcomes ≡ []) ⊎ needs new next
 
 -- the outcomes of the events that were completed before the run stopped
 abbrev pub outcomes_before : {A : Type 0} → RunFault A → List Outcome

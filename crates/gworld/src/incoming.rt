@@ -1,7 +1,7 @@
 //! Bytes that arrive as the reply to the open request. The open request is the request whose reply
 //! the session awaits.
 
-ghost use Rattle.std.specs.Prelude.{◌≡◌, IsOkUnless, IsSome, MatchResult, alloc_error, take, Some};
+ghost use Rattle.std.specs.Prelude.{◌≡◌, IsOkUnless, IsSome, MatchResult, OnErr, alloc_error, take, Some};
 ghost use Rattle.gsession.specs.Keeping.{KeepsOn};
 ghost use Rattle.gworld.specs.steps.Bringing.{IsAwaited, TakesIfOpen, objects_outcome, refs_outcome};
 ghost use Rattle.gworld.specs.Taking.{TakesObjects, TakesRefs, code_of};
@@ -50,6 +50,7 @@ pub(crate) fn take_bytes<A: Allocator + Copy, I: KeepingIndexer<A>>(
         (λ took. TakesIfOpen I.indexes I.index_fails
         session.old.pending session.old repo.old bytes.now took session.new repo.new)
         (λ _. (session.new ≡ session.old) × (repo.new ≡ repo.old) × IsSome session.old.pending) }
+    ensures same { OnErr result (indexer.new ≡ indexer.old) }
     ensures keeps { KeepsOn (I.keeps indexer.old) (I.keeps indexer.new)
         repo.old.graph.entries repo.new.graph.entries }
 {
@@ -113,6 +114,7 @@ fn take_objects<A: Allocator + Copy, I: KeepingIndexer<A>>(
         (λ outcome. TakesObjects I.indexes I.index_fails session.old
         repo.old bytes.now outcome session.new repo.new)
         (λ _. (session.new ≡ session.old) × (repo.new ≡ repo.old)) }
+    ensures same { OnErr result (indexer.new ≡ indexer.old) }
     ensures keeps { KeepsOn (I.keeps indexer.old) (I.keeps indexer.new)
         repo.old.graph.entries repo.new.graph.entries }
 {

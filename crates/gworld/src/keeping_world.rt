@@ -3,7 +3,7 @@
 ghost use Rattle.std.specs.Prelude.{◌≡◌, MatchResult};
 ghost use Rattle.gname.specs.Ids.{Id};
 ghost use Rattle.gsession.specs.Keeping.{KeepsGraph};
-ghost use Rattle.gworld.specs.KeepingWorlds.{KeptPromises, StartsKept};
+ghost use Rattle.gworld.specs.KeepingWorlds.{KeptNeedsMemory, KeptPromises, StartsKept};
 ghost use Rattle.gworld.specs.Promises.{AreRefsConnected};
 ghost use Rattle.gworld.specs.Runs.{RunWith, RunsFront, outcomes_before};
 ghost use Rattle.gworld.specs.Worlds.{tools_of};
@@ -13,7 +13,7 @@ use crate::outcome::Outcome;
 use crate::parts::Parts;
 use ganswer::Server;
 use gclientrepo::Repo;
-use ggraph::{KeepingIndexer, Packer};
+use ggraph::{FindingIndexer, Packer};
 use gscenario::Event;
 use std::alloc::{Allocator, Global};
 use std::marker::Model;
@@ -22,7 +22,7 @@ use std::marker::Model;
 #[derive(Drop)]
 pub struct KeepingWorld<
     P: Packer<A> + Drop,
-    I: KeepingIndexer<A> + Drop,
+    I: FindingIndexer<A> + Drop,
     A: Allocator + Copy = Global,
 > {
     parts: Parts<A>,
@@ -30,7 +30,7 @@ pub struct KeepingWorld<
     indexer: I,
 }
 
-impl<P: Packer<A> + Drop, I: KeepingIndexer<A> + Drop, A: Allocator + Copy> Model
+impl<P: Packer<A> + Drop, I: FindingIndexer<A> + Drop, A: Allocator + Copy> Model
     for KeepingWorld<P, I, A> {
     ghost use Rattle.gsession.specs.Keeping.{KeepsGraph};
     ghost use Rattle.gworld.specs.KeepingWorlds.{KeptWorld};
@@ -46,7 +46,7 @@ impl<P: Packer<A> + Drop, I: KeepingIndexer<A> + Drop, A: Allocator + Copy> Mode
         × KeepsGraph (I.keeps it.indexer) it.parts.repo.graph.entries };
 }
 
-impl<P: Packer<A> + Drop, I: KeepingIndexer<A> + Drop, A: Allocator + Copy> KeepingWorld<P, I, A> {
+impl<P: Packer<A> + Drop, I: FindingIndexer<A> + Drop, A: Allocator + Copy> KeepingWorld<P, I, A> {
     /// Makes a world from a server, a client's repository, a packer and an indexer.
     ///
     /// Fails like [`World::new`](crate::World::new). Otherwise fails with `NotKept` if the indexer
@@ -105,13 +105,11 @@ impl<P: Packer<A> + Drop, I: KeepingIndexer<A> + Drop, A: Allocator + Copy> Keep
         ensures connected_refs { AreRefsConnected self.new.world }
         ensures runs { MatchResult result
             (λ outcomes. RunWith (KeptPromises (tools_of (P.packs self.old.packer)
-            (P.pack_fails self.old.packer) I.indexes I.index_fails)
-            (I.keeps self.old.indexer) (I.keeps self.new.indexer))
-            self.old.world events.now outcomes.items self.new.world)
+            (P.pack_fails self.old.packer) I.indexes I.index_fails) I.keeps)
+            self.old events.now outcomes.items self.new)
             (λ fault. RunsFront (KeptPromises (tools_of (P.packs self.old.packer)
-            (P.pack_fails self.old.packer) I.indexes I.index_fails)
-            (I.keeps self.old.indexer) (I.keeps self.new.indexer))
-            self.old.world events.now (outcomes_before fault) self.new.world) }
+            (P.pack_fails self.old.packer) I.indexes I.index_fails) I.keeps) KeptNeedsMemory
+            self.old events.now (outcomes_before fault) self.new) }
     {
         let result = self
             .parts

@@ -66,6 +66,8 @@
 //!
 //! # What the contracts do not rule out
 //!
+//! Any event of a `KeepingWorld` but one that fails with 98 may make the indexer keep more ids.
+//!
 //! A run may stop with `Memory` although memory is available, before its first event or before any
 //! event that needs memory. An event that allocates may report out of memory although memory is
 //! available. The lists of requests and replies may use the allocator of either end. The contracts

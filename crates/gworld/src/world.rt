@@ -2,7 +2,7 @@
 
 ghost use Rattle.std.specs.Prelude.{◌≡◌, MatchResult};
 ghost use Rattle.gworld.specs.Promises.{AreRefsConnected, Promises};
-ghost use Rattle.gworld.specs.Runs.{RunWith, RunsFront, outcomes_before};
+ghost use Rattle.gworld.specs.Runs.{NeedsMemory, RunWith, RunsFront, outcomes_before};
 ghost use Rattle.gworld.specs.Starts.{Starts};
 ghost use Rattle.gworld.specs.Worlds.{tools_of};
 
@@ -114,7 +114,7 @@ impl<K: Packer<A> + Indexer<A> + Drop, A: Allocator + Copy> World<K, A> {
             self.old.world events.now outcomes.items self.new.world)
             (λ fault. RunsFront (Promises (tools_of (K.packs self.old.tools)
             (K.pack_fails self.old.tools)
-            K.indexes K.index_fails))
+            K.indexes K.index_fails)) NeedsMemory
             self.old.world events.now (outcomes_before fault) self.new.world) }
     {
         let mut indexer = KeepsNothing::new(&self.tools);

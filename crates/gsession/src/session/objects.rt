@@ -61,8 +61,8 @@ impl<A: Allocator + Copy> Session<A> {
 
     /// Reads a reply like [`Session::take_reply`], with an indexer that has a store. If the indexer
     /// keeps every object of the repository before the call, it does so after the call, whatever
-    /// the server sends. It still keeps all that it kept before, and may keep objects of a pack that
-    /// the graph then rejects.
+    /// the server sends. It still keeps all that it kept before, and may keep objects of a reply that
+    /// is then rejected.
     pub fn take_reply_into<S: Source, K: KeepingIndexer<A>, B: Allocator + Copy>(
         &mut self,
         repo: &mut Repo<A>,

@@ -14,12 +14,12 @@ use Rattle.gsession.specs.declared.taken.LsTaken.{LsTaken}
 use Rattle.gsession.specs.declared.taken.Taken.{Taken}
 use Rattle.gsession.specs.declared.taken.Taken.TheVariants.{Round, PackTaken}
 use Rattle.gworld.specs.Faults.{out_of_turn}
-use Rattle.gworld.specs.KeepingWorlds.{KeptPromises}
+use Rattle.gworld.specs.KeepingWorlds.{KeptPromises, KeptWorld}
 use Rattle.gworld.specs.Runs.{RunWith}
 use Rattle.gworld.specs.Sound.{IsSound}
 use Rattle.gworld.specs.Events.{Disagrees}
 use Rattle.gworld.specs.Taking.{IsFullAnswer, TakesBytes, code_of}
-use Rattle.gworld.specs.Worlds.{Kept, PackTools, WorldState, reply_bytes}
+use Rattle.gworld.specs.Worlds.{Kept, PackTools, reply_bytes}
 use Rattle.gscenario.specs.declared.event.Event.{Event}
 use Rattle.gscenario.specs.declared.event.Event.TheVariants as event
 use Rattle.gworld.specs.declared.outcome.Outcome.{Outcome}
@@ -72,10 +72,10 @@ KeepsAt keeps _ before after old new = after ≡ before
 
 -- The events happen with these outcomes, and the run ends in a sound world. Each step keeps its promises, or it adds an
 -- object at the client that is not kept, and is refused.
-pub record RunsSoundly {A : Type 0} (tools : PackTools A) (before after : Id → Type 0) (w : WorldState A)
-    (events : List (Event A)) (outcomes : List Outcome) (new : WorldState A) : Type 0 where
-  pub sound : IsSound tools new
-  pub run : RunWith (KeptPromises tools before after) w events outcomes new
+pub record RunsSoundly {A P I : Type 0} (tools : PackTools A) (keeps : I → Id → Type 0) (s : KeptWorld A P I)
+    (events : List (Event A)) (outcomes : List Outcome) (new : KeptWorld A P I) : Type 0 where
+  pub sound : IsSound tools new.world
+  pub run : RunWith (KeptPromises tools keeps) s events outcomes new
 
 -- ---- making a world
 

@@ -1,6 +1,6 @@
 //! The delivery of replies to the client.
 
-ghost use Rattle.std.specs.Prelude.{◌≡◌, ◌↔◌, MatchResult, slice_get, IsSome, IsTrue, IfOk, Some};
+ghost use Rattle.std.specs.Prelude.{◌≡◌, ◌↔◌, MatchResult, OnErr, slice_get, IsSome, IsTrue, IfOk, Some};
 ghost use Rattle.gsession.specs.Keeping.{KeepsOn};
 ghost use Rattle.gworld.specs.Taking.{IsPackTaken};
 ghost use Rattle.gworld.specs.steps.Bringing.{BringsTo};
@@ -59,6 +59,7 @@ impl<A: Allocator + Copy> Parts<A> {
             (slice_get self.old.kept number) count (waiting_session self.old.session) outcome self.new)
             (λ _. (self.new ≡ self.old)
             × IsSome (slice_get self.old.kept number) × IsSome (waiting_session self.old.session)) }
+        ensures same { OnErr result (indexer.new ≡ indexer.old) }
         ensures keeps { KeepsOn (I.keeps indexer.old) (I.keeps indexer.new)
             self.old.repo.graph.entries self.new.repo.graph.entries }
     {
@@ -94,6 +95,7 @@ impl<A: Allocator + Copy> Parts<A> {
             (λ outcome. Forges I.indexes I.index_fails self.old
             bytes.now (waiting_session self.old.session) outcome self.new)
             (λ _. (self.new ≡ self.old) × IsSome (waiting_session self.old.session)) }
+        ensures same { OnErr result (indexer.new ≡ indexer.old) }
         ensures keeps { KeepsOn (I.keeps indexer.old) (I.keeps indexer.new)
             self.old.repo.graph.entries self.new.repo.graph.entries }
     {
@@ -142,6 +144,7 @@ fn bring<A: Allocator + Copy, I: KeepingIndexer<A>>(
         session.old.pending session.old repo.old mark.old outcome session.new repo.new mark.new)
         (λ _. (session.new ≡ session.old) × (repo.new ≡ repo.old) × (mark.new ≡ mark.old)
         × IsSome session.old.pending) }
+    ensures same { OnErr result (indexer.new ≡ indexer.old) }
     ensures keeps { KeepsOn (I.keeps indexer.old) (I.keeps indexer.new)
         repo.old.graph.entries repo.new.graph.entries }
 {

@@ -1,6 +1,6 @@
 //! The effects of events.
 
-ghost use Rattle.std.specs.Prelude.{◌≡◌, MatchResult};
+ghost use Rattle.std.specs.Prelude.{◌≡◌, MatchResult, OnErr};
 ghost use Rattle.gworld.specs.Runs.{NeedsMemory};
 ghost use Rattle.gworld.specs.Sound.{AreEndsConnected};
 ghost use Rattle.gworld.specs.Events.{Step};
@@ -26,6 +26,7 @@ impl<A: Allocator + Copy> Parts<A> {
             I.indexes I.index_fails)
             self.old event.now outcome self.new)
             (λ _. (self.new ≡ self.old) × NeedsMemory self.old event.now) }
+        ensures same { OnErr result (indexer.new ≡ indexer.old) }
         ensures keeps { KeepsAt I.keeps event.now indexer.old indexer.new
             self.old.repo.graph.entries self.new.repo.graph.entries }
     {

@@ -1,8 +1,8 @@
 //! Runs of events.
 
-ghost use Rattle.std.specs.Prelude.{◌≡◌, ◌≢◌, ◌≤◌, [], MatchBool, MatchResult, length, vec_capacity, vec_len};
+ghost use Rattle.std.specs.Prelude.{◌≡◌, ◌≢◌, ◌≤◌, [], MatchBool, MatchResult, OnErr, length, vec_capacity, vec_len};
 ghost use Rattle.gsession.specs.Keeping.{KeepsOn};
-ghost use Rattle.gworld.specs.KeepingWorlds.{AddsKept, AddsUnkept, KeptPromises};
+ghost use Rattle.gworld.specs.KeepingWorlds.{AddsKept, AddsUnkept, KeptNeedsMemory, KeptPromises, kept_world};
 ghost use Rattle.gworld.specs.Promises.{Promises};
 ghost use Rattle.gworld.specs.Runs.{NeedsMemory, RunWith, RunsFront, outcomes_before};
 ghost use Rattle.gworld.specs.Sound.{IsSound};
@@ -13,7 +13,7 @@ use crate::fault::{NOT_KEPT, RunFault};
 use crate::laws::steps_keep;
 use crate::outcome::Outcome;
 use gclientrepo::laws::refusals_change_nothing;
-use ggraph::{KeepingIndexer, Packer};
+use ggraph::{FindingIndexer, Packer};
 use gscenario::Event;
 use std::alloc::{AllocError, Allocator};
 
@@ -21,7 +21,7 @@ impl<A: Allocator + Copy> Parts<A> {
     // Executes one event. Requires a sound world. Also requires that the event is not `ClientAdd`, or
     // that the indexer keeps the id of its object. The world is sound afterwards, and the step keeps
     // its promises.
-    fn step<P: Packer<A>, I: KeepingIndexer<A>>(
+    fn step<P: Packer<A>, I: FindingIndexer<A>>(
         &mut self,
         event: &Event<A>,
         packer: &P,
@@ -38,6 +38,7 @@ impl<A: Allocator + Copy> Parts<A> {
             I.indexes I.index_fails)
             self.old event.now outcome self.new)
             (λ _. (self.new ≡ self.old) × NeedsMemory self.old event.now) }
+        ensures same { OnErr result (indexer.new ≡ indexer.old) }
         ensures keeps { KeepsOn (I.keeps indexer.old) (I.keeps indexer.new)
             self.old.repo.graph.entries self.new.repo.graph.entries }
     {
@@ -53,7 +54,7 @@ impl<A: Allocator + Copy> Parts<A> {
 
     // Executes one event, but refuses an event `ClientAdd` if the indexer does not keep the id of its
     // object. Requires a sound world. The world is sound afterwards.
-    fn step_or_refuse<P: Packer<A>, I: KeepingIndexer<A>>(
+    fn step_or_refuse<P: Packer<A>, I: FindingIndexer<A>>(
         &mut self,
         event: &Event<A>,
         packer: &P,
@@ -66,10 +67,11 @@ impl<A: Allocator + Copy> Parts<A> {
             IsSound (tools_of (P.packs packer.now) (P.pack_fails packer.now)
             I.indexes I.index_fails) self.new
             × KeptPromises (tools_of (P.packs packer.now) (P.pack_fails packer.now)
-            I.indexes I.index_fails)
-            (I.keeps indexer.old) (I.keeps indexer.new)
-            self.old event.now outcome self.new)
+            I.indexes I.index_fails) I.keeps
+            (kept_world packer.now indexer.old self.old) event.now outcome
+            (kept_world packer.now indexer.new self.new))
             (λ _. (self.new ≡ self.old) × NeedsMemory self.old event.now) }
+        ensures same { OnErr result (indexer.new ≡ indexer.old) }
         ensures keeps { KeepsOn (I.keeps indexer.old) (I.keeps indexer.new)
             self.old.repo.graph.entries self.new.repo.graph.entries }
     {
@@ -97,7 +99,7 @@ impl<A: Allocator + Copy> Parts<A> {
 
     /// Executes the events, one after the other. Refuses an event `ClientAdd` if the indexer does
     /// not keep the id of its object. Allocates the list of outcomes before the first event.
-    pub(crate) fn run_events<P: Packer<A>, I: KeepingIndexer<A>>(
+    pub(crate) fn run_events<P: Packer<A>, I: FindingIndexer<A>>(
         &mut self,
         events: &[Event<A>],
         packer: &P,
@@ -111,13 +113,13 @@ impl<A: Allocator + Copy> Parts<A> {
             self.old.repo.graph.entries self.new.repo.graph.entries }
         ensures runs { MatchResult result
             (λ outcomes. RunWith (KeptPromises (tools_of (P.packs packer.now)
-            (P.pack_fails packer.now) I.indexes I.index_fails)
-            (I.keeps indexer.old) (I.keeps indexer.new))
-            self.old events.now outcomes.items self.new)
+            (P.pack_fails packer.now) I.indexes I.index_fails) I.keeps)
+            (kept_world packer.now indexer.old self.old) events.now outcomes.items
+            (kept_world packer.now indexer.new self.new))
             (λ fault. RunsFront (KeptPromises (tools_of (P.packs packer.now)
-            (P.pack_fails packer.now) I.indexes I.index_fails)
-            (I.keeps indexer.old) (I.keeps indexer.new))
-            self.old events.now (outcomes_before fault) self.new) }
+            (P.pack_fails packer.now) I.indexes I.index_fails) I.keeps) KeptNeedsMemory
+            (kept_world packer.now indexer.old self.old) events.now (outcomes_before fault)
+            (kept_world packer.now indexer.new self.new)) }
     {
         match self.no_outcomes(events) {
             Ok(outcomes) => self.run_each(events, packer, indexer, outcomes),
@@ -127,7 +129,7 @@ impl<A: Allocator + Copy> Parts<A> {
 
     // Executes the events, one after the other. Requires that the list `outcomes` is empty, and has
     // room for the outcome of each event.
-    fn run_each<P: Packer<A>, I: KeepingIndexer<A>>(
+    fn run_each<P: Packer<A>, I: FindingIndexer<A>>(
         &mut self,
         events: &[Event<A>],
         packer: &P,
@@ -145,13 +147,13 @@ impl<A: Allocator + Copy> Parts<A> {
             self.old.repo.graph.entries self.new.repo.graph.entries }
         ensures runs { MatchResult result
             (λ outcomes. RunWith (KeptPromises (tools_of (P.packs packer.now)
-            (P.pack_fails packer.now) I.indexes I.index_fails)
-            (I.keeps indexer.old) (I.keeps indexer.new))
-            self.old events.now outcomes.items self.new)
+            (P.pack_fails packer.now) I.indexes I.index_fails) I.keeps)
+            (kept_world packer.now indexer.old self.old) events.now outcomes.items
+            (kept_world packer.now indexer.new self.new))
             (λ fault. RunsFront (KeptPromises (tools_of (P.packs packer.now)
-            (P.pack_fails packer.now) I.indexes I.index_fails)
-            (I.keeps indexer.old) (I.keeps indexer.new))
-            self.old events.now (outcomes_before fault) self.new) }
+            (P.pack_fails packer.now) I.indexes I.index_fails) I.keeps) KeptNeedsMemory
+            (kept_world packer.now indexer.old self.old) events.now (outcomes_before fault)
+            (kept_world packer.now indexer.new self.new)) }
     {
         let mut results = outcomes;
         for event in events {
@@ -165,7 +167,7 @@ impl<A: Allocator + Copy> Parts<A> {
 }
 
 // Returns whether the event is `ClientAdd` and the indexer does not keep the id of its object.
-fn adds_unkept<A: Allocator + Copy, I: KeepingIndexer<A>>(event: &Event<A>, indexer: &I) -> bool
+fn adds_unkept<A: Allocator + Copy, I: FindingIndexer<A>>(event: &Event<A>, indexer: &I) -> bool
     ensures { MatchBool result (AddsUnkept (I.keeps indexer.now) event.now)
         (AddsKept (I.keeps indexer.now) event.now) }
 {

@@ -14,7 +14,7 @@ use crate::fault::WorldFault;
 use ganswer::Server;
 use gclientrepo::Repo;
 use ggraph::graph_laws::positions_are_nodes;
-use ggraph::{Graph, KeepingIndexer};
+use ggraph::{FindingIndexer, Graph};
 use gname::Oid;
 use std::alloc::Allocator;
 
@@ -50,7 +50,7 @@ impl<A: Allocator + Copy> Parts<A> {
 
     /// Returns the first id of the client's repository, in insertion order, that the indexer does
     /// not keep. Returns `None` if the indexer keeps each id.
-    pub(crate) fn first_unkept<I: KeepingIndexer<A>>(&self, indexer: &I) -> Option<Oid>
+    pub(crate) fn first_unkept<I: FindingIndexer<A>>(&self, indexer: &I) -> Option<Oid>
         ensures { MatchOption result
             (KeepsGraph (I.keeps indexer.now) self.now.repo.graph.entries)
             (IsFirstUnkept (I.keeps indexer.now) self.now.repo.graph.entries) }
@@ -135,7 +135,7 @@ fn disagreement_at<A: Allocator + Copy>(
 
 // Returns the first id of the graph, in insertion order, that the indexer does not keep. Returns
 // `None` if the indexer keeps each id.
-fn first_unkept<A: Allocator + Copy, I: KeepingIndexer<A>>(
+fn first_unkept<A: Allocator + Copy, I: FindingIndexer<A>>(
     graph: &Graph<A>,
     indexer: &I,
 ) -> Option<Oid>
@@ -154,7 +154,7 @@ fn first_unkept<A: Allocator + Copy, I: KeepingIndexer<A>>(
 
 // Returns the id at position `place` of the graph if the indexer does not keep this id, or `None`
 // otherwise.
-fn unkept_at<A: Allocator + Copy, I: KeepingIndexer<A>>(
+fn unkept_at<A: Allocator + Copy, I: FindingIndexer<A>>(
     graph: &Graph<A>,
     indexer: &I,
     place: usize,
@@ -164,7 +164,7 @@ fn unkept_at<A: Allocator + Copy, I: KeepingIndexer<A>>(
         (IsUnkeptAt (I.keeps indexer.now) graph.now.entries place) }
 {
     match graph.at(place) {
-        Some((id, _)) => { if indexer.has(id) { None } else { Some(*id) } }
-        None => None,
+        Some((id, _)) if !indexer.has(id) => Some(*id),
+        _ => None,
     }
 }

@@ -1,7 +1,6 @@
-use Rattle.std.proofs.Common.{◌+◌, ◌<◌, take, length, subst, sym, arith, rules}
-use Rattle.gworld.specs.KeepingWorlds.{KeptPromises}
-use Rattle.gworld.specs.Runs.{RunsFront}
-use Rattle.gworld.specs.Worlds.{WorldState, tools_of}
+use Rattle.std.proofs.Common.{◌+◌, ◌<◌, take, length, arith, rules}
+use Rattle.gworld.specs.KeepingWorlds.{kept_world}
+use Rattle.gworld.specs.Worlds.{tools_of}
 use Rattle.gdag.proofs.Growing.{take_one}
 use Rattle.gsession.proofs.KeepingLemmas.{keeps_none, keeps_then}
 use Rattle.gworld.proofs.Runs.{begins_soundly, front_runs, goes_on_soundly}
@@ -11,9 +10,10 @@ pub loop-event-init : goal.loop-event-init
 loop-event-init g c =
     let tools = tools_of (g.P.Packer.packs c.args.packer.now) (g.P.Packer.pack_fails c.args.packer.now)
     g.I.KeepingIndexer.indexes g.I.KeepingIndexer.index_fails in
-    let kept = g.I.KeepingIndexer.keeps c.args.indexer.now in (
-      begins_soundly tools kept kept c.args.events.now c.args.outcomes.items c.requires.sound c.requires.none,
-      keeps_none kept c.args.self.now.repo.graph.entries,
+    let keeps = g.I.KeepingIndexer.keeps in (
+      begins_soundly tools keeps (kept_world c.args.packer.now c.args.indexer.now c.args.self.now) c.args.events.now
+          c.args.outcomes.items c.requires.sound c.requires.none,
+      keeps_none (keeps c.args.indexer.now) c.args.self.now.repo.graph.entries,
       c.requires.empty,
       c.requires.room,
     )
@@ -35,14 +35,11 @@ returns-in-Err-clause-runs g c =
     let tools = tools_of (g.P.Packer.packs c.args.packer.now) (g.P.Packer.pack_fails c.args.packer.now)
     g.I.KeepingIndexer.indexes g.I.KeepingIndexer.index_fails in
     let keeps = g.I.KeepingIndexer.keeps in
-    let before = keeps c.args.indexer.now in
-    let after = keeps c.step_or_refuse.new.indexer in
     let inside : c.loop-event.event-index < length c.args.events.now = search rules in
-    subst (λ (v : WorldState g.row.A.Denot). RunsFront (KeptPromises tools before after) c.args.self.now
-    c.args.events.now c.loop-event.results.items v)
-    (sym c.in-Err.ensures.step.0)
-    (front_runs tools before (keeps c.loop-event.indexer) after c.args.events.now c.loop-event.event-index
-    c.event-item.result c.loop-event.results.items c.in-Err.ensures.keeps.stays inside c.event-item.is
+    let start = kept_world c.args.packer.now c.args.indexer.now c.args.self.now in
+    rw (c.in-Err.ensures.step.0, c.in-Err.ensures.same) (front_runs tools keeps {s = start}
+    {v = kept_world c.args.packer.now c.loop-event.indexer c.loop-event.self} c.args.events.now c.loop-event.event-index
+    c.event-item.result c.loop-event.results.items inside c.event-item.is
     c.loop-event.invariant.0 c.in-Err.ensures.step.1)
 
 pub loop-event-preserved : goal.loop-event-preserved
@@ -50,20 +47,17 @@ loop-event-preserved g c =
     let tools = tools_of (g.P.Packer.packs c.args.packer.now) (g.P.Packer.pack_fails c.args.packer.now)
     g.I.KeepingIndexer.indexes g.I.KeepingIndexer.index_fails in
     let keeps = g.I.KeepingIndexer.keeps in
-    let before = keeps c.args.indexer.now in
-    let mid = keeps c.loop-event.indexer in
-    let after = keeps c.step_or_refuse.new.indexer in
     let inside : c.loop-event.event-index < length c.args.events.now = search rules in
     let outcome = c.in-Ok.outcome in (
-      goes_on_soundly tools before mid after
+      goes_on_soundly tools keeps
           (take c.loop-event.event-index c.args.events.now)
           (take (c.loop-event.event-index + 1) c.args.events.now) c.event-item.result c.loop-event.results.items
           c.push_reserved.new.self.items outcome
-          c.loop-event.invariant.1.stays c.in-Ok.ensures.keeps.stays
           c.loop-event.invariant.0 c.in-Ok.ensures.step
           (take_one c.args.events.now c.loop-event.event-index c.event-item.result inside c.event-item.is)
           c.push_reserved.ensures.items,
-      keeps_then before mid after c.args.self.now.repo.graph.entries c.loop-event.self.repo.graph.entries
+      keeps_then (keeps c.args.indexer.now) (keeps c.loop-event.indexer) (keeps c.step_or_refuse.new.indexer)
+          c.args.self.now.repo.graph.entries c.loop-event.self.repo.graph.entries
           c.step_or_refuse.new.self.repo.graph.entries c.loop-event.invariant.1 c.in-Ok.ensures.keeps,
       search rules,
       search rules,

@@ -1,6 +1,7 @@
 use Rattle.std.proofs.Common.{◌≡◌, ◌≤◌, length, take}
 use Rattle.std.specs.Vec.{vec_len, vec_capacity}
 use Rattle.gsession.specs.Keeping.{KeepsOn}
+use Rattle.gworld.specs.KeepingWorlds.{kept_world}
 use Rattle.gworld.specs.steps.Bringing.{RunsSoundly}
 use Rattle.gworld.specs.Worlds.{tools_of}
 use Rattle.gworld.proofs.parts.Parts.run_each.Given as goal
@@ -11,7 +12,7 @@ abbrev pub invariant-loop-event : goal.invariant-loop-event
 invariant-loop-event g l =
     let keeps = g.I.KeepingIndexer.keeps in
     RunsSoundly (tools_of (g.P.Packer.packs l.packer) (g.P.Packer.pack_fails l.packer) g.I.KeepingIndexer.indexes
-    g.I.KeepingIndexer.index_fails) (keeps l.fn.indexer) (keeps l.indexer)
-    l.fn.self (take l.event-index l.events) l.results.items l.self
+    g.I.KeepingIndexer.index_fails) keeps (kept_world l.packer l.fn.indexer l.fn.self)
+    (take l.event-index l.events) l.results.items (kept_world l.packer l.indexer l.self)
     × KeepsOn (keeps l.fn.indexer) (keeps l.indexer) l.fn.self.repo.graph.entries l.self.repo.graph.entries
     × (vec_len l.results ≡ l.event-index) × (length l.events ≤ vec_capacity l.results)

@@ -2,7 +2,7 @@ use Rattle.std.proofs.lemmas.List.Elements.{All-weaker}
 use Rattle.std.specs.Map.{values_of}
 use Rattle.gdag.specs.Reach.{IsConnected, here}
 use Rattle.gcomplete.specs.Closed.{IsComplete}
-use Rattle.gitmemory.proofs.worlds.run_complete.Goals as goal
+use Rattle.gitworld.proofs.run_complete.Goals as goal
 
 pub returns-clause-complete : goal.returns-clause-complete
 returns-clause-complete g c = λ objects judged.

@@ -1,4 +1,28 @@
-//! Worlds whose client has a complete store.
+//! Worlds whose client has a complete store in memory. After any events each ref of the client is
+//! complete.
+//!
+//! # Proved
+//!
+//! - Suppose a client keeps the ids and types of its objects in a `gitmemory::MemoryIndexer`. Then
+//!   each ref of the client is complete after any events ([`run_complete`]). The store has the id of
+//!   each commit, tree, blob and tag that the ref reaches. Messages may be lost, repeated, late,
+//!   truncated or forged.
+//! - No call panics, overflows or reads out of bounds, and every call returns.
+//!
+//! # What the contracts do not rule out
+//!
+//! - The clauses are about each closed store of objects with the kept ids and types. At least one
+//!   exists, but no contract says that its bytes arrived. A gitlink is no link.
+//! - The promises of `gworld` for honest runs do not apply, because no contract rules out that
+//!   honest packs are refused.
+//!
+//! No program of this repository uses this crate, and it has no tests.
+//!
+//! # Dependencies
+//!
+//! `gworld` defines worlds, and `gitmemory` defines the store. `gcomplete` defines complete stores,
+//! `gdag` and `gobject` define objects and packers, and `gname` defines ids.
+#![tactic(auto)]
 
 ghost use Rattle.std.specs.Prelude.{◌≡◌, ⊤, All, MatchResult};
 ghost use Rattle.std.specs.Map.{values_of};
@@ -7,13 +31,13 @@ ghost use Rattle.gcomplete.specs.Batches.{AreJudged, HasJudged};
 ghost use Rattle.gcomplete.specs.Closed.{IsComplete};
 ghost use Rattle.gcomplete.specs.Judging.{IsKept};
 ghost use Rattle.gcomplete.specs.Stores.{Store};
-ghost use Rattle.gworld.specs.KeepingWorlds.{KeptPromises};
+ghost use Rattle.gworld.specs.KeepingWorlds.{KeptNeedsMemory, KeptPromises};
 ghost use Rattle.gworld.specs.Promises.{AreRefsConnected};
 ghost use Rattle.gworld.specs.Runs.{RunWith, RunsFront, outcomes_before};
 ghost use Rattle.gworld.specs.Worlds.{tools_of};
 ghost use Rattle.gitmemory.specs.Packs.{IsIndexed};
 
-use crate::indexer::MemoryIndexer;
+use gitmemory::MemoryIndexer;
 use gobject::Packer;
 use gworld::{Event, KeepingWorld, Outcome, RunFault};
 use std::alloc::Allocator;
@@ -37,12 +61,12 @@ pub fn run_complete<P: Packer<A> + Drop, A: Allocator + Copy>(
     ensures runs { MatchResult result
         (λ outcomes. RunWith (KeptPromises (tools_of (P.packs world.old.packer)
         (P.pack_fails world.old.packer) IsIndexed (λ _ _. ⊤))
-        (IsKept world.old.indexer.store) (IsKept world.new.indexer.store))
-        world.old.world events.now outcomes.items world.new.world)
+        (λ indexer. IsKept indexer.store))
+        world.old events.now outcomes.items world.new)
         (λ fault. RunsFront (KeptPromises (tools_of (P.packs world.old.packer)
         (P.pack_fails world.old.packer) IsIndexed (λ _ _. ⊤))
-        (IsKept world.old.indexer.store) (IsKept world.new.indexer.store))
-        world.old.world events.now (outcomes_before fault) world.new.world) }
+        (λ indexer. IsKept indexer.store)) KeptNeedsMemory
+        world.old events.now (outcomes_before fault) world.new) }
 {
     let result = world.run(events);
     // Laws that the proof uses.
