@@ -1,22 +1,26 @@
--- A closed store stays closed when the objects of a pack are added.
-use Rattle.std.proofs.Common.{◌≡◌, ◌≢◌, ◌⊎◌, inl, inr, arith, ℕ, Bool, true, false, cond, List, [], ◌∷◌, All, Contains, Some, IsSome, is_some, get_or, refl, ap, subst, sym, ◌∙◌}
+-- A closed store stays closed when the objects of a pack are added. Kept ids are complete.
+use Rattle.std.proofs.Common.{◌≡◌, ◌≢◌, ◌⊎◌, inl, inr, arith, ℕ, Bool, true, false, cond, List, [], ◌∷◌, All, Contains, Option, None, Some, IsSome, is_some, get_or, refl, ap, subst, sym, ◌∙◌}
+use Rattle.std.specs.Option.{option_or}
 use Rattle.std.specs.Str.{bytes_eq}
 use Rattle.std.proofs.lemmas.List.Elements.{All-cons, Contains-get_or, All-contains, All-head, All-map, All-nil, All-tail, All-weaker}
 use Rattle.std.proofs.lemmas.Slice.Eq.{bytes_eq-Decides}
 use Rattle.gname.specs.Ids.{Id}
+use Rattle.gitobject.specs.Trees.{link_of}
 use Rattle.gitobject.specs.declared.links.Link.{Link}
 use Rattle.gitobject.specs.declared.types.ObjectType.{ObjectType}
 use Rattle.gitobject.specs.declared.types.ObjectType.TheVariants.{Commit, Tree, Blob, Tag}
-use Rattle.gcomplete.specs.Closed.{LeadsIn}
-use Rattle.gcomplete.specs.Linked.{AreLinkedTo, IsLinked, LeadsTo}
-use Rattle.gcomplete.specs.Stores.{Store, kind_at}
+use Rattle.gcomplete.specs.Closed.{IsClosed, IsComplete, LeadsIn}
+use Rattle.gcomplete.specs.Linked.{AreLinkedTo, HasClosed, IsLinked, LeadsTo}
+use Rattle.gcomplete.specs.Naming.{Collide}
+use Rattle.gcomplete.specs.Stores.{AreTypesOf, GitObject, Holds, Store, joined, kind_at, kind_in}
+use Rattle.gcomplete.proofs.Closing.{closed_complete}
 use Rattle.gcomplete.proofs.Linking.{linked_closed}
-use Rattle.gcomplete.proofs.Parts.{something}
+use Rattle.gcomplete.proofs.Parts.{held_kind, is_something, object_held, something}
 use Rattle.gcomplete.proofs.Tests.{found_in}
 use Rattle.gitpack.specs.Indexes.{object_id}
 use Rattle.gitpack.specs.declared.indexing.IndexedEntry.{IndexedEntry}
-use Rattle.gitrepository.specs.Laws.{HasTwoTypes, PacksKeepClosed, type_of, types_of}
-use Rattle.gitrepository.specs.Received.{AreLinked, IsLinkedEntry, Leads}
+use Rattle.gitrepository.specs.Laws.{CompletesKept, HasTwoTypes, KeptIsComplete, PacksKeepClosed, type_of, types_of}
+use Rattle.gitrepository.specs.Received.{AreLinked, IsInReceived, Leads}
 use Rattle.gitrepository.proofs.LinkLemmas.{linked_weaker}
 
 -- a number for each type, so that types can be compared
@@ -122,5 +126,63 @@ packs_keep prerequisites objects s named closed linked held =
     let each : All (Contains objects) objects = λ k d inside. Contains-get_or objects k d inside in
     elim (all_found_or prerequisites objects s linked objects each (are_typed objects)) [
       | inl all ↦ inl (linked_closed (types_of objects) s named closed (linked_to prerequisites objects s linked all held))
+      | inr twice ↦ inr twice
+    ]
+
+-- two stores together have the objects of the first store and those of the second store
+holds_first : (s t : Store) (a : Id) → Holds s a → Holds (joined s t) a
+holds_first s t a held =
+    let o = something (s a) held in rw o.1 refl
+
+holds_second : (s t : Store) (a : Id) → Holds t a → Holds (joined s t) a
+holds_second s t a held = more (s a)
+  where
+    more : (o : Option GitObject) → IsSome (option_or o (t a))
+    more None = held
+    more (Some o) = refl
+
+-- an id with a type in the store belongs to an object of the store
+has_kind : (s : Store) (a : Id) → IsSome (kind_in s a) → Holds s a
+has_kind s a some =
+    let kind = something (kind_in s a) some in
+    let o = held_kind s a kind.0 kind.1 in
+    object_held s a o.0 o.1
+
+module _ (assumed : List Id) (prerequisites : List Link) (objects : List IndexedEntry) (s : Store) (has : All (Holds s) assumed) (held : All (LeadsIn s) prerequisites) where
+  -- the store and the objects of the pack together have each kept id
+  abbrev IsKeptId : Id → Type 0
+  IsKeptId a = Contains assumed a ⊎ IsInReceived prerequisites objects a
+
+  module _ (added : Store) (types : AreTypesOf (types_of objects) added) where
+    led : (a : Id) → IsInReceived prerequisites objects a → Holds (joined s added) a
+    led a (kind, inl mine) =
+        let typed = All-contains (IsTyped objects) objects mine.object (are_typed objects) mine.among in
+        holds_second s added a (has_kind added a (subst (λ k. IsSome k) (types a) (subst (λ b. IsSome (kind_at (types_of objects) b)) mine.id typed)))
+    led a (kind, inr outside) =
+        holds_first s added a (has_kind s a (is_something (kind_in s a) kind (All-contains (LeadsIn s) prerequisites (link_of kind a) held outside)))
+
+    kept_held : (a : Id) → IsKeptId a → Holds (joined s added) a
+    kept_held a (inl known) = holds_first s added a (All-contains (Holds s) assumed a has known)
+    kept_held a (inr received) = led a received
+
+    kept_complete_in : IsClosed (joined s added) → (a : Id) → IsKeptId a → IsComplete (joined s added) a
+    kept_complete_in closed a kept = closed_complete (joined s added) closed a (kept_held a kept)
+
+  completes : HasClosed (types_of objects) s → CompletesKept IsKeptId objects s
+  completes it = record {
+    added = it.added;
+    types = it.types_of;
+    named = it.named;
+    complete = either it.closed;
+  }
+    where
+      either : IsClosed (joined s it.added) ⊎ Collide s it.added → ((a : Id) → IsKeptId a → IsComplete (joined s it.added) a) ⊎ Collide s it.added
+      either (inl closed) = inl (kept_complete_in it.added it.types_of closed)
+      either (inr collide) = inr collide
+
+pub kept_complete : KeptIsComplete
+kept_complete assumed prerequisites objects s named closed has linked held =
+    elim (packs_keep prerequisites objects s named closed linked held) [
+      | inl stays ↦ inl (completes assumed prerequisites objects s has held stays)
       | inr twice ↦ inr twice
     ]

@@ -7,3 +7,6 @@ pub mod PartLemmas
 pub mod LinkLemmas
 pub mod LawLemmas
 pub mod CheckLemmas
+pub mod WalkLemmas
+pub mod SentLemmas
+pub mod KeepLemmas

@@ -2,7 +2,7 @@
 use Rattle.std.proofs.Common.{◌≡◌, inl, inr, Bool, true, false, if◌then◌else◌, ℕ, List, [], ◌∷◌, ◌++◌, All, Contains, Option, Some, append-nil, refl, ap, subst, sym, ◌∙◌}
 use Rattle.std.specs.List.{filter_map}
 use Rattle.std.specs.Option.{option_to_list}
-use Rattle.std.proofs.lemmas.List.Elements.{All-append, All-push, All-weaker, Contains-append_left}
+use Rattle.std.proofs.lemmas.List.Elements.{All-append, All-contains, All-push, All-weaker, Contains-append_left}
 use Rattle.gname.specs.Ids.{Id}
 use Rattle.gitobject.specs.Trees.{Entry, IsEntry, entry_link, link_of, tree_text}
 use Rattle.gitobject.specs.declared.links.Link.{Link}
@@ -12,10 +12,11 @@ use Rattle.gitobject.proofs.EntryLemmas.{links_more}
 use Rattle.gcomplete.specs.Batches.{KeepsTypes}
 use Rattle.gcomplete.specs.Linked.{IsLinked}
 use Rattle.gcomplete.specs.Stores.{Types, kind_at}
+use Rattle.gcomplete.proofs.Parts.{something}
 use Rattle.gitpack.specs.declared.indexing.IndexedEntry.{IndexedEntry}
-use Rattle.gitrepository.specs.Received.{AreLinked, IsLinkedEntry, Leads}
+use Rattle.gitrepository.specs.Received.{AreLinked, IsInReceived, IsLinkedEntry, Leads}
 use Rattle.gitrepository.specs.declared.needs.ReadObject.{ReadObject}
-use Rattle.gitrepository.specs.steps.Arriving.{AreLinksNeeded, AreReadObjects, IsNeeded, IsReadEntry, IsReadObject, KeepsLinks, LeadsFrom}
+use Rattle.gitrepository.specs.steps.Arriving.{AreLinksNeeded, AreReadObjects, IsInIndex, IsNeeded, IsReadEntry, IsReadObject, IsRecorded, KeepsLinks, LeadsFrom}
 
 -- if all links of an object lead somewhere, they also lead wherever these links lead
 pub linked_weaker : (P Q : Link → Type 0) → ((link : Link) → P link → Q link) → (a : Id) (kind : ObjectType) → IsLinked P a kind → IsLinked Q a kind
@@ -92,3 +93,19 @@ pub same_read : (needs : Types) (object : ReadObject) (entry : IndexedEntry) →
 same_read needs object entry ids kinds is =
     let P : Id → Type 0 = λ a. IsLinked (IsNeeded needs) a object.kind in
     subst (IsLinked (IsNeeded needs) entry.entry.id) kinds (subst P ids is)
+
+-- an object that was read is in the index if an entry at its position has the same id and the same type
+pub in_index : (pack : List IndexedEntry) (object : ReadObject) (entry : IndexedEntry) → Contains pack entry → object.id ≡ entry.entry.id → object.kind ≡ entry.kind
+    → IsInIndex pack object
+in_index pack object entry among ids kinds = record { object = entry; among = among; id = sym ids; kind = sym kinds }
+
+-- each recorded id leads to an object of the index or to a prerequisite
+pub recorded_in : (prerequisites : List Link) (pack : List IndexedEntry) (needs : Types) (objects sorted : List ReadObject)
+    → ((object : ReadObject) → Contains objects object → Contains sorted object) → All (IsInIndex pack) sorted
+    → ((a : Id) (kind : ObjectType) → kind_at needs a ≡ Some kind → Leads prerequisites pack (link_of kind a))
+    → (a : Id) → IsRecorded needs objects a → IsInReceived prerequisites pack a
+recorded_in prerequisites pack needs objects sorted keeps indexed leads a (inl read) =
+    let kind = read.object.kind in let P : Id → Type 0 = λ b. Leads prerequisites pack (link_of kind b) in
+    (kind, subst P read.same (inl (All-contains (IsInIndex pack) sorted read.object indexed (keeps read.object read.among))))
+recorded_in prerequisites pack needs objects sorted keeps indexed leads a (inr needed) =
+    let kind = something (kind_at needs a) needed in (kind.0, leads a kind.0 kind.1)

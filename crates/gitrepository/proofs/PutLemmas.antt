@@ -1,5 +1,5 @@
 -- The entries of an outgoing pack.
-use Rattle.std.proofs.Common.{◌≡◌, ℕ, ◌+◌, List, [], ◌∷◌, ◌++◌, All, length, refl, ap, subst, sym, ◌∙◌, arith}
+use Rattle.std.proofs.Common.{◌≡◌, ℕ, ◌+◌, List, [], ◌∷◌, ◌++◌, refl, ap, subst, sym, ◌∙◌}
 use Rattle.std.specs.List.{concat}
 use Rattle.std.proofs.lemmas.List.Elements.{All-nil, All-push}
 use Rattle.std.proofs.lemmas.List.Folds.{concat-append}
@@ -28,5 +28,5 @@ pub HasPut_none : (count : ℕ) (bytes : List ℕ) → bytes ≡ pack_header cou
 HasPut_none count bytes is = record { texts = []; each = All-nil IsEntryText; many = refl; is = is ∙ sym (append-nil (pack_header count)) }
 
 -- a pack with as many entries as its header says
-pub IsWholePack_of : (count put : ℕ) (bytes pack : List ℕ) → put ≡ count → HasPut count put bytes → pack ≡ with_trailer bytes → IsWholePack pack
-IsWholePack_of count put bytes pack same has is = record { count = count; bytes = bytes; put = subst (λ n. HasPut count n bytes) same has; is = is }
+pub IsWholePack_of : (count put : ℕ) (bytes pack : List ℕ) → put ≡ count → HasPut count put bytes → pack ≡ with_trailer bytes → IsWholePack count pack
+IsWholePack_of count put bytes pack same has is = record { bytes = bytes; put = subst (λ n. HasPut count n bytes) same has; is = is }

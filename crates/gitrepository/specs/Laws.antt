@@ -1,15 +1,19 @@
--- Laws that follow from the definitions of received packs.
-use Rattle.std.specs.Prelude.{◌≡◌, ◌≢◌, ◌⊎◌, List, All, Contains, map}
+-- Laws that follow from the definitions of received packs and of packs that are sent.
+use Rattle.std.specs.Prelude.{◌≡◌, ◌≢◌, ◌⊎◌, List, All, Contains, None, Some, map, if◌then◌else◌}
 use Rattle.gname.specs.Ids.{Id}
+use Rattle.gobject.specs.declared.node.Entry.{Entry}
 use Rattle.gitobject.specs.declared.links.Link.{Link}
 use Rattle.gitobject.specs.declared.types.ObjectType.{ObjectType}
-use Rattle.gcomplete.specs.Closed.{IsClosed, LeadsIn}
+use Rattle.gcomplete.specs.Closed.{IsClosed, IsComplete, LeadsIn}
 use Rattle.gcomplete.specs.Linked.{HasClosed}
-use Rattle.gcomplete.specs.Naming.{IsNamed}
-use Rattle.gcomplete.specs.Stores.{Store, Types}
+use Rattle.gcomplete.specs.Naming.{Collide, IsNamed}
+use Rattle.gcomplete.specs.Sending.{IsSent}
+use Rattle.gcomplete.specs.Stores.{AreTypesOf, GitObject, Holds, Store, Types, joined}
 use Rattle.gitpack.specs.Indexes.{object_id}
 use Rattle.gitpack.specs.declared.indexing.IndexedEntry.{IndexedEntry}
-use Rattle.gitrepository.specs.Received.{AreLinked}
+use Rattle.gitrepository.specs.Entries.{IsNodeOf}
+use Rattle.gitrepository.specs.Gathering.{Fates, IsGathered, IsLeftOut, IsParent, fate_at, is_sent_at}
+use Rattle.gitrepository.specs.Received.{AreLinked, IsInReceived}
 
 -- the id and the type of an object of a pack
 abbrev pub type_of : IndexedEntry → Id × ObjectType
@@ -34,3 +38,49 @@ abbrev pub PacksKeepClosed : Type 0
 PacksKeepClosed =
     (prerequisites : List Link) (objects : List IndexedEntry) (s : Store) → IsNamed s → IsClosed s
     → AreLinked prerequisites objects → All (LeadsIn s) prerequisites → HasClosed (types_of objects) s ⊎ HasTwoTypes objects
+
+-- There is a store of the objects of the pack. In this store and the store `s` together each kept id is complete, or the
+-- two stores collide.
+pub record CompletesKept (keeps : Id → Type 0) (objects : List IndexedEntry) (s : Store) : Type 0 where
+  pub added : Store
+  pub types : AreTypesOf (types_of objects) added
+  pub named : IsNamed added
+  pub complete : ((a : Id) → keeps a → IsComplete (joined s added) a) ⊎ Collide s added
+
+-- A closed store has the assumed ids and the prerequisites of a pack, whose objects have links that lead to objects of
+-- the pack or to prerequisites. Then each kept id is complete in the store and the objects of the pack together.
+-- Otherwise two objects of the pack have the same id and different types. Without a pack the lists are empty.
+abbrev pub KeptIsComplete : Type 0
+KeptIsComplete =
+    (assumed : List Id) (prerequisites : List Link) (objects : List IndexedEntry) (s : Store) → IsNamed s → IsClosed s
+    → All (Holds s) assumed → AreLinked prerequisites objects → All (LeadsIn s) prerequisites
+    → CompletesKept (λ a. Contains assumed a ⊎ IsInReceived prerequisites objects a) objects s ⊎ HasTwoTypes objects
+
+-- ---- the objects that are sent
+
+-- the store has this object under the id
+abbrev pub IsHeld : Store → Id → GitObject → Type 0
+IsHeld s a o = s a ≡ Some o
+
+-- the graph entry describes the object that the store has under the same id
+pub record Describes {A : Type 0} (s : Store) (entry : Entry A) : Type 0 where
+  pub object : GitObject
+  pub held : s entry.id ≡ Some object
+  pub node : IsNodeOf object.kind object.body entry.node
+
+-- the objects of a store that are sent
+abbrev pub sent_from : Store → Fates → Store
+sent_from s fates a = if is_sent_at (fate_at fates a) then s a else None
+
+-- the list has each left-out parent of an entry
+abbrev pub AreKnown : {A : Type 0} → List (Entry A) → Fates → List Id → Type 0
+AreKnown entries fates known = (a : Id) → IsParent entries a → IsLeftOut fates a → Contains known a
+
+-- The store of a server is closed, and the entries describe its objects. Then the objects that are sent for these entries
+-- are those of an honest server: each link of a sent object leads to a sent object, or to an object that a left-out
+-- parent reaches. The client has the left-out parents.
+abbrev pub GatheredIsSent : Type 0 → Type 0
+GatheredIsSent A =
+    (server : Store) (entries : List (Entry A)) (fates : Fates) (known : List Id) → IsClosed server
+    → All (Describes server) entries → IsGathered (IsHeld server) entries fates → AreKnown entries fates known
+    → IsSent server (sent_from server fates) known

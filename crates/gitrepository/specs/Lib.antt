@@ -5,6 +5,8 @@ pub mod Installing
 pub mod MemoryFolders
 pub mod Parts
 pub mod Received
+pub mod Keeping
 pub mod Checking
+pub mod Gathering
 pub mod steps
 pub mod Laws

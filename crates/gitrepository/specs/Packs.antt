@@ -5,6 +5,7 @@ use Rattle.gobject.specs.declared.node.Entry.{Entry}
 use Rattle.gitpack.specs.Packs.{IsEntry, IsFramed, pack_header, with_trailer}
 use Rattle.gitpack.specs.declared.entry.EntryForm.{EntryForm}
 use Rattle.gitrepository.specs.Entries.{IsRead}
+use Rattle.gitrepository.specs.Gathering.{Fates, IsGathered, IsStoredObject, sent_count}
 
 -- the bytes of a pack entry: a header and a stream
 pub record IsEntryText (text : List ℕ) : Type 0 where
@@ -20,12 +21,17 @@ pub record HasPut (count put : ℕ) (bytes : List ℕ) : Type 0 where
   pub many : length texts ≡ put
   pub is : bytes ≡ pack_header count ++ concat texts
 
--- a whole pack: a header, as many entries as the header says, and the trailer
-pub record IsWholePack (pack : List ℕ) : Type 0 where
-  pub count : ℕ
+-- a whole pack of `count` entries: a header that says so, these entries, and the trailer
+pub record IsWholePack (count : ℕ) (pack : List ℕ) : Type 0 where
   pub bytes : List ℕ
   pub put : HasPut count count bytes
   pub is : pack ≡ with_trailer bytes
+
+-- a pack of these commits and tags, which has one entry for each object that is sent for them
+pub record IsPackOf {A : Type 0} (entries : List (Entry A)) (pack : List ℕ) : Type 0 where
+  pub fates : Fates
+  pub gathered : IsGathered IsStoredObject entries fates
+  pub whole : IsWholePack (sent_count fates) pack
 
 -- An indexed pack: its trailer is the SHA-1 of all preceding bytes. Each returned entry describes an object, or is a
 -- tree or blob that a tag among the entries names.

@@ -1,7 +1,11 @@
 -- The objects of a received pack (git-index-pack(1), "--strict"; git-fsck(1)).
 use Rattle.std.specs.Prelude.{◌≡◌, ◌⊎◌, ⊤, List, All, Contains}
+use Rattle.gname.specs.Ids.{Id}
+use Rattle.gobject.specs.declared.node.Entry.{Entry}
 use Rattle.gcomplete.specs.Linked.{IsLinked}
+use Rattle.gitobject.specs.Trees.{link_of}
 use Rattle.gitobject.specs.declared.links.Link.{Link}
+use Rattle.gitobject.specs.declared.types.ObjectType.{ObjectType}
 use Rattle.gitpack.specs.Indexes.{object_id}
 use Rattle.gitpack.specs.declared.indexing.IndexedEntry.{IndexedEntry}
 
@@ -16,6 +20,14 @@ pub record IsInPack (objects : List IndexedEntry) (link : Link) : Type 0 where
 -- that must be elsewhere.
 abbrev pub Leads : List Link → List IndexedEntry → Link → Type 0
 Leads prerequisites objects link = IsInPack objects link ⊎ Contains prerequisites link
+
+-- an object of the pack or a prerequisite has this id
+abbrev pub IsInReceived : List Link → List IndexedEntry → Id → Type 0
+IsInReceived prerequisites objects id = (kind : ObjectType) × Leads prerequisites objects (link_of kind id)
+
+-- the same for the id of an entry of a graph
+abbrev pub IsEntryInReceived : {A : Type 0} → List Link → List IndexedEntry → Entry A → Type 0
+IsEntryInReceived prerequisites objects entry = IsInReceived prerequisites objects entry.id
 
 -- There is a well-formed object with this type, whose SHA-1 is this id. Each of its links leads to an object of the
 -- pack or to a prerequisite. The definition does not say that the pack contains the bytes of the object.

@@ -1,11 +1,14 @@
 //! The objects of an incoming pack.
 
 ghost use Rattle.std.specs.Prelude.{◌≡◌, ◌++◌, ◌∷◌, [], List, All, IfOk, IfSome, OnOk};
+ghost use Rattle.gcomplete.specs.Judging.{IsKept};
+ghost use Rattle.gcomplete.specs.Stores.{Types};
 ghost use Rattle.gdag.specs.Graphs.{Holds};
 ghost use Rattle.gitobject.specs.Naming.{id_of};
 ghost use Rattle.gitobject.specs.declared.types.ObjectType.TheVariants as types;
 ghost use Rattle.gitrepository.specs.Entries.{IsRead};
-ghost use Rattle.gitrepository.specs.Received.{AreLinked};
+ghost use Rattle.gitrepository.specs.Received.{AreLinked, IsEntryInReceived};
+ghost use Rattle.gitrepository.specs.steps.Arriving.{AreLinksNeeded, IsReadId, IsRecorded};
 ghost use Rattle.gobject.specs.declared.node.Entry.{Entry};
 
 use crate::fault::{ObjectCause, RepositoryFault};
@@ -22,7 +25,8 @@ use std::alloc::Allocator;
 use std::marker::Model;
 
 /// The objects read so far from an incoming pack, and the objects that they name. Contracts treat
-/// an `Arrival` as the list of its graph entries.
+/// an `Arrival` as its graph entries, the objects read so far, and the ids that they name. The id
+/// of each graph entry is the id of one of these objects, or one of these ids.
 #[derive(Drop)]
 pub(crate) struct Arrival<A: Allocator + Copy> {
     alloc: A,
@@ -48,17 +52,17 @@ pub(crate) struct Inspector<'a, 'r, 't, 'f, F: ObjectFiles, A: Allocator + Copy>
 }
 
 impl<A: Allocator + Copy> Model for Arrival<A> {
-    ghost use Rattle.std.specs.Prelude.{All, List};
-    ghost use Rattle.gobject.specs.declared.node.Entry.{Entry};
+    ghost use Rattle.std.specs.Prelude.{All};
     ghost use Rattle.gitrepository.specs.Entries.{IsRead};
-    ghost use Rattle.gitrepository.specs.steps.Arriving.{AreReadObjects};
+    ghost use Rattle.gitrepository.specs.steps.Arriving.{AreReadObjects, Arrived, IsEntryRecorded};
 
-    ghost Value = { List (Entry A) };
+    ghost Value = { Arrived A };
 
-    ghost view = { λ a. a.entries.items };
+    ghost view = { λ a. record { entries = a.entries.items; objects = a.objects.items; needs = a.needs } };
 
     ghost invariant = { λ a. All (IsRead a.entries.items) a.entries.items
-        × AreReadObjects a.needs a.objects.items };
+        × AreReadObjects a.needs a.objects.items
+        × All (IsEntryRecorded a.needs a.objects.items) a.entries.items };
 }
 
 impl<A: Allocator + Copy> Arrival<A> {
@@ -94,6 +98,8 @@ impl<A: Allocator + Copy> Arrival<A> {
         ensures entries { IfOk result (λ it. All (IsRead it.0.items) it.0.items) }
         ensures linked { IfOk result (λ it. AreLinked it.1.items pack.now.entries) }
         ensures stored { IfOk result (λ it. All S.has it.1.items) }
+        ensures received { IfOk result (λ it. All
+            (IsEntryInReceived it.1.items pack.now.entries) it.0.items) }
     {
         let Arrival {
             alloc,
@@ -140,7 +146,9 @@ impl<A: Allocator + Copy> Arrival<A> {
 
     // Adds the entry of a tag. If the tag names a tree or blob, also adds the entry of that object.
     fn record_tag(&mut self, id: &Oid, body: &[u8]) -> Result<(), RepositoryFault<A>>
-        requires { id_of types.Tag body.now ≡ id.now }
+        requires id { id_of types.Tag body.now ≡ id.now }
+        requires read { IsReadId self.old.objects id.now }
+        requires noted { AreLinksNeeded self.old.needs types.Tag body.now }
     {
         self.push_object(id, ObjectType::Tag, body)?;
         match named_leaf(self.alloc, body) {
@@ -157,7 +165,9 @@ impl<A: Allocator + Copy> Arrival<A> {
         body: &[u8],
     ) -> Result<(), RepositoryFault<A>>
         requires { id_of kind body.now ≡ id.now }
-        ensures { self.new ≡ self.old }
+        ensures entries { self.new.entries ≡ self.old.entries }
+        ensures read { OnOk result (IsReadId self.new.objects id.now) }
+        ensures noted { OnOk result (AreLinksNeeded self.new.needs kind body.now) }
     {
         if let Err(fault) = self.needs.note_object(self.alloc, id, kind, body) {
             return Err(fault);
@@ -175,8 +185,10 @@ impl<A: Allocator + Copy> Arrival<A> {
         kind: ObjectType,
         body: &[u8],
     ) -> Result<(), RepositoryFault<A>>
-        requires { id_of kind body.now ≡ id.now }
-        ensures { OnOk result (Holds self.new id.now) }
+        requires id { id_of kind body.now ≡ id.now }
+        requires read { IsReadId self.old.objects id.now }
+        ensures held { OnOk result (Holds self.new.entries id.now) }
+        ensures needs { self.new.needs ≡ self.old.needs }
     {
         match entry_of(self.alloc, id, kind, body) {
             Ok(entry) => self.push(entry),
@@ -186,8 +198,10 @@ impl<A: Allocator + Copy> Arrival<A> {
 
     // Adds a graph entry.
     fn push(&mut self, entry: Entry<A>) -> Result<(), RepositoryFault<A>>
-        requires { IsRead self.old entry }
-        ensures { OnOk result (self.new ≡ self.old ++ entry ∷ []) }
+        requires read { IsRead self.old.entries entry }
+        requires recorded { IsRecorded self.old.needs self.old.objects entry.id }
+        ensures pushed { OnOk result (self.new.entries ≡ self.old.entries ++ entry ∷ []) }
+        ensures needs { self.new.needs ≡ self.old.needs }
     {
         match self.entries.push(entry) {
             Ok(()) => Ok(()),
@@ -199,8 +213,10 @@ impl<A: Allocator + Copy> Arrival<A> {
 // Returns the graph entry for the tree or blob that a tag names, or `None` if the tag names a
 // commit or a tag.
 fn named_leaf<A: Allocator + Copy>(alloc: A, tag: &[u8]) -> Option<Entry<A>>
-    ensures { IfSome result (λ entry. (entries : List (Entry A))
+    ensures read { IfSome result (λ entry. (entries : List (Entry A))
         → Holds entries (id_of types.Tag tag.now) → IsRead entries entry) }
+    ensures needed { IfSome result (λ entry. (needs : Types)
+        → AreLinksNeeded needs types.Tag tag.now → IsKept needs entry.id) }
 {
     let link = tag_link(tag)?;
     match link.kind {

@@ -5,7 +5,7 @@ use crate::fates::{Fate, Fates};
 use crate::fault::RepositoryFault;
 use crate::path_hash::PathHash;
 use crate::window::{Delta, Window};
-use gitobjects::{Found, ObjectFiles, ObjectReader, RawEntry, StoreFault};
+use gitobjects::{Found, ObjectFiles, ObjectReader, ObjectStore, RawEntry, StoreFault};
 use gitpack::EntryForm;
 use gname::Oid;
 use gzlib::Deflater;
@@ -63,12 +63,16 @@ impl<A: Allocator + Copy> NextEntry<A> {
     }
 }
 
-// An object in a pack: its id, its position in the pack index, and the hash of its path.
+// A packed object to send.
 #[derive(Clone, Copy, Drop)]
 struct Packed {
-    id: Oid,
-    place: usize,
-    path: PathHash,
+    // The number of the object in the order in which fates were decided.
+    number: usize,
+    // The number of the stored pack, and the offset of the object's entry in that pack.
+    pack: usize,
+    start: usize,
+    // The offset of the copied entry in the new pack, or 0 if the entry was not copied.
+    copied_to: usize,
 }
 
 // An object to deflate again: its id, the hash of its path, and its index in the unsorted list of
@@ -80,46 +84,45 @@ struct ToDeflate {
     number: usize,
 }
 
-// The progress through the stored packs: the index of the current pack, and how many of its entries
-// were examined.
-#[derive(Clone, Copy, Drop)]
-struct Progress {
-    pack: usize,
-    number: usize,
-}
-
 /// The entries of an outgoing pack, built one by one. Copied entries are first, in the order of the
 /// stored packs, followed by objects that are deflated again.
 #[derive(Drop)]
 pub(crate) struct Copying<A: Allocator + Copy> {
     alloc: A,
-    fates: Fates<A>,
+    /// The fates by which objects are sent.
+    pub(crate) fates: Fates<A>,
     deflater: Deflater<A>,
     counts: PackCounts,
-    progress: Progress,
-    // The new offset of each entry of the current pack, by the entry's position in the pack index.
-    // The offset is 0 if the entry was not copied.
-    starts: Vec<usize, A>,
+    // The packed objects to send, sorted by pack and offset. One object takes 32 bytes.
+    packed: Vec<Packed, A>,
+    // The number of objects of `packed` that were examined so far.
+    examined: usize,
     // The objects to deflate again.
     to_deflate: Vec<ToDeflate, A>,
     // The number of objects of `to_deflate` that were deflated so far.
     deflated: usize,
-    // Whether `to_deflate` is sorted. The list is sorted once all packs have been examined.
+    // Whether `to_deflate` is sorted. The list is sorted once all packed objects have been
+    // examined.
     is_sorted: bool,
     // The most recently deflated objects, which can be bases of new deltas.
     window: Window<A>,
 }
 
 impl<A: Allocator + Copy> Copying<A> {
-    /// Returns a `Copying` of the objects to send, which has built no entry yet.
-    pub(crate) fn new(alloc: A, fates: Fates<A>) -> Result<Copying<A>, AllocError> {
+    /// Returns a `Copying` of the objects to send from a store, which has built no entry yet.
+    pub(crate) fn new<F: ObjectFiles>(
+        alloc: A,
+        store: &ObjectStore<'_, F, A>,
+        fates: Fates<A>,
+    ) -> Result<Copying<A>, AllocError> {
+        let packed = packed_objects(alloc, store, &fates)?;
         Ok(Copying {
             alloc,
             fates,
             deflater: Deflater::new(alloc)?,
             counts: PackCounts::NONE,
-            progress: Progress { pack: 0, number: 0 },
-            starts: Vec::new(alloc),
+            packed,
+            examined: 0,
             to_deflate: Vec::new(alloc),
             deflated: 0,
             is_sorted: false,
@@ -139,84 +142,62 @@ impl<A: Allocator + Copy> Copying<A> {
         reader: &mut ObjectReader<'_, F, A>,
         position: usize,
     ) -> Result<Option<NextEntry<A>>, RepositoryFault<A>> {
-        for _ in self.progress.pack..reader.store().pack_count() {
-            if let Some(entry) = self.next_of_pack(reader, position)? {
-                return Ok(Some(entry));
+        for index in self.examined..self.packed.len() {
+            let entry = self.copy_entry(reader, index, position)?;
+            self.examined = index.saturating_add(1);
+            if entry.is_some() {
+                return Ok(entry);
             }
-            self.progress = Progress {
-                pack: self.progress.pack.saturating_add(1),
-                number: 0,
-            };
         }
         self.deflate_next(reader)
     }
 
-    // Returns the next entry to copy from the current pack, or `None` if no entries remain.
-    fn next_of_pack<F: ObjectFiles>(
-        &mut self,
-        reader: &mut ObjectReader<'_, F, A>,
-        position: usize,
-    ) -> Result<Option<NextEntry<A>>, RepositoryFault<A>> {
-        let Progress { pack, number } = self.progress;
-        let count = reader.store().starts(pack).len();
-        if number == 0 {
-            self.starts = Vec::new(self.alloc);
-            self.starts.resize(count, 0)?;
-        }
-        for number in number..count {
-            if let Some(object) = self.sent_at(reader, pack, number) {
-                if let Some(entry) = self.copy_entry(reader, pack, object, position)? {
-                    self.progress.number = number.saturating_add(1);
-                    return Ok(Some(entry));
-                }
-            }
-        }
-        Ok(None)
-    }
-
-    // Returns the object of the entry with this number in a pack, or `None` if the object is not
-    // sent.
-    fn sent_at<F: ObjectFiles>(
-        &self,
-        reader: &ObjectReader<'_, F, A>,
-        pack: usize,
-        number: usize,
-    ) -> Option<Packed> {
-        let place = reader.store().starts(pack).get(number)?.place;
-        let id = reader.store().index(pack)?.id(place)?;
-        match self.fates.of(&id, Found::Packed { pack, place }) {
-            Fate::Sent(path) => Some(Packed { id, place, path }),
-            Fate::Undecided | Fate::NotSent => None,
-        }
-    }
-
-    // Returns a stored entry, to be copied to this offset of the new pack. If the entry cannot be
-    // copied, returns `None`, and its object is deflated again later.
+    // Returns the stored entry of the packed object with this index, to be copied to this offset of
+    // the new pack. If the entry cannot be copied, returns `None`, and the object is deflated again
+    // later.
     fn copy_entry<F: ObjectFiles>(
         &mut self,
         reader: &mut ObjectReader<'_, F, A>,
-        pack: usize,
-        object: Packed,
-        offset: usize,
+        index: usize,
+        position: usize,
     ) -> Result<Option<NextEntry<A>>, RepositoryFault<A>> {
-        let Some(entry) = intact_entry(reader, pack, object.place)? else {
-            self.deflate_later(object)?;
+        let Some((id, found, fate)) = self.packed_at(index) else {
             return Ok(None);
         };
-        let Some(form) = self.form_of(reader, pack, &entry, offset) else {
-            self.deflate_later(object)?;
+        let Found::Packed { pack, place } = found else {
             return Ok(None);
         };
-        if let Some(slot) = self.starts.get_mut(object.place) {
-            *slot = offset;
+        let Fate::Sent(path) = fate else {
+            return Ok(None);
+        };
+        if let Some(entry) = intact_entry(reader, pack, place)? {
+            if let Some(form) = self.form_of(reader.store(), pack, &entry, position) {
+                self.note_copied(index, position);
+                return Ok(Some(self.reuse_entry(form, entry)));
+            }
         }
-        Ok(Some(self.reuse_entry(form, entry)))
+        self.deflate_later(&id, path)?;
+        Ok(None)
+    }
+
+    // Returns the id, the location and the fate of the packed object with this index.
+    fn packed_at(&self, index: usize) -> Option<(Oid, Found, Fate)> {
+        self.fates.at(self.packed.get(index)?.number)
+    }
+
+    // Notes that the entry of the packed object with this index is copied to this offset of the new
+    // pack.
+    fn note_copied(&mut self, index: usize, position: usize) {
+        if let Some(object) = self.packed.get_mut(index) {
+            object.copied_to = position;
+        }
     }
 
     // Adds a packed object to `to_deflate`, the list of objects to deflate again.
-    fn deflate_later(&mut self, object: Packed) -> Result<(), RepositoryFault<A>> {
+    fn deflate_later(&mut self, id: &Oid, path: PathHash) -> Result<(), RepositoryFault<A>> {
+        self.add_to_deflate(id, path)?;
         self.counts.renewed = self.counts.renewed.saturating_add(1);
-        self.add_to_deflate(&object.id, object.path)
+        Ok(())
     }
 
     fn add_to_deflate(&mut self, id: &Oid, path: PathHash) -> Result<(), RepositoryFault<A>> {
@@ -247,7 +228,7 @@ impl<A: Allocator + Copy> Copying<A> {
     // by id otherwise.
     fn form_of<F: ObjectFiles>(
         &self,
-        reader: &ObjectReader<'_, F, A>,
+        store: &ObjectStore<'_, F, A>,
         pack: usize,
         entry: &RawEntry<A>,
         position: usize,
@@ -255,25 +236,34 @@ impl<A: Allocator + Copy> Copying<A> {
         let Some(base) = entry.base else {
             return Some(entry.head.form);
         };
-        match self.starts.get(base).copied() {
-            Some(start) if 0 < start && start < position => {
-                Some(EntryForm::OffsetDelta(position - start))
+        match self.copied_offset(store, pack, base) {
+            Some(offset) if 0 < offset && offset < position => {
+                Some(EntryForm::OffsetDelta(position - offset))
             }
-            _ => {
-                let id = reader.store().index(pack)?.id(base)?;
-                if self.is_sent(reader, &id) {
-                    Some(EntryForm::RefDelta(id))
-                } else {
-                    None
-                }
-            }
+            _ => self.form_by_id(store.index(pack)?.id(base)?),
         }
     }
 
-    fn is_sent<F: ObjectFiles>(&self, reader: &ObjectReader<'_, F, A>, id: &Oid) -> bool {
-        match reader.store().find(id) {
-            Ok(Some(found)) => self.fates.of(id, found).is_sent(),
-            _ => false,
+    // Returns the offset in the new pack of the entry at this index position of a stored pack. The
+    // offset is 0 if the entry was not copied yet. Returns `None` if the entry is not sent.
+    fn copied_offset<F: ObjectFiles>(
+        &self,
+        store: &ObjectStore<'_, F, A>,
+        pack: usize,
+        place: usize,
+    ) -> Option<usize> {
+        let start = start_of(store, pack, place)?;
+        let search = self
+            .packed
+            .binary_search_by_key(&(pack, start), |object| (object.pack, object.start));
+        Some(self.packed.get(search.ok()?)?.copied_to)
+    }
+
+    // Returns the form of a delta that names this base by id, or `None` if the base is not sent.
+    fn form_by_id(&self, base: Oid) -> Option<EntryForm> {
+        match self.fates.get(&base)? {
+            Fate::Sent(_) => Some(EntryForm::RefDelta(base)),
+            Fate::NotSent => None,
         }
     }
 
@@ -295,9 +285,9 @@ impl<A: Allocator + Copy> Copying<A> {
 
     // Adds the loose objects that are sent to `to_deflate`, the list of objects to deflate again.
     fn add_loose(&mut self) -> Result<(), RepositoryFault<A>> {
-        for number in 0..self.fates.loose_count() {
-            let Some((id, fate)) = self.fates.loose_at(number) else {
-                break;
+        for number in 0..self.fates.len() {
+            let Some((id, Found::Loose, fate)) = self.fates.at(number) else {
+                continue;
             };
             if let Fate::Sent(path) = fate {
                 self.counts.loose = self.counts.loose.saturating_add(1);
@@ -352,6 +342,38 @@ impl<A: Allocator + Copy> Copying<A> {
             from: 0,
         })
     }
+}
+
+// Returns the packed objects to send, sorted by pack and offset.
+fn packed_objects<F: ObjectFiles, A: Allocator + Copy>(
+    alloc: A,
+    store: &ObjectStore<'_, F, A>,
+    fates: &Fates<A>,
+) -> Result<Vec<Packed, A>, AllocError> {
+    let mut packed = Vec::with_capacity(alloc, fates.sent_count())?;
+    for number in 0..fates.len() {
+        if let Some((_, Found::Packed { pack, place }, Fate::Sent(_))) = fates.at(number) {
+            packed.push(Packed {
+                number,
+                pack,
+                // An entry without an offset cannot be read, so its object is deflated again.
+                start: start_of(store, pack, place).unwrap_or(0),
+                copied_to: 0,
+            })?;
+        }
+    }
+    packed.sort_unstable_by_key(|object| (object.pack, object.start));
+    Ok(packed)
+}
+
+// Returns the offset of the entry at this index position of a pack, or `None` if there is no such
+// pack or position.
+fn start_of<F: ObjectFiles, A: Allocator + Copy>(
+    store: &ObjectStore<'_, F, A>,
+    pack: usize,
+    place: usize,
+) -> Option<usize> {
+    usize::try_from(store.index(pack)?.offset(place)?).ok()
 }
 
 // Returns a stored entry unchanged, or `None` if the entry is broken. The store may have an intact

@@ -1,9 +1,9 @@
 //! A pack that a Git directory is receiving.
 
-ghost use Rattle.std.specs.Prelude.{◌≡◌, ◌++◌, [], ℕ, IfOk, OnOk};
+ghost use Rattle.std.specs.Prelude.{◌≡◌, ◌++◌, [], ℕ, All, IfOk, OnOk};
 ghost use Rattle.gitpack.specs.Packs.{IsFramed};
 ghost use Rattle.gitrepository.specs.Packs.{IsIndexed};
-ghost use Rattle.gitrepository.specs.Received.{AreLinked};
+ghost use Rattle.gitrepository.specs.Received.{AreLinked, IsEntryInReceived};
 
 use crate::arrival::{Arrival, Inspector};
 use crate::fault::RepositoryFault;
@@ -94,6 +94,8 @@ impl<S: Spool + Drop, A: Allocator + Copy> StoreFeed<S, A> {
     ) -> Result<(Received<S, A>, Vec<Entry<A>, A>), RepositoryFault<A>>
         ensures bytes { IfOk result (λ it. S.bytes it.0.pack ≡ self) }
         ensures entries { IfOk result (λ it. IsIndexed self it.1.items) }
+        ensures received { IfOk result (λ it. All
+            (IsEntryInReceived it.0.prerequisites.items it.0.index.entries) it.1.items) }
     {
         let StoreFeed { pack, mut arrival } = self;
         let (pack, index) = {

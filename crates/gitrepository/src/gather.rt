@@ -1,5 +1,15 @@
 //! The objects to send for a list of commits and tags.
 
+ghost use Rattle.std.specs.Prelude.{◌≡◌, ◌∷◌, ◌++◌, ◌↔◌, [], ℕ, List, All, Contains, IfOk, IsTrue, None, OnOk};
+ghost use Rattle.std.specs.Bool.{IsFalse};
+ghost use Rattle.std.specs.Option.{option_to_list};
+ghost use Rattle.gname.specs.Ids.{Id};
+ghost use Rattle.gobject.specs.declared.node.Entry.{Entry as GraphEntry};
+ghost use Rattle.gitobject.specs.declared.types.ObjectType.TheVariants as types;
+ghost use Rattle.gcomplete.specs.Stores.{GitObject, object_of};
+ghost use Rattle.gitrepository.specs.Gathering.{IsDecided, IsGathered, IsParent, IsStoredObject, IsWalked, fate_at, is_sent};
+ghost use Rattle.gitrepository.specs.steps.Walking.{HasDecidedParents, HasFateAs, HasIdIn, IsCovered, IsOnlyListed, IsOpen, IsSentEntry, IsWalkedEntry, Keeps, Notes, NotesObject, Settles};
+
 use crate::fates::{Fate, Fates};
 use crate::fault::{ObjectCause, RepositoryFault};
 use crate::path_hash::PathHash;
@@ -10,242 +20,473 @@ use gitpack::IndexedPack;
 use gname::Oid;
 use std::alloc::Allocator;
 
+/// A store whose objects are read to find the objects to send.
+pub(crate) trait WalkedStore<A: Allocator + Copy> {
+    // The objects that the store returns for an id.
+    ghost has: { Id → GitObject → Type 0 };
+
+    /// Returns the allocator of the store.
+    fn allocator(&self) -> A;
+
+    /// Returns the location of the object with this id. Fails if the object is missing, or if the
+    /// store cannot be read.
+    fn locate(&mut self, id: &Oid) -> Result<Found, RepositoryFault<A>>;
+
+    /// Returns the object with this id. Fails if the object is missing or broken.
+    fn object(&mut self, id: &Oid) -> Result<Object<A>, RepositoryFault<A>>
+        ensures { IfOk result (λ object. has id.now (object_of object.kind object.body.items)) };
+
+    /// Returns the object with this id, which is expected at this location. Fails if the object is
+    /// missing or broken.
+    fn object_at(&mut self, id: &Oid, found: Found) -> Result<Object<A>, RepositoryFault<A>>
+        ensures { IfOk result (λ object. has id.now (object_of object.kind object.body.items)) };
+}
+
+impl<F: ObjectFiles, A: Allocator + Copy> WalkedStore<A> for ObjectReader<'_, F, A> {
+    ghost has = { IsStoredObject };
+
+    fn allocator(&self) -> A {
+        self.store().allocator()
+    }
+
+    fn locate(&mut self, id: &Oid) -> Result<Found, RepositoryFault<A>> {
+        if let Some(found) = self.store().find(id)? {
+            return Ok(found);
+        }
+        // This call lists the packs again, in case Git has packed the object meanwhile.
+        let _object = self.read(id)?;
+        match self.store().find(id)? {
+            Some(found) => Ok(found),
+            None => Err(RepositoryFault::Store(StoreFault::Missing(*id))),
+        }
+    }
+
+    fn object(&mut self, id: &Oid) -> Result<Object<A>, RepositoryFault<A>> {
+        Ok(self.read(id)?)
+    }
+
+    fn object_at(&mut self, id: &Oid, found: Found) -> Result<Object<A>, RepositoryFault<A>> {
+        match self.read_found(id, found)? {
+            Some(object) => Ok(object),
+            None => Ok(self.read(id)?),
+        }
+    }
+}
+
 /// Decides which objects are sent for a list of commits and tags. The listed commits and tags are
 /// sent. The trees and blobs that the listed commits reach are also sent, unless a parent outside
 /// the list reaches them.
-pub(crate) fn gather<F: ObjectFiles, A: Allocator + Copy>(
-    reader: &mut ObjectReader<'_, F, A>,
+///
+/// Fails at the first object that is missing, broken or malformed, or that has another type than
+/// the link to it. Fails with `Memory` if out of memory.
+pub(crate) fn gather<S: WalkedStore<A>, A: Allocator + Copy>(
+    store: &mut S,
     entries: &[Entry<A>],
-) -> Result<Fates<A>, RepositoryFault<A>> {
-    let mut gathering = Gathering::new(reader);
-    gathering.send_all(entries)?;
-    gathering.leave_out_parents(entries)?;
-    gathering.send_trees(entries)?;
-    Ok(gathering.fates)
+) -> Result<Fates<A>, RepositoryFault<A>>
+    ensures { IfOk result (λ fates. IsGathered S.has entries.now fates) }
+{
+    let mut walk = Walk::new(store.allocator());
+    walk.send_all(store, entries)?;
+    walk.leave_out_parents(store, entries)?;
+    walk.send_trees(store, entries)?;
+    Ok(walk.fates)
 }
 
-// A tree whose fate is decided. The fates of the objects that the tree names may be undecided.
+/// A tree whose fate is decided. The fates of the objects that the tree names may be undecided.
 #[derive(Clone, Copy, Drop)]
-struct Tree {
-    id: Oid,
-    found: Found,
-    fate: Fate,
+pub(crate) struct PendingTree {
+    /// The id of the tree.
+    pub id: Oid,
+    /// The location of the tree.
+    pub found: Found,
+    /// The fate of the tree.
+    pub fate: Fate,
 }
 
-/// The fates that are decided so far, and a reader of the store.
+/// The fates that are decided so far.
 #[derive(Drop)]
-pub(crate) struct Gathering<'r, 'f, F: ObjectFiles, A: Allocator + Copy> {
+pub(crate) struct Walk<'r, A: Allocator + Copy> {
     alloc: A,
-    pub(crate) reader: &'r mut ObjectReader<'f, F, A>,
     fates: Fates<A>,
+    trees: Vec<PendingTree, A>,
     // A received pack, whose objects need no fate.
     received: Option<&'r IndexedPack<A>>,
 }
 
-impl<'r, 'f, F: ObjectFiles, A: Allocator + Copy> Gathering<'r, 'f, F, A> {
-    /// Returns a `Gathering` in which no fate is decided.
-    pub(crate) fn new(reader: &'r mut ObjectReader<'f, F, A>) -> Gathering<'r, 'f, F, A> {
-        let alloc = reader.store().allocator();
-        let fates = Fates::new(alloc);
-        Gathering {
+impl<'r, A: Allocator + Copy> Walk<'r, A> {
+    /// Returns a `Walk` in which no fate is decided.
+    pub(crate) fn new(alloc: A) -> Walk<'r, A>
+        ensures fates { result.fates ≡ [] }
+        ensures trees { result.trees.items ≡ [] }
+        ensures received { result.received ≡ None }
+    {
+        Walk {
             alloc,
-            reader,
-            fates,
+            fates: Fates::new(alloc),
+            trees: Vec::new(alloc),
             received: None,
         }
     }
 
-    /// Returns a `Gathering` in which no fate is decided. The objects of the received pack need no
-    /// fate, and the walk stops at them.
-    pub(crate) fn beside(
-        reader: &'r mut ObjectReader<'f, F, A>,
-        received: &'r IndexedPack<A>,
-    ) -> Gathering<'r, 'f, F, A> {
-        let mut gathering = Gathering::new(reader);
-        gathering.received = Some(received);
-        gathering
-    }
-
-    // Returns whether the received pack has the object with this id.
-    fn is_received(&self, id: &Oid) -> bool {
-        match self.received {
-            Some(received) => received.find(id).is_some(),
-            None => false,
+    /// Returns a `Walk` in which no fate is decided. The objects of the received pack need no fate,
+    /// and the walk stops at them.
+    pub(crate) fn beside(alloc: A, received: &'r IndexedPack<A>) -> Walk<'r, A> {
+        Walk {
+            alloc,
+            fates: Fates::new(alloc),
+            trees: Vec::new(alloc),
+            received: Some(received),
         }
     }
 
     /// Marks an object as sent, with the trees and blobs it reaches, unless its fate is already
-    /// decided.
-    pub(crate) fn send(&mut self, id: &Oid) -> Result<(), RepositoryFault<A>> {
+    /// decided. Fails as [`gather`] does, or with `Type` if the received pack has a reached object
+    /// with another type than the link to it.
+    pub(crate) fn send<S: WalkedStore<A>>(
+        &mut self,
+        store: &mut S,
+        id: &Oid,
+    ) -> Result<(), RepositoryFault<A>> {
         let fate = Fate::Sent(PathHash::NONE);
-        match self.settle(id, fate)? {
-            Some(_) => self.walk_from(id, fate),
+        match self.settle(store, id, fate)? {
+            Some(_) => self.walk_from(store, id, fate),
             None => Ok(()),
         }
     }
 
-    // Marks the commits and tags as sent.
-    fn send_all(&mut self, entries: &[Entry<A>]) -> Result<(), RepositoryFault<A>> {
+    // Marks the listed commits and tags as sent.
+    fn send_all<S: WalkedStore<A>>(
+        &mut self,
+        store: &mut S,
+        entries: &[Entry<A>],
+    ) -> Result<(), RepositoryFault<A>>
+        ensures received { self.new.received ≡ self.old.received }
+        ensures trees { self.new.trees.items ≡ self.old.trees.items }
+        ensures only { OnOk result (self.old.received ≡ None → self.old.fates ≡ []
+            → IsOnlyListed entries.now self.new.fates) }
+        ensures each { OnOk result (self.old.received ≡ None → self.old.fates ≡ []
+            → All (IsSentEntry self.new.fates) entries.now) }
+    {
         for entry in entries {
-            self.settle(&entry.id, Fate::Sent(PathHash::NONE))?;
+            let fate = Fate::Sent(PathHash::NONE);
+            let _found = self.settle(store, &entry.id, fate)?;
         }
         Ok(())
     }
 
     // Marks the unlisted parents of listed commits, and the trees and blobs that these parents
     // reach, as not sent, because the peer has them.
-    fn leave_out_parents(&mut self, entries: &[Entry<A>]) -> Result<(), RepositoryFault<A>> {
+    fn leave_out_parents<S: WalkedStore<A>>(
+        &mut self,
+        store: &mut S,
+        entries: &[Entry<A>],
+    ) -> Result<(), RepositoryFault<A>>
+        ensures empty { self.old.trees.items ≡ [] → OnOk result (self.new.trees.items ≡ []) }
+        ensures keeps { OnOk result (Keeps self.old.fates self.new.fates) }
+        ensures open { OnOk result (IsOpen S.has entries.now self.old
+            → IsOpen S.has entries.now self.new) }
+        ensures parents { OnOk result (self.old.received ≡ None
+            → All (HasDecidedParents self.new.fates) entries.now) }
+    {
         for entry in entries {
-            self.leave_out(entry.node.parents.as_slice())?;
+            self.leave_out(store, entry.node.parents.as_slice())?;
         }
         Ok(())
     }
 
-    fn leave_out(&mut self, parents: &[Oid]) -> Result<(), RepositoryFault<A>> {
+    // Marks these parents of listed commits, and the trees and blobs that they reach, as not sent,
+    // if their fates are undecided.
+    fn leave_out<S: WalkedStore<A>>(
+        &mut self,
+        store: &mut S,
+        parents: &[Oid],
+    ) -> Result<(), RepositoryFault<A>>
+        ensures received { OnOk result (self.new.received ≡ self.old.received) }
+        ensures empty { self.old.trees.items ≡ [] → OnOk result (self.new.trees.items ≡ []) }
+        ensures keeps { OnOk result (Keeps self.old.fates self.new.fates) }
+        ensures open { OnOk result ((entries : List (GraphEntry A)) → All (IsParent entries) parents.now
+            → IsOpen S.has entries self.old → IsOpen S.has entries self.new) }
+        ensures parents { OnOk result (self.old.received ≡ None
+            → All (IsDecided self.new.fates) parents.now) }
+    {
         for id in parents {
-            if let Some(_) = self.settle(id, Fate::NotSent)? {
-                self.walk_from(id, Fate::NotSent)?;
-            }
+            self.leave_out_one(store, id)?;
         }
+        Ok(())
+    }
+
+    // Marks a parent of a listed commit, and the trees and blobs that it reaches, as not sent, if
+    // its fate is undecided.
+    fn leave_out_one<S: WalkedStore<A>>(
+        &mut self,
+        store: &mut S,
+        id: &Oid,
+    ) -> Result<(), RepositoryFault<A>>
+        ensures received { OnOk result (self.new.received ≡ self.old.received) }
+        ensures empty { self.old.trees.items ≡ [] → OnOk result (self.new.trees.items ≡ []) }
+        ensures keeps { OnOk result (Keeps self.old.fates self.new.fates) }
+        ensures open { OnOk result ((entries : List (GraphEntry A)) → IsParent entries id.now
+            → IsOpen S.has entries self.old → IsOpen S.has entries self.new) }
+        ensures parent { OnOk result (self.old.received ≡ None → IsDecided self.new.fates id.now) }
+    {
+        let Some(_found) = self.settle(store, id, Fate::NotSent)? else {
+            return Ok(());
+        };
+        self.walk_from(store, id, Fate::NotSent)?;
         Ok(())
     }
 
     // Marks as sent all undecided trees and blobs that the commits and tags reach.
-    fn send_trees(&mut self, entries: &[Entry<A>]) -> Result<(), RepositoryFault<A>> {
+    fn send_trees<S: WalkedStore<A>>(
+        &mut self,
+        store: &mut S,
+        entries: &[Entry<A>],
+    ) -> Result<(), RepositoryFault<A>>
+        ensures empty { self.old.trees.items ≡ [] → OnOk result (self.new.trees.items ≡ []) }
+        ensures keeps { OnOk result (Keeps self.old.fates self.new.fates) }
+        ensures open { OnOk result (All (IsSentEntry self.old.fates) entries.now
+            → IsOpen S.has entries.now self.old → IsOpen S.has entries.now self.new) }
+        ensures walked { OnOk result (self.old.received ≡ None → (listed : List Id)
+            → All (HasIdIn listed) entries.now
+            → All (IsWalkedEntry S.has listed self.new.fates) entries.now) }
+    {
         for entry in entries {
-            self.walk_from(&entry.id, Fate::Sent(PathHash::NONE))?;
+            self.walk_from(store, &entry.id, Fate::Sent(PathHash::NONE))?;
         }
         Ok(())
     }
 
-    // Returns the location of an object in the store.
-    fn locate(&mut self, id: &Oid) -> Result<Found, RepositoryFault<A>> {
-        if let Some(found) = self.reader.store().find(id)? {
-            return Ok(found);
+    // Returns the type of an object of the received pack, or `None` if the pack lacks the object.
+    fn received_kind(&self, id: &Oid) -> Option<ObjectType>
+        ensures { self.now.received ≡ None → result ≡ None }
+    {
+        let Some(pack) = self.received else {
+            return None;
+        };
+        match pack.find(id) {
+            Some(entry) => Some(entry.kind),
+            None => None,
         }
-        // This call lists the packs again, in case Git has packed the object meanwhile.
-        let _object = self.reader.read(id)?;
-        match self.reader.store().find(id)? {
-            Some(found) => Ok(found),
-            None => Err(RepositoryFault::Store(StoreFault::Missing(*id))),
+    }
+
+    // Returns whether the fate of an object is decided, or the received pack has the object.
+    fn is_covered(&self, id: &Oid) -> bool
+        ensures covered { IsTrue result → IsCovered self.now id.now }
+        ensures open { IsFalse result → fate_at self.now.fates id.now ≡ None }
+    {
+        if self.fates.get(id).is_some() {
+            return true;
         }
+        self.received_kind(id).is_some()
     }
 
     // Sets the fate of an undecided object, and returns its location. Returns `None` if the fate
     // was already decided, or if the received pack has the object.
-    fn settle(&mut self, id: &Oid, fate: Fate) -> Result<Option<Found>, RepositoryFault<A>> {
-        if self.is_received(id) || self.fates.of_loose(id) != Fate::Undecided {
+    fn settle<S: WalkedStore<A>>(
+        &mut self,
+        store: &mut S,
+        id: &Oid,
+        fate: Fate,
+    ) -> Result<Option<Found>, RepositoryFault<A>>
+        ensures received { self.new.received ≡ self.old.received }
+        ensures trees { self.new.trees.items ≡ self.old.trees.items }
+        ensures settles { IfOk result (λ found. Settles self.old id.now fate found self.new) }
+    {
+        if self.is_covered(id) {
             return Ok(None);
         }
-        let found = self.locate(id)?;
-        if self.fates.of(id, found) != Fate::Undecided {
-            return Ok(None);
-        }
-        self.fates.settle(self.reader.store(), (id, found), fate)?;
+        let found = store.locate(id)?;
+        self.fates.settle(id, found, fate)?;
         Ok(Some(found))
     }
 
     // Decides the fates of all objects that a tree, or the tree of a commit, reaches. Skips the
     // object that a tag names, because the caller adds that object separately.
-    fn walk_from(&mut self, id: &Oid, fate: Fate) -> Result<(), RepositoryFault<A>> {
-        let object = self.reader.read(id)?;
-        let body = object.body.as_slice();
-        let mut trees = Vec::new(self.alloc);
-        match object.kind {
-            ObjectType::Commit => {
-                let tree = self.tree_of(id, body)?;
-                self.settle_link(tree, fate, &mut trees)?;
-            }
-            ObjectType::Tree => self.walk_entries(id, body, fate, &mut trees)?,
-            ObjectType::Tag | ObjectType::Blob => {}
-        }
-        self.walk_trees(trees)
-    }
-
-    // Returns the id and the type of the tree that a commit names.
-    fn tree_of(&self, id: &Oid, body: &[u8]) -> Result<Link, RepositoryFault<A>> {
-        match commit_links(self.alloc, body) {
-            Ok(links) => Ok(Link {
-                id: links.tree,
-                kind: ObjectType::Tree,
-            }),
-            Err(fault) => Err(RepositoryFault::of_object(id, fault)),
-        }
+    fn walk_from<S: WalkedStore<A>>(
+        &mut self,
+        store: &mut S,
+        id: &Oid,
+        fate: Fate,
+    ) -> Result<(), RepositoryFault<A>>
+        ensures received { OnOk result (self.new.received ≡ self.old.received) }
+        ensures empty { OnOk result (self.new.trees.items ≡ []) }
+        ensures keeps { OnOk result (Keeps self.old.fates self.new.fates) }
+        ensures open { OnOk result ((entries : List (GraphEntry A)) → HasFateAs self.old.fates id.now fate
+            → IsOpen S.has entries self.old → IsOpen S.has entries self.new) }
+        ensures walked { OnOk result (self.old.received ≡ None → (listed : List Id)
+            → Contains listed id.now → IsWalked S.has listed self.new.fates id.now) }
+    {
+        let object = store.object(id)?;
+        self.walk_object(store, id, &object, fate)?;
+        self.walk_trees(store)?;
+        Ok(())
     }
 
     // Decides the fates of all objects that the trees reach. The fate of each object is decided
     // only once, so the loop ends.
-    fn walk_trees(&mut self, trees: Vec<Tree, A>) -> Result<(), RepositoryFault<A>> {
-        let mut trees = trees;
+    fn walk_trees<S: WalkedStore<A>>(&mut self, store: &mut S) -> Result<(), RepositoryFault<A>>
+        ensures received { OnOk result (self.new.received ≡ self.old.received) }
+        ensures empty { OnOk result (self.new.trees.items ≡ []) }
+        ensures keeps { OnOk result (Keeps self.old.fates self.new.fates) }
+        ensures open { OnOk result ((entries : List (GraphEntry A)) → IsOpen S.has entries self.old
+            → IsOpen S.has entries self.new) }
+    {
         for _ in 0..u64::MAX {
-            let Some(tree) = trees.pop() else {
-                break;
+            let Some(tree) = self.take_tree() else {
+                return Ok(());
             };
-            let object = self.read_tree(tree)?;
-            self.walk_entries(&tree.id, object.body.as_slice(), tree.fate, &mut trees)?;
+            self.walk_tree(store, tree)?;
         }
-        Ok(())
+        Err(RepositoryFault::Count)
     }
 
-    // Reads the object at this location.
-    fn read_found(&mut self, id: &Oid, found: Found) -> Result<Object<A>, RepositoryFault<A>> {
-        match self.reader.read_found(id, found)? {
-            Some(object) => Ok(object),
-            None => Ok(self.reader.read(id)?),
-        }
+    // Removes and returns the last tree of `trees`, or returns `None` if there is none.
+    fn take_tree(&mut self) -> Option<PendingTree>
+        ensures received { self.new.received ≡ self.old.received }
+        ensures fates { self.new.fates ≡ self.old.fates }
+        ensures trees { self.old.trees.items ≡ self.new.trees.items ++ option_to_list result }
+        ensures empty { result ≡ None → self.new.trees.items ≡ [] }
+    {
+        self.trees.pop()
     }
 
-    fn read_tree(&mut self, tree: Tree) -> Result<Object<A>, RepositoryFault<A>> {
-        let object = self.read_found(&tree.id, tree.found)?;
+    // Decides the fates of the objects that a tree names.
+    fn walk_tree<S: WalkedStore<A>>(
+        &mut self,
+        store: &mut S,
+        tree: PendingTree,
+    ) -> Result<(), RepositoryFault<A>>
+        ensures { OnOk result ((body : List ℕ) × S.has tree.id (object_of types.Tree body)
+            × NotesObject self.old types.Tree body (is_sent tree.fate) self.new) }
+    {
+        let object = store.object_at(&tree.id, tree.found)?;
         if object.kind != ObjectType::Tree {
             return Err(RepositoryFault::object_fault(&tree.id, ObjectCause::Type));
         }
-        Ok(object)
+        self.walk_entries(store, &tree.id, object.body.as_slice(), tree.fate)
     }
 
-    // Decides the fates of the objects that a tree names. Each named tree whose fate was undecided
-    // is added to `trees`.
-    fn walk_entries(
+    // Decides the fates of the objects that an object names. Each named tree whose fate was
+    // undecided is added to `trees`.
+    fn walk_object<S: WalkedStore<A>>(
         &mut self,
+        store: &mut S,
+        id: &Oid,
+        object: &Object<A>,
+        fate: Fate,
+    ) -> Result<(), RepositoryFault<A>>
+        ensures { OnOk result (NotesObject self.old object.now.kind object.now.body.items (is_sent fate) self.new) }
+    {
+        let body = object.body.as_slice();
+        match object.kind {
+            ObjectType::Commit => self.walk_commit(store, id, body, fate),
+            ObjectType::Tree => self.walk_entries(store, id, body, fate),
+            ObjectType::Tag => Ok(()),
+            ObjectType::Blob => Ok(()),
+        }
+    }
+
+    // Decides the fate of the tree that a commit names.
+    fn walk_commit<S: WalkedStore<A>>(
+        &mut self,
+        store: &mut S,
         id: &Oid,
         body: &[u8],
         fate: Fate,
-        trees: &mut Vec<Tree, A>,
-    ) -> Result<(), RepositoryFault<A>> {
+    ) -> Result<(), RepositoryFault<A>>
+        ensures { OnOk result (NotesObject self.old types.Commit body.now (is_sent fate) self.new) }
+    {
+        let links = match commit_links(self.alloc, body) {
+            Ok(links) => links,
+            Err(fault) => return Err(RepositoryFault::of_object(id, fault)),
+        };
+        let link = Link {
+            id: links.tree,
+            kind: ObjectType::Tree,
+        };
+        self.settle_link(store, link, fate)
+    }
+
+    // Decides the fates of the objects that a tree names, one by one. A list of the named objects
+    // would need more memory than the tree.
+    fn walk_entries<S: WalkedStore<A>>(
+        &mut self,
+        store: &mut S,
+        id: &Oid,
+        body: &[u8],
+        fate: Fate,
+    ) -> Result<(), RepositoryFault<A>>
+        ensures { OnOk result (NotesObject self.old types.Tree body.now (is_sent fate) self.new) }
+    {
         let mut rest = body;
-        for _entry in 0..body.len() {
-            if rest.is_empty() {
-                break;
-            }
-            let Some((entry, after)) = split_entry(rest) else {
+        while !is_over(rest) {
+            let Some(parts) = split_entry(rest) else {
                 return Err(RepositoryFault::of_object(id, ObjectFault::Malformed));
             };
-            if let Some(link) = entry.link() {
-                self.settle_link(link, fate.of_entry(entry.name), trees)?;
-            }
-            rest = after;
+            self.settle_some(store, parts.0.link(), fate.of_entry(parts.0.name))?;
+            rest = parts.1;
         }
         Ok(())
     }
 
-    // Decides the fate of a named object. If the object is a tree whose fate was undecided, it is
-    // added to `trees`.
-    fn settle_link(
+    // Decides the fate of a named object, if there is one.
+    fn settle_some<S: WalkedStore<A>>(
         &mut self,
+        store: &mut S,
+        link: Option<Link>,
+        fate: Fate,
+    ) -> Result<(), RepositoryFault<A>>
+        ensures { OnOk result (Notes self.old (option_to_list link) (is_sent fate) self.new) }
+    {
+        match link {
+            Some(link) => self.settle_link(store, link, fate),
+            None => Ok(()),
+        }
+    }
+
+    // Decides the fate of a named object. If the object is a tree whose fate was undecided, it is
+    // added to `trees`. Fails if the received pack has the object with another type.
+    fn settle_link<S: WalkedStore<A>>(
+        &mut self,
+        store: &mut S,
         link: Link,
         fate: Fate,
-        trees: &mut Vec<Tree, A>,
-    ) -> Result<(), RepositoryFault<A>> {
-        let Some(found) = self.settle(&link.id, fate)? else {
+    ) -> Result<(), RepositoryFault<A>>
+        ensures { OnOk result (Notes self.old (link ∷ []) (is_sent fate) self.new) }
+    {
+        self.check_received(&link)?;
+        let Some(found) = self.settle(store, &link.id, fate)? else {
             return Ok(());
         };
-        if link.kind == ObjectType::Tree {
-            trees.push(Tree {
-                id: link.id,
-                found,
-                fate,
-            })?;
+        if !leads_to_tree(&link) {
+            return Ok(());
         }
+        let id = link.id;
+        self.trees.push(PendingTree { id, found, fate })?;
         Ok(())
     }
+
+    // Fails with `Type` if the received pack has the named object with another type.
+    fn check_received(&self, link: &Link) -> Result<(), RepositoryFault<A>> {
+        match self.received_kind(&link.id) {
+            Some(kind) if kind != link.kind => {
+                Err(RepositoryFault::object_fault(&link.id, ObjectCause::Type))
+            }
+            _ => Ok(()),
+        }
+    }
+}
+
+// Returns whether the link leads to a tree.
+fn leads_to_tree(link: &Link) -> bool
+    ensures { IsTrue result ↔ (link.now.kind ≡ types.Tree) }
+{
+    link.kind == ObjectType::Tree
+}
+
+// Returns whether the text is empty.
+fn is_over(text: &[u8]) -> bool
+    ensures { IsTrue result ↔ (text.now ≡ []) }
+{
+    text.is_empty()
 }

@@ -1,20 +1,30 @@
 //! An indexer of packs that a Git directory receives.
 
-ghost use Rattle.std.specs.Prelude.{◌≡◌, ◌++◌, ⊤, IfOk, OnOk};
+ghost use Rattle.std.specs.Prelude.{◌≡◌, ◌++◌, ⊤, ℕ, List, All, IfOk, MatchResult, None, OnErr, OnOk};
+ghost use Rattle.gdag.specs.Graphs.{Holds};
+ghost use Rattle.gname.specs.Ids.{Id};
+ghost use Rattle.gitrepository.specs.Entries.{ids_of};
+ghost use Rattle.gitrepository.specs.Keeping.{IsEntryKeptBy, IsKeptBy};
 ghost use Rattle.gitrepository.specs.Packs.{IsIndexed};
+ghost use Rattle.gitrepository.specs.Received.{IsEntryInReceived};
 
+use crate::assumed::Assumed;
 use crate::fault::RepositoryFault;
 use crate::feed::{Received, StoreFeed};
 use crate::spools::PackSpools;
 use crate::tips::Tips;
-use ggraph::{Entry, IndexFault, Indexer};
+use ggraph::{Entry, Graph, IndexFault, KeepingIndexer};
 use gitobject::ObjectType;
 use gitobjects::{ObjectFiles, ObjectReader};
 use gname::Oid;
 use std::alloc::Allocator;
 use std::cell::RefCell;
 
-/// An indexer of packs that a Git directory receives. The indexer keeps the last accepted pack.
+/// An indexer of packs that a Git directory receives. The indexer keeps an accepted pack until
+/// [`take_received`](StoreIndexer::take_received), and accepts no other pack before.
+///
+/// Contracts assume that the repository has the objects of a graph, which `new` receives. An id is
+/// kept if it is one of these ids, or if an object or a prerequisite of the accepted pack has it.
 ///
 /// Each object is inflated, and its id is computed. Each object named by an object of the pack must
 /// be in the pack or in the store, with the expected type. If the store already has an object with
@@ -37,8 +47,9 @@ where
     reader: RefCell<ObjectReader<'f, F, A>>,
     tips: &'t Tips<A>,
     spools: P,
-    received: RefCell<Option<Received<P::Spool, A>>>,
+    received: Option<Received<P::Spool, A>>,
     fault: RefCell<Option<RepositoryFault<A>>>,
+    assumed: Assumed,
 }
 
 impl<'t, 'f, F, P, A> StoreIndexer<'t, 'f, F, P, A>
@@ -49,26 +60,36 @@ where
 {
     /// Returns an indexer of packs that the reader's store receives. A tree or blob in a pack
     /// becomes an entry without parents if a ref of the peer points to this object.
+    ///
+    /// The repository must have the objects of the graph. No contract checks this.
     pub fn new(
         reader: ObjectReader<'f, F, A>,
         tips: &'t Tips<A>,
         spools: P,
-    ) -> StoreIndexer<'t, 'f, F, P, A> {
+        graph: &Graph<A>,
+    ) -> StoreIndexer<'t, 'f, F, P, A>
+        ensures assumed { result.assumed.ids ≡ ids_of graph.now.entries }
+        ensures received { result.received ≡ None }
+        ensures kept { (id : Id) → Holds graph.now.entries id
+            → IsKeptBy result.assumed.ids result.received id }
+    {
         StoreIndexer {
             reader: RefCell::new(reader),
             tips,
             spools,
-            received: RefCell::new(None),
+            received: None,
             fault: RefCell::new(None),
+            assumed: Assumed::of(graph),
         }
     }
 
-    /// Removes and returns the last accepted pack, or `None` if no pack is kept.
-    pub fn take_received(&self) -> Option<Received<P::Spool, A>> {
-        match self.received.try_replace(None) {
-            Ok(received) => received,
-            Err(_) => None,
-        }
+    /// Removes and returns the accepted pack, or returns `None` if no pack is kept.
+    pub fn take_received(&mut self) -> Option<Received<P::Spool, A>>
+        ensures received { result ≡ self.old.received }
+        ensures taken { self.new.received ≡ None }
+        ensures assumed { self.new.assumed.ids ≡ self.old.assumed.ids }
+    {
+        self.received.take()
     }
 
     /// Removes and returns the fault of the last call that failed with `IndexFault::Other`. Returns
@@ -80,7 +101,7 @@ where
         }
     }
 
-    /// Returns the type of an object in the last accepted pack or in the store.
+    /// Returns the type of an object in the accepted pack or in the store.
     ///
     /// Fails with `Store` if the object is missing or cannot be read. Fails with `Busy` if the
     /// indexer is in use, or with `Memory` if out of memory.
@@ -94,15 +115,11 @@ where
         }
     }
 
-    // Returns the type of an object of the last accepted pack, or `None` if the pack lacks the
-    // object.
+    // Returns the type of an object of the accepted pack, or `None` if the pack lacks the object.
     fn received_kind(&self, id: &Oid) -> Option<ObjectType> {
-        match self.received.try_borrow() {
-            Ok(received) => match &*received {
-                Some(received) => Some(received.index.find(id)?.kind),
-                None => None,
-            },
-            Err(_) => None,
+        match &self.received {
+            Some(received) => Some(received.index.find(id)?.kind),
+            None => None,
         }
     }
 
@@ -120,16 +137,43 @@ where
         }
     }
 
-    // Indexes a complete pack, and keeps the pack for `take_received`.
-    fn receive(&self, feed: StoreFeed<P::Spool, A>) -> Result<Vec<Entry<A>, A>, RepositoryFault<A>>
-        ensures { IfOk result (λ entries. IsIndexed feed entries.items) }
+    // Indexes a complete pack, and keeps the pack for `take_received`. Fails with `Busy` if an
+    // accepted pack was not taken. After a fault nothing has changed.
+    fn receive(
+        &mut self,
+        feed: StoreFeed<P::Spool, A>,
+    ) -> Result<Vec<Entry<A>, A>, RepositoryFault<A>>
+        ensures indexed { IfOk result (λ entries. IsIndexed feed entries.items) }
+        ensures kept { IfOk result (λ entries. All
+            (IsEntryKeptBy self.new.assumed.ids self.new.received) entries.items) }
+        ensures stays { (id : Id) → IsKeptBy self.old.assumed.ids self.old.received id
+            → IsKeptBy self.new.assumed.ids self.new.received id }
+        ensures same { OnErr result (self.new.received ≡ self.old.received) }
+        ensures assumed { self.new.assumed.ids ≡ self.old.assumed.ids }
     {
-        let Ok(mut reader) = self.reader.try_borrow_mut() else {
+        if self.received.is_some() {
             return Err(RepositoryFault::Busy);
-        };
-        let (received, entries) = feed.finish(&mut *reader, self.tips)?;
-        match self.received.try_replace(Some(received)) {
-            Ok(_) => Ok(entries),
+        }
+        match self.index(feed) {
+            Ok((received, entries)) => {
+                self.received = Some(received);
+                Ok(entries)
+            }
+            Err(fault) => Err(fault),
+        }
+    }
+
+    // Indexes a complete pack.
+    fn index(
+        &self,
+        feed: StoreFeed<P::Spool, A>,
+    ) -> Result<(Received<P::Spool, A>, Vec<Entry<A>, A>), RepositoryFault<A>>
+        ensures indexed { IfOk result (λ it. IsIndexed feed it.1.items) }
+        ensures received { IfOk result (λ it. All
+            (IsEntryInReceived it.0.prerequisites.items it.0.index.entries) it.1.items) }
+    {
+        match self.reader.try_borrow_mut() {
+            Ok(mut reader) => feed.finish(&mut *reader, self.tips),
             Err(_) => Err(RepositoryFault::Busy),
         }
     }
@@ -146,7 +190,7 @@ where
     }
 }
 
-impl<F, P, A> Indexer<A> for StoreIndexer<'_, '_, F, P, A>
+impl<F, P, A> KeepingIndexer<A> for StoreIndexer<'_, '_, F, P, A>
 where
     F: ObjectFiles,
     P: PackSpools + Drop,
@@ -160,6 +204,8 @@ where
 
     ghost fed = { λ feed bytes. feed ≡ bytes };
 
+    ghost keeps = { λ it id. IsKeptBy it.assumed.ids it.received id };
+
     fn start(&self, alloc: A) -> Result<StoreFeed<P::Spool, A>, IndexFault> {
         Ok(StoreFeed::new(alloc, self.spools.open()))
     }
@@ -171,7 +217,24 @@ where
         }
     }
 
-    fn finish(&self, feed: StoreFeed<P::Spool, A>) -> Result<Vec<Entry<A>, A>, IndexFault> {
+    /// Checks the complete pack, and keeps it for [`take_received`](StoreIndexer::take_received).
+    /// Returns the entries of its commits and tags, and of those of its trees and blobs that a ref
+    /// of the peer points to. If a tag names a tree or blob, its entry is also returned.
+    ///
+    /// Fails with `Other` if an accepted pack was not taken, or if the pack is refused or cannot be
+    /// stored. Fails with `Memory` if out of memory. After a fault the indexer keeps what it kept
+    /// before.
+    fn finish(&mut self, feed: StoreFeed<P::Spool, A>) -> Result<Vec<Entry<A>, A>, IndexFault>
+        ensures answers { MatchResult result
+            (λ entries. ((given : List ℕ) → feed ≡ given → IsIndexed given entries.items))
+            (λ fault. ((given : List ℕ) → feed ≡ given → ⊤)) }
+        ensures kept { IfOk result (λ entries. All
+            (IsEntryKeptBy self.new.assumed.ids self.new.received) entries.items) }
+        ensures stays { (id : Id) → IsKeptBy self.old.assumed.ids self.old.received id
+            → IsKeptBy self.new.assumed.ids self.new.received id }
+        ensures same { OnErr result (self.new.received ≡ self.old.received) }
+        ensures assumed { self.new.assumed.ids ≡ self.old.assumed.ids }
+    {
         match self.receive(feed) {
             Ok(entries) => Ok(entries),
             Err(fault) => Err(self.keep(fault)),

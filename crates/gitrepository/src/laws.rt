@@ -1,7 +1,9 @@
-//! Proved laws of received packs. Each function does nothing at run time. The contract of each
-//! function states a law, which the proof of a caller can use.
+//! Proved laws of received packs and of packs that are sent. Each function does nothing at run time.
+//! The contract of each function states a law, which the proof of a caller can use.
 
-ghost use Rattle.gitrepository.specs.Laws.{PacksKeepClosed};
+ghost use Rattle.gitrepository.specs.Laws.{GatheredIsSent, KeptIsComplete, PacksKeepClosed};
+
+use std::alloc::Allocator;
 
 /// Proves that a closed store that has the prerequisites of a received pack stays closed when the
 /// objects of the pack are added. There are two exceptions. Two objects of the pack may have the
@@ -10,4 +12,20 @@ ghost use Rattle.gitrepository.specs.Laws.{PacksKeepClosed};
 /// store.
 pub fn packs_keep_closed()
     ensures { PacksKeepClosed }
+{}
+
+/// Proves that each id that an indexer keeps is complete. The store must be closed, and must have
+/// the assumed ids and the prerequisites of the received pack. The kept ids are then complete in the
+/// store with the objects of the pack: everything that they reach exists. The exceptions are those
+/// of [`packs_keep_closed`].
+pub fn kept_is_complete()
+    ensures { KeptIsComplete }
+{}
+
+/// Proves that the objects that a packer sends are those that an honest server sends. Suppose the
+/// store that the packer reads is closed, and the listed entries describe its objects. Then each
+/// link of a sent object leads to a sent object, or to an object that a left-out parent reaches.
+/// So a client that has the left-out parents does not refuse these objects (see `gcomplete`).
+pub fn gathered_is_sent<A: Allocator + Copy>()
+    ensures { GatheredIsSent A }
 {}

@@ -26,7 +26,11 @@
 //! - If [`check_refs`] succeeds, a closed store has an object for the id of each ref and of a
 //!   detached HEAD. So each of these ids is complete: the store has everything that it reaches,
 //!   with trees and blobs. The returned numbers count the refs, and the objects of this store.
-//! - A sent pack consists of a header, as many entries as the header says, and the SHA-1 of all
+//! - The listed commits and tags are sent, with the trees and blobs that they reach. The parents
+//!   outside the list are left out, with the trees and blobs that they reach. Suppose the reader
+//!   returns the objects of a closed store. Then each link of a sent object leads to a sent object,
+//!   or to an object that a left-out parent reaches ([`laws::gathered_is_sent`]).
+//! - A sent pack consists of a header, one entry for each object that is sent, and the SHA-1 of all
 //!   preceding bytes. Each entry of a sent pack has a well-formed header. The pack has at most
 //!   `gparts::MAX_PARTS` bytes. The concatenation of the returned parts is the pack. If the call
 //!   for a part fails, no contract describes the parts returned before.
@@ -42,6 +46,12 @@
 //!   type. Suppose a closed store has the prerequisites of a received pack. Then it stays closed
 //!   when the objects of the pack are added, unless two different objects have the same id
 //!   ([`laws`]).
+//! - A [`StoreIndexer`] keeps the ids of the graph that it was made with, and the ids of the
+//!   received pack: those of its objects and of its prerequisites. It keeps the id of each entry
+//!   that it returns, and loses no id until the pack is taken. Suppose a closed store has the ids of
+//!   the graph and the prerequisites. Then each kept id is complete once the objects of the pack
+//!   are added: the store has everything that it reaches. The exception is again two different
+//!   objects with the same id ([`laws::kept_is_complete`]).
 //! - [`install_files`] installs a pack in a [`PackFolder`], and then its index. After `Ok` both
 //!   files exist, with the bytes that they were given. A file gets its final name only once both
 //!   files are written and synced. After a fault the folder has both files, only the pack, or
@@ -54,7 +64,11 @@
 //!
 //! No contract can describe the contents of a system file. So the proofs about received packs say
 //! nothing about the objects of the store. They also rely on the file system, which must return the
-//! pack as it was written.
+//! pack as it was written. A caller of [`StoreIndexer::new`] assumes that the store has the objects
+//! of the graph.
+//!
+//! The walk that chooses the objects to send is proved for every store. The contract of
+//! [`StorePacker`] says only that objects were read, not that the Git directory has these objects.
 //! The id of an object is checked when [`open_repository`] or [`check_repository`] reads it, but
 //! not when the packer reads it.
 //!
@@ -88,8 +102,8 @@
 //!
 //! No contract rules out any of the following:
 //!
-//! - The packer may send unwanted objects, leave out listed commits and tags, or send one object's
-//!   entry in place of another's. No contract says which trees and blobs are sent.
+//! - The packer may send one object's entry in place of another's, or an entry twice. The contracts
+//!   cover only which objects are to be sent, and the number of entries.
 //! - The header of a sent entry may state a wrong type or size, or a wrong offset of its base. The
 //!   base may have another type.
 //! - The stream of a sent entry may be arbitrary bytes, and a delta may name a base that is not
@@ -110,9 +124,9 @@
 //!   No contract covers the result of [`Tips::contains`].
 //! - No contract says which repository formats are opened or refused. No contract covers the result
 //!   of [`is_bare`], or the names and ids of peeled refs in a new repository.
-//! - The indexer may leave out an entry, or return an entry for an object that the pack does not
-//!   have. The index of a received pack may leave out an object of the pack. It may have an object
-//!   that the pack does not have, or state a wrong offset or CRC-32.
+//! - The indexer may leave out an entry, or return an entry for a prerequisite. The index of a
+//!   received pack may leave out an object of the pack. It may have an object that the pack does not
+//!   have, or state a wrong offset or CRC-32.
 //! - The prerequisites may include an object of the pack, or one that no object of the pack names.
 //!   No public contract says that the store returned their types. No contract covers the limit on
 //!   memory for the ids that a pack names.
@@ -124,8 +138,8 @@
 //!   checked, but no contract covers this check.
 //! - [`PackCounts`] and [`StorePacker::counts`] have no contract, because they serve only
 //!   measurements.
-//! - [`StoreIndexer::kind_of`] may return the wrong type. [`StoreIndexer::take_received`] may
-//!   return `None`, or a pack that was not received.
+//! - [`StoreIndexer::kind_of`] may return the wrong type. No contract says that the pack from
+//!   [`StoreIndexer::take_received`] is the pack that was fed.
 //! - A [`NewRepository`] may lack its configuration, its pack, its refs or HEAD. Its files may be
 //!   removed by `finish`, or may remain after a fault.
 //! - A contract cannot describe the contents of a system file, so only the order of the calls in
@@ -153,6 +167,7 @@
 #![tactic(auto)]
 
 mod arrival;
+mod assumed;
 mod checking;
 mod commit_graph;
 mod copying;

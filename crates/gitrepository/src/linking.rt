@@ -7,8 +7,9 @@ ghost use Rattle.gitobject.specs.Trees.{link_of};
 ghost use Rattle.gitobject.specs.declared.links.Link.{Link};
 ghost use Rattle.gitobject.specs.declared.types.ObjectType.{ObjectType};
 ghost use Rattle.gitpack.specs.Indexes.{object_id};
-ghost use Rattle.gitrepository.specs.Received.{AreLinked, IsStored, Leads};
-ghost use Rattle.gitrepository.specs.steps.Arriving.{AreReadObjects, IsReadEntry, KeepsLinks};
+ghost use Rattle.gitrepository.specs.Received.{AreLinked, IsInReceived, IsStored, Leads};
+ghost use Rattle.gitrepository.specs.declared.needs.ReadObject.{ReadObject};
+ghost use Rattle.gitrepository.specs.steps.Arriving.{AreReadObjects, IsInIndex, IsReadEntry, IsRecorded, KeepsLinks};
 
 use crate::fault::{ObjectCause, RepositoryFault};
 use crate::needs::{Needs, ReadObject};
@@ -54,6 +55,8 @@ pub(crate) fn check_links<S: TypeStore<A>, A: Allocator + Copy>(
     requires { AreReadObjects needs.now objects.items }
     ensures linked { IfOk result (λ links. AreLinked links.items pack.now) }
     ensures stored { IfOk result (λ links. All S.has links.items) }
+    ensures recorded { IfOk result (λ links. (a : Id) → IsRecorded needs.now objects.items a
+        → IsInReceived links.items pack.now a) }
 {
     let objects = sorted(objects);
     if !were_read(objects.as_slice(), pack) {
@@ -64,8 +67,10 @@ pub(crate) fn check_links<S: TypeStore<A>, A: Allocator + Copy>(
 
 // Returns these objects, sorted by id.
 fn sorted<A: Allocator + Copy>(objects: Vec<ReadObject, A>) -> Vec<ReadObject, A>
-    ensures { (needs : Types) → AreReadObjects needs objects.items
+    ensures read { (needs : Types) → AreReadObjects needs objects.items
         → AreReadObjects needs result.items }
+    ensures keeps { (object : ReadObject) → Contains objects.items object
+        → Contains result.items object }
 {
     let mut objects = objects;
     objects.sort_unstable_by(|one, other| one.id.cmp(&other.id));
@@ -74,8 +79,9 @@ fn sorted<A: Allocator + Copy>(objects: Vec<ReadObject, A>) -> Vec<ReadObject, A
 
 // Returns whether both lists are equally long, and have the same ids and types at each position.
 fn were_read(objects: &[ReadObject], pack: &[IndexedEntry]) -> bool
-    ensures { IsTrue result → (needs : Types) → AreReadObjects needs objects.now
+    ensures read { IsTrue result → (needs : Types) → AreReadObjects needs objects.now
         → All (IsReadEntry needs) pack.now }
+    ensures indexed { IsTrue result → All (IsInIndex pack.now) objects.now }
 {
     if objects.len() != pack.len() {
         return false;

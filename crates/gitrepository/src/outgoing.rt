@@ -40,7 +40,7 @@ pub(crate) struct Outgoing<A: Allocator + Copy> {
 impl<A: Allocator + Copy> Outgoing<A> {
     /// Returns a pack with a header for `count` entries, and no entries yet.
     pub(crate) fn new(alloc: A, count: u32) -> Result<Outgoing<A>, AllocError>
-        ensures going { IfOk result (λ pack. IsGoing pack []) }
+        ensures going { IfOk result (λ pack. IsGoing count pack []) }
         ensures left { IfOk result (λ pack. pack.left ≡ max_parts) }
     {
         let mut bytes = Vec::new(alloc);
@@ -147,8 +147,9 @@ impl<A: Allocator + Copy> Outgoing<A> {
         ensures fits { IfOk result (λ count. count ≤ length out.new) }
         ensures length { length out.new ≡ length out.old }
         ensures left { IfOk result (λ count. self.new.left + count ≡ self.old.left) }
-        ensures given { IfOk result (λ count. (before : List ℕ) → IsGoing self.old before
-            → IsGoing self.new (before ++ take count out.new)) }
+        ensures given { IfOk result (λ count. (entries : ℕ) (before : List ℕ)
+            → IsGoing entries self.old before
+            → IsGoing entries self.new (before ++ take count out.new)) }
     {
         let Some((_before, rest)) = self.bytes.as_slice().split_at_checked(self.given) else {
             return Err(RepositoryFault::Count);

@@ -2,8 +2,8 @@
 
 ghost use Rattle.std.specs.Prelude.{◌≡◌, ◌+◌, ◌<◌, ◌≤◌, ⊤, [], ◌++◌, List, ℕ, IfOk, None, length, take};
 ghost use Rattle.gparts.specs.Parts.{max_parts};
-ghost use Rattle.gitrepository.specs.Packs.{IsWholePack};
-ghost use Rattle.gitrepository.specs.Parts.{IsGivenWhole, IsGoing};
+ghost use Rattle.gitrepository.specs.Packs.{IsPackOf, IsWholePack};
+ghost use Rattle.gitrepository.specs.Parts.{IsBegun, IsGivenWhole, IsGoing};
 
 use crate::copying::PackCounts;
 use crate::fault::RepositoryFault;
@@ -54,7 +54,7 @@ impl<'f, F: ObjectFiles, A: Allocator + Copy> StorePacker<'f, F, A> {
 
     // Starts the pack of the listed commits and tags.
     fn start(&self, alloc: A, entries: &[Entry<A>]) -> Result<StoreParts<A>, RepositoryFault<A>>
-        ensures going { IfOk result (λ parts. IsGoing parts.outgoing []) }
+        ensures begun { IfOk result (λ parts. IsBegun entries.now parts.outgoing) }
         ensures left { IfOk result (λ parts. parts.outgoing.left ≡ max_parts) }
     {
         let Ok(mut reader) = self.reader.try_borrow_mut() else {
@@ -68,8 +68,9 @@ impl<'f, F: ObjectFiles, A: Allocator + Copy> StorePacker<'f, F, A> {
         requires { 0 < length out.old }
         ensures fits { IfOk result (λ count. count ≤ length out.new) }
         ensures left { IfOk result (λ count. parts.new.outgoing.left + count ≡ parts.old.outgoing.left) }
-        ensures given { IfOk result (λ count. (before : List ℕ) → IsGoing parts.old.outgoing before
-            → IsGoing parts.new.outgoing (before ++ take count out.new)) }
+        ensures given { IfOk result (λ count. (entries : ℕ) (before : List ℕ)
+            → IsGoing entries parts.old.outgoing before
+            → IsGoing entries parts.new.outgoing (before ++ take count out.new)) }
         ensures whole { IfOk result (λ count. count ≡ 0 → IsGivenWhole parts.new.outgoing) }
     {
         let Ok(mut reader) = self.reader.try_borrow_mut() else {
@@ -96,12 +97,13 @@ impl<'f, F: ObjectFiles, A: Allocator + Copy> StorePacker<'f, F, A> {
 impl<F: ObjectFiles, A: Allocator + Copy> PartPacker<A> for StorePacker<'_, F, A> {
     type Parts = StoreParts<A>;
 
-    ghost packs = { λ _ _ pack. IsWholePack pack };
+    ghost packs = { λ _ entries pack. IsPackOf entries pack };
 
     ghost pack_fails = { λ _ _ _. ⊤ };
 
     ghost gives = { λ _ parts bytes end. end ≡ None → (length bytes ≤ parts.outgoing.left)
-        × ((before : List ℕ) → IsGoing parts.outgoing before → IsWholePack (before ++ bytes)) };
+        × ((count : ℕ) (before : List ℕ) → IsGoing count parts.outgoing before
+        → IsWholePack count (before ++ bytes)) };
 
     ghost most = { λ _ parts. parts.outgoing.left };
 

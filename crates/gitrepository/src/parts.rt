@@ -2,8 +2,7 @@
 
 ghost use Rattle.std.specs.Prelude.{◌≡◌, ◌+◌, ◌<◌, ◌≤◌, [], ◌++◌, List, ℕ, IfOk, OnOk, length, take};
 ghost use Rattle.gparts.specs.Parts.{max_parts};
-ghost use Rattle.gitrepository.specs.Packs.{IsWholePack};
-ghost use Rattle.gitrepository.specs.Parts.{GoesOn, IsGoing, IsGivenWhole};
+ghost use Rattle.gitrepository.specs.Parts.{GoesOn, IsBegun, IsGivenWhole, IsGoing};
 
 use crate::copying::{Copying, PackCounts};
 use crate::fault::RepositoryFault;
@@ -11,6 +10,7 @@ use crate::gather::gather;
 use crate::outgoing::Outgoing;
 use ggraph::Entry;
 use gitobjects::{ObjectFiles, ObjectReader};
+use gitpack::PackFileFault;
 use std::alloc::Allocator;
 
 /// A pack of some commits and tags with their trees and blobs, returned in parts. Only one entry at
@@ -28,12 +28,15 @@ impl<A: Allocator + Copy> StoreParts<A> {
         alloc: A,
         entries: &[Entry<A>],
     ) -> Result<StoreParts<A>, RepositoryFault<A>>
-        ensures going { IfOk result (λ parts. IsGoing parts.outgoing []) }
+        ensures begun { IfOk result (λ parts. IsBegun entries.now parts.outgoing) }
         ensures left { IfOk result (λ parts. parts.outgoing.left ≡ max_parts) }
     {
         let fates = gather(reader, entries)?;
-        let outgoing = Outgoing::new(alloc, fates.sent_count())?;
-        let copying = Copying::new(alloc, fates)?;
+        let Ok(count) = u32::try_from(fates.sent_count()) else {
+            return Err(RepositoryFault::Pack(PackFileFault::TooLarge));
+        };
+        let outgoing = Outgoing::new(alloc, count)?;
+        let copying = Copying::new(alloc, reader.store(), fates)?;
         Ok(StoreParts { outgoing, copying })
     }
 
@@ -52,8 +55,9 @@ impl<A: Allocator + Copy> StoreParts<A> {
         requires { 0 < length out.old }
         ensures fits { IfOk result (λ count. count ≤ length out.new) }
         ensures left { IfOk result (λ count. self.new.outgoing.left + count ≡ self.old.outgoing.left) }
-        ensures given { IfOk result (λ count. (before : List ℕ) → IsGoing self.old.outgoing before
-            → IsGoing self.new.outgoing (before ++ take count out.new)) }
+        ensures given { IfOk result (λ count. (entries : ℕ) (before : List ℕ)
+            → IsGoing entries self.old.outgoing before
+            → IsGoing entries self.new.outgoing (before ++ take count out.new)) }
         ensures whole { IfOk result (λ count. count ≡ 0 → IsGivenWhole self.new.outgoing) }
     {
         let mut filled = 0;
@@ -79,8 +83,9 @@ impl<A: Allocator + Copy> StoreParts<A> {
         ensures fits { IfOk result (λ count. count ≤ length out.new) }
         ensures length { length out.new ≡ length out.old }
         ensures left { IfOk result (λ count. self.new.outgoing.left + count ≡ self.old.outgoing.left) }
-        ensures given { IfOk result (λ count. (before : List ℕ) → IsGoing self.old.outgoing before
-            → IsGoing self.new.outgoing (before ++ take count out.new)) }
+        ensures given { IfOk result (λ count. (entries : ℕ) (before : List ℕ)
+            → IsGoing entries self.old.outgoing before
+            → IsGoing entries self.new.outgoing (before ++ take count out.new)) }
     {
         if self.outgoing.is_given() {
             self.advance(reader)?;

@@ -1,7 +1,7 @@
 //! The objects of the store that the objects of a received pack name.
 
 use crate::fault::RepositoryFault;
-use crate::gather::Gathering;
+use crate::gather::Walk;
 use gitobject::{Link, ObjectType};
 use gitobjects::{ObjectFiles, ObjectReader};
 use gitpack::IndexedPack;
@@ -21,10 +21,10 @@ pub(crate) fn check_trees<F: ObjectFiles, A: Allocator + Copy>(
     prerequisites: &[Link],
 ) -> Result<(), RepositoryFault<A>> {
     // Nothing is sent: `send` only visits everything that a tree reaches.
-    let mut gathering = Gathering::beside(reader, received);
+    let mut walk = Walk::beside(reader.store().allocator(), received);
     for link in prerequisites {
         if link.kind == ObjectType::Tree {
-            gathering.send(&link.id)?;
+            walk.send(reader, &link.id)?;
         }
     }
     Ok(())

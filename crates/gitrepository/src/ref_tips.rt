@@ -1,6 +1,6 @@
 //! The objects that refs point to, without their history.
 
-ghost use Rattle.std.specs.Prelude.{IfOk, IfSome, IsTrue};
+ghost use Rattle.std.specs.Prelude.{◌≡◌, IfOk, IfSome, IsTrue};
 ghost use Rattle.gdag.specs.Graphs.{Holds};
 ghost use Rattle.gitrepository.specs.Repositories.{AreHeld, KeepsHeld};
 
@@ -42,8 +42,10 @@ pub fn open_tips<F: ObjectFiles, A: Allocator + Copy>(
     git_dir: &str,
     listed: &PeeledRefs<A>,
 ) -> Result<Option<Repository<A>>, RepositoryFault<A>>
-    ensures { IfOk result (λ found. IfSome found (λ repository.
+    ensures held { IfOk result (λ found. IfSome found (λ repository.
         AreHeld repository.graph repository.refs)) }
+    ensures refs { IfOk result (λ found. IfSome found (λ repository.
+        repository.refs ≡ listed.now.refs)) }
 {
     let Some(graph) = graph_of_tips(files, alloc, git_dir, listed)? else {
         return Ok(None);

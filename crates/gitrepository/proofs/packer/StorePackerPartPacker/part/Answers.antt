@@ -1,4 +1,4 @@
-use Rattle.std.proofs.Common.{rules, arith, ◌++◌, [], sym, subst, take, append_assoc, length-append}
+use Rattle.std.proofs.Common.{arith, ◌++◌, sym, subst, take, append_assoc, length-append}
 use Rattle.std.proofs.lemmas.List.{append-nil, length-take-le}
 use Rattle.gitrepository.specs.Packs.{IsWholePack}
 use Rattle.gitrepository.proofs.PartLemmas.{ended}
@@ -15,12 +15,13 @@ returns-in-Ok g c =
           let it = gives none in
           let few = it.0 in (
             omega (arith, few, gave.left, length-append (take count out) rest, length-take-le count out gave.fits),
-            λ before is. subst IsWholePack (append_assoc before (take count out) rest) (it.1 (before ++ take count out) (gave.given before is)),
+            λ total before is. subst (IsWholePack total) (append_assoc before (take count out) rest)
+                (it.1 total (before ++ take count out) (gave.given total before is)),
           );
       few = λ _. omega (arith, gave.left);
       whole = λ zero _. (
         omega arith,
-        λ before is. subst IsWholePack (sym (append-nil before))
-            (ended c.fill.new.parts.outgoing count before out zero (gave.whole zero) (gave.given before is)),
+        λ total before is. subst (IsWholePack total) (sym (append-nil before))
+            (ended c.fill.new.parts.outgoing total count before out zero (gave.whole zero) (gave.given total before is)),
       );
     }

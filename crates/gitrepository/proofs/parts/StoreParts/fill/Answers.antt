@@ -11,6 +11,7 @@ loop-preserved g c =
     let before_it = c.loop.invariant in (
       long_enough filled count c.loop.out c.give_some.new.out _ before_it.0 gave.fits,
       omega (arith, gave.left, before_it.1),
-      λ before is. subst (λ l. IsGoing c.give_some.new.self.outgoing l) (given_step filled count c.loop.out c.give_some.new.out _ before before_it.0 gave.fits)
-          (gave.given (before ++ take filled c.loop.out) (before_it.2 before is)),
+      λ total before is. subst (IsGoing total c.give_some.new.self.outgoing)
+          (given_step filled count c.loop.out c.give_some.new.out _ before before_it.0 gave.fits)
+          (gave.given total (before ++ take filled c.loop.out) (before_it.2 total before is)),
     )

@@ -6,4 +6,5 @@ use Rattle.gitrepository.proofs.parts.StoreParts.fill.Given as goal
 abbrev pub invariant-loop : goal.invariant-loop
 invariant-loop g l =
     (l.filled ≤ length l.out) × (l.self.outgoing.left + l.filled ≡ l.initial.self.outgoing.left)
-    × ((before : List ℕ) → IsGoing l.initial.self.outgoing before → IsGoing l.self.outgoing (before ++ take l.filled l.out))
+    × ((total : ℕ) (before : List ℕ) → IsGoing total l.initial.self.outgoing before
+    → IsGoing total l.self.outgoing (before ++ take l.filled l.out))
