@@ -2,7 +2,7 @@
 
 ghost use Rattle.std.specs.Prelude.{◌<◌, [], IfOk, MatchResult, Some, length};
 ghost use Rattle.gparts.specs.Parts.{Begins, GivesPart};
-ghost use Rattle.gitprogram.specs.Sharing.{fails_any, gives_rest, most_left, packs_any};
+ghost use Rattle.gitprogram.specs.Sharing.{fails_any, gives_rest, most_left, packs_listed};
 
 use crate::directory::Directories;
 use crate::fault::Fault;
@@ -56,7 +56,7 @@ pub(crate) trait Disk {
         entries: &[Entry<Global>],
     ) -> Result<StoreParts<Global>, PackFault>
         ensures { IfOk result
-            (λ parts. Begins packs_any fails_any entries.now (gives_rest parts) (most_left parts)) };
+            (λ parts. Begins packs_listed fails_any entries.now (gives_rest parts) (most_left parts)) };
 
     /// Copies the next bytes of a pack to the front of `out`. Returns the number of copied bytes,
     /// which is 0 at the end of the pack.

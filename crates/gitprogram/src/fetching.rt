@@ -1,5 +1,9 @@
 //! The command `gitrepo fetch`, and the code that it shares with `gitrepo clone`.
 
+ghost use Rattle.std.specs.Prelude.{IfOk};
+ghost use Rattle.gitrepository.specs.Keeping.{IsKeptBy};
+ghost use Rattle.gsession.specs.Keeping.{KeepsOn};
+
 use crate::current::fetched_already;
 use crate::directory::{Directories, find_repository};
 use crate::fault::Fault;
@@ -14,7 +18,7 @@ use gclient::{
     fetch_git,
 };
 use gcmd::{Ends, ProgramFault, StreamLimit, send_report};
-use ggraph::{Head, Indexer, KeepsNothing, Refs, Repository};
+use ggraph::{Head, KeepingIndexer, Refs, Repository};
 use gitobject::ObjectType;
 use gitobjects::StoredFiles;
 use gitrefs::RefUpdate as RefMove;
@@ -24,7 +28,7 @@ use gitrepository::{
 use gitwords::{FetchArgs, Verbosity};
 use glsreply::LsReply;
 use gname::{Oid, Prefix, RefName};
-use gpkt::{FromRead, Sink, Source, ToWrite};
+use gpkt::{FromRead, ToWrite};
 use gtcp::{Peer, Silence};
 use std::alloc::{AllocError, Global};
 use std::io;
@@ -446,8 +450,8 @@ where
     match open_client(rt.alloc(), rt, &files, found, wanted.tips) {
         Ok((repository, reader)) => {
             let spools = StoredSpools::new(rt.alloc(), rt, found.common.as_str());
-            let indexer = StoreIndexer::new(reader, wanted.tips, spools);
-            receive_with(rt, found, repository, &indexer, wanted, progress)
+            let mut indexer = StoreIndexer::new(reader, wanted.tips, spools, &repository.graph);
+            receive_with(rt, found, repository, &mut indexer, wanted, progress)
         }
         Err(fault) => Err(fault),
     }
@@ -458,7 +462,7 @@ fn receive_with<'r, R, E>(
     rt: &'r R,
     found: &Directories,
     repository: Repository<Global>,
-    indexer: &StoredIndexer<'_, '_, 'r, R>,
+    indexer: &mut StoredIndexer<'_, '_, 'r, R>,
     wanted: Wanted<'_>,
     progress: &mut Progress<'_, E>,
 ) -> Result<StoredFetch<'r, R>, Fault>
@@ -495,16 +499,23 @@ fn make_client(
     }
 }
 
+// Fetches into the repository of a client. If the indexer keeps every object of the client's graph
+// before the call, then each object of the graph after the call is still kept, or is in the returned
+// pack.
 fn receive_into<'r, R, E>(
     rt: &'r R,
     client: Client,
-    indexer: &StoredIndexer<'_, '_, 'r, R>,
+    indexer: &mut StoredIndexer<'_, '_, 'r, R>,
     wanted: Wanted<'_>,
     progress: &mut Progress<'_, E>,
 ) -> Result<StoredFetch<'r, R>, Fault>
 where
     R: Files + AllocGlobal + Net,
     E: Write,
+    ensures { IfOk result (λ fetch. KeepsOn
+        (IsKeptBy indexer.old.assumed.ids indexer.old.received)
+        (IsKeptBy indexer.new.assumed.ids fetch.received)
+        client.repo.graph.entries fetch.client.repo.graph.entries) }
 {
     let mut client = client;
     match converse(rt, &mut client.repo, indexer, wanted, progress) {
@@ -572,17 +583,22 @@ fn is_commit<R: Files>(
     }
 }
 
-// Connects to the server, and performs the fetch.
+// Connects to the server, and performs the fetch. If the indexer keeps every object of the
+// repository before the call, it does so after the call, whatever the server sends.
 fn converse<R, E>(
     rt: &R,
     repo: &mut Repo<Global>,
-    indexer: &StoredIndexer<'_, '_, '_, R>,
+    indexer: &mut StoredIndexer<'_, '_, '_, R>,
     wanted: Wanted<'_>,
     progress: &mut Progress<'_, E>,
 ) -> Result<Fetched<Global>, Fault>
 where
     R: Files + AllocGlobal + Net,
     E: Write,
+    ensures { KeepsOn
+        (IsKeptBy indexer.old.assumed.ids indexer.old.received)
+        (IsKeptBy indexer.new.assumed.ids indexer.new.received)
+        repo.old.graph.entries repo.new.graph.entries }
 {
     let stream = wanted.remote.connect(rt, rt.alloc())?;
     let peer = Peer::new(stream, Silence);
@@ -611,19 +627,22 @@ fn refused_pack(alloc: Global, remote: &Remote, fault: &RepositoryFault<Global>)
     Fault::of(alloc, Sentence::RefusedPack { url, fault })
 }
 
-// Performs a fetch over a buffered connection.
-fn converse_with<R, S, E>(
+// Performs a fetch over a buffered connection. The function has a type parameter for the indexer,
+// because the prover does not accept a direct call with the lifetimes of a `StoredIndexer`.
+fn converse_with<S, E, K>(
     alloc: Global,
     peer: &Peer<S, Silence>,
     repo: &mut Repo<Global>,
-    indexer: &StoredIndexer<'_, '_, '_, R>,
+    indexer: &mut K,
     wanted: Wanted<'_>,
     progress: &mut Progress<'_, E>,
 ) -> Result<Fetched<Global>, FetchFault<Global>>
 where
-    R: Files,
     S: Read + Write + OpenStream,
     E: Write,
+    K: KeepingIndexer<Global>,
+    ensures { KeepsOn (K.keeps indexer.old) (K.keeps indexer.new) repo.old.graph.entries
+        repo.new.graph.entries }
 {
     let fetch = fetch_of(wanted, progress.is_shown());
     let Ok(mut reader) = BufReader::with_capacity(alloc, BUFFER, Watched::new(peer, progress))
@@ -635,21 +654,10 @@ where
     };
     let mut source = FromRead::new(&mut reader);
     let mut sink = ToWrite::new(&mut writer);
-    let fetched = fetch_indexed(repo, &mut source, &mut sink, indexer, &fetch);
+    let fetched = fetch_git(repo, &mut source, &mut sink, indexer, &fetch);
     // Bytes in the buffer that could not be written are dropped.
     let (_peer, _unwritten) = writer.into_parts();
     fetched
-}
-
-// Fetches over a source and a sink. Nothing is promised of objects that the indexer stores.
-fn fetch_indexed<S: Source, W: Sink, K: Indexer<Global>>(
-    repo: &mut Repo<Global>,
-    source: &mut S,
-    sink: &mut W,
-    indexer: &K,
-    fetch: &GitFetch<'_, Global>,
-) -> Result<Fetched<Global>, FetchFault<Global>> {
-    fetch_git(repo, source, sink, &mut KeepsNothing::new(indexer), fetch)
 }
 
 // Returns the parameters of the fetch, which allow offset deltas in the pack.

@@ -114,11 +114,11 @@ pub(crate) fn share<T: Drop>(alloc: Global, value: T) -> Result<Rc<T, Global>, A
 }
 
 impl<D: Disk> PartPacker<Global> for Shared<'_, D> {
-    ghost use Rattle.gitprogram.specs.Sharing.{fails_any, gives_rest, most_left, packs_any};
+    ghost use Rattle.gitprogram.specs.Sharing.{fails_any, gives_rest, most_left, packs_listed};
 
     type Parts = StoreParts<Global>;
 
-    ghost packs = { λ _. packs_any };
+    ghost packs = { λ _. packs_listed };
 
     ghost pack_fails = { λ _. fails_any };
 

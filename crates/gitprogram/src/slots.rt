@@ -2,7 +2,7 @@
 
 ghost use Rattle.std.specs.Prelude.{◌<◌, [], IfOk, MatchResult, Some, length};
 ghost use Rattle.gparts.specs.Parts.{Begins, GivesPart};
-ghost use Rattle.gitprogram.specs.Sharing.{fails_any, gives_rest, most_left, packs_any};
+ghost use Rattle.gitprogram.specs.Sharing.{fails_any, gives_rest, most_left, packs_listed};
 
 use crate::opening::ObjectPacker;
 use ggraph::{Entry, PackFault};
@@ -93,7 +93,7 @@ impl<'f, F: ObjectFiles> Slot<'f, F> {
         entries: &[Entry<Global>],
     ) -> Result<StoreParts<Global>, PackFault>
         ensures { IfOk result
-            (λ parts. Begins packs_any fails_any entries.now (gives_rest parts) (most_left parts)) }
+            (λ parts. Begins packs_listed fails_any entries.now (gives_rest parts) (most_left parts)) }
     {
         let Ok(content) = self.content.try_borrow() else {
             return Err(PackFault::Other);
