@@ -2,6 +2,7 @@
 
 use crate::arrivals::arrival_result;
 use crate::locations::{served_path_result, url_result};
+use crate::memory::memory_result;
 use crate::ref_updates::{clone_result, reading_refs_result, ref_update_result};
 use crate::replaced_files::ReplacedFiles;
 use crate::row::{Row, RowCheck, TestedCall};
@@ -52,6 +53,7 @@ pub(crate) fn actual_result<R: Files + AllocGlobal, A: Allocator + Copy>(
     match inputs.check.tested_call {
         TestedCall::IndexPack => index_result(alloc, tested_alloc, inputs.row, inputs.pack),
         TestedCall::ReceivePack => arrival_result(alloc, tested_alloc, inputs),
+        TestedCall::ReceiveInMemory => memory_result(alloc, tested_alloc, inputs.pack),
         TestedCall::ReadRefs => reading_refs_result(rt, tested_alloc, inputs.files),
         TestedCall::UpdateRefs => ref_update_result(rt, tested_alloc, inputs),
         TestedCall::CloneRefs => clone_result(rt, inputs.row),

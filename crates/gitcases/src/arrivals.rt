@@ -3,7 +3,7 @@
 use crate::answers::{OUT_OF_MEMORY, RunInputs, SUCCESS};
 use crate::stores::{GIT_DIR, to_memory_files};
 use crate::trouble::Trouble;
-use ggraph::{Entry, Graph, GraphFault, IndexFault, Indexer};
+use ggraph::{Entry, Graph, GraphFault, IndexFault, KeepingIndexer};
 use gitobjects::{ObjectFiles, ObjectReader, ObjectStore};
 use gitrepository::{MemorySpools, PackSpools, RepositoryFault, StoreIndexer, Tips};
 use gname::Oid;
@@ -52,10 +52,12 @@ fn receive_pack<F: ObjectFiles, A: Allocator + Copy>(
         Ok(prepared) => prepared,
         Err(fault) => return Err(Rejection::Repository(fault)),
     };
-    let indexer = StoreIndexer::new(reader, &tips, MemorySpools::new(tested_alloc));
-    match feed_pack(&indexer, tested_alloc, inputs.pack) {
+    let spools = MemorySpools::new(tested_alloc);
+    let empty = Graph::new(tested_alloc);
+    let mut indexer = StoreIndexer::new(reader, &tips, spools, &empty);
+    match feed_pack(&mut indexer, tested_alloc, inputs.pack) {
         Ok(entries) => add_to_graph(tested_alloc, entries),
-        Err(fault) => Err(rejection_of(&indexer, fault)),
+        Err(fault) => Err(rejection_of(&mut indexer, fault)),
     }
 }
 
@@ -69,9 +71,9 @@ fn prepare<'f, F: ObjectFiles, A: Allocator + Copy>(
     Ok((reader, Tips::new(tested_alloc, tips)?))
 }
 
-// Passes a pack to an indexer in pieces.
-fn feed_pack<A: Allocator + Copy, I: Indexer<A>>(
-    indexer: &I,
+/// Passes a pack to an indexer in pieces.
+pub(crate) fn feed_pack<A: Allocator + Copy, I: KeepingIndexer<A>>(
+    indexer: &mut I,
     tested_alloc: A,
     pack: &[u8],
 ) -> Result<Vec<Entry<A>, A>, IndexFault> {
@@ -83,7 +85,10 @@ fn feed_pack<A: Allocator + Copy, I: Indexer<A>>(
 }
 
 // Returns the fault of a rejected pack. The indexer must not keep a part of the pack.
-fn rejection_of<F, P, A>(indexer: &StoreIndexer<'_, '_, F, P, A>, fault: IndexFault) -> Rejection<A>
+fn rejection_of<F, P, A>(
+    indexer: &mut StoreIndexer<'_, '_, F, P, A>,
+    fault: IndexFault,
+) -> Rejection<A>
 where
     F: ObjectFiles,
     P: PackSpools + Drop,

@@ -21,9 +21,10 @@
 //!
 //! # Dependencies
 //!
-//! The program tests `gitpack`, `gitobjects`, `gitrefs`, `gitrepository` and `gitwords`.
-//! `gitobject`, `gname`, `gzlib` and `sha1` create packs and stores. `ggraph` defines graphs, refs
-//! and indexers, and `case_text` defines an allocator that refuses an allocation.
+//! The program tests `gitpack`, `gitobjects`, `gitrefs`, `gitrepository`, `gitmemory` and
+//! `gitwords`. `gitobject`, `gname`, `gzlib` and `sha1` create packs and stores, and `gcomplete`
+//! defines stores in memory. `ggraph` defines graphs, refs and indexers, and `case_text` defines an
+//! allocator that refuses an allocation.
 #![tactic(auto)]
 
 mod answers;
@@ -32,6 +33,7 @@ mod deltas;
 mod escapes;
 mod indexes;
 mod locations;
+mod memory;
 mod names;
 mod packs;
 mod ref_updates;

@@ -12,6 +12,8 @@ pub(crate) enum TestedCall {
     IndexPack,
     /// Receives a pack in the store.
     ReceivePack,
+    /// Receives a pack in an empty store in memory.
+    ReceiveInMemory,
     /// Opens the store.
     OpenStore,
     /// Reads an object, and checks its id.

@@ -59,7 +59,9 @@ fn test_all_variations<R: Files + Print + AllocGlobal>(
     }
     match inputs.check.tested_call {
         _ if !inputs.row.is_swept => Ok(()),
-        TestedCall::IndexPack | TestedCall::ReceivePack => test_changed_packs(rt, inputs, tally),
+        TestedCall::IndexPack | TestedCall::ReceivePack | TestedCall::ReceiveInMemory => {
+            test_changed_packs(rt, inputs, tally)
+        }
         _ => test_changed_files(rt, inputs, tally),
     }
 }

@@ -340,6 +340,7 @@ impl<'a> Script<'a> {
             "then" => row.replacement_store = value,
             "index" => row.add_check(TestedCall::IndexPack, None, expected)?,
             "kept" => row.add_check(TestedCall::ReceivePack, None, expected)?,
+            "memory" => row.add_check(TestedCall::ReceiveInMemory, None, expected)?,
             "open" => row.add_check(TestedCall::OpenStore, None, expected)?,
             "refs" => row.add_check(TestedCall::ReadRefs, None, expected)?,
             "move" => row.add_check(TestedCall::UpdateRefs, None, expected)?,
@@ -444,6 +445,7 @@ fn is_row_keyword(keyword: &str) -> bool {
             | "has"
             | "limits"
             | "kept"
+            | "memory"
             | "tips"
             | "open"
             | "refs"
