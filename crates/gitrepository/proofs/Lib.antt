@@ -9,4 +9,5 @@ pub mod LawLemmas
 pub mod CheckLemmas
 pub mod WalkLemmas
 pub mod SentLemmas
+pub mod HeldLemmas
 pub mod KeepLemmas

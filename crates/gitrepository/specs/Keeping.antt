@@ -6,7 +6,7 @@ use Rattle.gitrepository.specs.Received.{IsInReceived}
 use Rattle.gitpack.specs.declared.spool.Spool.{Ghosts}
 use Rattle.gitrepository.specs.declared.feed.Received.{Received}
 
--- The id is assumed, or is in the received pack: an object of the pack or a prerequisite has this id.
+-- The id is assumed, or an object of the received pack or a prerequisite has it.
 abbrev pub IsKeptBy : {S A : Type 0} {G : Ghosts S} → List Id → Option (Received S A G) → Id → Type 0
 IsKeptBy assumed received id =
     Contains assumed id ⊎ IsSomeAnd received (λ it. IsInReceived it.prerequisites.items it.index.entries id)

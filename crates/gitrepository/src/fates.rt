@@ -2,7 +2,7 @@
 
 ghost use Rattle.std.specs.Prelude.{◌≡◌, [], OnOk, length, slice_get};
 ghost use Rattle.std.specs.Option.{option_map};
-ghost use Rattle.gitrepository.specs.Gathering.{fate_at, is_sent, sent_count};
+ghost use Rattle.gitrepository.specs.Gathering.{AreDistinct, fate_at, is_sent, sent_count};
 ghost use Rattle.gitrepository.specs.steps.Walking.{Puts, decision_of, is_sent_some};
 
 use crate::path_hash::PathHash;
@@ -63,11 +63,13 @@ pub(crate) struct Fates<A: Allocator + Copy> {
 }
 
 impl<A: Allocator + Copy> Model for Fates<A> {
-    ghost use Rattle.gitrepository.specs.Gathering.{Fates};
+    ghost use Rattle.gitrepository.specs.Gathering.{AreDistinct, Fates};
 
     ghost Value = { Fates };
 
     ghost view = { λ fates. fates.map.entries };
+
+    ghost invariant = { λ fates. AreDistinct fates.map.entries };
 }
 
 impl<A: Allocator + Copy> Fates<A> {
@@ -78,6 +80,13 @@ impl<A: Allocator + Copy> Fates<A> {
         Fates {
             map: IndexMap::with_hasher(alloc, BuildHasherDefault::new()),
         }
+    }
+
+    /// Proves that the ids are distinct.
+    pub(crate) fn laws(&self)
+        ensures { AreDistinct self.now }
+    {
+        let _ = &self.map;
     }
 
     /// Returns the fate of the object with this id, or `None` if the fate is undecided.

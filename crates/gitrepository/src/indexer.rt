@@ -24,7 +24,7 @@ use std::cell::RefCell;
 /// [`take_received`](StoreIndexer::take_received), and accepts no other pack before.
 ///
 /// Contracts assume that the repository has the objects of a graph, which `new` receives. An id is
-/// kept if it is one of these ids, or if an object or a prerequisite of the accepted pack has it.
+/// kept if the graph had it, or if an object or prerequisite of the accepted pack has it.
 ///
 /// Each object is inflated, and its id is computed. Each object named by an object of the pack must
 /// be in the pack or in the store, with the expected type. If the store already has an object with

@@ -14,7 +14,10 @@ use std::alloc::Allocator;
 ///
 /// Commits and tags are not checked, because the session looks up their history in its graph.
 ///
-/// Fails at the first missing object or malformed tree.
+/// Fails at the first missing object, and at a tree that is broken, malformed or has another id.
+/// Fails with `Type` if the store or the received pack has a reached object with another type than
+/// the link to it. The types of blobs of the store are not checked. Fails with `Memory` if out of
+/// memory.
 pub(crate) fn check_trees<F: ObjectFiles, A: Allocator + Copy>(
     reader: &mut ObjectReader<'_, F, A>,
     received: &IndexedPack<A>,
