@@ -81,9 +81,8 @@ pub fn fetch_over<S: Source, W: Sink, A: Allocator + Copy, K: Indexer<A>>(
 }
 
 /// Fetches like [`fetch_over`], with an indexer that has a store, and with options for packs. The
-/// options contain the limits on the wants, the haves and the acknowledged ids. If the indexer keeps
-/// every object of the repository before the call, it does so after the call, whatever the server
-/// sends.
+/// options contain the limits on the wants, the haves and the acknowledged ids. The indexer keeps
+/// each object that the repository gains, whatever the server sends.
 pub fn fetch_over_with<S: Source, W: Sink, A: Allocator + Copy, K: KeepingIndexer<A>>(
     repo: &mut Repo<A>,
     source: &mut S,

@@ -12,9 +12,9 @@
 //!   each request before it reads the reply. At the end `fetch_over` updates the local refs.
 //!   [`fetch_over_with`] does the same with options for packs. These options contain the limits on
 //!   wants, haves and acknowledged ids, and the maximum number of new haves in a request.
-//! - [`fetch_over_with`] and [`fetch_git`] take an indexer with a store. If the store keeps each
-//!   object of the graph before the call, it keeps each object of the graph after the call. This
-//!   holds for any bytes from the server, and after each fault.
+//! - [`fetch_over_with`] and [`fetch_git`] take an indexer with a store. The store keeps each object
+//!   that the graph gains, and still keeps all that it kept before. This holds for any bytes from
+//!   the server, and after each fault.
 //! - [`Fetched`] contains the updates of the local refs, the number of requests for objects, and
 //!   the target of the server's unborn `HEAD`.
 //! - The first fault ends a conversation. With too many refspecs, or out of memory at the start,

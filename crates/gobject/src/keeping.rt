@@ -14,7 +14,8 @@ use std::alloc::Allocator;
 /// An indexer with a store. The indexer keeps the id of each entry that it returns.
 ///
 /// The relations `indexes`, `index_fails` and `fed` are those of [`Indexer`]. The relation `keeps`
-/// states which ids are kept, and may state more of them.
+/// holds of the kept ids. An implementation may define it to say more, for example that each linked
+/// object is also kept.
 pub trait KeepingIndexer<A: Allocator + Copy> {
     /// The state of the indexer after it has received a part of a pack.
     type Feed: Drop;

@@ -39,9 +39,9 @@
 //!   fault of the indexer, the session still reads the rest of the reply. Once it has read the
 //!   whole reply, it reports out of memory only if all acknowledged ids are haves and the indexer
 //!   accepted the pack.
-//! - [`Session::take_reply_into`] does the same with an indexer that has a store. If the store keeps
-//!   each object of the graph before the call, it keeps each object of the graph after the call,
-//!   for any bytes of the reply. The store still keeps all that it kept before.
+//! - [`Session::take_reply_into`] does the same with an indexer that has a store. The store keeps
+//!   each object that the graph gains, for any bytes of the reply. The store still keeps all that it
+//!   kept before.
 //! - [`Session::settle`] updates the local refs like `Repo::settle`, once a pack has arrived or if
 //!   there are no wants.
 //! - [`Session::is_due`] returns whether the session can make a request now.

@@ -82,8 +82,8 @@ where
 }
 
 /// Fetches like [`fetch_on`], with a given first line, with options for packs, and with an indexer
-/// that has a store. If the indexer keeps every object of the repository before the call, it does so
-/// after the call, whatever the server sends.
+/// that has a store. The indexer keeps each object that the repository gains, whatever the server
+/// sends.
 ///
 /// Fails like `fetch_on`, but never because of the host or the path.
 pub fn fetch_git_on<A, K, S>(

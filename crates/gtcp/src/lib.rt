@@ -20,8 +20,7 @@
 //!   path, and has every guarantee of `gclient::fetch_over`. If the first line can't be composed,
 //!   or memory for the buffers runs out, the repository is unchanged.
 //! - [`fetch_git_on`] fetches like [`fetch_on`], with a given first line, with options for packs,
-//!   and with an indexer that has a store. If the store keeps each object of the graph before the
-//!   call, it keeps each object of the graph after the call.
+//!   and with an indexer that has a store. The store keeps each object that the graph gains.
 //! - [`ls_on`] lists the refs with the given prefixes over a `git://` connection. A listing fails
 //!   if there are more than 64 prefixes. A listing and a fetch fail if the host or the path is not
 //!   well-formed.

@@ -15,9 +15,8 @@ use Rattle.gsession.specs.SettlingRefs.{SettlesSession}
 use Rattle.gsession.specs.declared.fault.ClientFault.{ClientFault}
 use Rattle.gsession.specs.declared.fault.ClientFault.TheVariants as client
 use Rattle.gsession.proofs.KeepingLemmas.{keeps_more, keeps_stays}
-use Rattle.gworld.specs.steps.Bringing.{KeepsAt}
 use Rattle.gworld.specs.Events.{AsksNext, ServesRequest, SettlesRefs, Step}
-use Rattle.gworld.specs.KeepingWorlds.{AddsKept, AddsUnkept}
+use Rattle.gworld.specs.KeepingWorlds.{AddsKept, AddsUnkept, KeepsAt}
 use Rattle.gworld.specs.Worlds.{PackTools, WorldState}
 use Rattle.gscenario.specs.declared.event.Event.{Event}
 use Rattle.gscenario.specs.declared.event.Event.TheVariants as event

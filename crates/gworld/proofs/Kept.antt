@@ -29,11 +29,11 @@ use Rattle.gworld.specs.declared.outcome.Outcome.{Outcome}
 use Rattle.gworld.specs.declared.outcome.Outcome.TheVariants.{Done, Asked as Asks, Served, LsTaken, Round, PackTaken}
 use Rattle.gworld.specs.declared.outcome.Outcome.TheVariants.{Settled, Fault}
 
-module _ {A : Type 0} (P : WorldState A → Event A → Outcome → WorldState A → Type 0) where
+module _ {A S : Type 0} (P : S → Event A → Outcome → S → Type 0) where
   -- a prefix of a run is a run
-  pub parted : (w new : WorldState A) (front rest : List (Event A)) (outcomes : List Outcome)
+  pub parted : (w new : S) (front rest : List (Event A)) (outcomes : List Outcome)
       → RunWith P w (front ++ rest) outcomes new
-      → (v : WorldState A) × LeadsThrough P w front rest outcomes new v
+      → (v : S) × LeadsThrough P w front rest outcomes new v
   parted w new [] rest outcomes run =
       (w, record { early = []; late = outcomes; told = refl; before = refl; after = run })
   parted w new (first ∷ front) rest [] run = absurd run

@@ -15,7 +15,7 @@ use Rattle.gworld.specs.declared.fault.RunFault.{RunFault}
 use Rattle.gworld.proofs.Keeping.{none_unkept}
 use Rattle.gworld.specs.Faults.{not_kept}
 use Rattle.gsession.specs.Keeping.{KeepsOn}
-use Rattle.gsession.proofs.KeepingLemmas.{keeps_none, keeps_then}
+use Rattle.gsession.proofs.KeepingLemmas.{keeps_graph, keeps_none, keeps_then}
 use Rattle.gworld.specs.Worlds.{PackTools, WorldState, Kept}
 use Rattle.gscenario.specs.declared.event.Event.{Event}
 use Rattle.gworld.specs.declared.outcome.Outcome.{Outcome}
@@ -24,7 +24,7 @@ use Rattle.std.proofs.lemmas.List.Elements.{All-head, All-tail}
 use Rattle.grequest.specs.Asked.{Asked}
 use Rattle.gsession.specs.Sessions.{SessionState}
 use Rattle.gscenario.specs.declared.event.Event.TheVariants as event
-use Rattle.gworld.specs.Laws.{IsNoForge, KeepsAll}
+use Rattle.gworld.specs.Laws.{IsNoForge, KeepsAll, KeptRunsAlwaysKeep}
 use Rattle.gworld.specs.Events.{AsksNext, Delivers, ServesRequest, SettlesRefs, Step, waiting_session}
 use Rattle.gworld.specs.declared.outcome.Outcome.TheVariants.{Done, Asked as Asks, Served, Settled, Fault}
 
@@ -82,7 +82,7 @@ module _ {A P I : Type 0} (tools : PackTools A) (keeps : I → Id → Type 0) wh
       → (s : KeptWorld A P I) (e : Event A) (outcome : Outcome) (next : KeptWorld A P I)
       → KeptPromises tools keeps s e outcome next → Promises tools s.world e outcome next.world
   none_refused all s e outcome next step =
-      elim step [
+      elim step.1 [
         | inl kept ↦ kept.promises
         | inr refused ↦ absurd (none_unkept e (keeps s.indexer) (all s.indexer) refused.0.0)
       ]
@@ -95,7 +95,7 @@ module _ {A P I : Type 0} (tools : PackTools A) (keeps : I → Id → Type 0) wh
   kept_run s new (first ∷ events) (told ∷ outcomes) none (next, here, rest) =
       let differs : told ≢ Fault not_kept = All-head (λ (o : Outcome). o ≢ Fault not_kept) told outcomes none in
       let step : Promises tools s.world first told next.world =
-      elim here [
+      elim here.1 [
         | inl kept ↦ kept.promises
         | inr refused ↦ absurd (differs refused.0.1.0)
       ] in (
@@ -111,7 +111,7 @@ module _ {A P I : Type 0} (tools : PackTools A) (keeps : I → Id → Type 0) wh
 
   step_on : (s v : KeptWorld A P I) (e : Event A) (outcome : Outcome) → KeptPromises tools keeps s e outcome v → Keeps s v
   step_on s v e outcome step =
-      elim step [
+      elim step.1 [
         | inl kept ↦ kept.keeps_on
         | inr refused ↦
             rw (refused.1, refused.0.1.1) (keeps_none (keeps s.indexer) s.world.repo.graph.entries)
@@ -126,6 +126,12 @@ module _ {A P I : Type 0} (tools : PackTools A) (keeps : I → Id → Type 0) wh
       next.world.repo.graph.entries new.world.repo.graph.entries (step_on s next first told here)
       (run_keeps next new events outcomes rest)
   run_keeps s new _ _ run = absurd run
+
+  -- if the indexer kept each object of the client's graph before a run, it does so in each world of the run
+  pub always_keeps : KeptRunsAlwaysKeep P tools keeps
+  always_keeps s new v front rest outcomes kept leads =
+      keeps_graph (keeps s.indexer) (keeps v.indexer) s.world.repo.graph.entries v.world.repo.graph.entries
+      (run_keeps s v front leads.early leads.before) kept
 
   -- a run that stopped after its first `count` events, because the next event needs memory
   pub front_runs : {s v : KeptWorld A P I} (events : List (Event A)) (count : ℕ) (next : Event A)

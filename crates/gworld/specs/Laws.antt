@@ -5,7 +5,7 @@ use Rattle.gdag.specs.Reach.{Grows}
 use Rattle.grefs.specs.RefLists.{IsRefs}
 use Rattle.gclientrepo.specs.Repos.{RepoState}
 use Rattle.ganswer.specs.Servers.{Server}
-use Rattle.gsession.specs.Keeping.{KeepsOn}
+use Rattle.gsession.specs.Keeping.{KeepsGraph, KeepsOn}
 use Rattle.gsession.specs.Sessions.{IsSession}
 use Rattle.gworld.specs.Faults.{not_kept}
 use Rattle.gworld.specs.KeepingWorlds.{KeptPromises, KeptWorld}
@@ -83,8 +83,8 @@ RequestsStayFew {A} tools =
 -- ---- all worlds of a run
 
 -- a run passes through the world `v` after the events `front` and before the events `rest`
-pub record LeadsThrough {A : Type 0} (P : WorldState A → Event A → Outcome → WorldState A → Type 0) (w : WorldState A)
-    (front rest : List (Event A)) (outcomes : List Outcome) (new v : WorldState A) : Type 0 where
+pub record LeadsThrough {A S : Type 0} (P : S → Event A → Outcome → S → Type 0) (w : S)
+    (front rest : List (Event A)) (outcomes : List Outcome) (new v : S) : Type 0 where
   pub early : List Outcome
   pub late : List Outcome
   pub told : outcomes ≡ early ++ late
@@ -192,10 +192,24 @@ KeptRunsKeepPromises {A} {I} P tools keeps =
     → All (λ outcome. outcome ≢ outcomes.Fault not_kept) told
     → RunWith (KeptPromises tools keeps) s events told new → RunWith (Promises tools) s.world events told new.world
 
--- After a run the indexer still keeps all that it kept before. If it kept each object of the client's graph before the
--- run, it does so after the run.
+-- After a run the indexer still keeps all that it kept before, and it keeps each object that the client's graph gained.
 abbrev pub KeptRunsKeepOn : {A I : Type 0} → (P : Type 0) → PackTools A → (I → Id → Type 0) → Type 0
 KeptRunsKeepOn {A} {I} P tools keeps =
     (s new : KeptWorld A P I) (events : List (Event A)) (outcomes : List Outcome)
     → RunWith (KeptPromises tools keeps) s events outcomes new
     → KeepsOn (keeps s.indexer) (keeps new.indexer) s.world.repo.graph.entries new.world.repo.graph.entries
+
+-- if the indexer kept each object of the client's graph before a run, it does so in each world of the run
+abbrev pub KeptRunsAlwaysKeep : {A I : Type 0} → (P : Type 0) → PackTools A → (I → Id → Type 0) → Type 0
+KeptRunsAlwaysKeep {A} {I} P tools keeps =
+    (s new v : KeptWorld A P I) (front rest : List (Event A)) (outcomes : List Outcome)
+    → KeepsGraph (keeps s.indexer) s.world.repo.graph.entries
+    → LeadsThrough (KeptPromises tools keeps) s front rest outcomes new v
+    → KeepsGraph (keeps v.indexer) v.world.repo.graph.entries
+
+-- each prefix of a run is a run
+abbrev pub KeptFrontsAreRuns : {A I : Type 0} → (P : Type 0) → PackTools A → (I → Id → Type 0) → Type 0
+KeptFrontsAreRuns {A} {I} P tools keeps =
+    (s new : KeptWorld A P I) (front rest : List (Event A)) (outcomes : List Outcome)
+    → RunWith (KeptPromises tools keeps) s (front ++ rest) outcomes new
+    → (v : KeptWorld A P I) × LeadsThrough (KeptPromises tools keeps) s front rest outcomes new v

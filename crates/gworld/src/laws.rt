@@ -4,7 +4,7 @@
 
 ghost use Rattle.std.specs.Prelude.{◌≡◌, false};
 ghost use Rattle.gworld.specs.Fetching.{FetchesComplete, OnlyLimitsRefuse};
-ghost use Rattle.gworld.specs.Laws.{CommonsStayShared, EndsStayConnected, FrontsAreRuns, FrontsKeepPromises, GraphsOnlyGrow, HonestRunsKeepAll, KeptRunsKeepOn, KeptRunsKeepPromises, NewWorldsAreSound, OthersLeaveRefs, PromisesAreRuns, RefsAreAlwaysConnected, RefsStayConnected, RefusalsLeaveBothEnds, RequestsStayFew, RunsKeepPromises, StepsKeep};
+ghost use Rattle.gworld.specs.Laws.{CommonsStayShared, EndsStayConnected, FrontsAreRuns, FrontsKeepPromises, GraphsOnlyGrow, HonestRunsKeepAll, KeptFrontsAreRuns, KeptRunsAlwaysKeep, KeptRunsKeepOn, KeptRunsKeepPromises, NewWorldsAreSound, OthersLeaveRefs, PromisesAreRuns, RefsAreAlwaysConnected, RefsStayConnected, RefusalsLeaveBothEnds, RequestsStayFew, RunsKeepPromises, StepsKeep};
 ghost use Rattle.gworld.specs.Sound.{IsUnforgedAndFaithful};
 ghost use Rattle.gworld.specs.Worlds.{WorldState, tools_of};
 
@@ -124,14 +124,19 @@ pub fn fronts_are_runs<A: Allocator + Copy, P: Packer<A>, I: KeepingIndexer<A>>(
         I.indexes I.index_fails) }
 {}
 
-/// Proves two properties of a run of a [`KeepingWorld`](crate::KeepingWorld). If no event fails with
-/// 98 (`NotKept`), the steps of the run keep their promises, so all other laws apply. If the indexer
-/// kept each object of the client's repository before the run, it does so after the run. Each prefix
-/// of a run is a run, so the indexer keeps each object in every world of the run.
+/// Proves these properties of a run of a [`KeepingWorld`](crate::KeepingWorld). If no event fails
+/// with 98 (`NotKept`), the steps of the run keep their promises, so all other laws apply. The
+/// indexer keeps each object that the client's repository gained. Each prefix of a run is a run. If
+/// the indexer kept each object of the client's repository before the run, it does so in each world
+/// of the run.
 pub fn kept_runs_keep<A: Allocator + Copy, P: Packer<A>, I: KeepingIndexer<A>>()
     ensures promises { (packer : P) → KeptRunsKeepPromises P
         (tools_of (P.packs packer) (P.pack_fails packer) I.indexes I.index_fails) I.keeps }
     ensures keeps { (packer : P) → KeptRunsKeepOn P
+        (tools_of (P.packs packer) (P.pack_fails packer) I.indexes I.index_fails) I.keeps }
+    ensures fronts { (packer : P) → KeptFrontsAreRuns P
+        (tools_of (P.packs packer) (P.pack_fails packer) I.indexes I.index_fails) I.keeps }
+    ensures always { (packer : P) → KeptRunsAlwaysKeep P
         (tools_of (P.packs packer) (P.pack_fails packer) I.indexes I.index_fails) I.keeps }
 {}
 

@@ -18,9 +18,10 @@
 //!   specs/Runs.antt). An event that fails at once with fault 83 (`NoOpenRequest`), 90 (`Disagree`)
 //!   or 93 (no such index) needs no memory.
 //! - A [`KeepingWorld`] has a client whose indexer keeps objects in a store. The indexer keeps each
-//!   object of the client's repository after any run, even after forged bytes. The indexer still
-//!   keeps all that it kept before the run. The event `ClientAdd` fails with 98 (`NotKept`) if the
-//!   indexer does not keep the object's id.
+//!   object of the client's repository in each world of a run, even after forged bytes
+//!   ([`KeepingWorld::run`], [`laws::kept_runs_keep`]). The indexer still keeps all that it kept
+//!   before the run. The event `ClientAdd` fails with 98 (`NotKept`) if the indexer does not keep
+//!   the object's id.
 //! - **Each ref of the client is connected, for any outcomes, any forged bytes, and any packer and
 //!   indexer.** A ref is connected if the client holds its whole history. The session makes at most
 //!   N + 1 requests for objects, if the client's refs reached N ids when the session began. If no
@@ -66,7 +67,7 @@
 //!
 //! # What the contracts do not rule out
 //!
-//! Any event of a `KeepingWorld` but one that fails with 98 may make the indexer keep more ids.
+//! The events `Deliver` and `Forge` of a `KeepingWorld` may make the indexer keep more ids.
 //!
 //! A run may stop with `Memory` although memory is available, before its first event or before any
 //! event that needs memory. An event that allocates may report out of memory although memory is

@@ -59,10 +59,9 @@ impl<A: Allocator + Copy> Session<A> {
         self.take_reply_into(repo, reader, &mut KeepsNothing::new(indexer))
     }
 
-    /// Reads a reply like [`Session::take_reply`], with an indexer that has a store. If the indexer
-    /// keeps every object of the repository before the call, it does so after the call, whatever
-    /// the server sends. It still keeps all that it kept before, and may keep objects of a reply that
-    /// is then rejected.
+    /// Reads a reply like [`Session::take_reply`], with an indexer that has a store. The indexer
+    /// keeps each object that the repository gains, whatever the server sends. It still keeps all
+    /// that it kept before, and may keep objects of a reply that is then rejected.
     pub fn take_reply_into<S: Source, K: KeepingIndexer<A>, B: Allocator + Copy>(
         &mut self,
         repo: &mut Repo<A>,

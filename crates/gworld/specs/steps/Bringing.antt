@@ -7,7 +7,6 @@ use Rattle.gobject.specs.declared.node.Entry.{Entry}
 use Rattle.gdag.specs.Laws.{AgreesWith}
 use Rattle.gclientrepo.specs.Repos.{RepoState}
 use Rattle.grequest.specs.Asked.{Asked, Ls, Fetches}
-use Rattle.gsession.specs.Keeping.{KeepsOn}
 use Rattle.gsession.specs.Sessions.{SessionState}
 use Rattle.gsession.specs.declared.fault.ClientFault.{ClientFault}
 use Rattle.gsession.specs.declared.taken.LsTaken.{LsTaken}
@@ -21,7 +20,6 @@ use Rattle.gworld.specs.Events.{Disagrees}
 use Rattle.gworld.specs.Taking.{IsFullAnswer, TakesBytes, code_of}
 use Rattle.gworld.specs.Worlds.{Kept, PackTools, reply_bytes}
 use Rattle.gscenario.specs.declared.event.Event.{Event}
-use Rattle.gscenario.specs.declared.event.Event.TheVariants as event
 use Rattle.gworld.specs.declared.outcome.Outcome.{Outcome}
 use Rattle.gworld.specs.declared.outcome.Outcome.TheVariants as outcomes
 use Rattle.gworld.specs.declared.incoming.AwaitedReply.{AwaitedReply}
@@ -62,13 +60,6 @@ module _ {A : Type 0} (indexes : Indexes A) (index_fails : IndexFails) where
   BringsTo kept count (Some asked) s repo mark outcome after new marked =
       TakesBytes indexes index_fails asked s repo (take count (reply_bytes kept.reply)) outcome after new
       × (IsTrue marked ↔ IsFullAnswer kept asked count outcome)
-
--- The event `Deliver` or `Forge` leaves an indexer that keeps the client's new graph if it kept the old graph. Any other
--- event leaves the indexer unchanged.
-abbrev pub KeepsAt : {A I : Type 0} → (I → Id → Type 0) → Event A → I → I → List (Entry A) → List (Entry A) → Type 0
-KeepsAt keeps (event.Deliver number count) before after old new = KeepsOn (keeps before) (keeps after) old new
-KeepsAt keeps (event.Forge bytes) before after old new = KeepsOn (keeps before) (keeps after) old new
-KeepsAt keeps _ before after old new = after ≡ before
 
 -- The events happen with these outcomes, and the run ends in a sound world. Each step keeps its promises, or it adds an
 -- object at the client that is not kept, and is refused.

@@ -5,7 +5,7 @@ ghost use Rattle.gworld.specs.Runs.{NeedsMemory};
 ghost use Rattle.gworld.specs.Sound.{AreEndsConnected};
 ghost use Rattle.gworld.specs.Events.{Step};
 ghost use Rattle.gworld.specs.Worlds.{tools_of};
-ghost use Rattle.gworld.specs.steps.Bringing.{KeepsAt};
+ghost use Rattle.gworld.specs.KeepingWorlds.{KeepsAt};
 
 use super::Parts;
 use crate::outcome::Outcome;

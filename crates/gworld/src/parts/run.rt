@@ -2,7 +2,7 @@
 
 ghost use Rattle.std.specs.Prelude.{◌≡◌, ◌≢◌, ◌≤◌, [], MatchBool, MatchResult, OnErr, length, vec_capacity, vec_len};
 ghost use Rattle.gsession.specs.Keeping.{KeepsOn};
-ghost use Rattle.gworld.specs.KeepingWorlds.{AddsKept, AddsUnkept, KeptNeedsMemory, KeptPromises, kept_world};
+ghost use Rattle.gworld.specs.KeepingWorlds.{AddsKept, AddsUnkept, KeepsAt, KeptNeedsMemory, KeptPromises, kept_world};
 ghost use Rattle.gworld.specs.Promises.{Promises};
 ghost use Rattle.gworld.specs.Runs.{NeedsMemory, RunWith, RunsFront, outcomes_before};
 ghost use Rattle.gworld.specs.Sound.{IsSound};
@@ -40,6 +40,8 @@ impl<A: Allocator + Copy> Parts<A> {
             (λ _. (self.new ≡ self.old) × NeedsMemory self.old event.now) }
         ensures same { OnErr result (indexer.new ≡ indexer.old) }
         ensures keeps { KeepsOn (I.keeps indexer.old) (I.keeps indexer.new)
+            self.old.repo.graph.entries self.new.repo.graph.entries }
+        ensures at { KeepsAt I.keeps event.now indexer.old indexer.new
             self.old.repo.graph.entries self.new.repo.graph.entries }
     {
         // Laws that the proof uses.

@@ -7,7 +7,7 @@ use Rattle.gworld.specs.Worlds.{tools_of}
 use Rattle.gworld.proofs.parts.Parts.run_each.Given as goal
 
 -- The events so far are a run with one outcome each, and the list has room for the outcomes of all events. The indexer
--- still keeps the client's graph if it kept the graph before the run.
+-- keeps each object that the client's graph gained.
 abbrev pub invariant-loop-event : goal.invariant-loop-event
 invariant-loop-event g l =
     let keeps = g.I.KeepingIndexer.keeps in
