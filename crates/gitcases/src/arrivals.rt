@@ -53,8 +53,7 @@ fn receive_pack<F: ObjectFiles, A: Allocator + Copy>(
         Err(fault) => return Err(Rejection::Repository(fault)),
     };
     let spools = MemorySpools::new(tested_alloc);
-    let empty = Graph::new(tested_alloc);
-    let mut indexer = StoreIndexer::new(reader, &tips, spools, &empty);
+    let mut indexer = StoreIndexer::new(reader, &tips, spools);
     match feed_pack(&mut indexer, tested_alloc, inputs.pack) {
         Ok(entries) => add_to_graph(tested_alloc, entries),
         Err(fault) => Err(rejection_of(&mut indexer, fault)),

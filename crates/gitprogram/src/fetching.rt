@@ -1,6 +1,6 @@
 //! The command `gitrepo fetch`, and the code that it shares with `gitrepo clone`.
 
-ghost use Rattle.std.specs.Prelude.{IfOk};
+ghost use Rattle.std.specs.Prelude.{◌≡◌, IfOk};
 ghost use Rattle.gitrepository.specs.Keeping.{IsKeptBy};
 ghost use Rattle.gsession.specs.Keeping.{KeepsOn};
 
@@ -450,14 +450,15 @@ where
     match open_client(rt.alloc(), rt, &files, found, wanted.tips) {
         Ok((repository, reader)) => {
             let spools = StoredSpools::new(rt.alloc(), rt, found.common.as_str());
-            let mut indexer = StoreIndexer::new(reader, wanted.tips, spools, &repository.graph);
+            let mut indexer = StoreIndexer::new(reader, wanted.tips, spools);
             receive_with(rt, found, repository, &mut indexer, wanted, progress)
         }
         Err(fault) => Err(fault),
     }
 }
 
-// Fetches into a repository. The indexer indexes the received pack.
+// Fetches into a repository. The indexer indexes the received pack. Each object that the graph of
+// the repository gains is an object of this pack, or one of its prerequisites.
 fn receive_with<'r, R, E>(
     rt: &'r R,
     found: &Directories,
@@ -469,6 +470,8 @@ fn receive_with<'r, R, E>(
 where
     R: Files + AllocGlobal + Net,
     E: Write,
+    ensures { IfOk result (λ fetch. KeepsOn (IsKeptBy indexer.old.received)
+        (IsKeptBy fetch.received) repository.graph.entries fetch.client.repo.graph.entries) }
 {
     match make_client(rt.alloc(), found, repository) {
         Ok(client) => receive_into(rt, client, indexer, wanted, progress),
@@ -480,7 +483,9 @@ fn make_client(
     alloc: Global,
     found: &Directories,
     repository: Repository<Global>,
-) -> Result<Client, Fault> {
+) -> Result<Client, Fault>
+    ensures { IfOk result (λ client. client.repo.graph ≡ repository.graph) }
+{
     let Repository {
         graph,
         refs,
@@ -499,9 +504,8 @@ fn make_client(
     }
 }
 
-// Fetches into the repository of a client. If the indexer keeps every object of the client's graph
-// before the call, then each object of the graph after the call is still kept, or is in the returned
-// pack.
+// Fetches into the repository of a client. Each object that the client's graph gains is an object of
+// the returned pack, or one of its prerequisites.
 fn receive_into<'r, R, E>(
     rt: &'r R,
     client: Client,
@@ -512,10 +516,8 @@ fn receive_into<'r, R, E>(
 where
     R: Files + AllocGlobal + Net,
     E: Write,
-    ensures { IfOk result (λ fetch. KeepsOn
-        (IsKeptBy indexer.old.assumed.ids indexer.old.received)
-        (IsKeptBy indexer.new.assumed.ids fetch.received)
-        client.repo.graph.entries fetch.client.repo.graph.entries) }
+    ensures { IfOk result (λ fetch. KeepsOn (IsKeptBy indexer.old.received)
+        (IsKeptBy fetch.received) client.repo.graph.entries fetch.client.repo.graph.entries) }
 {
     let mut client = client;
     match converse(rt, &mut client.repo, indexer, wanted, progress) {
@@ -583,8 +585,8 @@ fn is_commit<R: Files>(
     }
 }
 
-// Connects to the server, and performs the fetch. If the indexer keeps every object of the
-// repository before the call, it does so after the call, whatever the server sends.
+// Connects to the server, and performs the fetch. The indexer keeps each object that the repository
+// gains, whatever the server sends.
 fn converse<R, E>(
     rt: &R,
     repo: &mut Repo<Global>,
@@ -595,9 +597,7 @@ fn converse<R, E>(
 where
     R: Files + AllocGlobal + Net,
     E: Write,
-    ensures { KeepsOn
-        (IsKeptBy indexer.old.assumed.ids indexer.old.received)
-        (IsKeptBy indexer.new.assumed.ids indexer.new.received)
+    ensures { KeepsOn (IsKeptBy indexer.old.received) (IsKeptBy indexer.new.received)
         repo.old.graph.entries repo.new.graph.entries }
 {
     let stream = wanted.remote.connect(rt, rt.alloc())?;

@@ -5,6 +5,8 @@ use Rattle.std.specs.Str.{bytes_eq}
 use Rattle.std.proofs.lemmas.List.Elements.{All-cons, Contains-get_or, All-contains, All-head, All-map, All-nil, All-tail, All-weaker}
 use Rattle.std.proofs.lemmas.Slice.Eq.{bytes_eq-Decides}
 use Rattle.gname.specs.Ids.{Id}
+use Rattle.gobject.specs.declared.node.Entry.{Entry}
+use Rattle.gdag.specs.Graphs as graph
 use Rattle.gitobject.specs.Trees.{link_of}
 use Rattle.gitobject.specs.declared.links.Link.{Link}
 use Rattle.gitobject.specs.declared.types.ObjectType.{ObjectType}
@@ -148,10 +150,12 @@ has_kind s a some =
     let o = held_kind s a kind.0 kind.1 in
     object_held s a o.0 o.1
 
-module _ (assumed : List Id) (prerequisites : List Link) (objects : List IndexedEntry) (s : Store) (has : All (Holds s) assumed) (held : All (LeadsIn s) prerequisites) where
-  -- the store and the objects of the pack together have each kept id
+module _ {A : Type 0} (old new : List (Entry A)) (prerequisites : List Link) (objects : List IndexedEntry) (s : Store)
+    (has : (a : Id) → graph.Holds old a → Holds s a) (held : All (LeadsIn s) prerequisites)
+    (gained : (a : Id) → graph.Holds new a → graph.Holds old a ⊎ IsInReceived prerequisites objects a) where
+  -- the store and the objects of the pack together have each id of the new graph
   abbrev IsKeptId : Id → Type 0
-  IsKeptId a = Contains assumed a ⊎ IsInReceived prerequisites objects a
+  IsKeptId a = graph.Holds new a
 
   module _ (added : Store) (types : AreTypesOf (types_of objects) added) where
     led : (a : Id) → IsInReceived prerequisites objects a → Holds (joined s added) a
@@ -162,8 +166,11 @@ module _ (assumed : List Id) (prerequisites : List Link) (objects : List Indexed
         holds_first s added a (has_kind s a (is_something (kind_in s a) kind (All-contains (LeadsIn s) prerequisites (link_of kind a) held outside)))
 
     kept_held : (a : Id) → IsKeptId a → Holds (joined s added) a
-    kept_held a (inl known) = holds_first s added a (All-contains (Holds s) assumed a has known)
-    kept_held a (inr received) = led a received
+    kept_held a kept =
+        elim (gained a kept) [
+          | inl was ↦ holds_first s added a (has a was)
+          | inr received ↦ led a received
+        ]
 
     kept_complete_in : IsClosed (joined s added) → (a : Id) → IsKeptId a → IsComplete (joined s added) a
     kept_complete_in closed a kept = closed_complete (joined s added) closed a (kept_held a kept)
@@ -180,9 +187,9 @@ module _ (assumed : List Id) (prerequisites : List Link) (objects : List Indexed
       either (inl closed) = inl (kept_complete_in it.added it.types_of closed)
       either (inr collide) = inr collide
 
-pub kept_complete : KeptIsComplete
-kept_complete assumed prerequisites objects s named closed has linked held =
+pub kept_complete : {A : Type 0} → KeptIsComplete A
+kept_complete old new prerequisites objects s named closed has linked held gained =
     elim (packs_keep prerequisites objects s named closed linked held) [
-      | inl stays ↦ inl (completes assumed prerequisites objects s has held stays)
+      | inl stays ↦ inl (completes old new prerequisites objects s has held gained stays)
       | inr twice ↦ inr twice
     ]

@@ -9,4 +9,4 @@ pub mod LawLemmas
 pub mod CheckLemmas
 pub mod WalkLemmas
 pub mod SentLemmas
-pub mod KeepLemmas
+pub mod HeldLemmas

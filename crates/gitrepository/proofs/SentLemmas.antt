@@ -17,8 +17,8 @@ use Rattle.gcomplete.specs.Closed as reach
 use Rattle.gcomplete.specs.Sending.{IsSent, LeadsOnward}
 use Rattle.gcomplete.proofs.Closing.{link_leads}
 use Rattle.gcomplete.proofs.Parts.{held_kind, kind_held, object_held}
-use Rattle.gitrepository.specs.Entries.{IsNodeOf}
-use Rattle.gitrepository.specs.Gathering.{Fates, FollowedOf, IsDecided, IsFollowed, IsGathered, IsListed, IsNamedBlob, IsSentAt, IsWalked, LeadsDown, LeadsToDecided, fate_at, here, id_of_entry, is_sent_at, onward}
+use Rattle.gitrepository.specs.Entries.{IsNodeOf, id_of_entry, ids_of}
+use Rattle.gitrepository.specs.Gathering.{Fates, FollowedOf, IsDecided, IsFollowed, IsGathered, IsListed, IsNamedBlob, IsSentAt, IsWalked, LeadsDown, LeadsToDecided, fate_at, here, is_sent_at, onward}
 use Rattle.gitrepository.specs.Laws.{AreKnown, Describes, GatheredIsSent, IsHeld, sent_from}
 use Rattle.gitrepository.specs.declared.fates.Fate.{Fate}
 use Rattle.gitrepository.specs.declared.fates.Fate.TheVariants.{Sent, NotSent}
@@ -46,7 +46,7 @@ followed_among Tree body links link is among = (links, is, among)
 followed_among Blob body links link is among = (links, is, among)
 followed_among Tag body links link is among = nothing_in_nil link (subst (λ ls. Contains ls link) is among)
 
-followed_link : (s : Store) (a : Id) (link : Link) → IsFollowed (IsHeld s) a link → HasLink s a link
+pub followed_link : (s : Store) (a : Id) (link : Link) → IsFollowed (IsHeld s) a link → HasLink s a link
 followed_link s a link is =
     let all = followed_among is.object.kind is.object.body is.links link is.follows is.among in
     record { object = is.object; held = is.read; links = all.0; reads = all.1; among = all.2 }
@@ -55,7 +55,7 @@ reaches_down : (s : Store) (a b : Id) → LeadsDown (IsHeld s) a b → Reaches s
 reaches_down s a b here = reach.here
 reaches_down s a b (onward {b = c} link down followed) = reaches_more s a c link (reaches_down s a c down) (followed_link s c link followed)
 
-link_held : (s : Store) → IsClosed s → (a : Id) (link : Link) → HasLink s a link → Holds s link.id
+pub link_held : (s : Store) → IsClosed s → (a : Id) (link : Link) → HasLink s a link → Holds s link.id
 link_held s is a link has =
     let found = held_kind s link.id link.kind (link_leads s is a link has) in
     object_held s link.id found.0 found.1
@@ -69,7 +69,7 @@ pub record Lists {A : Type 0} (entries : List (Entry A)) (a : Id) : Type 0 where
 
 pub entry_with : {A : Type 0} (entries : List (Entry A)) (a : Id) → IsListed entries a → Lists entries a
 entry_with entries a is =
-    All-contains (Lists entries) (map id_of_entry entries) a
+    All-contains (Lists entries) (ids_of entries) a
     (All-map (Lists entries) id_of_entry entries
     (All-weaker (Contains entries) (λ entry. Lists entries entry.id) (λ entry among. record { entry = entry; listed = among; same = refl }) entries (All-contains_itself entries))) is
 
@@ -117,7 +117,7 @@ module _ {A : Type 0} (server : Store) (entries : List (Entry A)) (fates : Fates
       subst (All P) (sym same) (All-cons P (link_of node.1 node.0) [] target (All-nil P))
 
   -- all links of a walked object are decided
-  walked_links : (a : Id) (o : GitObject) (links : List Link) → server a ≡ Some o → HasLinks o links → IsWalked (IsHeld server) (map id_of_entry entries) fates a
+  walked_links : (a : Id) (o : GitObject) (links : List Link) → server a ≡ Some o → HasLinks o links → IsWalked (IsHeld server) (ids_of entries) fates a
       → All (LeadsToDecided fates) links
   walked_links a o links held reads walked = by walked.part
     where
@@ -132,7 +132,7 @@ module _ {A : Type 0} (server : Store) (entries : List (Entry A)) (fates : Fates
           let F : ObjectType → Type 0 = λ k. FollowedOf k body walked.links in let L : ObjectType → Type 0 = λ k. LinksOf k body links in
           subst (All (LeadsToDecided fates)) (links_once Tree body walked.links links (subst F is following) (subst L is reading)) walked.each
 
-      by : (walked.object.kind ≡ Tree) ⊎ Contains (map id_of_entry entries) a → All (LeadsToDecided fates) links
+      by : (walked.object.kind ≡ Tree) ⊎ Contains (ids_of entries) a → All (LeadsToDecided fates) links
       by (inl is) = tree o.kind o.body (sym (ap (λ x. x.kind) same) ∙ is) follows reads
       by (inr listed) =
           let found = entry_with entries a listed in
@@ -142,9 +142,9 @@ module _ {A : Type 0} (server : Store) (entries : List (Entry A)) (fates : Fates
           (subst (λ (x : GitObject). IsNodeOf x.kind x.body found.entry.node) one d.node) follows walked.each reads
 
   -- an object that another object names as a blob has no links
-  blob_links : (a : Id) (o : GitObject) (links : List Link) → server a ≡ Some o → HasLinks o links → IsNamedBlob (IsHeld server) a → All (LeadsToDecided fates) links
+  blob_links : (a : Id) (o : GitObject) (links : List Link) → server a ≡ Some o → HasLinks o links → IsNamedBlob (IsHeld server) fates a → All (LeadsToDecided fates) links
   blob_links a o links held reads named =
-      let leads : kind_in server a ≡ Some Blob = link_leads server closed named.0 (link_of Blob a) (followed_link server named.0 (link_of Blob a) named.1) in
+      let leads : kind_in server a ≡ Some Blob = link_leads server closed named.by (link_of Blob a) (followed_link server named.by (link_of Blob a) named.names) in
       let kind : o.kind ≡ Blob = same_Some o.kind Blob (sym (kind_held server a o held) ∙ leads) in
       let L : ObjectType → Type 0 = λ k. LinksOf k o.body links in
       subst (All (LeadsToDecided fates)) (sym (subst L kind reads)) (All-nil (LeadsToDecided fates))

@@ -18,8 +18,9 @@ use Rattle.gitobject.specs.declared.types.ObjectType.TheVariants.{Commit, Tree, 
 use Rattle.gitobject.proofs.EntryLemmas.{links_more}
 use Rattle.gitobjects.specs.declared.store.Found.{Found}
 use Rattle.gcomplete.specs.Stores.{GitObject, object_of}
-use Rattle.gitrepository.specs.Gathering.{Fates, FollowedOf, IsDecided, IsFollowed, IsGathered, IsKnown, IsLeftOut, IsListed, IsNamedBlob, IsParent, IsSentAt, IsWalked, LeadsToDecided, fate_at, here, id_of_entry, is_sent, is_sent_at, onward}
-use Rattle.gitrepository.specs.steps.Walking.{HasDecidedParents, HasFateAs, HasIdIn, HasItsFate, IsCovered, IsNew, IsOnTheWay, IsOnlyListed, IsOpen, IsPending, IsSentEntry, IsUnderWay, IsWalkedEntry, Keeps, LeadsToCovered, Notes, NotesObject, Puts, Settles, id_of_tree}
+use Rattle.gitrepository.specs.Entries.{id_of_entry, ids_of}
+use Rattle.gitrepository.specs.Gathering.{AreDistinct, Fates, FollowedOf, IsBelowLeftOut, IsBelowListed, IsDecided, IsFollowed, IsGathered, IsLeftOut, IsListed, IsNamedBlob, IsParent, IsSentAt, IsWalked, LeadsToDecided, fate_at, here, is_sent, is_sent_at, onward}
+use Rattle.gitrepository.specs.steps.Walking.{HasDecidedParents, HasFateAs, HasIdIn, HasItsFate, IsCovered, IsNew, IsOnTheWay, IsOnlyListed, IsOpen, IsPending, IsSentEntry, IsUnderWay, IsWalkedEntry, LeadsToCovered, Notes, NotesObject, Puts, Settles, StaysDecided, id_of_tree}
 use Rattle.gitrepository.specs.declared.fates.Fate.{Fate}
 use Rattle.gitrepository.specs.declared.fates.Fate.TheVariants.{Sent, NotSent}
 use Rattle.gitrepository.specs.declared.gather.PendingTree.{PendingTree}
@@ -41,22 +42,22 @@ sent_fate fates a is = by (fate_at fates a) refl
 pub is_sent_there : (fates : Fates) (a : Id) (fate : Fate) → fate_at fates a ≡ Some fate → is_sent fate ≡ true → IsSentAt fates a
 is_sent_there fates a fate at is = ap is_sent_at at ∙ is
 
-pub keeps_same : (old new : Fates) → new ≡ old → Keeps old new
+pub keeps_same : (old new : Fates) → new ≡ old → StaysDecided old new
 keeps_same old new same a fate is = ap (λ (f : Fates). fate_at f a) same ∙ is
 
-pub keeps_on : (old mid new : Fates) → Keeps old mid → Keeps mid new → Keeps old new
+pub keeps_on : (old mid new : Fates) → StaysDecided old mid → StaysDecided mid new → StaysDecided old new
 keeps_on old mid new one two a fate is = two a fate (one a fate is)
 
-pub sent_more : (old new : Fates) → Keeps old new → (a : Id) → IsSentAt old a → IsSentAt new a
+pub sent_more : (old new : Fates) → StaysDecided old new → (a : Id) → IsSentAt old a → IsSentAt new a
 sent_more old new keeps a is = let fate = sent_fate old a is in is_sent_there new a fate.0 (keeps a fate.0 fate.1) fate.2
 
-pub decided_more : (old new : Fates) → Keeps old new → (a : Id) → IsDecided old a → IsDecided new a
+pub decided_more : (old new : Fates) → StaysDecided old new → (a : Id) → IsDecided old a → IsDecided new a
 decided_more old new keeps a is = (is.0, keeps a is.0 is.1)
 
-pub all_decided_more : (old new : Fates) → Keeps old new → (ids : List Id) → All (IsDecided old) ids → All (IsDecided new) ids
+pub all_decided_more : (old new : Fates) → StaysDecided old new → (ids : List Id) → All (IsDecided old) ids → All (IsDecided new) ids
 all_decided_more old new keeps ids all = All-weaker (IsDecided old) (IsDecided new) (decided_more old new keeps) ids all
 
-trees_more : (old new : Fates) → Keeps old new → (trees : List PendingTree) → All (HasItsFate old) trees → All (HasItsFate new) trees
+trees_more : (old new : Fates) → StaysDecided old new → (trees : List PendingTree) → All (HasItsFate old) trees → All (HasItsFate new) trees
 trees_more old new keeps trees all = All-weaker (HasItsFate old) (HasItsFate new) (λ t is. keeps t.id t.fate is) trees all
 
 -- two steps keep what each of them keeps
@@ -89,7 +90,7 @@ puts_only old new a fate puts b f is =
       | inr other ↦ inl (sym (ap (λ t. cond t (Some fate) (fate_at old b)) other) ∙ sym (puts b) ∙ is)
     ]
 
-pub puts_keeps : (old new : Fates) (a : Id) (fate : Fate) → fate_at old a ≡ None → Puts old a fate new → Keeps old new
+pub puts_keeps : (old new : Fates) (a : Id) (fate : Fate) → fate_at old a ≡ None → Puts old a fate new → StaysDecided old new
 puts_keeps old new a fate none puts b f is =
     elim (cases_Bool (bytes_eq a b)) [
       | inl same ↦
@@ -100,7 +101,7 @@ puts_keeps old new a fate none puts b f is =
 
 -- ---- links are noted, one after the other
 
-pub covered_more : {A : Type 0} (old new : Walk A) → new.received ≡ old.received → Keeps old.fates new.fates → (a : Id) → IsCovered old a → IsCovered new a
+pub covered_more : {A : Type 0} (old new : Walk A) → new.received ≡ old.received → StaysDecided old.fates new.fates → (a : Id) → IsCovered old a → IsCovered new a
 covered_more old new same keeps a (inl decided) = inl (decided_more old.fates new.fates keeps a decided)
 covered_more old new same keeps a (inr received) = inr (λ none. received (sym same ∙ none))
 
@@ -126,8 +127,12 @@ notes_covered old new link sent received trees covered same = record {
   trees = λ all. subst (All (HasItsFate new.fates)) (sym trees) (trees_more old.fates new.fates keeps old.trees.items all);
 }
   where
-    keeps : Keeps old.fates new.fates
+    keeps : StaysDecided old.fates new.fates
     keeps = keeps_same old.fates new.fates same
+
+-- a link to an id that the received pack has
+pub notes_received : {A : Type 0} (walk : Walk A) (link : Link) (sent : Bool) → walk.received ≢ None → Notes walk (link ∷ []) sent walk
+notes_received walk link sent there = notes_covered walk walk link sent refl refl (inr there) refl
 
 -- a link to an id that was not decided
 notes_one : {A : Type 0} (old new : Walk A) (link : Link) (fate : Fate) → new.received ≡ old.received → fate_at old.fates link.id ≡ None
@@ -265,7 +270,7 @@ follows_down Tag body links is = subst (All IsTreeOrBlob) (sym is) (All-nil IsTr
 
 -- ---- the walk goes on
 
-pub walked_more : (has : Id → GitObject → Type 0) (listed : List Id) (old new : Fates) → Keeps old new → (a : Id) → IsWalked has listed old a → IsWalked has listed new a
+pub walked_more : (has : Id → GitObject → Type 0) (listed : List Id) (old new : Fates) → StaysDecided old new → (a : Id) → IsWalked has listed old a → IsWalked has listed new a
 walked_more has listed old new keeps a is = record {
   object = is.object;
   read = is.read;
@@ -275,19 +280,22 @@ walked_more has listed old new keeps a is = record {
   each = All-weaker (LeadsToDecided old) (LeadsToDecided new) (λ link decided. decided_more old new keeps link.id decided) is.links is.each;
 }
 
-known_more : {A : Type 0} (has : Id → GitObject → Type 0) (entries : List (Entry A)) (old new : Fates) → Keeps old new → (a : Id)
-    → IsKnown has entries old a → IsKnown has entries new a
-known_more has entries old new keeps a is = record {
+at_client_more : {A : Type 0} (has : Id → GitObject → Type 0) (entries : List (Entry A)) (old new : Fates) → StaysDecided old new → (a : Id)
+    → IsBelowLeftOut has entries old a → IsBelowLeftOut has entries new a
+at_client_more has entries old new keeps a is = record {
   parent = is.parent;
   of_entry = is.of_entry;
   left_out = keeps is.parent NotSent is.left_out;
   leads = is.leads;
 }
 
-on_way_more : {A : Type 0} (has : Id → GitObject → Type 0) (listed waiting : List Id) (old new : Walk A) → Keeps old.fates new.fates
+blob_more : (has : Id → GitObject → Type 0) (old new : Fates) → StaysDecided old new → (a : Id) → IsNamedBlob has old a → IsNamedBlob has new a
+blob_more has old new keeps a is = record { by = is.by; sent = sent_more old new keeps is.by is.sent; names = is.names }
+
+on_way_more : {A : Type 0} (has : Id → GitObject → Type 0) (listed waiting : List Id) (old new : Walk A) → StaysDecided old.fates new.fates
     → ((a : Id) → IsPending old a → IsPending new a) → (a : Id) → IsOnTheWay has listed waiting old a → IsOnTheWay has listed waiting new a
 on_way_more has listed waiting old new keeps pending a (inl waits) = inl waits
-on_way_more has listed waiting old new keeps pending a (inr (inl blob)) = inr (inl blob)
+on_way_more has listed waiting old new keeps pending a (inr (inl blob)) = inr (inl (blob_more has old.fates new.fates keeps a blob))
 on_way_more has listed waiting old new keeps pending a (inr (inr (inl walked))) = inr (inr (inl (walked_more has listed old.fates new.fates keeps a walked)))
 on_way_more has listed waiting old new keeps pending a (inr (inr (inr there))) = inr (inr (inr (pending a there)))
 
@@ -320,10 +328,10 @@ module _ {A : Type 0} (has : Id → GitObject → Type 0) (entries : List (Entry
   followed : (link : Link) → Contains links link → IsFollowed has a link
   followed link among = record { object = object; read = read; links = links; follows = follows; among = among }
 
-  left_here : (b : Id) (kind : ObjectType) → Contains links (link_of kind b) → false ≡ is_sent fate → IsKnown has entries new.fates b
+  left_here : (b : Id) (kind : ObjectType) → Contains links (link_of kind b) → false ≡ is_sent fate → IsBelowLeftOut has entries new.fates b
   left_here b kind among is =
       let own = not_sent root.own (root.same ∙ sym is) in
-      let known = known_more has entries old.fates new.fates notes.keeps a (way.left_out a (root.decided ∙ ap (λ f. Some f) own)) in
+      let known = at_client_more has entries old.fates new.fates notes.keeps a (way.left_out a (root.decided ∙ ap (λ f. Some f) own)) in
       record {
         parent = known.parent;
         of_entry = known.of_entry;
@@ -331,37 +339,57 @@ module _ {A : Type 0} (has : Id → GitObject → Type 0) (entries : List (Entry
         leads = onward (link_of kind b) known.leads (followed (link_of kind b) among);
       }
 
-  new_left : (b : Id) → IsLeftOut new.fates b → IsKnown has entries new.fates b
+  new_left : (b : Id) → IsLeftOut new.fates b → IsBelowLeftOut has entries new.fates b
   new_left b is =
       elim (notes.only b NotSent is) [
-        | inl before ↦ known_more has entries old.fates new.fates notes.keeps b (way.left_out b before)
+        | inl before ↦ at_client_more has entries old.fates new.fates notes.keeps b (way.left_out b before)
         | inr this ↦ left_here b this.1.kind this.1.among this.0
       ]
 
-  blob_here : (b : Id) (kind : ObjectType) → Contains links (link_of kind b) → kind ≢ Tree → IsNamedBlob has b
-  blob_here b kind among other =
-      elim (All-contains IsTreeOrBlob links (link_of kind b) (follows_down object.kind object.body links follows) among) [
-        | inl tree ↦ absurd (other tree)
-        | inr blob ↦ (a, subst (λ k. IsFollowed has a (link_of k b)) blob (followed (link_of kind b) among))
+  root_sent : is_sent fate ≡ true → IsSentAt old.fates a
+  root_sent is = is_sent_there old.fates a root.own root.decided (root.same ∙ is)
+
+  reached_here : (b : Id) (kind : ObjectType) → Contains links (link_of kind b) → is_sent fate ≡ true → IsBelowListed has entries b
+  reached_here b kind among is =
+      let before = way.from a (root_sent is) in
+      record { root = before.root; listed = before.listed; leads = onward (link_of kind b) before.leads (followed (link_of kind b) among) }
+
+  new_from : (b : Id) → IsSentAt new.fates b → IsBelowListed has entries b
+  new_from b is =
+      let f = sent_fate new.fates b is in
+      elim (notes.only b f.0 f.1) [
+        | inl before ↦ way.from b (is_sent_there old.fates b f.0 before f.2)
+        | inr this ↦ reached_here b this.1.kind this.1.among (sym this.0 ∙ f.2)
       ]
 
-  new_here : (b : Id) → IsNew new links b → IsOnTheWay has (map id_of_entry entries) waiting new b
-  new_here b is =
+  blob_here : (b : Id) (kind : ObjectType) → Contains links (link_of kind b) → kind ≢ Tree → is_sent fate ≡ true → IsNamedBlob has new.fates b
+  blob_here b kind among other is =
+      elim (All-contains IsTreeOrBlob links (link_of kind b) (follows_down object.kind object.body links follows) among) [
+        | inl tree ↦ absurd (other tree)
+        | inr blob ↦ record {
+          by = a;
+          sent = sent_more old.fates new.fates notes.keeps a (root_sent is);
+          names = subst (λ k. IsFollowed has a (link_of k b)) blob (followed (link_of kind b) among);
+        }
+      ]
+
+  new_here : (b : Id) → is_sent fate ≡ true → IsNew new links b → IsOnTheWay has (ids_of entries) waiting new b
+  new_here b goes is =
       elim is.waits [
-        | inl other ↦ inr (inl (blob_here b is.kind is.among other))
+        | inl other ↦ inr (inl (blob_here b is.kind is.among other goes))
         | inr there ↦ inr (inr (inr there))
       ]
 
-  new_sent : (b : Id) → IsSentAt new.fates b → IsOnTheWay has (map id_of_entry entries) waiting new b
+  new_sent : (b : Id) → IsSentAt new.fates b → IsOnTheWay has (ids_of entries) waiting new b
   new_sent b is =
       let f = sent_fate new.fates b is in
       elim (notes.only b f.0 f.1) [
-        | inl before ↦ on_way_more has (map id_of_entry entries) waiting old new notes.keeps notes.pending b (way.sent b (is_sent_there old.fates b f.0 before f.2))
-        | inr this ↦ new_here b this.1
+        | inl before ↦ on_way_more has (ids_of entries) waiting old new notes.keeps notes.pending b (way.sent b (is_sent_there old.fates b f.0 before f.2))
+        | inr this ↦ new_here b (sym this.0 ∙ f.2) this.1
       ]
 
   pub goes_on : IsUnderWay has entries waiting new
-  goes_on = record { alone = notes.received ∙ way.alone; sent = new_sent; left_out = new_left; trees = notes.trees way.trees }
+  goes_on = record { alone = notes.received ∙ way.alone; sent = new_sent; from = new_from; left_out = new_left; trees = notes.trees way.trees }
 
 -- no tree is pending, so none is taken
 pub none_taken : {A : Type 0} (old new : Walk A) (t : Option PendingTree) → t ≡ None → old.trees.items ≡ new.trees.items ++ option_to_list t
@@ -373,9 +401,9 @@ pub tree_taken : {A : Type 0} (has : Id → GitObject → Type 0) (entries : Lis
     → new.received ≡ old.received → new.fates ≡ old.fates → old.trees.items ≡ new.trees.items ++ t ∷ [] → IsUnderWay has entries waiting old
     → IsUnderWay has entries (t.id ∷ waiting) new × HasFateAs new.fates t.id t.fate
 tree_taken has entries waiting old new t received fates trees way =
-    (record { alone = received ∙ way.alone; sent = sent; left_out = left_out; trees = front_all }, record { own = t.fate; decided = its_fate; same = refl })
+    (record { alone = received ∙ way.alone; sent = sent; from = from_listed; left_out = left_out; trees = front_all }, record { own = t.fate; decided = its_fate; same = refl })
   where
-    keeps : Keeps old.fates new.fates
+    keeps : StaysDecided old.fates new.fates
     keeps = keeps_same old.fates new.fates fates
 
     all : All (HasItsFate new.fates) (new.trees.items ++ t ∷ [])
@@ -390,32 +418,35 @@ tree_taken has entries waiting old new t received fates trees way =
     its_fate : fate_at new.fates t.id ≡ Some t.fate
     its_fate = All-contains (HasItsFate new.fates) (new.trees.items ++ t ∷ []) t all (Contains-append_right new.trees.items (t ∷ []) t (contains_head t []))
 
-    by : (a : Id) → IsOnTheWay has (map id_of_entry entries) waiting old a → IsOnTheWay has (map id_of_entry entries) (t.id ∷ waiting) new a
+    by : (a : Id) → IsOnTheWay has (ids_of entries) waiting old a → IsOnTheWay has (ids_of entries) (t.id ∷ waiting) new a
     by a (inl waits) = inl (contains_tail t.id waiting a waits)
-    by a (inr (inl blob)) = inr (inl blob)
-    by a (inr (inr (inl walked))) = inr (inr (inl (walked_more has (map id_of_entry entries) old.fates new.fates keeps a walked)))
+    by a (inr (inl blob)) = inr (inl (blob_more has old.fates new.fates keeps a blob))
+    by a (inr (inr (inl walked))) = inr (inr (inl (walked_more has (ids_of entries) old.fates new.fates keeps a walked)))
     by a (inr (inr (inr there))) =
         elim (Contains-push_cases (map id_of_tree new.trees.items) t.id a (subst (λ is. Contains is a) (ap (map id_of_tree) trees ∙ ids_pushed new.trees.items t) there)) [
           | inl rest ↦ inr (inr (inr rest))
           | inr this ↦ inl (subst (Contains (t.id ∷ waiting)) this (contains_head t.id waiting))
         ]
 
-    sent : (a : Id) → IsSentAt new.fates a → IsOnTheWay has (map id_of_entry entries) (t.id ∷ waiting) new a
+    sent : (a : Id) → IsSentAt new.fates a → IsOnTheWay has (ids_of entries) (t.id ∷ waiting) new a
     sent a is = by a (way.sent a (sent_more new.fates old.fates (keeps_same new.fates old.fates (sym fates)) a is))
 
-    left_out : (a : Id) → IsLeftOut new.fates a → IsKnown has entries new.fates a
-    left_out a is = known_more has entries old.fates new.fates keeps a (way.left_out a (keeps_same new.fates old.fates (sym fates) a NotSent is))
+    from_listed : (a : Id) → IsSentAt new.fates a → IsBelowListed has entries a
+    from_listed a is = way.from a (sent_more new.fates old.fates (keeps_same new.fates old.fates (sym fates)) a is)
+
+    left_out : (a : Id) → IsLeftOut new.fates a → IsBelowLeftOut has entries new.fates a
+    left_out a is = at_client_more has entries old.fates new.fates keeps a (way.left_out a (keeps_same new.fates old.fates (sym fates) a NotSent is))
 
 -- a tree that was taken was walked
 pub tree_walked : {A : Type 0} (has : Id → GitObject → Type 0) (entries : List (Entry A)) (waiting : List Id) (walk : Walk A) (a : Id)
-    → IsWalked has (map id_of_entry entries) walk.fates a → IsUnderWay has entries (a ∷ waiting) walk → IsUnderWay has entries waiting walk
-tree_walked has entries waiting walk a walked way = record { alone = way.alone; sent = λ b is. by b (way.sent b is); left_out = way.left_out; trees = way.trees }
+    → IsWalked has (ids_of entries) walk.fates a → IsUnderWay has entries (a ∷ waiting) walk → IsUnderWay has entries waiting walk
+tree_walked has entries waiting walk a walked way = record { alone = way.alone; sent = λ b is. by b (way.sent b is); from = way.from; left_out = way.left_out; trees = way.trees }
   where
-    by : (b : Id) → IsOnTheWay has (map id_of_entry entries) (a ∷ waiting) walk b → IsOnTheWay has (map id_of_entry entries) waiting walk b
+    by : (b : Id) → IsOnTheWay has (ids_of entries) (a ∷ waiting) walk b → IsOnTheWay has (ids_of entries) waiting walk b
     by b (inr other) = inr other
     by b (inl waits) =
         elim (contains_cases a waiting b waits) [
-          | inl same ↦ inr (inr (inl (subst (IsWalked has (map id_of_entry entries) walk.fates) same walked)))
+          | inl same ↦ inr (inr (inl (subst (IsWalked has (ids_of entries) walk.fates) same walked)))
           | inr later ↦ inl later
         ]
 
@@ -424,7 +455,7 @@ pub tree_step : {A : Type 0} (has : Id → GitObject → Type 0) (entries : List
     → mid.received ≡ old.received → mid.fates ≡ old.fates → old.trees.items ≡ mid.trees.items ++ t ∷ [] → has t.id (object_of Tree body)
     → NotesObject mid Tree body (is_sent t.fate) new → IsOpen has entries old → IsOpen has entries new
 tree_step has entries old mid new t body received fates trees read notes way =
-    let ids = map id_of_entry entries in
+    let ids = ids_of entries in
     let taken = tree_taken has entries ids old mid t received fates trees way in
     let on = goes_on has entries (t.id ∷ ids) mid new t.id (object_of Tree body) notes.links t.fate read notes.follows taken.1 notes.notes taken.0 in
     let walked = walked_now has ids mid new t.id (object_of Tree body) notes.links (is_sent t.fate) read notes.follows (inl refl) notes.notes taken.0.alone in
@@ -436,9 +467,9 @@ pub parent_left : {A : Type 0} (has : Id → GitObject → Type 0) (entries : Li
     → new.received ≡ old.received → new.trees.items ≡ old.trees.items → IsParent entries a → fate_at old.fates a ≡ None → Puts old.fates a NotSent new.fates
     → IsUnderWay has entries waiting old → IsUnderWay has entries waiting new
 parent_left has entries waiting old new a received trees of_entry none puts way =
-    record { alone = received ∙ way.alone; sent = sent; left_out = left_out; trees = its_fate }
+    record { alone = received ∙ way.alone; sent = sent; from = from_listed; left_out = left_out; trees = its_fate }
   where
-    keeps : Keeps old.fates new.fates
+    keeps : StaysDecided old.fates new.fates
     keeps = puts_keeps old.fates new.fates a NotSent none puts
 
     its_fate : All (HasItsFate new.fates) new.trees.items
@@ -447,22 +478,30 @@ parent_left has entries waiting old new a received trees of_entry none puts way 
     pending : (b : Id) → IsPending old b → IsPending new b
     pending b is = subst (λ ts. Contains (map id_of_tree ts) b) (sym trees) is
 
-    sent : (b : Id) → IsSentAt new.fates b → IsOnTheWay has (map id_of_entry entries) waiting new b
+    sent : (b : Id) → IsSentAt new.fates b → IsOnTheWay has (ids_of entries) waiting new b
     sent b is =
         let f = sent_fate new.fates b is in
         elim (puts_only old.fates new.fates a NotSent puts b f.0 f.1) [
-          | inl before ↦ on_way_more has (map id_of_entry entries) waiting old new keeps pending b (way.sent b (is_sent_there old.fates b f.0 before f.2))
+          | inl before ↦ on_way_more has (ids_of entries) waiting old new keeps pending b (way.sent b (is_sent_there old.fates b f.0 before f.2))
           | inr this ↦ absurd (false≢true (sym (ap is_sent this.1) ∙ f.2))
         ]
 
-    at_parent : IsKnown has entries new.fates a
+    from_listed : (b : Id) → IsSentAt new.fates b → IsBelowListed has entries b
+    from_listed b is =
+        let f = sent_fate new.fates b is in
+        elim (puts_only old.fates new.fates a NotSent puts b f.0 f.1) [
+          | inl before ↦ way.from b (is_sent_there old.fates b f.0 before f.2)
+          | inr this ↦ absurd (false≢true (sym (ap is_sent this.1) ∙ f.2))
+        ]
+
+    at_parent : IsBelowLeftOut has entries new.fates a
     at_parent = record { parent = a; of_entry = of_entry; left_out = puts_here old.fates new.fates a NotSent puts; leads = here }
 
-    left_out : (b : Id) → IsLeftOut new.fates b → IsKnown has entries new.fates b
+    left_out : (b : Id) → IsLeftOut new.fates b → IsBelowLeftOut has entries new.fates b
     left_out b is =
         elim (puts_only old.fates new.fates a NotSent puts b NotSent is) [
-          | inl before ↦ known_more has entries old.fates new.fates keeps b (way.left_out b before)
-          | inr this ↦ subst (IsKnown has entries new.fates) this.0 at_parent
+          | inl before ↦ at_client_more has entries old.fates new.fates keeps b (way.left_out b before)
+          | inr this ↦ subst (IsBelowLeftOut has entries new.fates) this.0 at_parent
         ]
 
 -- an id is decided if it was covered
@@ -476,35 +515,36 @@ pub stays_open : {A : Type 0} (has : Id → GitObject → Type 0) (entries : Lis
     → IsUnderWay has entries waiting old → IsUnderWay has entries waiting new
 stays_open has entries waiting old new received trees fates way = record {
   alone = received ∙ way.alone;
-  sent = λ b is. on_way_more has (map id_of_entry entries) waiting old new keeps (λ c is. subst (λ ts. Contains (map id_of_tree ts) c) (sym trees) is) b
+  sent = λ b is. on_way_more has (ids_of entries) waiting old new keeps (λ c is. subst (λ ts. Contains (map id_of_tree ts) c) (sym trees) is) b
       (way.sent b (sent_more new.fates old.fates back b is));
-  left_out = λ b is. known_more has entries old.fates new.fates keeps b (way.left_out b (back b NotSent is));
+  from = λ b is. way.from b (sent_more new.fates old.fates back b is);
+  left_out = λ b is. at_client_more has entries old.fates new.fates keeps b (way.left_out b (back b NotSent is));
   trees = subst (All (HasItsFate new.fates)) (sym trees) (trees_more old.fates new.fates keeps old.trees.items way.trees);
 }
   where
-    keeps : Keeps old.fates new.fates
+    keeps : StaysDecided old.fates new.fates
     keeps = keeps_same old.fates new.fates fates
 
-    back : Keeps new.fates old.fates
+    back : StaysDecided new.fates old.fates
     back = keeps_same new.fates old.fates (sym fates)
 
 -- ---- the list of commits and tags
 
-pub all_listed : {A : Type 0} (entries : List (Entry A)) → All (HasIdIn (map id_of_entry entries)) entries
+pub all_listed : {A : Type 0} (entries : List (Entry A)) → All (HasIdIn (ids_of entries)) entries
 all_listed [] = All-nil (HasIdIn [])
 all_listed (e ∷ entries) =
-    let ids = map id_of_entry (e ∷ entries) in
-    All-cons (HasIdIn ids) e entries (contains_head e.id (map id_of_entry entries))
-    (All-weaker (HasIdIn (map id_of_entry entries)) (HasIdIn ids) (λ x among. contains_tail e.id (map id_of_entry entries) x.id among) entries (all_listed entries))
+    let ids = ids_of (e ∷ entries) in
+    All-cons (HasIdIn ids) e entries (contains_head e.id (ids_of entries))
+    (All-weaker (HasIdIn (ids_of entries)) (HasIdIn ids) (λ x among. contains_tail e.id (ids_of entries) x.id among) entries (all_listed entries))
 
-pub entries_sent_more : {A : Type 0} (old new : Fates) → Keeps old new → (entries : List (Entry A)) → All (IsSentEntry old) entries → All (IsSentEntry new) entries
+pub entries_sent_more : {A : Type 0} (old new : Fates) → StaysDecided old new → (entries : List (Entry A)) → All (IsSentEntry old) entries → All (IsSentEntry new) entries
 entries_sent_more old new keeps entries all = All-weaker (IsSentEntry old) (IsSentEntry new) (λ e is. sent_more old new keeps e.id is) entries all
 
-pub parents_decided_more : {A : Type 0} (old new : Fates) → Keeps old new → (entries : List (Entry A)) → All (HasDecidedParents old) entries → All (HasDecidedParents new) entries
+pub parents_decided_more : {A : Type 0} (old new : Fates) → StaysDecided old new → (entries : List (Entry A)) → All (HasDecidedParents old) entries → All (HasDecidedParents new) entries
 parents_decided_more old new keeps entries all =
     All-weaker (HasDecidedParents old) (HasDecidedParents new) (λ e is. all_decided_more old new keeps e.node.parents is) entries all
 
-pub entries_walked_more : {A : Type 0} (has : Id → GitObject → Type 0) (listed : List Id) (old new : Fates) → Keeps old new → (entries : List (Entry A))
+pub entries_walked_more : {A : Type 0} (has : Id → GitObject → Type 0) (listed : List Id) (old new : Fates) → StaysDecided old new → (entries : List (Entry A))
     → All (IsWalkedEntry has listed old) entries → All (IsWalkedEntry has listed new) entries
 entries_walked_more has listed old new keeps entries all =
     All-weaker (IsWalkedEntry has listed old) (IsWalkedEntry has listed new) (λ e is. walked_more has listed old new keeps e.id is) entries all
@@ -532,25 +572,32 @@ pub opens : {A : Type 0} (has : Id → GitObject → Type 0) (entries : List (En
 opens has entries walk alone empty only = record {
   alone = alone;
   sent = λ a is. let fate = sent_fate walk.fates a is in inl (only.listed a fate.0 fate.1);
+  from = λ a is. let fate = sent_fate walk.fates a is in record { root = a; listed = only.listed a fate.0 fate.1; leads = here };
   left_out = λ a is. absurd (false≢true (only.sent a NotSent is));
   trees = subst (All (HasItsFate walk.fates)) (sym empty) (All-nil (HasItsFate walk.fates));
 }
 
 -- the walk is over
-pub gathered : {A : Type 0} (has : Id → GitObject → Type 0) (entries : List (Entry A)) (walk : Walk A) → walk.trees.items ≡ []
+pub gathered : {A : Type 0} (has : Id → GitObject → Type 0) (entries : List (Entry A)) (walk : Walk A) → AreDistinct walk.fates → walk.trees.items ≡ []
     → IsOpen has entries walk → All (IsSentEntry walk.fates) entries → All (HasDecidedParents walk.fates) entries
-    → All (IsWalkedEntry has (map id_of_entry entries) walk.fates) entries → IsGathered has entries walk.fates
-gathered has entries walk empty way sent parents walked = record {
-  listed = λ a is. All-contains (IsSentAt walk.fates) (map id_of_entry entries) a (All-map (IsSentAt walk.fates) id_of_entry entries sent) is;
+    → All (IsWalkedEntry has (ids_of entries) walk.fates) entries → IsGathered has entries walk.fates
+gathered has entries walk distinct empty way sent parents walked = record {
+  distinct = distinct;
+  listed = λ a is. All-contains (IsSentAt walk.fates) (ids_of entries) a (All-map (IsSentAt walk.fates) id_of_entry entries sent) is;
   parents = λ a is. All-contains (IsDecided walk.fates) is.entry.node.parents a (All-contains (HasDecidedParents walk.fates) entries is.entry parents is.listed) is.among;
+  roots = root;
   walked = λ a is. by a (way.sent a is);
+  from = way.from;
   left_out = way.left_out;
 }
   where
-    by : (a : Id) → IsOnTheWay has (map id_of_entry entries) (map id_of_entry entries) walk a → IsNamedBlob has a ⊎ IsWalked has (map id_of_entry entries) walk.fates a
-    by a (inl listed) =
-        let P = IsWalked has (map id_of_entry entries) walk.fates in
-        inr (All-contains P (map id_of_entry entries) a (All-map P id_of_entry entries walked) listed)
+    root : (a : Id) → IsListed entries a → IsWalked has (ids_of entries) walk.fates a
+    root a listed =
+        let P = IsWalked has (ids_of entries) walk.fates in
+        All-contains P (ids_of entries) a (All-map P id_of_entry entries walked) listed
+
+    by : (a : Id) → IsOnTheWay has (ids_of entries) (ids_of entries) walk a → IsNamedBlob has walk.fates a ⊎ IsWalked has (ids_of entries) walk.fates a
+    by a (inl listed) = inr (root a listed)
     by a (inr (inl blob)) = inl blob
     by a (inr (inr (inl is))) = inr is
     by a (inr (inr (inr there))) = nothing_in_nil a (subst (λ ts. Contains (map id_of_tree ts) a) empty there)
@@ -558,7 +605,7 @@ gathered has entries walk empty way sent parents walked = record {
 -- one more listed object is sent
 pub one_listed : {A : Type 0} (entries : List (Entry A)) (old new : Walk A) (e : Entry A) (fate : Fate) (found : Option Found) → old.received ≡ None → is_sent fate ≡ true
     → Contains entries e → Settles old e.id fate found new → IsOnlyListed entries old.fates
-    → IsOnlyListed entries new.fates × Keeps old.fates new.fates × IsSentAt new.fates e.id
+    → IsOnlyListed entries new.fates × StaysDecided old.fates new.fates × IsSentAt new.fates e.id
 one_listed entries old new e fate None alone comes among settles only =
     let keeps = keeps_same old.fates new.fates settles.1 in let back = keeps_same new.fates old.fates (sym settles.1) in (
       record { sent = λ a f is. only.sent a f (back a f is); listed = λ a f is. only.listed a f (back a f is) },
@@ -586,5 +633,5 @@ one_listed entries old new e fate (Some found) alone comes among settles only = 
     listed a f is =
         elim (puts_only old.fates new.fates e.id fate settles.1 a f is) [
           | inl before ↦ only.listed a f before
-          | inr this ↦ subst (IsListed entries) this.0 (All-contains (HasIdIn (map id_of_entry entries)) entries e (all_listed entries) among)
+          | inr this ↦ subst (IsListed entries) this.0 (All-contains (HasIdIn (ids_of entries)) entries e (all_listed entries) among)
         ]

@@ -54,9 +54,12 @@ pub record IsOfCommit {A : Type 0} (commits : List Commit) (entry : Entry A) : T
 abbrev pub IsKnown : {A : Type 0} → List Commit → Entry A → Type 0
 IsKnown commits entry = IsOfObject entry ⊎ IsOfCommit commits entry
 
+abbrev pub id_of_entry : {A : Type 0} → Entry A → Id
+id_of_entry entry = entry.id
+
 -- the ids of the entries
 abbrev pub ids_of : {A : Type 0} → List (Entry A) → List Id
-ids_of entries = map (λ entry. entry.id) entries
+ids_of entries = map id_of_entry entries
 
 -- objects of this type are leaves of a graph: trees and blobs
 abbrev pub IsLeafType : ObjectType → Type 0

@@ -1,8 +1,8 @@
--- The objects that are sent for a list of commits and tags (git-rev-list(1), "--objects"), and the objects that are left
--- out because the client has them.
-use Rattle.std.specs.Prelude.{◌≡◌, ◌⊎◌, ⊤, ℕ, Bool, true, false, List, [], ◌∷◌, All, Contains, Option, None, Some, length, map}
-use Rattle.std.specs.List.{filter}
-use Rattle.std.specs.Map.{lookup}
+-- The objects that are sent for a list of commits and tags (git-rev-list(1), "--objects"). Objects that the client has
+-- are left out.
+use Rattle.std.specs.Prelude.{◌≡◌, ◌⊎◌, ℕ, Bool, true, false, List, [], ◌∷◌, All, Contains, Option, None, Some, length}
+use Rattle.std.specs.List.{IsDistinct, filter}
+use Rattle.std.specs.Map.{keys_of, lookup}
 use Rattle.std.specs.Option.{option_map}
 use Rattle.std.specs.Str.{bytes_eq}
 use Rattle.gname.specs.Ids.{Id}
@@ -13,6 +13,7 @@ use Rattle.gitobject.specs.declared.links.Link.{Link}
 use Rattle.gitobject.specs.declared.types.ObjectType.{ObjectType}
 use Rattle.gitobject.specs.declared.types.ObjectType.TheVariants.{Commit, Tree, Blob, Tag}
 use Rattle.gcomplete.specs.Stores.{GitObject}
+use Rattle.gitrepository.specs.Entries.{ids_of}
 use Rattle.gitrepository.specs.declared.fates.Decided.{Decided}
 use Rattle.gitrepository.specs.declared.fates.Fate.{Fate}
 use Rattle.gitrepository.specs.declared.fates.Fate.TheVariants.{Sent, NotSent}
@@ -22,6 +23,10 @@ use Rattle.gitrepository.specs.declared.fates.Fate.TheVariants.{Sent, NotSent}
 -- the ids whose fates are decided, in the order of decision
 abbrev pub Fates : Type 0
 Fates = List (Id × Decided)
+
+-- the ids are distinct
+abbrev pub AreDistinct : Fates → Type 0
+AreDistinct fates = IsDistinct bytes_eq (keys_of fates)
 
 abbrev pub fate_of : Decided → Fate
 fate_of decided = decided.fate
@@ -86,12 +91,9 @@ pub data LeadsDown (has : Id → GitObject → Type 0) (a : Id) : Id → Type 0 
 
 -- ---- the objects that are sent for a list of commits and tags
 
-abbrev pub id_of_entry : {A : Type 0} → Entry A → Id
-id_of_entry entry = entry.id
-
 -- one of the entries has this id
 abbrev pub IsListed : {A : Type 0} → List (Entry A) → Id → Type 0
-IsListed entries a = Contains (map id_of_entry entries) a
+IsListed entries a = Contains (ids_of entries) a
 
 -- one of the entries has the parent `a`
 pub record IsParent {A : Type 0} (entries : List (Entry A)) (a : Id) : Type 0 where
@@ -108,26 +110,33 @@ pub record IsWalked (has : Id → GitObject → Type 0) (listed : List Id) (fate
   pub follows : FollowedOf object.kind object.body links
   pub each : All (LeadsToDecided fates) links
 
--- an object that was read names the id as a blob
-abbrev pub IsNamedBlob : (Id → GitObject → Type 0) → Id → Type 0
-IsNamedBlob has a = (by : Id) × IsFollowed has by (link_of Blob a)
+-- an object that is sent names the id as a blob
+pub record IsNamedBlob (has : Id → GitObject → Type 0) (fates : Fates) (a : Id) : Type 0 where
+  pub by : Id
+  pub sent : IsSentAt fates by
+  pub names : IsFollowed has by (link_of Blob a)
 
--- The id is left out because a parent of an entry leads to it. This parent is left out too.
-pub record IsKnown {A : Type 0} (has : Id → GitObject → Type 0) (entries : List (Entry A)) (fates : Fates) (a : Id) : Type 0 where
+-- a listed object leads to the id
+pub record IsBelowListed {A : Type 0} (has : Id → GitObject → Type 0) (entries : List (Entry A)) (a : Id) : Type 0 where
+  pub root : Id
+  pub listed : IsListed entries root
+  pub leads : LeadsDown has root a
+
+-- A parent of an entry leads to the id. The parent is left out too, because the client has it.
+pub record IsBelowLeftOut {A : Type 0} (has : Id → GitObject → Type 0) (entries : List (Entry A)) (fates : Fates) (a : Id) : Type 0 where
   pub parent : Id
   pub of_entry : IsParent entries parent
   pub left_out : IsLeftOut fates parent
   pub leads : LeadsDown has parent a
 
--- The listed objects are sent, and their parents are sent or left out. Each followed link of a sent object leads to an
--- object that is sent or left out. Only what a left-out parent leads to is left out.
+-- The ids are distinct. The listed objects are sent, and their parents are sent or left out. Each sent object was read,
+-- unless it is not listed and a sent object names it as a blob. Its followed links lead to objects that are sent or left
+-- out. Only what a listed object leads to is sent. Only what a left-out parent leads to is left out.
 pub record IsGathered {A : Type 0} (has : Id → GitObject → Type 0) (entries : List (Entry A)) (fates : Fates) : Type 0 where
+  pub distinct : AreDistinct fates
   pub listed : (a : Id) → IsListed entries a → IsSentAt fates a
   pub parents : (a : Id) → IsParent entries a → IsDecided fates a
-  pub walked : (a : Id) → IsSentAt fates a → IsNamedBlob has a ⊎ IsWalked has (map id_of_entry entries) fates a
-  pub left_out : (a : Id) → IsLeftOut fates a → IsKnown has entries fates a
-
--- The definition says nothing, because contracts cannot describe the contents of system files. The reader of the store
--- returned the object for the id.
-abbrev pub IsStoredObject : Id → GitObject → Type 0
-IsStoredObject a o = ⊤
+  pub roots : (a : Id) → IsListed entries a → IsWalked has (ids_of entries) fates a
+  pub walked : (a : Id) → IsSentAt fates a → IsNamedBlob has fates a ⊎ IsWalked has (ids_of entries) fates a
+  pub from : (a : Id) → IsSentAt fates a → IsBelowListed has entries a
+  pub left_out : (a : Id) → IsLeftOut fates a → IsBelowLeftOut has entries fates a

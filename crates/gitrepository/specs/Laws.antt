@@ -2,11 +2,12 @@
 use Rattle.std.specs.Prelude.{◌≡◌, ◌≢◌, ◌⊎◌, List, All, Contains, None, Some, map, if◌then◌else◌}
 use Rattle.gname.specs.Ids.{Id}
 use Rattle.gobject.specs.declared.node.Entry.{Entry}
+use Rattle.gdag.specs.Graphs as graph
 use Rattle.gitobject.specs.declared.links.Link.{Link}
 use Rattle.gitobject.specs.declared.types.ObjectType.{ObjectType}
 use Rattle.gcomplete.specs.Closed.{IsClosed, IsComplete, LeadsIn}
 use Rattle.gcomplete.specs.Linked.{HasClosed}
-use Rattle.gcomplete.specs.Naming.{Collide, IsNamed}
+use Rattle.gcomplete.specs.Naming.{Collide, IsCollision, IsNameOf, IsNamed, text_of}
 use Rattle.gcomplete.specs.Sending.{IsSent}
 use Rattle.gcomplete.specs.Stores.{AreTypesOf, GitObject, Holds, Store, Types, joined}
 use Rattle.gitpack.specs.Indexes.{object_id}
@@ -32,8 +33,8 @@ pub record HasTwoTypes (objects : List IndexedEntry) : Type 0 where
   pub differ : object.kind ≢ other.kind
 
 -- The links of the objects of a pack lead to objects of the pack or to prerequisites, which a closed store has. Then
--- the store stays closed if the objects of the pack are added. Otherwise two objects of the pack have the same id and
--- different types.
+-- the store stays closed if the objects of the pack are added. The exception is a pack in which two objects have the
+-- same id and different types.
 abbrev pub PacksKeepClosed : Type 0
 PacksKeepClosed =
     (prerequisites : List Link) (objects : List IndexedEntry) (s : Store) → IsNamed s → IsClosed s
@@ -47,14 +48,17 @@ pub record CompletesKept (keeps : Id → Type 0) (objects : List IndexedEntry) (
   pub named : IsNamed added
   pub complete : ((a : Id) → keeps a → IsComplete (joined s added) a) ⊎ Collide s added
 
--- A closed store has the assumed ids and the prerequisites of a pack, whose objects have links that lead to objects of
--- the pack or to prerequisites. Then each kept id is complete in the store and the objects of the pack together.
--- Otherwise two objects of the pack have the same id and different types. Without a pack the lists are empty.
-abbrev pub KeptIsComplete : Type 0
-KeptIsComplete =
-    (assumed : List Id) (prerequisites : List Link) (objects : List IndexedEntry) (s : Store) → IsNamed s → IsClosed s
-    → All (Holds s) assumed → AreLinked prerequisites objects → All (LeadsIn s) prerequisites
-    → CompletesKept (λ a. Contains assumed a ⊎ IsInReceived prerequisites objects a) objects s ⊎ HasTwoTypes objects
+-- A closed store has each object of a client's graph, and the prerequisites of a pack. The links of the objects of the
+-- pack lead to objects of the pack or to prerequisites. The graph gains only ids of these objects and prerequisites.
+-- Then each id of the graph is complete in the store and the objects of the pack together. The exception is a pack in
+-- which two objects have the same id and different types. Without a pack the lists are empty.
+abbrev pub KeptIsComplete : Type 0 → Type 0
+KeptIsComplete A =
+    (old new : List (Entry A)) (prerequisites : List Link) (objects : List IndexedEntry) (s : Store) → IsNamed s
+    → IsClosed s → ((a : Id) → graph.Holds old a → Holds s a) → AreLinked prerequisites objects
+    → All (LeadsIn s) prerequisites
+    → ((a : Id) → graph.Holds new a → graph.Holds old a ⊎ IsInReceived prerequisites objects a)
+    → CompletesKept (graph.Holds new) objects s ⊎ HasTwoTypes objects
 
 -- ---- the objects that are sent
 
@@ -68,6 +72,24 @@ pub record Describes {A : Type 0} (s : Store) (entry : Entry A) : Type 0 where
   pub held : s entry.id ≡ Some object
   pub node : IsNodeOf object.kind object.body entry.node
 
+-- another object has the id of an object of the store, and the two texts differ
+pub record HasCollision (s : Store) : Type 0 where
+  pub id : Id
+  pub object : GitObject
+  pub other : GitObject
+  pub held : s id ≡ Some object
+  pub name : IsNameOf id other
+  pub collision : IsCollision (text_of object) (text_of other)
+
+-- The walk read objects that have the ids by which they were read. A store is closed, has each object under its own id,
+-- and has the objects that the entries describe. Then the objects that were read are those of the store, or another
+-- object has the id of an object of the store.
+abbrev pub GatheredIsHeld : Type 0 → Type 0
+GatheredIsHeld A =
+    (server : Store) (entries : List (Entry A)) (fates : Fates) → IsNamed server → IsClosed server
+    → All (Describes server) entries → IsGathered IsNameOf entries fates
+    → IsGathered (IsHeld server) entries fates ⊎ HasCollision server
+
 -- the objects of a store that are sent
 abbrev pub sent_from : Store → Fates → Store
 sent_from s fates a = if is_sent_at (fate_at fates a) then s a else None
@@ -77,8 +99,8 @@ abbrev pub AreKnown : {A : Type 0} → List (Entry A) → Fates → List Id → 
 AreKnown entries fates known = (a : Id) → IsParent entries a → IsLeftOut fates a → Contains known a
 
 -- The store of a server is closed, and the entries describe its objects. Then the objects that are sent for these entries
--- are those of an honest server: each link of a sent object leads to a sent object, or to an object that a left-out
--- parent reaches. The client has the left-out parents.
+-- are those of an honest server. Each link of a sent object leads to a sent object, or to an object that a left-out
+-- parent reaches. The known ids include the left-out parents.
 abbrev pub GatheredIsSent : Type 0 → Type 0
 GatheredIsSent A =
     (server : Store) (entries : List (Entry A)) (fates : Fates) (known : List Id) → IsClosed server

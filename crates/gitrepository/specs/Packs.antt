@@ -1,11 +1,12 @@
 -- Outgoing and incoming packs (gitformat-pack(5)).
 use Rattle.std.specs.Prelude.{◌≡◌, ℕ, List, ◌++◌, length, All}
 use Rattle.std.specs.List.{concat}
+use Rattle.gcomplete.specs.Naming.{IsNameOf}
 use Rattle.gobject.specs.declared.node.Entry.{Entry}
 use Rattle.gitpack.specs.Packs.{IsEntry, IsFramed, pack_header, with_trailer}
 use Rattle.gitpack.specs.declared.entry.EntryForm.{EntryForm}
 use Rattle.gitrepository.specs.Entries.{IsRead}
-use Rattle.gitrepository.specs.Gathering.{Fates, IsGathered, IsStoredObject, sent_count}
+use Rattle.gitrepository.specs.Gathering.{Fates, IsGathered, sent_count}
 
 -- the bytes of a pack entry: a header and a stream
 pub record IsEntryText (text : List ℕ) : Type 0 where
@@ -27,10 +28,11 @@ pub record IsWholePack (count : ℕ) (pack : List ℕ) : Type 0 where
   pub put : HasPut count count bytes
   pub is : pack ≡ with_trailer bytes
 
--- a pack of these commits and tags, which has one entry for each object that is sent for them
+-- A pack of these commits and tags, which has one entry for each object that is sent for them. The objects that were
+-- read to find the sent objects have the ids by which they were read.
 pub record IsPackOf {A : Type 0} (entries : List (Entry A)) (pack : List ℕ) : Type 0 where
   pub fates : Fates
-  pub gathered : IsGathered IsStoredObject entries fates
+  pub gathered : IsGathered IsNameOf entries fates
   pub whole : IsWholePack (sent_count fates) pack
 
 -- An indexed pack: its trailer is the SHA-1 of all preceding bytes. Each returned entry describes an object, or is a

@@ -1,9 +1,10 @@
 -- A pack that is returned in parts (gitformat-pack(5)).
 use Rattle.std.specs.Prelude.{◌≡◌, ℕ, ◌+◌, ◌≤◌, true, false, IsTrue, List, [], ◌++◌, length, drop}
+use Rattle.gcomplete.specs.Naming.{IsNameOf}
 use Rattle.sha1.specs.Sha1.{Holds}
 use Rattle.gitpack.specs.Packs.{with_trailer}
 use Rattle.gobject.specs.declared.node.Entry.{Entry}
-use Rattle.gitrepository.specs.Gathering.{Fates, IsGathered, IsStoredObject, sent_count}
+use Rattle.gitrepository.specs.Gathering.{Fates, IsGathered, sent_count}
 use Rattle.gitrepository.specs.Packs.{HasPut}
 use Rattle.gitrepository.specs.declared.outgoing.Outgoing.{Outgoing}
 
@@ -30,7 +31,7 @@ GoesOn old new = (count : ℕ) (given : List ℕ) → IsGoing count old given �
 -- returned
 pub record IsBegun {A B : Type 0} (entries : List (Entry A)) (pack : Outgoing B) : Type 0 where
   pub fates : Fates
-  pub gathered : IsGathered IsStoredObject entries fates
+  pub gathered : IsGathered IsNameOf entries fates
   pub going : IsGoing (sent_count fates) pack []
 
 -- the whole pack was returned

@@ -2,11 +2,12 @@
 
 ghost use Rattle.std.specs.Prelude.{◌≡◌, [], OnOk, length, slice_get};
 ghost use Rattle.std.specs.Option.{option_map};
-ghost use Rattle.gitrepository.specs.Gathering.{fate_at, is_sent, sent_count};
+ghost use Rattle.gitrepository.specs.Gathering.{AreDistinct, fate_at, is_sent, sent_count};
 ghost use Rattle.gitrepository.specs.steps.Walking.{Puts, decision_of, is_sent_some};
 
 use crate::path_hash::PathHash;
 use ggraph::IdHasher;
+use gitobject::ObjectType;
 use gitobjects::Found;
 use gname::Oid;
 use indexmap::IndexMap;
@@ -53,6 +54,8 @@ pub(crate) struct Decided {
     pub fate: Fate,
     /// The location of the object.
     pub found: Found,
+    /// The type that a link gives the object, or `None` if no link was followed to it.
+    pub kind: Option<ObjectType>,
 }
 
 /// The objects whose fates are decided, in the order of decision. Contracts treat `Fates` as the
@@ -63,11 +66,13 @@ pub(crate) struct Fates<A: Allocator + Copy> {
 }
 
 impl<A: Allocator + Copy> Model for Fates<A> {
-    ghost use Rattle.gitrepository.specs.Gathering.{Fates};
+    ghost use Rattle.gitrepository.specs.Gathering.{AreDistinct, Fates};
 
     ghost Value = { Fates };
 
     ghost view = { λ fates. fates.map.entries };
+
+    ghost invariant = { λ fates. AreDistinct fates.map.entries };
 }
 
 impl<A: Allocator + Copy> Fates<A> {
@@ -80,12 +85,27 @@ impl<A: Allocator + Copy> Fates<A> {
         }
     }
 
+    /// Proves that the ids are distinct.
+    pub(crate) fn laws(&self)
+        ensures { AreDistinct self.now }
+    {
+        let _ = &self.map;
+    }
+
     /// Returns the fate of the object with this id, or `None` if the fate is undecided.
     pub(crate) fn get(&self, id: &Oid) -> Option<Fate>
         ensures { result ≡ fate_at self.now id.now }
     {
         match self.map.get(id) {
             Some(decided) => Some(decided.fate),
+            None => None,
+        }
+    }
+
+    /// Returns the type that a link gives the object, if its fate was decided through a link.
+    pub(crate) fn linked_kind(&self, id: &Oid) -> Option<ObjectType> {
+        match self.map.get(id) {
+            Some(decided) => decided.kind,
             None => None,
         }
     }
@@ -131,12 +151,12 @@ impl<A: Allocator + Copy> Fates<A> {
         }
     }
 
-    /// Sets the fate of an object at this location. The fate must be undecided. Fails only if out
-    /// of memory, and then no fate changes.
-    pub(crate) fn settle(&mut self, id: &Oid, found: Found, fate: Fate) -> Result<(), AllocError>
-        ensures { OnOk result (Puts self.old id.now fate self.new) }
+    /// Sets the fate of an object, which must be undecided. Fails only if out of memory, and then no
+    /// fate changes.
+    pub(crate) fn settle(&mut self, id: &Oid, decided: Decided) -> Result<(), AllocError>
+        ensures { OnOk result (Puts self.old id.now decided.fate self.new) }
     {
-        match self.map.insert(*id, Decided { fate, found }) {
+        match self.map.insert(*id, decided) {
             Ok(_) => Ok(()),
             Err(_) => Err(AllocError),
         }

@@ -86,7 +86,7 @@ pub enum RepositoryFault<A: Allocator + Copy> {
         /// The reason why the format is unsupported.
         fault: FormFault,
     },
-    /// The packer or the indexer is already in use.
+    /// The packer or the indexer is already in use, or a received pack was not taken.
     Busy,
 }
 

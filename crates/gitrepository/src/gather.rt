@@ -1,16 +1,18 @@
 //! The objects to send for a list of commits and tags.
 
-ghost use Rattle.std.specs.Prelude.{◌≡◌, ◌∷◌, ◌++◌, ◌↔◌, [], ℕ, List, All, Contains, IfOk, IsTrue, None, OnOk};
+ghost use Rattle.std.specs.Prelude.{◌≡◌, ◌≢◌, ◌∷◌, ◌++◌, ◌↔◌, [], ℕ, List, All, Contains, IfOk, IsTrue, None, OnOk};
 ghost use Rattle.std.specs.Bool.{IsFalse};
 ghost use Rattle.std.specs.Option.{option_to_list};
 ghost use Rattle.gname.specs.Ids.{Id};
 ghost use Rattle.gobject.specs.declared.node.Entry.{Entry as GraphEntry};
 ghost use Rattle.gitobject.specs.declared.types.ObjectType.TheVariants as types;
+ghost use Rattle.gcomplete.specs.Naming.{IsNameOf};
 ghost use Rattle.gcomplete.specs.Stores.{GitObject, object_of};
-ghost use Rattle.gitrepository.specs.Gathering.{IsDecided, IsGathered, IsParent, IsStoredObject, IsWalked, fate_at, is_sent};
-ghost use Rattle.gitrepository.specs.steps.Walking.{HasDecidedParents, HasFateAs, HasIdIn, IsCovered, IsOnlyListed, IsOpen, IsSentEntry, IsWalkedEntry, Keeps, Notes, NotesObject, Settles};
+ghost use Rattle.gitobject.specs.Naming.{id_of};
+ghost use Rattle.gitrepository.specs.Gathering.{IsDecided, IsGathered, IsParent, IsWalked, fate_at, is_sent};
+ghost use Rattle.gitrepository.specs.steps.Walking.{HasDecidedParents, HasFateAs, HasIdIn, IsCovered, IsOnlyListed, IsOpen, IsSentEntry, IsWalkedEntry, Notes, NotesObject, Settles, StaysDecided};
 
-use crate::fates::{Fate, Fates};
+use crate::fates::{Decided, Fate, Fates};
 use crate::fault::{ObjectCause, RepositoryFault};
 use crate::path_hash::PathHash;
 use ggraph::Entry;
@@ -32,18 +34,19 @@ pub(crate) trait WalkedStore<A: Allocator + Copy> {
     /// store cannot be read.
     fn locate(&mut self, id: &Oid) -> Result<Found, RepositoryFault<A>>;
 
-    /// Returns the object with this id. Fails if the object is missing or broken.
+    /// Returns the object with this id. Fails if the object is missing or broken, or has another
+    /// id.
     fn object(&mut self, id: &Oid) -> Result<Object<A>, RepositoryFault<A>>
         ensures { IfOk result (λ object. has id.now (object_of object.kind object.body.items)) };
 
     /// Returns the object with this id, which is expected at this location. Fails if the object is
-    /// missing or broken.
+    /// missing or broken, or has another id.
     fn object_at(&mut self, id: &Oid, found: Found) -> Result<Object<A>, RepositoryFault<A>>
         ensures { IfOk result (λ object. has id.now (object_of object.kind object.body.items)) };
 }
 
 impl<F: ObjectFiles, A: Allocator + Copy> WalkedStore<A> for ObjectReader<'_, F, A> {
-    ghost has = { IsStoredObject };
+    ghost has = { IsNameOf };
 
     fn allocator(&self) -> A {
         self.store().allocator()
@@ -62,23 +65,39 @@ impl<F: ObjectFiles, A: Allocator + Copy> WalkedStore<A> for ObjectReader<'_, F,
     }
 
     fn object(&mut self, id: &Oid) -> Result<Object<A>, RepositoryFault<A>> {
-        Ok(self.read(id)?)
+        let object = self.read_checked(id)?;
+        names_object(id, object.kind, object.body.as_slice());
+        Ok(object)
     }
 
     fn object_at(&mut self, id: &Oid, found: Found) -> Result<Object<A>, RepositoryFault<A>> {
-        match self.read_found(id, found)? {
-            Some(object) => Ok(object),
-            None => Ok(self.read(id)?),
+        if let Some(object) = self.read_found(id, found)? {
+            if object.has_id(id) {
+                names_object(id, object.kind, object.body.as_slice());
+                return Ok(object);
+            }
         }
+        self.object(id)
     }
 }
+
+// Proves that the id names the object with this type and these bytes.
+fn names_object(id: &Oid, kind: ObjectType, body: &[u8])
+    requires { id_of kind body.now ≡ id.now }
+    ensures { IsNameOf id.now (object_of kind body.now) }
+{}
 
 /// Decides which objects are sent for a list of commits and tags. The listed commits and tags are
 /// sent. The trees and blobs that the listed commits reach are also sent, unless a parent outside
 /// the list reaches them.
 ///
-/// Fails at the first object that is missing, broken or malformed, or that has another type than
-/// the link to it. Fails with `Memory` if out of memory.
+/// Reads the listed objects, the parents outside the list, and all trees that they reach, and checks
+/// their ids. Each of these objects is hashed once. The blobs that trees name are only located.
+///
+/// Fails at the first object that is missing. Fails also at a commit or tree that is malformed, and
+/// at a read object that is broken or has another id. Fails with `Type` if a link to a tree leads to
+/// an object of another type, or if two links give an object two types. Fails with `Memory` if out
+/// of memory.
 pub(crate) fn gather<S: WalkedStore<A>, A: Allocator + Copy>(
     store: &mut S,
     entries: &[Entry<A>],
@@ -89,6 +108,7 @@ pub(crate) fn gather<S: WalkedStore<A>, A: Allocator + Copy>(
     walk.send_all(store, entries)?;
     walk.leave_out_parents(store, entries)?;
     walk.send_trees(store, entries)?;
+    walk.fates.laws();
     Ok(walk.fates)
 }
 
@@ -139,19 +159,20 @@ impl<'r, A: Allocator + Copy> Walk<'r, A> {
         }
     }
 
-    /// Marks an object as sent, with the trees and blobs it reaches, unless its fate is already
-    /// decided. Fails as [`gather`] does, or with `Type` if the received pack has a reached object
-    /// with another type than the link to it.
-    pub(crate) fn send<S: WalkedStore<A>>(
+    /// Marks a tree as sent, with the trees and blobs it reaches, unless its fate is already decided.
+    /// Fails as [`gather`] does, or with `Type` if the received pack has a reached object with
+    /// another type than the link to it.
+    pub(crate) fn send_tree<S: WalkedStore<A>>(
         &mut self,
         store: &mut S,
         id: &Oid,
     ) -> Result<(), RepositoryFault<A>> {
-        let fate = Fate::Sent(PathHash::NONE);
-        match self.settle(store, id, fate)? {
-            Some(_) => self.walk_from(store, id, fate),
-            None => Ok(()),
-        }
+        let link = Link {
+            id: *id,
+            kind: ObjectType::Tree,
+        };
+        self.settle_link(store, link, Fate::Sent(PathHash::NONE))?;
+        self.walk_trees(store)
     }
 
     // Marks the listed commits and tags as sent.
@@ -182,7 +203,7 @@ impl<'r, A: Allocator + Copy> Walk<'r, A> {
         entries: &[Entry<A>],
     ) -> Result<(), RepositoryFault<A>>
         ensures empty { self.old.trees.items ≡ [] → OnOk result (self.new.trees.items ≡ []) }
-        ensures keeps { OnOk result (Keeps self.old.fates self.new.fates) }
+        ensures keeps { OnOk result (StaysDecided self.old.fates self.new.fates) }
         ensures open { OnOk result (IsOpen S.has entries.now self.old
             → IsOpen S.has entries.now self.new) }
         ensures parents { OnOk result (self.old.received ≡ None
@@ -203,7 +224,7 @@ impl<'r, A: Allocator + Copy> Walk<'r, A> {
     ) -> Result<(), RepositoryFault<A>>
         ensures received { OnOk result (self.new.received ≡ self.old.received) }
         ensures empty { self.old.trees.items ≡ [] → OnOk result (self.new.trees.items ≡ []) }
-        ensures keeps { OnOk result (Keeps self.old.fates self.new.fates) }
+        ensures keeps { OnOk result (StaysDecided self.old.fates self.new.fates) }
         ensures open { OnOk result ((entries : List (GraphEntry A)) → All (IsParent entries) parents.now
             → IsOpen S.has entries self.old → IsOpen S.has entries self.new) }
         ensures parents { OnOk result (self.old.received ≡ None
@@ -224,7 +245,7 @@ impl<'r, A: Allocator + Copy> Walk<'r, A> {
     ) -> Result<(), RepositoryFault<A>>
         ensures received { OnOk result (self.new.received ≡ self.old.received) }
         ensures empty { self.old.trees.items ≡ [] → OnOk result (self.new.trees.items ≡ []) }
-        ensures keeps { OnOk result (Keeps self.old.fates self.new.fates) }
+        ensures keeps { OnOk result (StaysDecided self.old.fates self.new.fates) }
         ensures open { OnOk result ((entries : List (GraphEntry A)) → IsParent entries id.now
             → IsOpen S.has entries self.old → IsOpen S.has entries self.new) }
         ensures parent { OnOk result (self.old.received ≡ None → IsDecided self.new.fates id.now) }
@@ -243,7 +264,7 @@ impl<'r, A: Allocator + Copy> Walk<'r, A> {
         entries: &[Entry<A>],
     ) -> Result<(), RepositoryFault<A>>
         ensures empty { self.old.trees.items ≡ [] → OnOk result (self.new.trees.items ≡ []) }
-        ensures keeps { OnOk result (Keeps self.old.fates self.new.fates) }
+        ensures keeps { OnOk result (StaysDecided self.old.fates self.new.fates) }
         ensures open { OnOk result (All (IsSentEntry self.old.fates) entries.now
             → IsOpen S.has entries.now self.old → IsOpen S.has entries.now self.new) }
         ensures walked { OnOk result (self.old.received ≡ None → (listed : List Id)
@@ -269,15 +290,19 @@ impl<'r, A: Allocator + Copy> Walk<'r, A> {
         }
     }
 
-    // Returns whether the fate of an object is decided, or the received pack has the object.
-    fn is_covered(&self, id: &Oid) -> bool
-        ensures covered { IsTrue result → IsCovered self.now id.now }
+    // Returns whether the received pack has the object.
+    fn is_received(&self, id: &Oid) -> bool
+        ensures { IsTrue result → self.now.received ≢ None }
+    {
+        self.received_kind(id).is_some()
+    }
+
+    // Returns whether the fate of an object is decided.
+    fn is_decided(&self, id: &Oid) -> bool
+        ensures decided { IsTrue result → IsDecided self.now.fates id.now }
         ensures open { IsFalse result → fate_at self.now.fates id.now ≡ None }
     {
-        if self.fates.get(id).is_some() {
-            return true;
-        }
-        self.received_kind(id).is_some()
+        self.fates.get(id).is_some()
     }
 
     // Sets the fate of an undecided object, and returns its location. Returns `None` if the fate
@@ -292,11 +317,32 @@ impl<'r, A: Allocator + Copy> Walk<'r, A> {
         ensures trees { self.new.trees.items ≡ self.old.trees.items }
         ensures settles { IfOk result (λ found. Settles self.old id.now fate found self.new) }
     {
-        if self.is_covered(id) {
+        if self.is_received(id) {
+            return Ok(None);
+        }
+        self.decide(store, id, None, fate)
+    }
+
+    // Sets the fate of an undecided object that the received pack lacks, and returns the location
+    // of the object. Returns `None` if the fate was already decided. `kind` is the type that a
+    // followed link gives the object.
+    fn decide<S: WalkedStore<A>>(
+        &mut self,
+        store: &mut S,
+        id: &Oid,
+        kind: Option<ObjectType>,
+        fate: Fate,
+    ) -> Result<Option<Found>, RepositoryFault<A>>
+        ensures received { self.new.received ≡ self.old.received }
+        ensures trees { self.new.trees.items ≡ self.old.trees.items }
+        ensures settles { IfOk result (λ found. Settles self.old id.now fate found self.new) }
+    {
+        if self.is_decided(id) {
             return Ok(None);
         }
         let found = store.locate(id)?;
-        self.fates.settle(id, found, fate)?;
+        let decided = Decided { fate, found, kind };
+        self.fates.settle(id, decided)?;
         Ok(Some(found))
     }
 
@@ -310,7 +356,7 @@ impl<'r, A: Allocator + Copy> Walk<'r, A> {
     ) -> Result<(), RepositoryFault<A>>
         ensures received { OnOk result (self.new.received ≡ self.old.received) }
         ensures empty { OnOk result (self.new.trees.items ≡ []) }
-        ensures keeps { OnOk result (Keeps self.old.fates self.new.fates) }
+        ensures keeps { OnOk result (StaysDecided self.old.fates self.new.fates) }
         ensures open { OnOk result ((entries : List (GraphEntry A)) → HasFateAs self.old.fates id.now fate
             → IsOpen S.has entries self.old → IsOpen S.has entries self.new) }
         ensures walked { OnOk result (self.old.received ≡ None → (listed : List Id)
@@ -327,7 +373,7 @@ impl<'r, A: Allocator + Copy> Walk<'r, A> {
     fn walk_trees<S: WalkedStore<A>>(&mut self, store: &mut S) -> Result<(), RepositoryFault<A>>
         ensures received { OnOk result (self.new.received ≡ self.old.received) }
         ensures empty { OnOk result (self.new.trees.items ≡ []) }
-        ensures keeps { OnOk result (Keeps self.old.fates self.new.fates) }
+        ensures keeps { OnOk result (StaysDecided self.old.fates self.new.fates) }
         ensures open { OnOk result ((entries : List (GraphEntry A)) → IsOpen S.has entries self.old
             → IsOpen S.has entries self.new) }
     {
@@ -454,9 +500,25 @@ impl<'r, A: Allocator + Copy> Walk<'r, A> {
     ) -> Result<(), RepositoryFault<A>>
         ensures { OnOk result (Notes self.old (link ∷ []) (is_sent fate) self.new) }
     {
-        self.check_received(&link)?;
-        let Some(found) = self.settle(store, &link.id, fate)? else {
-            return Ok(());
+        match self.received_kind(&link.id) {
+            Some(kind) => check_type(&link, kind),
+            None => self.decide_link(store, link, fate),
+        }
+    }
+
+    // Decides the fate of a named object that the received pack lacks. If the object is a tree
+    // whose fate was undecided, it is added to `trees`. Fails with `Type` if an earlier link gives
+    // the object another type.
+    fn decide_link<S: WalkedStore<A>>(
+        &mut self,
+        store: &mut S,
+        link: Link,
+        fate: Fate,
+    ) -> Result<(), RepositoryFault<A>>
+        ensures { OnOk result (Notes self.old (link ∷ []) (is_sent fate) self.new) }
+    {
+        let Some(found) = self.decide(store, &link.id, Some(link.kind), fate)? else {
+            return self.check_linked(&link);
         };
         if !leads_to_tree(&link) {
             return Ok(());
@@ -466,15 +528,24 @@ impl<'r, A: Allocator + Copy> Walk<'r, A> {
         Ok(())
     }
 
-    // Fails with `Type` if the received pack has the named object with another type.
-    fn check_received(&self, link: &Link) -> Result<(), RepositoryFault<A>> {
-        match self.received_kind(&link.id) {
-            Some(kind) if kind != link.kind => {
-                Err(RepositoryFault::object_fault(&link.id, ObjectCause::Type))
-            }
-            _ => Ok(()),
+    // Fails with `Type` if the fate was decided through a link to another type.
+    fn check_linked(&self, link: &Link) -> Result<(), RepositoryFault<A>> {
+        match self.fates.linked_kind(&link.id) {
+            Some(kind) => check_type(link, kind),
+            None => Ok(()),
         }
     }
+}
+
+// Fails with `Type` if this type of the named object differs from the type of the link.
+fn check_type<A: Allocator + Copy>(
+    link: &Link,
+    kind: ObjectType,
+) -> Result<(), RepositoryFault<A>> {
+    if kind != link.kind {
+        return Err(RepositoryFault::object_fault(&link.id, ObjectCause::Type));
+    }
+    Ok(())
 }
 
 // Returns whether the link leads to a tree.

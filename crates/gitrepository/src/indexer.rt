@@ -1,19 +1,16 @@
 //! An indexer of packs that a Git directory receives.
 
 ghost use Rattle.std.specs.Prelude.{◌≡◌, ◌++◌, ⊤, ℕ, List, All, IfOk, MatchResult, None, OnErr, OnOk};
-ghost use Rattle.gdag.specs.Graphs.{Holds};
 ghost use Rattle.gname.specs.Ids.{Id};
-ghost use Rattle.gitrepository.specs.Entries.{ids_of};
 ghost use Rattle.gitrepository.specs.Keeping.{IsEntryKeptBy, IsKeptBy};
 ghost use Rattle.gitrepository.specs.Packs.{IsIndexed};
 ghost use Rattle.gitrepository.specs.Received.{IsEntryInReceived};
 
-use crate::assumed::Assumed;
 use crate::fault::RepositoryFault;
 use crate::feed::{Received, StoreFeed};
 use crate::spools::PackSpools;
 use crate::tips::Tips;
-use ggraph::{Entry, Graph, IndexFault, KeepingIndexer};
+use ggraph::{Entry, IndexFault, KeepingIndexer};
 use gitobject::ObjectType;
 use gitobjects::{ObjectFiles, ObjectReader};
 use gname::Oid;
@@ -23,8 +20,8 @@ use std::cell::RefCell;
 /// An indexer of packs that a Git directory receives. The indexer keeps an accepted pack until
 /// [`take_received`](StoreIndexer::take_received), and accepts no other pack before.
 ///
-/// Contracts assume that the repository has the objects of a graph, which `new` receives. An id is
-/// kept if it is one of these ids, or if an object or a prerequisite of the accepted pack has it.
+/// An id is kept if an object or a prerequisite of the accepted pack has it. Nothing is kept before
+/// a pack is accepted, and after `take_received`.
 ///
 /// Each object is inflated, and its id is computed. Each object named by an object of the pack must
 /// be in the pack or in the store, with the expected type. If the store already has an object with
@@ -49,7 +46,6 @@ where
     spools: P,
     received: Option<Received<P::Spool, A>>,
     fault: RefCell<Option<RepositoryFault<A>>>,
-    assumed: Assumed,
 }
 
 impl<'t, 'f, F, P, A> StoreIndexer<'t, 'f, F, P, A>
@@ -60,18 +56,12 @@ where
 {
     /// Returns an indexer of packs that the reader's store receives. A tree or blob in a pack
     /// becomes an entry without parents if a ref of the peer points to this object.
-    ///
-    /// The repository must have the objects of the graph. No contract checks this.
     pub fn new(
         reader: ObjectReader<'f, F, A>,
         tips: &'t Tips<A>,
         spools: P,
-        graph: &Graph<A>,
     ) -> StoreIndexer<'t, 'f, F, P, A>
-        ensures assumed { result.assumed.ids ≡ ids_of graph.now.entries }
-        ensures received { result.received ≡ None }
-        ensures kept { (id : Id) → Holds graph.now.entries id
-            → IsKeptBy result.assumed.ids result.received id }
+        ensures { result.received ≡ None }
     {
         StoreIndexer {
             reader: RefCell::new(reader),
@@ -79,7 +69,6 @@ where
             spools,
             received: None,
             fault: RefCell::new(None),
-            assumed: Assumed::of(graph),
         }
     }
 
@@ -87,7 +76,6 @@ where
     pub fn take_received(&mut self) -> Option<Received<P::Spool, A>>
         ensures received { result ≡ self.old.received }
         ensures taken { self.new.received ≡ None }
-        ensures assumed { self.new.assumed.ids ≡ self.old.assumed.ids }
     {
         self.received.take()
     }
@@ -144,12 +132,10 @@ where
         feed: StoreFeed<P::Spool, A>,
     ) -> Result<Vec<Entry<A>, A>, RepositoryFault<A>>
         ensures indexed { IfOk result (λ entries. IsIndexed feed entries.items) }
-        ensures kept { IfOk result (λ entries. All
-            (IsEntryKeptBy self.new.assumed.ids self.new.received) entries.items) }
-        ensures stays { (id : Id) → IsKeptBy self.old.assumed.ids self.old.received id
-            → IsKeptBy self.new.assumed.ids self.new.received id }
+        ensures kept { IfOk result (λ entries. All (IsEntryKeptBy self.new.received)
+            entries.items) }
+        ensures stays { (id : Id) → IsKeptBy self.old.received id → IsKeptBy self.new.received id }
         ensures same { OnErr result (self.new.received ≡ self.old.received) }
-        ensures assumed { self.new.assumed.ids ≡ self.old.assumed.ids }
     {
         if self.received.is_some() {
             return Err(RepositoryFault::Busy);
@@ -204,7 +190,7 @@ where
 
     ghost fed = { λ feed bytes. feed ≡ bytes };
 
-    ghost keeps = { λ it id. IsKeptBy it.assumed.ids it.received id };
+    ghost keeps = { λ it id. IsKeptBy it.received id };
 
     fn start(&self, alloc: A) -> Result<StoreFeed<P::Spool, A>, IndexFault> {
         Ok(StoreFeed::new(alloc, self.spools.open()))
@@ -228,12 +214,10 @@ where
         ensures answers { MatchResult result
             (λ entries. ((given : List ℕ) → feed ≡ given → IsIndexed given entries.items))
             (λ fault. ((given : List ℕ) → feed ≡ given → ⊤)) }
-        ensures kept { IfOk result (λ entries. All
-            (IsEntryKeptBy self.new.assumed.ids self.new.received) entries.items) }
-        ensures stays { (id : Id) → IsKeptBy self.old.assumed.ids self.old.received id
-            → IsKeptBy self.new.assumed.ids self.new.received id }
+        ensures kept { IfOk result (λ entries. All (IsEntryKeptBy self.new.received)
+            entries.items) }
+        ensures stays { (id : Id) → IsKeptBy self.old.received id → IsKeptBy self.new.received id }
         ensures same { OnErr result (self.new.received ≡ self.old.received) }
-        ensures assumed { self.new.assumed.ids ≡ self.old.assumed.ids }
     {
         match self.receive(feed) {
             Ok(entries) => Ok(entries),

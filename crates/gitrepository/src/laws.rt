@@ -1,7 +1,7 @@
 //! Proved laws of received packs and of packs that are sent. Each function does nothing at run time.
 //! The contract of each function states a law, which the proof of a caller can use.
 
-ghost use Rattle.gitrepository.specs.Laws.{GatheredIsSent, KeptIsComplete, PacksKeepClosed};
+ghost use Rattle.gitrepository.specs.Laws.{GatheredIsHeld, GatheredIsSent, KeptIsComplete, PacksKeepClosed};
 
 use std::alloc::Allocator;
 
@@ -14,18 +14,31 @@ pub fn packs_keep_closed()
     ensures { PacksKeepClosed }
 {}
 
-/// Proves that each id that an indexer keeps is complete. The store must be closed, and must have
-/// the assumed ids and the prerequisites of the received pack. The kept ids are then complete in the
-/// store with the objects of the pack: everything that they reach exists. The exceptions are those
-/// of [`packs_keep_closed`].
-pub fn kept_is_complete()
-    ensures { KeptIsComplete }
+/// Proves that each id of a client's graph is complete after a fetch: everything that it reaches
+/// exists in the store with the objects of the received pack. The store must be closed. It must have
+/// the prerequisites of the pack, and each object of the graph before the fetch. The graph may gain
+/// only ids that the indexer keeps. The exceptions are those of [`packs_keep_closed`].
+pub fn kept_is_complete<A: Allocator + Copy>()
+    ensures { KeptIsComplete A }
 {}
 
-/// Proves that the objects that a packer sends are those that an honest server sends. Suppose the
-/// store that the packer reads is closed, and the listed entries describe its objects. Then each
-/// link of a sent object leads to a sent object, or to an object that a left-out parent reaches.
-/// So a client that has the left-out parents does not refuse these objects (see `gcomplete`).
+/// Proves that the objects that a packer reads to choose what is sent are those of a store, because
+/// the packer checks their ids. The store must be closed, must have each object under its own id,
+/// and must have the objects that the listed entries describe. The exception is another object with
+/// the same id as an object of the store.
+pub fn gathered_is_held<A: Allocator + Copy>()
+    ensures { GatheredIsHeld A }
+{}
+
+/// Proves that the objects that a packer sends are those that an honest server sends. The store
+/// that the packer reads must be closed, and the listed entries must describe its objects. Then
+/// each link of a sent object leads to a sent object, or to an object that a left-out parent
+/// reaches.
+///
+/// So a `gcomplete::ClosedStore` that has the left-out parents accepts these objects, with the
+/// exceptions of `gcomplete::laws::sent_is_fit`. The objects of the server must be stored under
+/// their own ids. Two different texts may have the same SHA-1. The client may also run out of
+/// memory.
 pub fn gathered_is_sent<A: Allocator + Copy>()
     ensures { GatheredIsSent A }
 {}

@@ -23,15 +23,22 @@
 //!   the commits or the tagged object that the bytes name, in order. Parents precede their
 //!   children. Each ref points to an entry of the graph.
 //! - [`open_tips`] and [`lead_with_newest`] return only refs that point to entries of the graph.
+//!   [`open_tips`] returns exactly the listed refs, in order.
 //! - If [`check_refs`] succeeds, a closed store has an object for the id of each ref and of a
 //!   detached HEAD. So each of these ids is complete: the store has everything that it reaches,
 //!   with trees and blobs. The returned numbers count the refs, and the objects of this store.
-//! - The listed commits and tags are sent, with the trees and blobs that they reach. The parents
-//!   outside the list are left out, with the trees and blobs that they reach. Suppose the reader
-//!   returns the objects of a closed store. Then each link of a sent object leads to a sent object,
-//!   or to an object that a left-out parent reaches ([`laws::gathered_is_sent`]).
-//! - A sent pack consists of a header, one entry for each object that is sent, and the SHA-1 of all
-//!   preceding bytes. Each entry of a sent pack has a well-formed header. The pack has at most
+//! - Each id to send is chosen once. The listed commits and tags are sent, and their parents are
+//!   sent or left out. Each tree or blob that a sent commit or tree names is sent or left out. Only
+//!   what a listed object leads to is sent. Only what a left-out parent leads to is left out. Here
+//!   commits lead to their trees, and trees to the trees and blobs that they name. The objects that
+//!   the packer reads for this choice have the ids by which they were read.
+//! - Suppose the packer reads the objects of a closed store, which the listed entries describe. Then
+//!   each link of a sent object leads to a sent object, or to an object that a left-out parent
+//!   reaches ([`laws::gathered_is_sent`]). If this store has each object under its own id, the
+//!   objects that are read for this choice are those of the store. The exception is another object
+//!   with the same id as an object of the store ([`laws::gathered_is_held`]).
+//! - A sent pack consists of a header, as many entries as there are objects to send, and the SHA-1
+//!   of all preceding bytes. Each entry of a sent pack has a well-formed header. The pack has at most
 //!   `gparts::MAX_PARTS` bytes. The concatenation of the returned parts is the pack. If the call
 //!   for a part fails, no contract describes the parts returned before.
 //! - A pack is accepted only if its trailer is the SHA-1 of all preceding bytes. Each entry that
@@ -46,12 +53,13 @@
 //!   type. Suppose a closed store has the prerequisites of a received pack. Then it stays closed
 //!   when the objects of the pack are added, unless two different objects have the same id
 //!   ([`laws`]).
-//! - A [`StoreIndexer`] keeps the ids of the graph that it was made with, and the ids of the
-//!   received pack: those of its objects and of its prerequisites. It keeps the id of each entry
-//!   that it returns, and loses no id until the pack is taken. Suppose a closed store has the ids of
-//!   the graph and the prerequisites. Then each kept id is complete once the objects of the pack
-//!   are added: the store has everything that it reaches. The exception is again two different
-//!   objects with the same id ([`laws::kept_is_complete`]).
+//! - A [`StoreIndexer`] keeps an id if an object or a prerequisite of the accepted pack has it. It
+//!   keeps the id of each entry that it returns, and loses no id until the pack is taken.
+//! - Suppose a closed store has each object of a client's graph and the prerequisites of a pack.
+//!   Suppose also that the graph gains only ids that the indexer keeps, as in a fetch. Then each id
+//!   of the graph is complete once the objects of the pack are added: the store has everything that
+//!   it reaches. The exception is again two different objects with the same id
+//!   ([`laws::kept_is_complete`]).
 //! - [`install_files`] installs a pack in a [`PackFolder`], and then its index. After `Ok` both
 //!   files exist, with the bytes that they were given. A file gets its final name only once both
 //!   files are written and synced. After a fault the folder has both files, only the pack, or
@@ -64,13 +72,12 @@
 //!
 //! No contract can describe the contents of a system file. So the proofs about received packs say
 //! nothing about the objects of the store. They also rely on the file system, which must return the
-//! pack as it was written. A caller of [`StoreIndexer::new`] assumes that the store has the objects
-//! of the graph.
+//! pack as it was written.
 //!
 //! The walk that chooses the objects to send is proved for every store. The contract of
-//! [`StorePacker`] says only that objects were read, not that the Git directory has these objects.
-//! The id of an object is checked when [`open_repository`] or [`check_repository`] reads it, but
-//! not when the packer reads it.
+//! [`StorePacker`] says that each object that the walk reads has the id by which it is read. It does
+//! not say that the Git directory has these objects. The walk reads commits, tags and trees, and
+//! only locates the blobs that trees name.
 //!
 //! # Differences from Git
 //!
@@ -80,6 +87,8 @@
 //! - The packer packs a list of commits and tags. If a parent of a listed commit is not in the
 //!   list, the packer assumes that the client has the parent. It also assumes that the client has
 //!   everything that the tree of the parent reaches.
+//! - The packer computes and checks the ids of the commits, tags and trees that it reads to choose
+//!   the objects to send. Each of them is hashed once. Git does not check these ids.
 //! - New deltas are made only for objects that are not copied: loose objects, stored deltas whose
 //!   base is not sent, and objects with broken entries. Only these objects are bases of new deltas.
 //!   Git also makes new deltas for objects that are stored whole in a pack.
@@ -103,7 +112,10 @@
 //! No contract rules out any of the following:
 //!
 //! - The packer may send one object's entry in place of another's, or an entry twice. The contracts
-//!   cover only which objects are to be sent, and the number of entries.
+//!   cover only the ids of the objects to send, and the number of entries. An object that a tree
+//!   names as a blob may have another type.
+//! - The packer may send trees and blobs that the client has, if a listed commit reaches them too.
+//! - The other object in [`laws::gathered_is_held`] need not be an object that the packer read.
 //! - The header of a sent entry may state a wrong type or size, or a wrong offset of its base. The
 //!   base may have another type.
 //! - The stream of a sent entry may be arbitrary bytes, and a delta may name a base that is not
@@ -130,6 +142,9 @@
 //! - The prerequisites may include an object of the pack, or one that no object of the pack names.
 //!   No public contract says that the store returned their types. No contract covers the limit on
 //!   memory for the ids that a pack names.
+//! - The store may lack objects that the prerequisites reach. No contract covers the walk of the
+//!   stored trees that a pack names. The history of commits and tags among the prerequisites is not
+//!   checked here, because a session moves no ref to an unconnected id.
 //! - The store may return the type of an object that it does not have, or that is malformed.
 //! - The indexer compares objects that the store already has. No contract covers these comparisons,
 //!   or states when the indexer reads an object. The indexer can miss a loose object that is added
@@ -167,7 +182,6 @@
 #![tactic(auto)]
 
 mod arrival;
-mod assumed;
 mod checking;
 mod commit_graph;
 mod copying;

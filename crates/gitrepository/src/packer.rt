@@ -18,9 +18,12 @@ use std::cell::{Cell, RefCell};
 /// A packer of the objects of a Git directory.
 ///
 /// A pack contains the listed commits and tags. A pack also contains the trees and blobs that these
-/// commits reach, unless a parent outside the list reaches them. The stream of a stored pack entry
-/// is copied unchanged if the entry is undeltified, or is a delta whose base is also sent. Other
-/// objects are deflated again, as new deltas against each other if the deltas are small.
+/// commits reach, unless a parent outside the list reaches them. The ids of the commits, tags and
+/// trees that are read to find these objects are computed and checked.
+///
+/// The stream of a stored pack entry is copied unchanged if the entry is undeltified, or is a delta
+/// whose base is also sent. Other objects are deflated again, as new deltas against each other if
+/// the deltas are small.
 #[derive(Drop)]
 pub struct StorePacker<'f, F: ObjectFiles, A: Allocator + Copy> {
     reader: RefCell<ObjectReader<'f, F, A>>,

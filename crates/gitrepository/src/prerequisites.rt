@@ -14,17 +14,20 @@ use std::alloc::Allocator;
 ///
 /// Commits and tags are not checked, because the session looks up their history in its graph.
 ///
-/// Fails at the first missing object or malformed tree.
+/// Fails at the first missing object, and at a tree that is broken, malformed or has another id.
+/// Fails with `Type` if a reached tree or an object of the received pack has another type than a
+/// link to it, or if two links give an object two types. No other types of blobs are checked. Fails
+/// with `Memory` if out of memory.
 pub(crate) fn check_trees<F: ObjectFiles, A: Allocator + Copy>(
     reader: &mut ObjectReader<'_, F, A>,
     received: &IndexedPack<A>,
     prerequisites: &[Link],
 ) -> Result<(), RepositoryFault<A>> {
-    // Nothing is sent: `send` only visits everything that a tree reaches.
+    // Nothing is sent: `send_tree` only visits everything that a tree reaches.
     let mut walk = Walk::beside(reader.store().allocator(), received);
     for link in prerequisites {
         if link.kind == ObjectType::Tree {
-            walk.send(reader, &link.id)?;
+            walk.send_tree(reader, &link.id)?;
         }
     }
     Ok(())

@@ -9,7 +9,8 @@ use Rattle.gitobject.specs.declared.types.ObjectType.{ObjectType}
 use Rattle.gitobject.specs.declared.types.ObjectType.TheVariants.{Tree}
 use Rattle.gitobjects.specs.declared.store.Found.{Found}
 use Rattle.gcomplete.specs.Stores.{GitObject}
-use Rattle.gitrepository.specs.Gathering.{Fates, FollowedOf, IsDecided, IsKnown, IsLeftOut, IsListed, IsNamedBlob, IsSentAt, IsWalked, fate_at, id_of_entry, is_sent, is_sent_pair}
+use Rattle.gitrepository.specs.Entries.{ids_of}
+use Rattle.gitrepository.specs.Gathering.{Fates, FollowedOf, IsBelowLeftOut, IsBelowListed, IsDecided, IsLeftOut, IsListed, IsNamedBlob, IsSentAt, IsWalked, fate_at, is_sent, is_sent_pair}
 use Rattle.gitrepository.specs.declared.fates.Decided.{Decided}
 use Rattle.gitrepository.specs.declared.fates.Fate.{Fate}
 use Rattle.gitrepository.specs.declared.gather.PendingTree.{PendingTree}
@@ -29,8 +30,8 @@ abbrev pub Puts : Fates → Id → Fate → Fates → Type 0
 Puts old a fate new = (b : Id) → fate_at new b ≡ (if bytes_eq a b then Some fate else fate_at old b)
 
 -- no fate changes
-abbrev pub Keeps : Fates → Fates → Type 0
-Keeps old new = (a : Id) (fate : Fate) → fate_at old a ≡ Some fate → fate_at new a ≡ Some fate
+abbrev pub StaysDecided : Fates → Fates → Type 0
+StaysDecided old new = (a : Id) (fate : Fate) → fate_at old a ≡ Some fate → fate_at new a ≡ Some fate
 
 -- the fate of the id is decided, or the received pack may have the object
 abbrev pub IsCovered : {A : Type 0} → Walk A → Id → Type 0
@@ -55,7 +56,7 @@ IsPending walk a = Contains (map id_of_tree walk.trees.items) a
 abbrev pub HasItsFate : Fates → PendingTree → Type 0
 HasItsFate fates tree = fate_at fates tree.id ≡ Some tree.fate
 
--- a link leads to the id, and a tree is waiting to be walked
+-- A link leads to the id. If the link is a link to a tree, the tree is waiting to be walked.
 pub record IsNew {A : Type 0} (new : Walk A) (links : List Link) (a : Id) : Type 0 where
   pub kind : ObjectType
   pub among : Contains links (link_of kind a)
@@ -64,7 +65,7 @@ pub record IsNew {A : Type 0} (new : Walk A) (links : List Link) (a : Id) : Type
 -- The objects that these links lead to are covered. Each new fate is the fate of such an object.
 pub record Notes {A : Type 0} (old : Walk A) (links : List Link) (sent : Bool) (new : Walk A) : Type 0 where
   pub received : new.received ≡ old.received
-  pub keeps : Keeps old.fates new.fates
+  pub keeps : StaysDecided old.fates new.fates
   pub each : All (LeadsToCovered new) links
   pub only : (a : Id) (fate : Fate) → fate_at new.fates a ≡ Some fate
       → (fate_at old.fates a ≡ Some fate) ⊎ ((is_sent fate ≡ sent) × IsNew new links a)
@@ -77,21 +78,22 @@ pub record NotesObject {A : Type 0} (old : Walk A) (kind : ObjectType) (body : L
   pub follows : FollowedOf kind body links
   pub notes : Notes old links sent new
 
--- a sent object is waiting to be walked, was walked, or is named as a blob
+-- the object is waiting to be walked, was walked, or is named as a blob by a sent object
 abbrev pub IsOnTheWay : {A : Type 0} → (Id → GitObject → Type 0) → List Id → List Id → Walk A → Id → Type 0
 IsOnTheWay has listed waiting walk a =
-    Contains waiting a ⊎ (IsNamedBlob has a ⊎ (IsWalked has listed walk.fates a ⊎ IsPending walk a))
+    Contains waiting a ⊎ (IsNamedBlob has walk.fates a ⊎ (IsWalked has listed walk.fates a ⊎ IsPending walk a))
 
 -- The walk of a list of commits and tags is under way. The listed objects, and the ids in `waiting`, are walked later.
 pub record IsUnderWay {A : Type 0} (has : Id → GitObject → Type 0) (entries : List (Entry A)) (waiting : List Id) (walk : Walk A) : Type 0 where
   pub alone : walk.received ≡ None
-  pub sent : (a : Id) → IsSentAt walk.fates a → IsOnTheWay has (map id_of_entry entries) waiting walk a
-  pub left_out : (a : Id) → IsLeftOut walk.fates a → IsKnown has entries walk.fates a
+  pub sent : (a : Id) → IsSentAt walk.fates a → IsOnTheWay has (ids_of entries) waiting walk a
+  pub from : (a : Id) → IsSentAt walk.fates a → IsBelowListed has entries a
+  pub left_out : (a : Id) → IsLeftOut walk.fates a → IsBelowLeftOut has entries walk.fates a
   pub trees : All (HasItsFate walk.fates) walk.trees.items
 
 -- the same, while only the listed objects are still to be walked
 abbrev pub IsOpen : {A : Type 0} → (Id → GitObject → Type 0) → List (Entry A) → Walk A → Type 0
-IsOpen has entries walk = IsUnderWay has entries (map id_of_entry entries) walk
+IsOpen has entries walk = IsUnderWay has entries (ids_of entries) walk
 
 -- the id is decided: it is sent if this fate is to be sent, and left out if not
 pub record HasFateAs (fates : Fates) (a : Id) (fate : Fate) : Type 0 where

@@ -1,5 +1,4 @@
-use Rattle.std.proofs.Common.{map}
-use Rattle.gitrepository.specs.Gathering.{id_of_entry}
+use Rattle.gitrepository.specs.Entries.{ids_of}
 use Rattle.gitrepository.proofs.WalkLemmas.{all_listed, entries_sent_more, gathered, keeps_on, opens, parents_decided_more, received_none, trees_none}
 use Rattle.gitrepository.proofs.gather.gather.Goals as goal
 
@@ -12,8 +11,8 @@ returns g c =
     let empty = trees_none c.new-walk.result first new.trees sent.trees in
     let all_sent = sent.each new.received new.fates in
     let way = left.open (opens has entries first alone empty (sent.only new.received new.fates)) in
-    gathered has entries last (walked.empty (left.empty empty))
+    gathered has entries last c.laws.ensures (walked.empty (left.empty empty))
     (walked.open (entries_sent_more first.fates second.fates left.keeps entries all_sent) way)
     (entries_sent_more first.fates last.fates (keeps_on first.fates second.fates last.fates left.keeps walked.keeps) entries all_sent)
     (parents_decided_more second.fates last.fates walked.keeps entries (left.parents alone))
-    (walked.walked way.alone (map id_of_entry entries) (all_listed entries))
+    (walked.walked way.alone (ids_of entries) (all_listed entries))

@@ -1,5 +1,5 @@
-use Rattle.std.proofs.Common.{map, refl, subst}
-use Rattle.gitrepository.specs.Gathering.{id_of_entry}
+use Rattle.std.proofs.Common.{refl, subst}
+use Rattle.gitrepository.specs.Entries.{ids_of}
 use Rattle.gitrepository.specs.declared.fates.Fate.TheVariants.{NotSent}
 use Rattle.gitrepository.specs.steps.Walking.{Settles}
 use Rattle.gitrepository.proofs.WalkLemmas.{covered_decided, decided_more, keeps_on, keeps_same, parent_left, puts_here, puts_keeps, stays_open}
@@ -15,7 +15,7 @@ pub returns-in_default-clause-open : goal.returns-in_default-clause-open
 returns-in_default-clause-open g c entries parent way =
     let old = c.args.self.now in let new = c.settle.new.self in let said = c.in_ok-_found.ensures in
     let settles = subst (λ f. Settles old c.args.id.now NotSent f new) c.in_default.is said.settles in
-    stays_open g.S.WalkedStore.has entries (map id_of_entry entries) old new said.received said.trees settles.1 way
+    stays_open g.S.WalkedStore.has entries (ids_of entries) old new said.received said.trees settles.1 way
 
 pub returns-in_default-clause-parent : goal.returns-in_default-clause-parent
 returns-in_default-clause-parent g c alone =
@@ -35,7 +35,7 @@ returns-clause-open g c entries parent way =
     let settles = subst (λ f. Settles old c.args.id.now NotSent f mid) c.in-Some.is said.settles in
     c.in_ok-walk_from.ensures.open entries
     (record { own = NotSent; decided = puts_here old.fates mid.fates c.args.id.now NotSent settles.1; same = refl })
-    (parent_left g.S.WalkedStore.has entries (map id_of_entry entries) old mid c.args.id.now said.received said.trees parent settles.0 settles.1 way)
+    (parent_left g.S.WalkedStore.has entries (ids_of entries) old mid c.args.id.now said.received said.trees parent settles.0 settles.1 way)
 
 pub returns-clause-parent : goal.returns-clause-parent
 returns-clause-parent g c alone =

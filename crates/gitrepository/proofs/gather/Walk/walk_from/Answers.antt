@@ -1,6 +1,7 @@
-use Rattle.std.proofs.Common.{inr, map}
+use Rattle.std.proofs.Common.{inr}
 use Rattle.gcomplete.specs.Stores.{object_of}
-use Rattle.gitrepository.specs.Gathering.{id_of_entry, is_sent}
+use Rattle.gitrepository.specs.Entries.{ids_of}
+use Rattle.gitrepository.specs.Gathering.{is_sent}
 use Rattle.gitrepository.proofs.WalkLemmas.{goes_on, keeps_on, walked_more, walked_now}
 use Rattle.gitrepository.proofs.gather.Walk.walk_from.Goals as goal
 
@@ -12,7 +13,7 @@ pub returns-clause-open : goal.returns-clause-open
 returns-clause-open g c entries root way =
     let object = c.in_ok-object.object in let walk = c.in_ok-walk_object.ensures in
     c.in_ok-walk_trees.ensures.open entries
-    (goes_on g.S.WalkedStore.has entries (map id_of_entry entries) c.args.self.now c.walk_object.new.self c.args.id.now
+    (goes_on g.S.WalkedStore.has entries (ids_of entries) c.args.self.now c.walk_object.new.self c.args.id.now
     (object_of object.kind object.body.items) walk.links c.args.fate c.in_ok-object.ensures walk.follows root walk.notes way)
 
 pub returns-clause-walked : goal.returns-clause-walked

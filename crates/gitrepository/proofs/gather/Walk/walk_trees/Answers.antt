@@ -1,5 +1,4 @@
-use Rattle.std.proofs.Common.{map}
-use Rattle.gitrepository.specs.Gathering.{id_of_entry}
+use Rattle.gitrepository.specs.Entries.{ids_of}
 use Rattle.gitrepository.proofs.WalkLemmas.{keeps_on, keeps_same, none_taken, received_on, stays_open, tree_step}
 use Rattle.gitrepository.proofs.gather.Walk.walk_trees.Goals as goal
 
@@ -10,7 +9,7 @@ pub returns-in_default-clause-open : goal.returns-in_default-clause-open
 returns-in_default-clause-open g c entries way =
     let old = c.loop.self in let new = c.take_tree.new.self in let took = c.take_tree.ensures in
     let same = none_taken old new c.take_tree.result c.in_default.is took.trees in
-    stays_open g.S.WalkedStore.has entries (map id_of_entry entries) old new took.received same took.fates (c.loop.invariant.2 entries way)
+    stays_open g.S.WalkedStore.has entries (ids_of entries) old new took.received same took.fates (c.loop.invariant.2 entries way)
 
 pub loop-preserved : goal.loop-preserved
 loop-preserved g c =

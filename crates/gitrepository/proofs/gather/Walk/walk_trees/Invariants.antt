@@ -1,9 +1,9 @@
 use Rattle.std.proofs.Common.{◌≡◌, List}
 use Rattle.gobject.specs.declared.node.Entry.{Entry}
-use Rattle.gitrepository.specs.steps.Walking.{IsOpen, Keeps}
+use Rattle.gitrepository.specs.steps.Walking.{IsOpen, StaysDecided}
 use Rattle.gitrepository.proofs.gather.Walk.walk_trees.Given as goal
 
 abbrev pub invariant-loop : goal.invariant-loop
 invariant-loop g l =
-    (l.self.received ≡ l.fn.self.received) × Keeps l.fn.self.fates l.self.fates
+    (l.self.received ≡ l.fn.self.received) × StaysDecided l.fn.self.fates l.self.fates
     × ((entries : List (Entry g.row.A.Denot)) → IsOpen g.S.WalkedStore.has entries l.fn.self → IsOpen g.S.WalkedStore.has entries l.self)
