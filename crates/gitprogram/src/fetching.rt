@@ -1,6 +1,7 @@
 //! The command `gitrepo fetch`, and the code that it shares with `gitrepo clone`.
 
 ghost use Rattle.std.specs.Prelude.{◌≡◌, IfOk};
+ghost use Rattle.gdag.specs.Reach.{Grows};
 ghost use Rattle.gitrepository.specs.Keeping.{IsKeptBy};
 ghost use Rattle.gsession.specs.Keeping.{KeepsOn};
 
@@ -470,7 +471,10 @@ fn receive_with<'r, R, E>(
 where
     R: Files + AllocGlobal + Net,
     E: Write,
-    ensures { IfOk result (λ fetch. KeepsOn (IsKeptBy indexer.old.received)
+    ensures before { IfOk result (λ fetch. fetch.client.before ≡ repository.refs) }
+    ensures grows { IfOk result (λ fetch. Grows repository.graph.entries
+        fetch.client.repo.graph.entries) }
+    ensures keeps { IfOk result (λ fetch. KeepsOn (IsKeptBy indexer.old.received)
         (IsKeptBy fetch.received) repository.graph.entries fetch.client.repo.graph.entries) }
 {
     match make_client(rt.alloc(), found, repository) {
@@ -484,7 +488,8 @@ fn make_client(
     found: &Directories,
     repository: Repository<Global>,
 ) -> Result<Client, Fault>
-    ensures { IfOk result (λ client. client.repo.graph ≡ repository.graph) }
+    ensures before { IfOk result (λ client. client.before ≡ repository.refs) }
+    ensures graph { IfOk result (λ client. client.repo.graph ≡ repository.graph) }
 {
     let Repository {
         graph,
@@ -516,7 +521,10 @@ fn receive_into<'r, R, E>(
 where
     R: Files + AllocGlobal + Net,
     E: Write,
-    ensures { IfOk result (λ fetch. KeepsOn (IsKeptBy indexer.old.received)
+    ensures before { IfOk result (λ fetch. fetch.client.before ≡ client.before) }
+    ensures grows { IfOk result (λ fetch. Grows client.repo.graph.entries
+        fetch.client.repo.graph.entries) }
+    ensures keeps { IfOk result (λ fetch. KeepsOn (IsKeptBy indexer.old.received)
         (IsKeptBy fetch.received) client.repo.graph.entries fetch.client.repo.graph.entries) }
 {
     let mut client = client;
@@ -597,7 +605,8 @@ fn converse<R, E>(
 where
     R: Files + AllocGlobal + Net,
     E: Write,
-    ensures { KeepsOn (IsKeptBy indexer.old.received) (IsKeptBy indexer.new.received)
+    ensures grows { Grows repo.old.graph.entries repo.new.graph.entries }
+    ensures keeps { KeepsOn (IsKeptBy indexer.old.received) (IsKeptBy indexer.new.received)
         repo.old.graph.entries repo.new.graph.entries }
 {
     let stream = wanted.remote.connect(rt, rt.alloc())?;
@@ -641,7 +650,8 @@ where
     S: Read + Write + OpenStream,
     E: Write,
     K: KeepingIndexer<Global>,
-    ensures { KeepsOn (K.keeps indexer.old) (K.keeps indexer.new) repo.old.graph.entries
+    ensures grows { Grows repo.old.graph.entries repo.new.graph.entries }
+    ensures keeps { KeepsOn (K.keeps indexer.old) (K.keeps indexer.new) repo.old.graph.entries
         repo.new.graph.entries }
 {
     let fetch = fetch_of(wanted, progress.is_shown());

@@ -159,7 +159,7 @@ fn read_for_ls_refs<F: ObjectFiles>(
         head,
         peels: _peels,
     } = listed;
-    let whole = read_history(alloc, files, path, &mut reader, &refs, head)?;
+    let whole = read_history(files, path, &mut reader, &refs, head)?;
     Ok(Opened::Whole(whole))
 }
 
@@ -207,7 +207,7 @@ fn find_whole<'f, F: ObjectFiles>(
     let path = found.common.as_str();
     let mut reader = open_reader(alloc, files, path)?;
     let head = tips.head().copy_in(alloc)?;
-    let whole = read_history(alloc, files, path, &mut reader, tips.refs(), head)?;
+    let whole = read_history(files, path, &mut reader, tips.refs(), head)?;
     Ok((whole, reader))
 }
 
@@ -215,14 +215,13 @@ fn find_whole<'f, F: ObjectFiles>(
 // missing. A server must not leave out such a ref, because `git fetch --prune` would delete the
 // client's copy.
 fn read_history<F: ObjectFiles>(
-    alloc: Global,
     files: &F,
     path: &str,
     reader: &mut Reader<'_, F>,
     refs: &Refs<Global>,
     head: Head<Global>,
 ) -> Result<Repository<Global>, RepositoryFault<Global>> {
-    let commits = read_commit_graph(files, alloc, path)?;
+    let commits = read_commit_graph(files, reader.store().allocator(), path)?;
     let repository = open_refs(reader, &commits, refs, head)?;
     match first_left_out(refs, &repository.refs) {
         Some(id) => Err(RepositoryFault::from(StoreFault::Missing(id))),

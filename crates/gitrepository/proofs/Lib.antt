@@ -5,6 +5,7 @@ pub mod PutLemmas
 pub mod RefLemmas
 pub mod PartLemmas
 pub mod LinkLemmas
+pub mod LookupLemmas
 pub mod LawLemmas
 pub mod CheckLemmas
 pub mod WalkLemmas

@@ -1,7 +1,7 @@
 -- The walk that decides which objects are sent.
 use Rattle.std.proofs.Common.{◌≡◌, ◌≢◌, ◌⊎◌, inl, inr, ◌==◌, Bool, true, false, true≢false, cond, ℕ, ◌<◌, length, slice_index_or, List, [], ◌∷◌, ◌++◌, All, Contains, Option, None, Some, map, append-nil, refl, sym, ap, subst, ◌∙◌}
 use Rattle.std.specs.List.{filter_map, cons_option}
-use Rattle.std.specs.Option.{option_to_list}
+use Rattle.std.specs.Option.{option_map, option_to_list}
 use Rattle.std.specs.Str.{bytes_eq}
 use Rattle.std.proofs.lemmas.Bool.{cases_Bool, false≢true}
 use Rattle.std.proofs.lemmas.List.Elements.{All-append, All-cons, All-contains, All-contains_itself, All-map, All-nil, All-push, All-weaker, Contains-append_left, Contains-append_right, Contains-push_cases}
@@ -19,8 +19,10 @@ use Rattle.gitobject.proofs.EntryLemmas.{links_more}
 use Rattle.gitobjects.specs.declared.store.Found.{Found}
 use Rattle.gcomplete.specs.Stores.{GitObject, object_of}
 use Rattle.gitrepository.specs.Entries.{id_of_entry, ids_of}
-use Rattle.gitrepository.specs.Gathering.{AreDistinct, Fates, FollowedOf, IsBelowLeftOut, IsBelowListed, IsDecided, IsFollowed, IsGathered, IsLeftOut, IsListed, IsNamedBlob, IsParent, IsSentAt, IsWalked, LeadsToDecided, fate_at, here, is_sent, is_sent_at, onward}
-use Rattle.gitrepository.specs.steps.Walking.{HasDecidedParents, HasFateAs, HasIdIn, HasItsFate, IsCovered, IsNew, IsOnTheWay, IsOnlyListed, IsOpen, IsPending, IsSentEntry, IsUnderWay, IsWalkedEntry, LeadsToCovered, Notes, NotesObject, Puts, Settles, StaysDecided, id_of_tree}
+use Rattle.gitrepository.specs.Gathering.{AreDistinct, Fates, FollowedOf, IsBelowLeftOut, IsBelowListed, IsDecided, IsFollowed, IsGathered, IsLeftOut, IsListed, IsNamedBlob, IsParent, IsSentAt, IsWalked, LeadsToDecided, decided_at, fate_at, fate_of, here, is_sent, is_sent_at, onward}
+use Rattle.gitrepository.specs.Received.{IsInPack}
+use Rattle.gitrepository.specs.steps.Walking.{Decides, HasDecidedParents, HasFateAs, HasIdIn, HasItsFate, IsAlone, IsCovered, IsDecidedAs, IsNew, IsOnTheWay, IsOnlyListed, IsOpen, IsPending, IsReceived, IsSentEntry, IsUnderWay, IsWalkedEntry, LeadsToCovered, Notes, NotesObject, Puts, SetsFate, Settles, StaysDecided, id_of_tree, linked_kind}
+use Rattle.gitrepository.specs.declared.fates.Decided.{Decided}
 use Rattle.gitrepository.specs.declared.fates.Fate.{Fate}
 use Rattle.gitrepository.specs.declared.fates.Fate.TheVariants.{Sent, NotSent}
 use Rattle.gitrepository.specs.declared.gather.PendingTree.{PendingTree}
@@ -43,22 +45,47 @@ pub is_sent_there : (fates : Fates) (a : Id) (fate : Fate) → fate_at fates a �
 is_sent_there fates a fate at is = ap is_sent_at at ∙ is
 
 pub keeps_same : (old new : Fates) → new ≡ old → StaysDecided old new
-keeps_same old new same a fate is = ap (λ (f : Fates). fate_at f a) same ∙ is
+keeps_same old new same a decided is = ap (λ (f : Fates). decided_at f a) same ∙ is
 
 pub keeps_on : (old mid new : Fates) → StaysDecided old mid → StaysDecided mid new → StaysDecided old new
-keeps_on old mid new one two a fate is = two a fate (one a fate is)
+keeps_on old mid new one two a decided is = two a decided (one a decided is)
+
+-- what is decided for an id with this fate
+pub with_fate : (fates : Fates) (a : Id) (fate : Fate) → fate_at fates a ≡ Some fate
+    → (decided : Decided) × (decided_at fates a ≡ Some decided) × (decided.fate ≡ fate)
+with_fate fates a fate is = by (decided_at fates a) refl
+  where
+    by : (found : Option Decided) → decided_at fates a ≡ found → (decided : Decided) × (decided_at fates a ≡ Some decided) × (decided.fate ≡ fate)
+    by None none = absurd (none-some fate (sym (ap (option_map fate_of) none) ∙ is))
+    by (Some decided) some = (decided, some, same_Some decided.fate fate (sym (ap (option_map fate_of) some) ∙ is))
+
+pub fate_there : (fates : Fates) (a : Id) (decided : Decided) → decided_at fates a ≡ Some decided → fate_at fates a ≡ Some decided.fate
+fate_there fates a decided is = ap (option_map fate_of) is
+
+-- no fate changes
+pub keeps_fate : (old new : Fates) → StaysDecided old new → (a : Id) (fate : Fate) → fate_at old a ≡ Some fate → fate_at new a ≡ Some fate
+keeps_fate old new keeps a fate is =
+    let found = with_fate old a fate is in fate_there new a found.0 (keeps a found.0 found.1) ∙ ap (λ f. Some f) found.2
+
+-- an id is undecided if it has no fate
+pub undecided : (fates : Fates) (a : Id) → fate_at fates a ≡ None → decided_at fates a ≡ None
+undecided fates a none = by (decided_at fates a) refl
+  where
+    by : (found : Option Decided) → decided_at fates a ≡ found → decided_at fates a ≡ None
+    by None is = is
+    by (Some decided) is = absurd (none-some decided.fate (sym none ∙ ap (option_map fate_of) is))
 
 pub sent_more : (old new : Fates) → StaysDecided old new → (a : Id) → IsSentAt old a → IsSentAt new a
-sent_more old new keeps a is = let fate = sent_fate old a is in is_sent_there new a fate.0 (keeps a fate.0 fate.1) fate.2
+sent_more old new keeps a is = let fate = sent_fate old a is in is_sent_there new a fate.0 (keeps_fate old new keeps a fate.0 fate.1) fate.2
 
 pub decided_more : (old new : Fates) → StaysDecided old new → (a : Id) → IsDecided old a → IsDecided new a
-decided_more old new keeps a is = (is.0, keeps a is.0 is.1)
+decided_more old new keeps a is = (is.0, keeps_fate old new keeps a is.0 is.1)
 
 pub all_decided_more : (old new : Fates) → StaysDecided old new → (ids : List Id) → All (IsDecided old) ids → All (IsDecided new) ids
 all_decided_more old new keeps ids all = All-weaker (IsDecided old) (IsDecided new) (decided_more old new keeps) ids all
 
 trees_more : (old new : Fates) → StaysDecided old new → (trees : List PendingTree) → All (HasItsFate old) trees → All (HasItsFate new) trees
-trees_more old new keeps trees all = All-weaker (HasItsFate old) (HasItsFate new) (λ t is. keeps t.id t.fate is) trees all
+trees_more old new keeps trees all = All-weaker (HasItsFate old) (HasItsFate new) (λ t is. keeps_fate old new keeps t.id t.fate is) trees all
 
 -- two steps keep what each of them keeps
 pub received_on : {A : Type 0} (old mid new : Walk A) → mid.received ≡ old.received → new.received ≡ mid.received → new.received ≡ old.received
@@ -67,62 +94,103 @@ received_on old mid new one two = two ∙ one
 pub trees_on : {A : Type 0} (old mid new : Walk A) → mid.trees.items ≡ old.trees.items → new.trees.items ≡ mid.trees.items → new.trees.items ≡ old.trees.items
 trees_on old mid new one two = two ∙ one
 
-pub received_none : {A : Type 0} (old new : Walk A) → old.received ≡ None → new.received ≡ old.received → new.received ≡ None
-received_none old new none same = same ∙ none
+pub still_alone : {A : Type 0} (old new : Walk A) → IsAlone old → new.received ≡ old.received → IsAlone new
+still_alone old new alone same = ap (λ r. r.now) same ∙ alone
+
+-- nothing is received by a walk that is alone
+pub not_received : {A : Type 0} (walk : Walk A) (link : Link) → IsAlone walk → IsReceived walk link → ⊥
+not_received walk link alone is = nothing_in_nil is.object (subst (λ objects. Contains objects is.object) alone is.among)
 
 pub trees_none : {A : Type 0} (old new : Walk A) → old.trees.items ≡ [] → new.trees.items ≡ old.trees.items → new.trees.items ≡ []
 trees_none old new none same = same ∙ none
 
 -- ---- a fate is set
 
-pub puts_here : (old new : Fates) (a : Id) (fate : Fate) → Puts old a fate new → fate_at new a ≡ Some fate
-puts_here old new a fate puts = puts a ∙ ap (λ b. cond b (Some fate) (fate_at old a)) ((bytes_eq-Decides a a).1 refl)
+pub puts_here : (old new : Fates) (a : Id) (decided : Decided) → Puts old a decided new → decided_at new a ≡ Some decided
+puts_here old new a decided puts = puts a ∙ ap (λ b. cond b (Some decided) (decided_at old a)) ((bytes_eq-Decides a a).1 refl)
 
-pub puts_only : (old new : Fates) (a : Id) (fate : Fate) → Puts old a fate new
-    → (b : Id) (f : Fate) → fate_at new b ≡ Some f → (fate_at old b ≡ Some f) ⊎ ((a ≡ b) × (f ≡ fate))
-puts_only old new a fate puts b f is =
+pub puts_only : (old new : Fates) (a : Id) (decided : Decided) → Puts old a decided new
+    → (b : Id) (d : Decided) → decided_at new b ≡ Some d → (decided_at old b ≡ Some d) ⊎ ((a ≡ b) × (d ≡ decided))
+puts_only old new a decided puts b d is =
     elim (cases_Bool (bytes_eq a b)) [
       | inl same ↦
           inr (
             (bytes_eq-Decides a b).0 same,
-            sym (same_Some fate f (sym (ap (λ t. cond t (Some fate) (fate_at old b)) same) ∙ sym (puts b) ∙ is)),
+            sym (same_Some decided d (sym (ap (λ t. cond t (Some decided) (decided_at old b)) same) ∙ sym (puts b) ∙ is)),
           )
-      | inr other ↦ inl (sym (ap (λ t. cond t (Some fate) (fate_at old b)) other) ∙ sym (puts b) ∙ is)
+      | inr other ↦ inl (sym (ap (λ t. cond t (Some decided) (decided_at old b)) other) ∙ sym (puts b) ∙ is)
     ]
 
-pub puts_keeps : (old new : Fates) (a : Id) (fate : Fate) → fate_at old a ≡ None → Puts old a fate new → StaysDecided old new
-puts_keeps old new a fate none puts b f is =
+pub puts_keeps : (old new : Fates) (a : Id) (decided : Decided) → decided_at old a ≡ None → Puts old a decided new → StaysDecided old new
+puts_keeps old new a decided none puts b d is =
     elim (cases_Bool (bytes_eq a b)) [
       | inl same ↦
-          (let P : Id → Type 0 = λ k. fate_at old k ≡ Some f in
-          absurd (none-some f (sym none ∙ subst P (sym ((bytes_eq-Decides a b).0 same)) is)))
-      | inr other ↦ puts b ∙ ap (λ t. cond t (Some fate) (fate_at old b)) other ∙ is
+          (let P : Id → Type 0 = λ k. decided_at old k ≡ Some d in
+          absurd (none-some d (sym none ∙ subst P (sym ((bytes_eq-Decides a b).0 same)) is)))
+      | inr other ↦ puts b ∙ ap (λ t. cond t (Some decided) (decided_at old b)) other ∙ is
     ]
+
+-- the new fate is that of the id, and each other fate is as before
+pub fate_here : (old new : Fates) (a : Id) (decided : Decided) → Puts old a decided new → fate_at new a ≡ Some decided.fate
+fate_here old new a decided puts = fate_there new a decided (puts_here old new a decided puts)
+
+pub fate_only : (old new : Fates) (a : Id) (decided : Decided) → Puts old a decided new
+    → (b : Id) (f : Fate) → fate_at new b ≡ Some f → (fate_at old b ≡ Some f) ⊎ ((a ≡ b) × (f ≡ decided.fate))
+fate_only old new a decided puts b f is =
+    let found = with_fate new b f is in
+    elim (puts_only old new a decided puts b found.0 found.1) [
+      | inl before ↦ inl (fate_there old b found.0 before ∙ ap (λ x. Some x) found.2)
+      | inr this ↦ inr (this.0, sym found.2 ∙ ap fate_of this.1)
+    ]
+
+-- a fate is set, unless it was decided
+pub decides_settles : {A : Type 0} (located : Id → Found → Type 0) (old new : Walk A) (a : Id) (fate : Fate) (found : Option Found)
+    → Decides located old a None fate found new → Settles located old a fate found new
+decides_settles located old new a fate None is = (inl is.0, is.1)
+decides_settles located old new a fate (Some found) is = is
 
 -- ---- links are noted, one after the other
 
-pub covered_more : {A : Type 0} (old new : Walk A) → new.received ≡ old.received → StaysDecided old.fates new.fates → (a : Id) → IsCovered old a → IsCovered new a
-covered_more old new same keeps a (inl decided) = inl (decided_more old.fates new.fates keeps a decided)
-covered_more old new same keeps a (inr received) = inr (λ none. received (sym same ∙ none))
+pub decided_as_more : (old new : Fates) → StaysDecided old new → (link : Link) → IsDecidedAs old link → IsDecidedAs new link
+decided_as_more old new keeps link is = (is.0, keeps link.id is.0 is.1, is.2)
 
-pub notes_none : {A : Type 0} (walk : Walk A) (sent : Bool) → Notes walk [] sent walk
-notes_none walk sent = record {
+pub covered_more : {A : Type 0} (old new : Walk A) → new.received ≡ old.received → StaysDecided old.fates new.fates → (link : Link)
+    → LeadsToCovered old link → LeadsToCovered new link
+covered_more old new same keeps link (inl received) = inl (subst (λ objects. IsInPack objects link) (sym (ap (λ r. r.now) same)) received)
+covered_more old new same keeps link (inr decided) = inr (decided_as_more old.fates new.fates keeps link decided)
+
+-- a decided object has the type of the link, or no link was followed to it
+pub agrees : (fates : Fates) (link : Link) → IsDecided fates link.id
+    → (linked_kind (decided_at fates link.id) ≡ None) ⊎ (linked_kind (decided_at fates link.id) ≡ Some link.kind) → IsDecidedAs fates link
+agrees fates link is kinds =
+    let found = with_fate fates link.id is.0 is.1 in
+    let at = ap linked_kind found.1 in (
+      found.0,
+      found.1,
+      elim kinds [
+        | inl none ↦ inl (sym at ∙ none)
+        | inr same ↦ inr (sym at ∙ same)
+      ],
+    )
+
+pub notes_none : {A : Type 0} (located : Id → Found → Type 0) (walk : Walk A) (sent : Bool) → Notes located walk [] sent walk
+notes_none located walk sent = record {
   received = refl;
-  keeps = λ a fate is. is;
+  keeps = λ a decided is. is;
   each = All-nil (LeadsToCovered walk);
-  only = λ a fate is. inl is;
+  only = λ a decided is. inl is;
   pending = λ a is. is;
   trees = λ all. all;
 }
 
--- a link to an id that was covered
-pub notes_covered : {A : Type 0} (old new : Walk A) (link : Link) (sent : Bool) → new.received ≡ old.received → new.trees.items ≡ old.trees.items
-    → IsCovered old link.id → new.fates ≡ old.fates → Notes old (link ∷ []) sent new
-notes_covered old new link sent received trees covered same = record {
+-- a link to an object that was covered
+pub notes_covered : {A : Type 0} (located : Id → Found → Type 0) (old new : Walk A) (link : Link) (sent : Bool) → new.received ≡ old.received
+    → new.trees.items ≡ old.trees.items → LeadsToCovered new link → new.fates ≡ old.fates → Notes located old (link ∷ []) sent new
+notes_covered located old new link sent received trees covered same = record {
   received = received;
   keeps = keeps;
-  each = All-cons (LeadsToCovered new) link [] (covered_more old new received keeps link.id covered) (All-nil (LeadsToCovered new));
-  only = λ a fate is. inl (keeps_same new.fates old.fates (sym same) a fate is);
+  each = All-cons (LeadsToCovered new) link [] covered (All-nil (LeadsToCovered new));
+  only = λ a decided is. inl (keeps_same new.fates old.fates (sym same) a decided is);
   pending = λ a is. subst (λ ts. Contains (map id_of_tree ts) a) (sym trees) is;
   trees = λ all. subst (All (HasItsFate new.fates)) (sym trees) (trees_more old.fates new.fates keeps old.trees.items all);
 }
@@ -130,47 +198,57 @@ notes_covered old new link sent received trees covered same = record {
     keeps : StaysDecided old.fates new.fates
     keeps = keeps_same old.fates new.fates same
 
--- a link to an id that the received pack has
-pub notes_received : {A : Type 0} (walk : Walk A) (link : Link) (sent : Bool) → walk.received ≢ None → Notes walk (link ∷ []) sent walk
-notes_received walk link sent there = notes_covered walk walk link sent refl refl (inr there) refl
+-- a link to an object of the received pack
+pub notes_received : {A : Type 0} (located : Id → Found → Type 0) (walk : Walk A) (link : Link) (sent : Bool) → IsReceived walk link
+    → Notes located walk (link ∷ []) sent walk
+notes_received located walk link sent is = notes_covered located walk walk link sent refl refl (inl is) refl
 
 -- a link to an id that was not decided
-notes_one : {A : Type 0} (old new : Walk A) (link : Link) (fate : Fate) → new.received ≡ old.received → fate_at old.fates link.id ≡ None
-    → Puts old.fates link.id fate new.fates → (link.kind ≢ Tree) ⊎ IsPending new link.id → ((a : Id) → IsPending old a → IsPending new a)
-    → (All (HasItsFate old.fates) old.trees.items → All (HasItsFate new.fates) new.trees.items) → Notes old (link ∷ []) (is_sent fate) new
-notes_one old new link fate received none puts waits pending trees = record {
+notes_one : {A : Type 0} (located : Id → Found → Type 0) (old new : Walk A) (link : Link) (decided : Decided) → new.received ≡ old.received
+    → SetsFate located old.fates link.id decided new.fates → decided.kind ≡ Some link.kind → (link.kind ≢ Tree) ⊎ IsPending new link.id
+    → ((a : Id) → IsPending old a → IsPending new a)
+    → (All (HasItsFate old.fates) old.trees.items → All (HasItsFate new.fates) new.trees.items) → Notes located old (link ∷ []) (is_sent decided.fate) new
+notes_one located old new link decided received sets linked waits pending trees = record {
   received = received;
-  keeps = puts_keeps old.fates new.fates link.id fate none puts;
-  each = All-cons (LeadsToCovered new) link [] (inl (fate, puts_here old.fates new.fates link.id fate puts)) (All-nil (LeadsToCovered new));
+  keeps = puts_keeps old.fates new.fates link.id decided sets.undecided sets.puts;
+  each = All-cons (LeadsToCovered new) link [] (inr (decided, puts_here old.fates new.fates link.id decided sets.puts, inr linked)) (All-nil (LeadsToCovered new));
   only = only;
   pending = pending;
   trees = trees;
 }
   where
-    at_link : IsNew new (link ∷ []) link.id
-    at_link = record { kind = link.kind; among = contains_head link []; waits = waits }
+    at_link : IsNew located new (link ∷ []) link.id decided
+    at_link = record { found = sets.found; kind = link.kind; linked = linked; among = contains_head link []; waits = waits }
 
-    only : (a : Id) (f : Fate) → fate_at new.fates a ≡ Some f → (fate_at old.fates a ≡ Some f) ⊎ ((is_sent f ≡ is_sent fate) × IsNew new (link ∷ []) a)
-    only a f is =
-        elim (puts_only old.fates new.fates link.id fate puts a f is) [
+    only : (a : Id) (d : Decided) → decided_at new.fates a ≡ Some d
+        → (decided_at old.fates a ≡ Some d) ⊎ ((is_sent d.fate ≡ is_sent decided.fate) × IsNew located new (link ∷ []) a d)
+    only a d is =
+        elim (puts_only old.fates new.fates link.id decided sets.puts a d is) [
           | inl before ↦ inl before
-          | inr this ↦ inr (ap is_sent this.1, subst (IsNew new (link ∷ [])) this.0 at_link)
+          | inr this ↦ inr (
+            ap (λ x. is_sent x.fate) this.1,
+            subst (λ x. IsNew located new (link ∷ []) a x) (sym this.1) (subst (λ b. IsNew located new (link ∷ []) b decided) this.0 at_link),
+          )
         ]
 
-pub notes_other : {A : Type 0} (old new : Walk A) (link : Link) (fate : Fate) → new.received ≡ old.received → new.trees.items ≡ old.trees.items
-    → fate_at old.fates link.id ≡ None → Puts old.fates link.id fate new.fates → link.kind ≢ Tree → Notes old (link ∷ []) (is_sent fate) new
-notes_other old new link fate received trees none puts other =
-    notes_one old new link fate received none puts (inl other) (λ a is. subst (λ ts. Contains (map id_of_tree ts) a) (sym trees) is)
-    (λ all. subst (All (HasItsFate new.fates)) (sym trees) (trees_more old.fates new.fates (puts_keeps old.fates new.fates link.id fate none puts) old.trees.items all))
+pub notes_other : {A : Type 0} (located : Id → Found → Type 0) (old new : Walk A) (link : Link) (decided : Decided) → new.received ≡ old.received
+    → new.trees.items ≡ old.trees.items → SetsFate located old.fates link.id decided new.fates → decided.kind ≡ Some link.kind → link.kind ≢ Tree
+    → Notes located old (link ∷ []) (is_sent decided.fate) new
+notes_other located old new link decided received trees sets linked other =
+    notes_one located old new link decided received sets linked (inl other) (λ a is. subst (λ ts. Contains (map id_of_tree ts) a) (sym trees) is)
+    (λ all. subst (All (HasItsFate new.fates)) (sym trees)
+    (trees_more old.fates new.fates (puts_keeps old.fates new.fates link.id decided sets.undecided sets.puts) old.trees.items all))
 
-ids_pushed : (ts : List PendingTree) (t : PendingTree) → map id_of_tree (ts ++ t ∷ []) ≡ map id_of_tree ts ++ t.id ∷ []
+pub ids_pushed : (ts : List PendingTree) (t : PendingTree) → map id_of_tree (ts ++ t ∷ []) ≡ map id_of_tree ts ++ t.id ∷ []
 ids_pushed [] t = refl
 ids_pushed (x ∷ ts) t = ap (λ ids. x.id ∷ ids) (ids_pushed ts t)
 
-pub notes_tree : {A : Type 0} (old new : Walk A) (link : Link) (t : PendingTree) (before : List PendingTree) → new.received ≡ old.received
-    → before ≡ old.trees.items → new.trees.items ≡ before ++ t ∷ [] → fate_at old.fates link.id ≡ None → Puts old.fates link.id t.fate new.fates → t.id ≡ link.id → Notes old (link ∷ []) (is_sent t.fate) new
-notes_tree old new link t before received kept pushed none puts same =
-    notes_one old new link t.fate received none puts (inr waits) pending its_fate
+pub notes_tree : {A : Type 0} (located : Id → Found → Type 0) (old new : Walk A) (link : Link) (decided : Decided) (t : PendingTree)
+    (before : List PendingTree) → new.received ≡ old.received → before ≡ old.trees.items → new.trees.items ≡ before ++ t ∷ []
+    → SetsFate located old.fates link.id decided new.fates → decided.kind ≡ Some link.kind → t.id ≡ link.id → t.fate ≡ decided.fate
+    → Notes located old (link ∷ []) (is_sent decided.fate) new
+notes_tree located old new link decided t before received kept pushed sets linked same fate =
+    notes_one located old new link decided received sets linked (inr waits) pending its_fate
   where
     trees : new.trees.items ≡ old.trees.items ++ t ∷ []
     trees = pushed ∙ ap (λ ts. ts ++ t ∷ []) kept
@@ -186,60 +264,77 @@ notes_tree old new link t before received kept pushed none puts same =
         subst (λ is. Contains is link.id) (sym ids)
         (Contains-append_right (map id_of_tree old.trees.items) (t.id ∷ []) link.id (subst (Contains (t.id ∷ [])) same (contains_head t.id [])))
 
+    its : fate_at new.fates t.id ≡ Some t.fate
+    its =
+        ap (fate_at new.fates) same ∙ fate_here old.fates new.fates link.id decided sets.puts ∙ ap (λ f. Some f) (sym fate)
+
     its_fate : All (HasItsFate old.fates) old.trees.items → All (HasItsFate new.fates) new.trees.items
     its_fate all =
-        let P : Id → Type 0 = λ k. fate_at new.fates k ≡ Some t.fate in
         subst (All (HasItsFate new.fates)) (sym trees)
         (All-push (HasItsFate new.fates) old.trees.items t
-        (trees_more old.fates new.fates (puts_keeps old.fates new.fates link.id t.fate none puts) old.trees.items all)
-        (subst P (sym same) (puts_here old.fates new.fates link.id t.fate puts)))
+        (trees_more old.fates new.fates (puts_keeps old.fates new.fates link.id decided sets.undecided sets.puts) old.trees.items all) its)
 
-new_more : {A : Type 0} (mid new : Walk A) (links more : List Link) → ((a : Id) → IsPending mid a → IsPending new a)
-    → ((link : Link) → Contains links link → Contains more link) → (a : Id) → IsNew mid links a → IsNew new more a
-new_more mid new links more pending within a is = record { kind = is.kind; among = within (link_of is.kind a) is.among; waits = waits is.waits }
+new_more : {A : Type 0} (located : Id → Found → Type 0) (mid new : Walk A) (links more : List Link) → ((a : Id) → IsPending mid a → IsPending new a)
+    → ((link : Link) → Contains links link → Contains more link) → (a : Id) (d : Decided) → IsNew located mid links a d → IsNew located new more a d
+new_more located mid new links more pending within a d is =
+    record { found = is.found; kind = is.kind; linked = is.linked; among = within (link_of is.kind a) is.among; waits = waits is.waits }
   where
     waits : (is.kind ≢ Tree) ⊎ IsPending mid a → (is.kind ≢ Tree) ⊎ IsPending new a
     waits (inl other) = inl other
     waits (inr there) = inr (pending a there)
 
-pub notes_more : {A : Type 0} (old mid new : Walk A) (front back : List Link) (sent : Bool) → Notes old front sent mid → Notes mid back sent new
-    → Notes old (front ++ back) sent new
-notes_more old mid new front back sent one two = record {
+pub notes_more : {A : Type 0} (located : Id → Found → Type 0) (old mid new : Walk A) (front back : List Link) (sent : Bool) → Notes located old front sent mid
+    → Notes located mid back sent new → Notes located old (front ++ back) sent new
+notes_more located old mid new front back sent one two = record {
   received = two.received ∙ one.received;
   keeps = keeps_on old.fates mid.fates new.fates one.keeps two.keeps;
   each = All-append (LeadsToCovered new) front back
-      (All-weaker (LeadsToCovered mid) (LeadsToCovered new) (λ link is. covered_more mid new two.received two.keeps link.id is) front one.each) two.each;
+      (All-weaker (LeadsToCovered mid) (LeadsToCovered new) (covered_more mid new two.received two.keeps) front one.each) two.each;
   only = only;
   pending = λ a is. two.pending a (one.pending a is);
   trees = λ all. two.trees (one.trees all);
 }
   where
-    earlier : (a : Id) (fate : Fate) → (fate_at old.fates a ≡ Some fate) ⊎ ((is_sent fate ≡ sent) × IsNew mid front a)
-        → (fate_at old.fates a ≡ Some fate) ⊎ ((is_sent fate ≡ sent) × IsNew new (front ++ back) a)
-    earlier a fate (inl before) = inl before
-    earlier a fate (inr this) = inr (this.0, new_more mid new front (front ++ back) two.pending (λ link is. Contains-append_left front back link is) a this.1)
+    earlier : (a : Id) (d : Decided) → (decided_at old.fates a ≡ Some d) ⊎ ((is_sent d.fate ≡ sent) × IsNew located mid front a d)
+        → (decided_at old.fates a ≡ Some d) ⊎ ((is_sent d.fate ≡ sent) × IsNew located new (front ++ back) a d)
+    earlier a d (inl before) = inl before
+    earlier a d (inr this) =
+        inr (this.0, new_more located mid new front (front ++ back) two.pending (λ link is. Contains-append_left front back link is) a d this.1)
 
-    only : (a : Id) (fate : Fate) → fate_at new.fates a ≡ Some fate
-        → (fate_at old.fates a ≡ Some fate) ⊎ ((is_sent fate ≡ sent) × IsNew new (front ++ back) a)
-    only a fate is =
-        elim (two.only a fate is) [
-          | inl before ↦ earlier a fate (one.only a fate before)
-          | inr this ↦ inr (this.0, new_more new new back (front ++ back) (λ b there. there) (λ link there. Contains-append_right front back link there) a this.1)
+    only : (a : Id) (d : Decided) → decided_at new.fates a ≡ Some d
+        → (decided_at old.fates a ≡ Some d) ⊎ ((is_sent d.fate ≡ sent) × IsNew located new (front ++ back) a d)
+    only a d is =
+        elim (two.only a d is) [
+          | inl before ↦ earlier a d (one.only a d before)
+          | inr this ↦
+              inr (this.0, new_more located new new back (front ++ back) (λ b there. there) (λ link there. Contains-append_right front back link there) a d this.1)
         ]
 
+-- each new fate is the fate of an object that a link leads to
+pub notes_only : {A : Type 0} (located : Id → Found → Type 0) (old new : Walk A) (links : List Link) (sent : Bool) → Notes located old links sent new
+    → (a : Id) (fate : Fate) → fate_at new.fates a ≡ Some fate
+    → (fate_at old.fates a ≡ Some fate) ⊎ ((is_sent fate ≡ sent) × ((d : Decided) × IsNew located new links a d))
+notes_only located old new links sent notes a fate is =
+    let found = with_fate new.fates a fate is in
+    elim (notes.only a found.0 found.1) [
+      | inl before ↦ inl (fate_there old.fates a found.0 before ∙ ap (λ f. Some f) found.2)
+      | inr this ↦ inr (ap is_sent (sym found.2) ∙ this.0, (found.0, this.1))
+    ]
+
 -- one more entry of a tree
-pub notes_entry : {A : Type 0} (old mid new : Walk A) (done : List trees.Entry) (e : trees.Entry) (link : Option Link) (sent now : Bool) → link ≡ entry_link e
-    → now ≡ sent → Notes old (filter_map entry_link done) sent mid → Notes mid (option_to_list link) now new
-    → Notes old (filter_map entry_link (done ++ e ∷ [])) sent new
-notes_entry old mid new done e link sent now is same before this =
+pub notes_entry : {A : Type 0} (located : Id → Found → Type 0) (old mid new : Walk A) (done : List trees.Entry) (e : trees.Entry) (link : Option Link)
+    (sent now : Bool) → link ≡ entry_link e → now ≡ sent → Notes located old (filter_map entry_link done) sent mid
+    → Notes located mid (option_to_list link) now new → Notes located old (filter_map entry_link (done ++ e ∷ [])) sent new
+notes_entry located old mid new done e link sent now is same before this =
     let links = filter_map entry_link done in
-    subst (λ (ls : List Link). Notes old ls sent new) (links_more done e link links (links ++ option_to_list link) refl is refl)
-    (notes_more old mid new links (option_to_list link) sent before (subst (λ s. Notes mid (option_to_list link) s new) same this))
+    subst (λ (ls : List Link). Notes located old ls sent new) (links_more done e link links (links ++ option_to_list link) refl is refl)
+    (notes_more located old mid new links (option_to_list link) sent before (subst (λ s. Notes located mid (option_to_list link) s new) same this))
 
 -- all entries of a tree
-pub notes_tree_body : {A : Type 0} (old new : Walk A) (body rest : List ℕ) (done : List trees.Entry) (sent : Bool) → All trees.IsEntry done
-    → body ≡ trees.tree_text done ++ rest → rest ≡ [] → Notes old (filter_map entry_link done) sent new → NotesObject old Tree body sent new
-notes_tree_body old new body rest done sent each is over notes = record {
+pub notes_tree_body : {A : Type 0} (located : Id → Found → Type 0) (old new : Walk A) (body rest : List ℕ) (done : List trees.Entry) (sent : Bool)
+    → All trees.IsEntry done → body ≡ trees.tree_text done ++ rest → rest ≡ [] → Notes located old (filter_map entry_link done) sent new
+    → NotesObject located old Tree body sent new
+notes_tree_body located old new body rest done sent each is over notes = record {
   links = filter_map entry_link done;
   follows = (done, record { is = is ∙ ap (λ r. trees.tree_text done ++ r) over ∙ append-nil (trees.tree_text done); each = each }, refl);
   notes = notes;
@@ -285,7 +380,7 @@ at_client_more : {A : Type 0} (has : Id → GitObject → Type 0) (entries : Lis
 at_client_more has entries old new keeps a is = record {
   parent = is.parent;
   of_entry = is.of_entry;
-  left_out = keeps is.parent NotSent is.left_out;
+  left_out = keeps_fate old new keeps is.parent NotSent is.left_out;
   leads = is.leads;
 }
 
@@ -299,32 +394,30 @@ on_way_more has listed waiting old new keeps pending a (inr (inl blob)) = inr (i
 on_way_more has listed waiting old new keeps pending a (inr (inr (inl walked))) = inr (inr (inl (walked_more has listed old.fates new.fates keeps a walked)))
 on_way_more has listed waiting old new keeps pending a (inr (inr (inr there))) = inr (inr (inr (pending a there)))
 
-pub all_decided : {A : Type 0} (walk : Walk A) (links : List Link) → walk.received ≡ None → All (LeadsToCovered walk) links → All (LeadsToDecided walk.fates) links
-all_decided walk links alone all = All-weaker (LeadsToCovered walk) (LeadsToDecided walk.fates) each links all
-  where
-    by : (a : Id) → IsCovered walk a → IsDecided walk.fates a
-    by a (inl decided) = decided
-    by a (inr received) = absurd (received alone)
+-- a walk that is alone decides what it covers
+pub link_decided : {A : Type 0} (walk : Walk A) (link : Link) → IsAlone walk → LeadsToCovered walk link → IsDecided walk.fates link.id
+link_decided walk link alone (inl received) = absurd (not_received walk link alone received)
+link_decided walk link alone (inr decided) = (decided.0.fate, fate_there walk.fates link.id decided.0 decided.1)
 
-    each : (link : Link) → LeadsToCovered walk link → LeadsToDecided walk.fates link
-    each link is = by link.id is
+pub all_decided : {A : Type 0} (walk : Walk A) (links : List Link) → IsAlone walk → All (LeadsToCovered walk) links → All (LeadsToDecided walk.fates) links
+all_decided walk links alone all = All-weaker (LeadsToCovered walk) (LeadsToDecided walk.fates) (λ link is. link_decided walk link alone is) links all
 
 -- an object was read, and its links were noted
-pub walked_now : {A : Type 0} (has : Id → GitObject → Type 0) (listed : List Id) (old new : Walk A) (a : Id) (object : GitObject) (links : List Link) (sent : Bool)
-    → has a object → FollowedOf object.kind object.body links → (object.kind ≡ Tree) ⊎ Contains listed a → Notes old links sent new → old.received ≡ None
-    → IsWalked has listed new.fates a
-walked_now has listed old new a object links sent read follows part notes alone = record {
+pub walked_now : {A : Type 0} (has : Id → GitObject → Type 0) (located : Id → Found → Type 0) (listed : List Id) (old new : Walk A) (a : Id) (object : GitObject)
+    (links : List Link) (sent : Bool) → has a object → FollowedOf object.kind object.body links → (object.kind ≡ Tree) ⊎ Contains listed a
+    → Notes located old links sent new → IsAlone old → IsWalked has listed new.fates a
+walked_now has located listed old new a object links sent read follows part notes alone = record {
   object = object;
   read = read;
   part = part;
   links = links;
   follows = follows;
-  each = all_decided new links (notes.received ∙ alone) notes.each;
+  each = all_decided new links (still_alone old new alone notes.received) notes.each;
 }
 
-module _ {A : Type 0} (has : Id → GitObject → Type 0) (entries : List (Entry A)) (waiting : List Id) (old new : Walk A) (a : Id) (object : GitObject)
-    (links : List Link) (fate : Fate) (read : has a object) (follows : FollowedOf object.kind object.body links) (root : HasFateAs old.fates a fate)
-    (notes : Notes old links (is_sent fate) new) (way : IsUnderWay has entries waiting old) where
+module _ {A : Type 0} (has : Id → GitObject → Type 0) (located : Id → Found → Type 0) (entries : List (Entry A)) (waiting : List Id) (old new : Walk A)
+    (a : Id) (object : GitObject) (links : List Link) (fate : Fate) (read : has a object) (follows : FollowedOf object.kind object.body links)
+    (root : HasFateAs old.fates a fate) (notes : Notes located old links (is_sent fate) new) (way : IsUnderWay has entries waiting old) where
   followed : (link : Link) → Contains links link → IsFollowed has a link
   followed link among = record { object = object; read = read; links = links; follows = follows; among = among }
 
@@ -341,9 +434,9 @@ module _ {A : Type 0} (has : Id → GitObject → Type 0) (entries : List (Entry
 
   new_left : (b : Id) → IsLeftOut new.fates b → IsBelowLeftOut has entries new.fates b
   new_left b is =
-      elim (notes.only b NotSent is) [
+      elim (notes_only located old new links (is_sent fate) notes b NotSent is) [
         | inl before ↦ at_client_more has entries old.fates new.fates notes.keeps b (way.left_out b before)
-        | inr this ↦ left_here b this.1.kind this.1.among this.0
+        | inr this ↦ left_here b this.1.1.kind this.1.1.among this.0
       ]
 
   root_sent : is_sent fate ≡ true → IsSentAt old.fates a
@@ -357,9 +450,9 @@ module _ {A : Type 0} (has : Id → GitObject → Type 0) (entries : List (Entry
   new_from : (b : Id) → IsSentAt new.fates b → IsBelowListed has entries b
   new_from b is =
       let f = sent_fate new.fates b is in
-      elim (notes.only b f.0 f.1) [
+      elim (notes_only located old new links (is_sent fate) notes b f.0 f.1) [
         | inl before ↦ way.from b (is_sent_there old.fates b f.0 before f.2)
-        | inr this ↦ reached_here b this.1.kind this.1.among (sym this.0 ∙ f.2)
+        | inr this ↦ reached_here b this.1.1.kind this.1.1.among (sym this.0 ∙ f.2)
       ]
 
   blob_here : (b : Id) (kind : ObjectType) → Contains links (link_of kind b) → kind ≢ Tree → is_sent fate ≡ true → IsNamedBlob has new.fates b
@@ -373,8 +466,8 @@ module _ {A : Type 0} (has : Id → GitObject → Type 0) (entries : List (Entry
         }
       ]
 
-  new_here : (b : Id) → is_sent fate ≡ true → IsNew new links b → IsOnTheWay has (ids_of entries) waiting new b
-  new_here b goes is =
+  new_here : (b : Id) (d : Decided) → is_sent fate ≡ true → IsNew located new links b d → IsOnTheWay has (ids_of entries) waiting new b
+  new_here b d goes is =
       elim is.waits [
         | inl other ↦ inr (inl (blob_here b is.kind is.among other goes))
         | inr there ↦ inr (inr (inr there))
@@ -383,13 +476,13 @@ module _ {A : Type 0} (has : Id → GitObject → Type 0) (entries : List (Entry
   new_sent : (b : Id) → IsSentAt new.fates b → IsOnTheWay has (ids_of entries) waiting new b
   new_sent b is =
       let f = sent_fate new.fates b is in
-      elim (notes.only b f.0 f.1) [
+      elim (notes_only located old new links (is_sent fate) notes b f.0 f.1) [
         | inl before ↦ on_way_more has (ids_of entries) waiting old new notes.keeps notes.pending b (way.sent b (is_sent_there old.fates b f.0 before f.2))
-        | inr this ↦ new_here b (sym this.0 ∙ f.2) this.1
+        | inr this ↦ new_here b this.1.0 (sym this.0 ∙ f.2) this.1.1
       ]
 
   pub goes_on : IsUnderWay has entries waiting new
-  goes_on = record { alone = notes.received ∙ way.alone; sent = new_sent; from = new_from; left_out = new_left; trees = notes.trees way.trees }
+  goes_on = record { alone = still_alone old new way.alone notes.received; sent = new_sent; from = new_from; left_out = new_left; trees = notes.trees way.trees }
 
 -- no tree is pending, so none is taken
 pub none_taken : {A : Type 0} (old new : Walk A) (t : Option PendingTree) → t ≡ None → old.trees.items ≡ new.trees.items ++ option_to_list t
@@ -401,7 +494,7 @@ pub tree_taken : {A : Type 0} (has : Id → GitObject → Type 0) (entries : Lis
     → new.received ≡ old.received → new.fates ≡ old.fates → old.trees.items ≡ new.trees.items ++ t ∷ [] → IsUnderWay has entries waiting old
     → IsUnderWay has entries (t.id ∷ waiting) new × HasFateAs new.fates t.id t.fate
 tree_taken has entries waiting old new t received fates trees way =
-    (record { alone = received ∙ way.alone; sent = sent; from = from_listed; left_out = left_out; trees = front_all }, record { own = t.fate; decided = its_fate; same = refl })
+    (record { alone = still_alone old new way.alone received; sent = sent; from = from_listed; left_out = left_out; trees = front_all }, record { own = t.fate; decided = its_fate; same = refl })
   where
     keeps : StaysDecided old.fates new.fates
     keeps = keeps_same old.fates new.fates fates
@@ -435,7 +528,8 @@ tree_taken has entries waiting old new t received fates trees way =
     from_listed a is = way.from a (sent_more new.fates old.fates (keeps_same new.fates old.fates (sym fates)) a is)
 
     left_out : (a : Id) → IsLeftOut new.fates a → IsBelowLeftOut has entries new.fates a
-    left_out a is = at_client_more has entries old.fates new.fates keeps a (way.left_out a (keeps_same new.fates old.fates (sym fates) a NotSent is))
+    left_out a is = at_client_more has entries old.fates new.fates keeps a
+        (way.left_out a (keeps_fate new.fates old.fates (keeps_same new.fates old.fates (sym fates)) a NotSent is))
 
 -- a tree that was taken was walked
 pub tree_walked : {A : Type 0} (has : Id → GitObject → Type 0) (entries : List (Entry A)) (waiting : List Id) (walk : Walk A) (a : Id)
@@ -451,26 +545,26 @@ tree_walked has entries waiting walk a walked way = record { alone = way.alone; 
         ]
 
 -- a pending tree is taken and walked
-pub tree_step : {A : Type 0} (has : Id → GitObject → Type 0) (entries : List (Entry A)) (old mid new : Walk A) (t : PendingTree) (body : List ℕ)
-    → mid.received ≡ old.received → mid.fates ≡ old.fates → old.trees.items ≡ mid.trees.items ++ t ∷ [] → has t.id (object_of Tree body)
-    → NotesObject mid Tree body (is_sent t.fate) new → IsOpen has entries old → IsOpen has entries new
-tree_step has entries old mid new t body received fates trees read notes way =
+pub tree_step : {A : Type 0} (has : Id → GitObject → Type 0) (located : Id → Found → Type 0) (entries : List (Entry A)) (old mid new : Walk A) (t : PendingTree)
+    (body : List ℕ) → mid.received ≡ old.received → mid.fates ≡ old.fates → old.trees.items ≡ mid.trees.items ++ t ∷ [] → has t.id (object_of Tree body)
+    → NotesObject located mid Tree body (is_sent t.fate) new → IsOpen has entries old → IsOpen has entries new
+tree_step has located entries old mid new t body received fates trees read notes way =
     let ids = ids_of entries in
     let taken = tree_taken has entries ids old mid t received fates trees way in
-    let on = goes_on has entries (t.id ∷ ids) mid new t.id (object_of Tree body) notes.links t.fate read notes.follows taken.1 notes.notes taken.0 in
-    let walked = walked_now has ids mid new t.id (object_of Tree body) notes.links (is_sent t.fate) read notes.follows (inl refl) notes.notes taken.0.alone in
+    let on = goes_on has located entries (t.id ∷ ids) mid new t.id (object_of Tree body) notes.links t.fate read notes.follows taken.1 notes.notes taken.0 in
+    let walked = walked_now has located ids mid new t.id (object_of Tree body) notes.links (is_sent t.fate) read notes.follows (inl refl) notes.notes taken.0.alone in
     tree_walked has entries ids new t.id walked on
 
 -- ---- a parent is left out
 
-pub parent_left : {A : Type 0} (has : Id → GitObject → Type 0) (entries : List (Entry A)) (waiting : List Id) (old new : Walk A) (a : Id)
-    → new.received ≡ old.received → new.trees.items ≡ old.trees.items → IsParent entries a → fate_at old.fates a ≡ None → Puts old.fates a NotSent new.fates
-    → IsUnderWay has entries waiting old → IsUnderWay has entries waiting new
-parent_left has entries waiting old new a received trees of_entry none puts way =
-    record { alone = received ∙ way.alone; sent = sent; from = from_listed; left_out = left_out; trees = its_fate }
+pub parent_left : {A : Type 0} (has : Id → GitObject → Type 0) (located : Id → Found → Type 0) (entries : List (Entry A)) (waiting : List Id) (old new : Walk A)
+    (a : Id) (d : Decided) → new.received ≡ old.received → new.trees.items ≡ old.trees.items → IsParent entries a → d.fate ≡ NotSent
+    → SetsFate located old.fates a d new.fates → IsUnderWay has entries waiting old → IsUnderWay has entries waiting new
+parent_left has located entries waiting old new a d received trees of_entry unsent sets way =
+    record { alone = still_alone old new way.alone received; sent = sent; from = from_listed; left_out = left_out; trees = its_fate }
   where
     keeps : StaysDecided old.fates new.fates
-    keeps = puts_keeps old.fates new.fates a NotSent none puts
+    keeps = puts_keeps old.fates new.fates a d sets.undecided sets.puts
 
     its_fate : All (HasItsFate new.fates) new.trees.items
     its_fate = subst (All (HasItsFate new.fates)) (sym trees) (trees_more old.fates new.fates keeps old.trees.items way.trees)
@@ -481,44 +575,44 @@ parent_left has entries waiting old new a received trees of_entry none puts way 
     sent : (b : Id) → IsSentAt new.fates b → IsOnTheWay has (ids_of entries) waiting new b
     sent b is =
         let f = sent_fate new.fates b is in
-        elim (puts_only old.fates new.fates a NotSent puts b f.0 f.1) [
+        elim (fate_only old.fates new.fates a d sets.puts b f.0 f.1) [
           | inl before ↦ on_way_more has (ids_of entries) waiting old new keeps pending b (way.sent b (is_sent_there old.fates b f.0 before f.2))
-          | inr this ↦ absurd (false≢true (sym (ap is_sent this.1) ∙ f.2))
+          | inr this ↦ absurd (false≢true (sym (ap is_sent (this.1 ∙ unsent)) ∙ f.2))
         ]
 
     from_listed : (b : Id) → IsSentAt new.fates b → IsBelowListed has entries b
     from_listed b is =
         let f = sent_fate new.fates b is in
-        elim (puts_only old.fates new.fates a NotSent puts b f.0 f.1) [
+        elim (fate_only old.fates new.fates a d sets.puts b f.0 f.1) [
           | inl before ↦ way.from b (is_sent_there old.fates b f.0 before f.2)
-          | inr this ↦ absurd (false≢true (sym (ap is_sent this.1) ∙ f.2))
+          | inr this ↦ absurd (false≢true (sym (ap is_sent (this.1 ∙ unsent)) ∙ f.2))
         ]
 
     at_parent : IsBelowLeftOut has entries new.fates a
-    at_parent = record { parent = a; of_entry = of_entry; left_out = puts_here old.fates new.fates a NotSent puts; leads = here }
+    at_parent = record { parent = a; of_entry = of_entry; left_out = fate_here old.fates new.fates a d sets.puts ∙ ap (λ f. Some f) unsent; leads = here }
 
     left_out : (b : Id) → IsLeftOut new.fates b → IsBelowLeftOut has entries new.fates b
     left_out b is =
-        elim (puts_only old.fates new.fates a NotSent puts b NotSent is) [
+        elim (fate_only old.fates new.fates a d sets.puts b NotSent is) [
           | inl before ↦ at_client_more has entries old.fates new.fates keeps b (way.left_out b before)
           | inr this ↦ subst (IsBelowLeftOut has entries new.fates) this.0 at_parent
         ]
 
 -- an id is decided if it was covered
-pub covered_decided : {A : Type 0} (walk : Walk A) (a : Id) → walk.received ≡ None → IsCovered walk a → IsDecided walk.fates a
+pub covered_decided : {A : Type 0} (walk : Walk A) (a : Id) → IsAlone walk → IsCovered walk a → IsDecided walk.fates a
 covered_decided walk a alone (inl decided) = decided
-covered_decided walk a alone (inr received) = absurd (received alone)
+covered_decided walk a alone (inr received) = absurd (not_received walk (link_of received.0 a) alone received.1)
 
 -- nothing changes
 pub stays_open : {A : Type 0} (has : Id → GitObject → Type 0) (entries : List (Entry A)) (waiting : List Id) (old new : Walk A)
     → new.received ≡ old.received → new.trees.items ≡ old.trees.items → new.fates ≡ old.fates
     → IsUnderWay has entries waiting old → IsUnderWay has entries waiting new
 stays_open has entries waiting old new received trees fates way = record {
-  alone = received ∙ way.alone;
+  alone = still_alone old new way.alone received;
   sent = λ b is. on_way_more has (ids_of entries) waiting old new keeps (λ c is. subst (λ ts. Contains (map id_of_tree ts) c) (sym trees) is) b
       (way.sent b (sent_more new.fates old.fates back b is));
   from = λ b is. way.from b (sent_more new.fates old.fates back b is);
-  left_out = λ b is. at_client_more has entries old.fates new.fates keeps b (way.left_out b (back b NotSent is));
+  left_out = λ b is. at_client_more has entries old.fates new.fates keeps b (way.left_out b (keeps_fate new.fates old.fates back b NotSent is));
   trees = subst (All (HasItsFate new.fates)) (sym trees) (trees_more old.fates new.fates keeps old.trees.items way.trees);
 }
   where
@@ -567,7 +661,7 @@ pub nothing_listed : {A : Type 0} (entries : List (Entry A)) → IsOnlyListed en
 nothing_listed entries = record { sent = λ a fate is. absurd (none-some fate is); listed = λ a fate is. absurd (none-some fate is) }
 
 -- after the listed objects are sent, the walk is under way
-pub opens : {A : Type 0} (has : Id → GitObject → Type 0) (entries : List (Entry A)) (walk : Walk A) → walk.received ≡ None → walk.trees.items ≡ []
+pub opens : {A : Type 0} (has : Id → GitObject → Type 0) (entries : List (Entry A)) (walk : Walk A) → IsAlone walk → walk.trees.items ≡ []
     → IsOnlyListed entries walk.fates → IsOpen has entries walk
 opens has entries walk alone empty only = record {
   alone = alone;
@@ -603,35 +697,35 @@ gathered has entries walk distinct empty way sent parents walked = record {
     by a (inr (inr (inr there))) = nothing_in_nil a (subst (λ ts. Contains (map id_of_tree ts) a) empty there)
 
 -- one more listed object is sent
-pub one_listed : {A : Type 0} (entries : List (Entry A)) (old new : Walk A) (e : Entry A) (fate : Fate) (found : Option Found) → old.received ≡ None → is_sent fate ≡ true
-    → Contains entries e → Settles old e.id fate found new → IsOnlyListed entries old.fates
+pub one_listed : {A : Type 0} (located : Id → Found → Type 0) (entries : List (Entry A)) (old new : Walk A) (e : Entry A) (fate : Fate) (found : Option Found)
+    → IsAlone old → is_sent fate ≡ true → Contains entries e → Settles located old e.id fate found new → IsOnlyListed entries old.fates
     → IsOnlyListed entries new.fates × StaysDecided old.fates new.fates × IsSentAt new.fates e.id
-one_listed entries old new e fate None alone comes among settles only =
-    let keeps = keeps_same old.fates new.fates settles.1 in let back = keeps_same new.fates old.fates (sym settles.1) in (
+one_listed located entries old new e fate None alone comes among settles only =
+    let keeps = keeps_same old.fates new.fates settles.1 in let back = keeps_fate new.fates old.fates (keeps_same new.fates old.fates (sym settles.1)) in
+    let decided = covered_decided old e.id alone settles.0 in (
       record { sent = λ a f is. only.sent a f (back a f is); listed = λ a f is. only.listed a f (back a f is) },
       keeps,
-      by settles.0,
+      is_sent_there new.fates e.id decided.0 (keeps_fate old.fates new.fates keeps e.id decided.0 decided.1) (only.sent e.id decided.0 decided.1),
     )
-  where
-    by : IsCovered old e.id → IsSentAt new.fates e.id
-    by (inl decided) = is_sent_there new.fates e.id decided.0 (keeps_same old.fates new.fates settles.1 e.id decided.0 decided.1) (only.sent e.id decided.0 decided.1)
-    by (inr received) = absurd (received alone)
-one_listed entries old new e fate (Some found) alone comes among settles only = (
+one_listed located entries old new e fate (Some found) alone comes among sets only = (
   record { sent = sent; listed = listed },
-  puts_keeps old.fates new.fates e.id fate settles.0 settles.1,
-  is_sent_there new.fates e.id fate (puts_here old.fates new.fates e.id fate settles.1) comes,
+  puts_keeps old.fates new.fates e.id d sets.undecided sets.puts,
+  is_sent_there new.fates e.id fate (fate_here old.fates new.fates e.id d sets.puts) comes,
 )
   where
+    d : Decided
+    d = record { fate = fate; found = found; kind = None }
+
     sent : (a : Id) (f : Fate) → fate_at new.fates a ≡ Some f → is_sent f ≡ true
     sent a f is =
-        elim (puts_only old.fates new.fates e.id fate settles.1 a f is) [
+        elim (fate_only old.fates new.fates e.id d sets.puts a f is) [
           | inl before ↦ only.sent a f before
           | inr this ↦ ap is_sent this.1 ∙ comes
         ]
 
     listed : (a : Id) (f : Fate) → fate_at new.fates a ≡ Some f → IsListed entries a
     listed a f is =
-        elim (puts_only old.fates new.fates e.id fate settles.1 a f is) [
+        elim (fate_only old.fates new.fates e.id d sets.puts a f is) [
           | inl before ↦ only.listed a f before
           | inr this ↦ subst (IsListed entries) this.0 (All-contains (HasIdIn (ids_of entries)) entries e (all_listed entries) among)
         ]

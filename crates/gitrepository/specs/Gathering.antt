@@ -31,9 +31,13 @@ AreDistinct fates = IsDistinct bytes_eq (keys_of fates)
 abbrev pub fate_of : Decided → Fate
 fate_of decided = decided.fate
 
+-- what is decided for this id, or `None` if the fate is undecided
+abbrev pub decided_at : Fates → Id → Option Decided
+decided_at fates a = lookup (bytes_eq a) fates
+
 -- the fate of this id, or `None` if the fate is undecided
 abbrev pub fate_at : Fates → Id → Option Fate
-fate_at fates a = option_map fate_of (lookup (bytes_eq a) fates)
+fate_at fates a = option_map fate_of (decided_at fates a)
 
 -- whether an object with this fate is sent
 abbrev pub is_sent : Fate → Bool

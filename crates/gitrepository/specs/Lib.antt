@@ -1,6 +1,7 @@
 pub mod Entries
 pub mod Packs
 pub mod Repositories
+pub mod StoredTrees
 pub mod Installing
 pub mod MemoryFolders
 pub mod Parts

@@ -2,8 +2,8 @@
 
 ghost use Rattle.std.specs.Prelude.{◌≡◌, [], OnOk, length, slice_get};
 ghost use Rattle.std.specs.Option.{option_map};
-ghost use Rattle.gitrepository.specs.Gathering.{AreDistinct, fate_at, is_sent, sent_count};
-ghost use Rattle.gitrepository.specs.steps.Walking.{Puts, decision_of, is_sent_some};
+ghost use Rattle.gitrepository.specs.Gathering.{AreDistinct, decided_at, fate_at, is_sent, sent_count};
+ghost use Rattle.gitrepository.specs.steps.Walking.{Puts, decision_of, is_sent_some, linked_kind};
 
 use crate::path_hash::PathHash;
 use ggraph::IdHasher;
@@ -103,7 +103,9 @@ impl<A: Allocator + Copy> Fates<A> {
     }
 
     /// Returns the type that a link gives the object, if its fate was decided through a link.
-    pub(crate) fn linked_kind(&self, id: &Oid) -> Option<ObjectType> {
+    pub(crate) fn linked_kind(&self, id: &Oid) -> Option<ObjectType>
+        ensures { result ≡ linked_kind (decided_at self.now id.now) }
+    {
         match self.map.get(id) {
             Some(decided) => decided.kind,
             None => None,
@@ -154,7 +156,7 @@ impl<A: Allocator + Copy> Fates<A> {
     /// Sets the fate of an object, which must be undecided. Fails only if out of memory, and then no
     /// fate changes.
     pub(crate) fn settle(&mut self, id: &Oid, decided: Decided) -> Result<(), AllocError>
-        ensures { OnOk result (Puts self.old id.now decided.fate self.new) }
+        ensures { OnOk result (Puts self.old id.now decided self.new) }
     {
         match self.map.insert(*id, decided) {
             Ok(_) => Ok(()),

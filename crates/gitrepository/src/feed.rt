@@ -1,9 +1,11 @@
 //! A pack that a Git directory is receiving.
 
 ghost use Rattle.std.specs.Prelude.{◌≡◌, ◌++◌, [], ℕ, All, IfOk, OnOk};
+ghost use Rattle.gcomplete.specs.Naming.{IsNameOf};
 ghost use Rattle.gitpack.specs.Packs.{IsFramed};
 ghost use Rattle.gitrepository.specs.Packs.{IsIndexed};
 ghost use Rattle.gitrepository.specs.Received.{AreLinked, IsEntryInReceived};
+ghost use Rattle.gitrepository.specs.StoredTrees.{AreTreesRead, IsLocated};
 
 use crate::arrival::{Arrival, Inspector};
 use crate::fault::RepositoryFault;
@@ -30,14 +32,21 @@ pub struct Received<S: Spool + Drop, A: Allocator + Copy> {
     /// that are only in the store.
     pub prerequisites: Vec<Link, A>,
     ghost linked: { ∥ AreLinked prerequisites.items index.entries ∥₁ },
+    ghost read: { ∥ AreTreesRead IsNameOf IsLocated index.entries prerequisites.items ∥₁ },
 }
 
 impl<S: Spool + Drop, A: Allocator + Copy> Received<S, A> {
     /// Proves that for each id and type of the index there is an object, whose SHA-1 is the id.
     /// Each link of this object leads to an object of the index or to a prerequisite. The contract
     /// does not say that the pack contains this object.
+    ///
+    /// Proves also that each tree among the prerequisites was read, with all trees that it reaches.
+    /// Each link of a tree that was read leads to an object of the index, or to an object of the
+    /// store that was looked up.
     pub fn laws(&self)
-        ensures { ∥ AreLinked self.now.prerequisites.items self.now.index.entries ∥₁ }
+        ensures linked { ∥ AreLinked self.now.prerequisites.items self.now.index.entries ∥₁ }
+        ensures read { ∥ AreTreesRead IsNameOf IsLocated self.now.index.entries
+            self.now.prerequisites.items ∥₁ }
     {
         let _ = &self.pack;
     }
@@ -103,7 +112,7 @@ impl<S: Spool + Drop, A: Allocator + Copy> StoreFeed<S, A> {
             finish_pack(pack, &mut inspector)?
         };
         let (entries, prerequisites) = arrival.into_parts(reader, &index)?;
-        check_trees(reader, &index, prerequisites.as_slice())?;
+        check_trees(reader, index.entries(), prerequisites.as_slice())?;
         let received = Received {
             pack,
             index,

@@ -1,24 +1,28 @@
 //! The objects to send for a list of commits and tags.
 
-ghost use Rattle.std.specs.Prelude.{◌≡◌, ◌≢◌, ◌∷◌, ◌++◌, ◌↔◌, [], ℕ, List, All, Contains, IfOk, IsTrue, None, OnOk};
+ghost use Rattle.std.specs.Prelude.{◌≡◌, ◌∷◌, ◌++◌, ◌↔◌, [], ℕ, List, All, Contains, IfOk, IfSome, IsTrue, None, OnOk};
 ghost use Rattle.std.specs.Bool.{IsFalse};
 ghost use Rattle.std.specs.Option.{option_to_list};
 ghost use Rattle.gname.specs.Ids.{Id};
 ghost use Rattle.gobject.specs.declared.node.Entry.{Entry as GraphEntry};
+ghost use Rattle.gitobject.specs.Trees.{link_of};
 ghost use Rattle.gitobject.specs.declared.types.ObjectType.TheVariants as types;
 ghost use Rattle.gcomplete.specs.Naming.{IsNameOf};
 ghost use Rattle.gcomplete.specs.Stores.{GitObject, object_of};
 ghost use Rattle.gitobject.specs.Naming.{id_of};
-ghost use Rattle.gitrepository.specs.Gathering.{IsDecided, IsGathered, IsParent, IsWalked, fate_at, is_sent};
-ghost use Rattle.gitrepository.specs.steps.Walking.{HasDecidedParents, HasFateAs, HasIdIn, IsCovered, IsOnlyListed, IsOpen, IsSentEntry, IsWalkedEntry, Notes, NotesObject, Settles, StaysDecided};
+ghost use Rattle.gitobjects.specs.declared.store.Found.{Found};
+ghost use Rattle.gitrepository.specs.Gathering.{IsDecided, IsGathered, IsParent, IsWalked, decided_at, is_sent};
+ghost use Rattle.gitrepository.specs.StoredTrees.{IsLocated};
+ghost use Rattle.gitrepository.specs.steps.Walking.{Decides, HasDecidedParents, HasFateAs, HasIdIn, IsAlone, IsCovered, IsDecidedAs, IsOnlyListed, IsOpen, IsReceived, IsSentEntry, IsWalkedEntry, LeadsOn, LooksUp, Notes, NotesObject, Settles, StaysDecided};
 
 use crate::fates::{Decided, Fate, Fates};
 use crate::fault::{ObjectCause, RepositoryFault};
+use crate::linking::find;
 use crate::path_hash::PathHash;
 use ggraph::Entry;
 use gitobject::{Link, ObjectFault, ObjectType, commit_links, split_entry};
 use gitobjects::{Found, Object, ObjectFiles, ObjectReader, StoreFault};
-use gitpack::IndexedPack;
+use gitpack::IndexedEntry;
 use gname::Oid;
 use std::alloc::Allocator;
 
@@ -27,12 +31,16 @@ pub(crate) trait WalkedStore<A: Allocator + Copy> {
     // The objects that the store returns for an id.
     ghost has: { Id → GitObject → Type 0 };
 
+    // The locations where the store finds the object with an id.
+    ghost located: { Id → Found → Type 0 };
+
     /// Returns the allocator of the store.
     fn allocator(&self) -> A;
 
     /// Returns the location of the object with this id. Fails if the object is missing, or if the
     /// store cannot be read.
-    fn locate(&mut self, id: &Oid) -> Result<Found, RepositoryFault<A>>;
+    fn locate(&mut self, id: &Oid) -> Result<Found, RepositoryFault<A>>
+        ensures { IfOk result (λ found. located id.now found) };
 
     /// Returns the object with this id. Fails if the object is missing or broken, or has another
     /// id.
@@ -47,6 +55,8 @@ pub(crate) trait WalkedStore<A: Allocator + Copy> {
 
 impl<F: ObjectFiles, A: Allocator + Copy> WalkedStore<A> for ObjectReader<'_, F, A> {
     ghost has = { IsNameOf };
+
+    ghost located = { IsLocated };
 
     fn allocator(&self) -> A {
         self.store().allocator()
@@ -129,8 +139,8 @@ pub(crate) struct Walk<'r, A: Allocator + Copy> {
     alloc: A,
     fates: Fates<A>,
     trees: Vec<PendingTree, A>,
-    // A received pack, whose objects need no fate.
-    received: Option<&'r IndexedPack<A>>,
+    // The objects of a received pack, which need no fate.
+    received: &'r [IndexedEntry],
 }
 
 impl<'r, A: Allocator + Copy> Walk<'r, A> {
@@ -138,24 +148,23 @@ impl<'r, A: Allocator + Copy> Walk<'r, A> {
     pub(crate) fn new(alloc: A) -> Walk<'r, A>
         ensures fates { result.fates ≡ [] }
         ensures trees { result.trees.items ≡ [] }
-        ensures received { result.received ≡ None }
+        ensures received { IsAlone result }
+    {
+        Walk::beside(alloc, &[])
+    }
+
+    /// Returns a `Walk` in which no fate is decided. The objects of the received pack need no fate,
+    /// and the walk stops at them.
+    pub(crate) fn beside(alloc: A, received: &'r [IndexedEntry]) -> Walk<'r, A>
+        ensures fates { result.fates ≡ [] }
+        ensures trees { result.trees.items ≡ [] }
+        ensures received { result.received.now ≡ received.now }
     {
         Walk {
             alloc,
             fates: Fates::new(alloc),
             trees: Vec::new(alloc),
-            received: None,
-        }
-    }
-
-    /// Returns a `Walk` in which no fate is decided. The objects of the received pack need no fate,
-    /// and the walk stops at them.
-    pub(crate) fn beside(alloc: A, received: &'r IndexedPack<A>) -> Walk<'r, A> {
-        Walk {
-            alloc,
-            fates: Fates::new(alloc),
-            trees: Vec::new(alloc),
-            received: Some(received),
+            received,
         }
     }
 
@@ -166,13 +175,22 @@ impl<'r, A: Allocator + Copy> Walk<'r, A> {
         &mut self,
         store: &mut S,
         id: &Oid,
-    ) -> Result<(), RepositoryFault<A>> {
+    ) -> Result<(), RepositoryFault<A>>
+        ensures received { OnOk result (self.new.received ≡ self.old.received) }
+        ensures empty { OnOk result (self.new.trees.items ≡ []) }
+        ensures keeps { OnOk result (StaysDecided self.old.fates self.new.fates) }
+        ensures looks { OnOk result (LooksUp S.has S.located self.old
+            → LooksUp S.has S.located self.new) }
+        ensures leads { OnOk result (LooksUp S.has S.located self.old
+            → LeadsOn self.new (link_of types.Tree id.now)) }
+    {
         let link = Link {
             id: *id,
             kind: ObjectType::Tree,
         };
         self.settle_link(store, link, Fate::Sent(PathHash::NONE))?;
-        self.walk_trees(store)
+        self.walk_trees(store)?;
+        Ok(())
     }
 
     // Marks the listed commits and tags as sent.
@@ -183,9 +201,9 @@ impl<'r, A: Allocator + Copy> Walk<'r, A> {
     ) -> Result<(), RepositoryFault<A>>
         ensures received { self.new.received ≡ self.old.received }
         ensures trees { self.new.trees.items ≡ self.old.trees.items }
-        ensures only { OnOk result (self.old.received ≡ None → self.old.fates ≡ []
+        ensures only { OnOk result (IsAlone self.old → self.old.fates ≡ []
             → IsOnlyListed entries.now self.new.fates) }
-        ensures each { OnOk result (self.old.received ≡ None → self.old.fates ≡ []
+        ensures each { OnOk result (IsAlone self.old → self.old.fates ≡ []
             → All (IsSentEntry self.new.fates) entries.now) }
     {
         for entry in entries {
@@ -206,7 +224,7 @@ impl<'r, A: Allocator + Copy> Walk<'r, A> {
         ensures keeps { OnOk result (StaysDecided self.old.fates self.new.fates) }
         ensures open { OnOk result (IsOpen S.has entries.now self.old
             → IsOpen S.has entries.now self.new) }
-        ensures parents { OnOk result (self.old.received ≡ None
+        ensures parents { OnOk result (IsAlone self.old
             → All (HasDecidedParents self.new.fates) entries.now) }
     {
         for entry in entries {
@@ -227,7 +245,7 @@ impl<'r, A: Allocator + Copy> Walk<'r, A> {
         ensures keeps { OnOk result (StaysDecided self.old.fates self.new.fates) }
         ensures open { OnOk result ((entries : List (GraphEntry A)) → All (IsParent entries) parents.now
             → IsOpen S.has entries self.old → IsOpen S.has entries self.new) }
-        ensures parents { OnOk result (self.old.received ≡ None
+        ensures parents { OnOk result (IsAlone self.old
             → All (IsDecided self.new.fates) parents.now) }
     {
         for id in parents {
@@ -248,7 +266,7 @@ impl<'r, A: Allocator + Copy> Walk<'r, A> {
         ensures keeps { OnOk result (StaysDecided self.old.fates self.new.fates) }
         ensures open { OnOk result ((entries : List (GraphEntry A)) → IsParent entries id.now
             → IsOpen S.has entries self.old → IsOpen S.has entries self.new) }
-        ensures parent { OnOk result (self.old.received ≡ None → IsDecided self.new.fates id.now) }
+        ensures parent { OnOk result (IsAlone self.old → IsDecided self.new.fates id.now) }
     {
         let Some(_found) = self.settle(store, id, Fate::NotSent)? else {
             return Ok(());
@@ -267,7 +285,7 @@ impl<'r, A: Allocator + Copy> Walk<'r, A> {
         ensures keeps { OnOk result (StaysDecided self.old.fates self.new.fates) }
         ensures open { OnOk result (All (IsSentEntry self.old.fates) entries.now
             → IsOpen S.has entries.now self.old → IsOpen S.has entries.now self.new) }
-        ensures walked { OnOk result (self.old.received ≡ None → (listed : List Id)
+        ensures walked { OnOk result (IsAlone self.old → (listed : List Id)
             → All (HasIdIn listed) entries.now
             → All (IsWalkedEntry S.has listed self.new.fates) entries.now) }
     {
@@ -279,28 +297,18 @@ impl<'r, A: Allocator + Copy> Walk<'r, A> {
 
     // Returns the type of an object of the received pack, or `None` if the pack lacks the object.
     fn received_kind(&self, id: &Oid) -> Option<ObjectType>
-        ensures { self.now.received ≡ None → result ≡ None }
+        ensures { IfSome result (λ kind. IsReceived self.now (link_of kind id.now)) }
     {
-        let Some(pack) = self.received else {
-            return None;
-        };
-        match pack.find(id) {
+        match find(self.received, id) {
             Some(entry) => Some(entry.kind),
             None => None,
         }
     }
 
-    // Returns whether the received pack has the object.
-    fn is_received(&self, id: &Oid) -> bool
-        ensures { IsTrue result → self.now.received ≢ None }
-    {
-        self.received_kind(id).is_some()
-    }
-
     // Returns whether the fate of an object is decided.
     fn is_decided(&self, id: &Oid) -> bool
         ensures decided { IsTrue result → IsDecided self.now.fates id.now }
-        ensures open { IsFalse result → fate_at self.now.fates id.now ≡ None }
+        ensures open { IsFalse result → decided_at self.now.fates id.now ≡ None }
     {
         self.fates.get(id).is_some()
     }
@@ -315,12 +323,12 @@ impl<'r, A: Allocator + Copy> Walk<'r, A> {
     ) -> Result<Option<Found>, RepositoryFault<A>>
         ensures received { self.new.received ≡ self.old.received }
         ensures trees { self.new.trees.items ≡ self.old.trees.items }
-        ensures settles { IfOk result (λ found. Settles self.old id.now fate found self.new) }
+        ensures settles { IfOk result (λ found. Settles S.located self.old id.now fate found self.new) }
     {
-        if self.is_received(id) {
-            return Ok(None);
+        match self.received_kind(id) {
+            Some(_) => Ok(None),
+            None => self.decide(store, id, None, fate),
         }
-        self.decide(store, id, None, fate)
     }
 
     // Sets the fate of an undecided object that the received pack lacks, and returns the location
@@ -335,7 +343,8 @@ impl<'r, A: Allocator + Copy> Walk<'r, A> {
     ) -> Result<Option<Found>, RepositoryFault<A>>
         ensures received { self.new.received ≡ self.old.received }
         ensures trees { self.new.trees.items ≡ self.old.trees.items }
-        ensures settles { IfOk result (λ found. Settles self.old id.now fate found self.new) }
+        ensures decides { IfOk result (λ found.
+            Decides S.located self.old id.now kind fate found self.new) }
     {
         if self.is_decided(id) {
             return Ok(None);
@@ -359,7 +368,7 @@ impl<'r, A: Allocator + Copy> Walk<'r, A> {
         ensures keeps { OnOk result (StaysDecided self.old.fates self.new.fates) }
         ensures open { OnOk result ((entries : List (GraphEntry A)) → HasFateAs self.old.fates id.now fate
             → IsOpen S.has entries self.old → IsOpen S.has entries self.new) }
-        ensures walked { OnOk result (self.old.received ≡ None → (listed : List Id)
+        ensures walked { OnOk result (IsAlone self.old → (listed : List Id)
             → Contains listed id.now → IsWalked S.has listed self.new.fates id.now) }
     {
         let object = store.object(id)?;
@@ -376,6 +385,8 @@ impl<'r, A: Allocator + Copy> Walk<'r, A> {
         ensures keeps { OnOk result (StaysDecided self.old.fates self.new.fates) }
         ensures open { OnOk result ((entries : List (GraphEntry A)) → IsOpen S.has entries self.old
             → IsOpen S.has entries self.new) }
+        ensures looks { OnOk result (LooksUp S.has S.located self.old
+            → LooksUp S.has S.located self.new) }
     {
         for _ in 0..u64::MAX {
             let Some(tree) = self.take_tree() else {
@@ -403,7 +414,7 @@ impl<'r, A: Allocator + Copy> Walk<'r, A> {
         tree: PendingTree,
     ) -> Result<(), RepositoryFault<A>>
         ensures { OnOk result ((body : List ℕ) × S.has tree.id (object_of types.Tree body)
-            × NotesObject self.old types.Tree body (is_sent tree.fate) self.new) }
+            × NotesObject S.located self.old types.Tree body (is_sent tree.fate) self.new) }
     {
         let object = store.object_at(&tree.id, tree.found)?;
         if object.kind != ObjectType::Tree {
@@ -421,7 +432,7 @@ impl<'r, A: Allocator + Copy> Walk<'r, A> {
         object: &Object<A>,
         fate: Fate,
     ) -> Result<(), RepositoryFault<A>>
-        ensures { OnOk result (NotesObject self.old object.now.kind object.now.body.items (is_sent fate) self.new) }
+        ensures { OnOk result (NotesObject S.located self.old object.now.kind object.now.body.items (is_sent fate) self.new) }
     {
         let body = object.body.as_slice();
         match object.kind {
@@ -440,7 +451,7 @@ impl<'r, A: Allocator + Copy> Walk<'r, A> {
         body: &[u8],
         fate: Fate,
     ) -> Result<(), RepositoryFault<A>>
-        ensures { OnOk result (NotesObject self.old types.Commit body.now (is_sent fate) self.new) }
+        ensures { OnOk result (NotesObject S.located self.old types.Commit body.now (is_sent fate) self.new) }
     {
         let links = match commit_links(self.alloc, body) {
             Ok(links) => links,
@@ -462,7 +473,7 @@ impl<'r, A: Allocator + Copy> Walk<'r, A> {
         body: &[u8],
         fate: Fate,
     ) -> Result<(), RepositoryFault<A>>
-        ensures { OnOk result (NotesObject self.old types.Tree body.now (is_sent fate) self.new) }
+        ensures { OnOk result (NotesObject S.located self.old types.Tree body.now (is_sent fate) self.new) }
     {
         let mut rest = body;
         while !is_over(rest) {
@@ -482,7 +493,7 @@ impl<'r, A: Allocator + Copy> Walk<'r, A> {
         link: Option<Link>,
         fate: Fate,
     ) -> Result<(), RepositoryFault<A>>
-        ensures { OnOk result (Notes self.old (option_to_list link) (is_sent fate) self.new) }
+        ensures { OnOk result (Notes S.located self.old (option_to_list link) (is_sent fate) self.new) }
     {
         match link {
             Some(link) => self.settle_link(store, link, fate),
@@ -498,7 +509,7 @@ impl<'r, A: Allocator + Copy> Walk<'r, A> {
         link: Link,
         fate: Fate,
     ) -> Result<(), RepositoryFault<A>>
-        ensures { OnOk result (Notes self.old (link ∷ []) (is_sent fate) self.new) }
+        ensures { OnOk result (Notes S.located self.old (link ∷ []) (is_sent fate) self.new) }
     {
         match self.received_kind(&link.id) {
             Some(kind) => check_type(&link, kind),
@@ -515,7 +526,7 @@ impl<'r, A: Allocator + Copy> Walk<'r, A> {
         link: Link,
         fate: Fate,
     ) -> Result<(), RepositoryFault<A>>
-        ensures { OnOk result (Notes self.old (link ∷ []) (is_sent fate) self.new) }
+        ensures { OnOk result (Notes S.located self.old (link ∷ []) (is_sent fate) self.new) }
     {
         let Some(found) = self.decide(store, &link.id, Some(link.kind), fate)? else {
             return self.check_linked(&link);
@@ -529,7 +540,10 @@ impl<'r, A: Allocator + Copy> Walk<'r, A> {
     }
 
     // Fails with `Type` if the fate was decided through a link to another type.
-    fn check_linked(&self, link: &Link) -> Result<(), RepositoryFault<A>> {
+    fn check_linked(&self, link: &Link) -> Result<(), RepositoryFault<A>>
+        ensures { OnOk result (IsDecided self.now.fates link.now.id
+            → IsDecidedAs self.now.fates link.now) }
+    {
         match self.fates.linked_kind(&link.id) {
             Some(kind) => check_type(link, kind),
             None => Ok(()),
@@ -538,10 +552,9 @@ impl<'r, A: Allocator + Copy> Walk<'r, A> {
 }
 
 // Fails with `Type` if this type of the named object differs from the type of the link.
-fn check_type<A: Allocator + Copy>(
-    link: &Link,
-    kind: ObjectType,
-) -> Result<(), RepositoryFault<A>> {
+fn check_type<A: Allocator + Copy>(link: &Link, kind: ObjectType) -> Result<(), RepositoryFault<A>>
+    ensures { OnOk result (kind ≡ link.now.kind) }
+{
     if kind != link.kind {
         return Err(RepositoryFault::object_fault(&link.id, ObjectCause::Type));
     }

@@ -1,6 +1,6 @@
 //! An indexer of packs that a Git directory receives.
 
-ghost use Rattle.std.specs.Prelude.{◌≡◌, ◌++◌, ⊤, ℕ, List, All, IfOk, MatchResult, None, OnErr, OnOk};
+ghost use Rattle.std.specs.Prelude.{◌≡◌, ◌++◌, ⊤, ℕ, List, All, IfOk, IsSomeAnd, MatchResult, None, OnErr, OnOk};
 ghost use Rattle.gname.specs.Ids.{Id};
 ghost use Rattle.gitrepository.specs.Keeping.{IsEntryKeptBy, IsKeptBy};
 ghost use Rattle.gitrepository.specs.Packs.{IsIndexed};
@@ -132,6 +132,8 @@ where
         feed: StoreFeed<P::Spool, A>,
     ) -> Result<Vec<Entry<A>, A>, RepositoryFault<A>>
         ensures indexed { IfOk result (λ entries. IsIndexed feed entries.items) }
+        ensures pack { OnOk result (IsSomeAnd self.new.received
+            (λ it. P.Spool.bytes it.pack ≡ feed)) }
         ensures kept { IfOk result (λ entries. All (IsEntryKeptBy self.new.received)
             entries.items) }
         ensures stays { (id : Id) → IsKeptBy self.old.received id → IsKeptBy self.new.received id }
@@ -154,6 +156,7 @@ where
         &self,
         feed: StoreFeed<P::Spool, A>,
     ) -> Result<(Received<P::Spool, A>, Vec<Entry<A>, A>), RepositoryFault<A>>
+        ensures pack { IfOk result (λ it. P.Spool.bytes it.0.pack ≡ feed) }
         ensures indexed { IfOk result (λ it. IsIndexed feed it.1.items) }
         ensures received { IfOk result (λ it. All
             (IsEntryInReceived it.0.prerequisites.items it.0.index.entries) it.1.items) }
@@ -214,6 +217,8 @@ where
         ensures answers { MatchResult result
             (λ entries. ((given : List ℕ) → feed ≡ given → IsIndexed given entries.items))
             (λ fault. ((given : List ℕ) → feed ≡ given → ⊤)) }
+        ensures pack { OnOk result (IsSomeAnd self.new.received
+            (λ it. P.Spool.bytes it.pack ≡ feed)) }
         ensures kept { IfOk result (λ entries. All (IsEntryKeptBy self.new.received)
             entries.items) }
         ensures stays { (id : Id) → IsKeptBy self.old.received id → IsKeptBy self.new.received id }

@@ -44,11 +44,16 @@
 //! - A pack is accepted only if its trailer is the SHA-1 of all preceding bytes. Each entry that
 //!   the indexer returns describes an object, or is a tree or blob that a tag names. In the second
 //!   case the entry of the tag is also returned.
-//! - The spool that stores a received pack was given exactly the received bytes, in order.
+//! - The spool that stores a received pack was given exactly the received bytes, in order. A
+//!   [`StoreIndexer`] keeps this pack until it is taken.
 //! - For each id and type in the index of a [`Received`] pack, there is an object of this type
 //!   whose SHA-1 is the id. The parts of the object that contain links are well-formed. Each object
 //!   that it names is in the index, or is one of the prerequisites of the pack. In both cases the
 //!   named object has the expected type ([`Received::laws`]).
+//! - Suppose a tree of the store is a prerequisite of a received pack. Then this tree was read, and
+//!   also each tree that it reaches. The id of each of these trees was checked. Each of their links
+//!   leads to an object of the index, or to an object that was found in the store. If several links
+//!   lead to the same object, they give it the same type ([`Received::laws`]).
 //! - A store is closed if each object that its objects name is in the store, with the expected
 //!   type. Suppose a closed store has the prerequisites of a received pack. Then it stays closed
 //!   when the objects of the pack are added, unless two different objects have the same id
@@ -115,6 +120,7 @@
 //!   cover only the ids of the objects to send, and the number of entries. An object that a tree
 //!   names as a blob may have another type.
 //! - The packer may send trees and blobs that the client has, if a listed commit reaches them too.
+//!   It may compare the wrong objects to make deltas, because no contract covers path hashes.
 //! - The other object in [`laws::gathered_is_held`] need not be an object that the packer read.
 //! - The header of a sent entry may state a wrong type or size, or a wrong offset of its base. The
 //!   base may have another type.
@@ -130,8 +136,8 @@
 //!   object. The function trusts the peeled ids in `packed-refs`, as Git does.
 //! - [`lead_with_newest`] may leave refs out, or put other refs first.
 //! - No contract says that the closed store of [`check_refs`] has the bytes that the reader
-//!   returned, or only objects that the refs reach. The function [`check_repository`] has no
-//!   contract.
+//!   returned, or only objects that the refs reach. No contract says that [`check_repository`]
+//!   checks the refs and HEAD of the directory.
 //! - [`Tips`] may lose an id or have other ids, and [`add_leaves`] may add or remove other nodes.
 //!   No contract covers the result of [`Tips::contains`].
 //! - No contract says which repository formats are opened or refused. No contract covers the result
@@ -140,11 +146,12 @@
 //!   received pack may leave out an object of the pack. It may have an object that the pack does not
 //!   have, or state a wrong offset or CRC-32.
 //! - The prerequisites may include an object of the pack, or one that no object of the pack names.
-//!   No public contract says that the store returned their types. No contract covers the limit on
-//!   memory for the ids that a pack names.
-//! - The store may lack objects that the prerequisites reach. No contract covers the walk of the
-//!   stored trees that a pack names. The history of commits and tags among the prerequisites is not
-//!   checked here, because a session moves no ref to an unconnected id.
+//!   No public contract says that the store returned their types. No contract covers the limits on
+//!   a received pack: its number of objects, their sizes, and the memory for the ids that they name.
+//! - The store may lack a blob that the prerequisites reach, or have another object with its id. The
+//!   blobs of stored trees are only looked up, and no contract says that the store found them. The
+//!   history of commits and tags among the prerequisites is not checked here, because a session
+//!   moves no ref to an unconnected id.
 //! - The store may return the type of an object that it does not have, or that is malformed.
 //! - The indexer compares objects that the store already has. No contract covers these comparisons,
 //!   or states when the indexer reads an object. The indexer can miss a loose object that is added
@@ -153,8 +160,7 @@
 //!   checked, but no contract covers this check.
 //! - [`PackCounts`] and [`StorePacker::counts`] have no contract, because they serve only
 //!   measurements.
-//! - [`StoreIndexer::kind_of`] may return the wrong type. No contract says that the pack from
-//!   [`StoreIndexer::take_received`] is the pack that was fed.
+//! - [`StoreIndexer::kind_of`] may return the wrong type.
 //! - A [`NewRepository`] may lack its configuration, its pack, its refs or HEAD. Its files may be
 //!   removed by `finish`, or may remain after a fault.
 //! - A contract cannot describe the contents of a system file, so only the order of the calls in

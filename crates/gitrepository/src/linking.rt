@@ -186,9 +186,9 @@ fn expect<A: Allocator + Copy>(kind: ObjectType, need: &Link) -> Result<(), Repo
     }
 }
 
-// Returns an object of the pack with this id, or `None` if there is none. The objects of the pack
-// are sorted by id.
-fn find(pack: &[IndexedEntry], id: &Oid) -> Option<IndexedEntry>
+/// Returns an object of the pack with this id, or `None` if there is none. The objects of the pack
+/// are sorted by id.
+pub(crate) fn find(pack: &[IndexedEntry], id: &Oid) -> Option<IndexedEntry>
     ensures { IfSome result (λ e. Contains pack.now e × (object_id e ≡ id.now)) }
 {
     match pack.binary_search_by(|entry| entry.entry.id.cmp(id)) {

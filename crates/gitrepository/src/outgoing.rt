@@ -1,8 +1,8 @@
 //! A pack returned in parts, with as many entries as its header says.
 
-ghost use Rattle.std.specs.Prelude.{◌≡◌, ◌+◌, ◌≤◌, ◌↔◌, [], ◌++◌, List, ℕ, IfOk, IsTrue, OnOk, length, take};
+ghost use Rattle.std.specs.Prelude.{◌≡◌, ◌⊎◌, ◌+◌, ◌<◌, ◌≤◌, ◌↔◌, [], ◌++◌, List, ℕ, IfOk, IsTrue, OnOk, length, take};
 ghost use Rattle.gparts.specs.Parts.{max_parts};
-ghost use Rattle.gitrepository.specs.Parts.{GoesOn, IsGivenWhole, IsGoing};
+ghost use Rattle.gitrepository.specs.Parts.{GoesOn, IsGivenWhole, IsGoing, rest_of};
 
 use crate::fault::RepositoryFault;
 use gitpack::{EntryForm, PackFileFault, put_entry, put_header};
@@ -90,6 +90,7 @@ impl<A: Allocator + Copy> Outgoing<A> {
         size: usize,
         stream: &[u8],
     ) -> Result<(), RepositoryFault<A>>
+        ensures counted { OnOk result (self.old.put < self.old.count) }
         ensures going { OnOk result (GoesOn self.old self.new) }
         ensures left { self.new.left ≡ self.old.left }
     {
@@ -146,6 +147,8 @@ impl<A: Allocator + Copy> Outgoing<A> {
     pub(crate) fn give(&mut self, out: &mut [u8]) -> Result<usize, RepositoryFault<A>>
         ensures fits { IfOk result (λ count. count ≤ length out.new) }
         ensures length { length out.new ≡ length out.old }
+        ensures none { IfOk result (λ count. count ≡ 0
+            → (rest_of self.old ≡ []) ⊎ (length out.old ≡ 0)) }
         ensures left { IfOk result (λ count. self.new.left + count ≡ self.old.left) }
         ensures given { IfOk result (λ count. (entries : ℕ) (before : List ℕ)
             → IsGoing entries self.old before

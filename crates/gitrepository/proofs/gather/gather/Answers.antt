@@ -1,5 +1,5 @@
 use Rattle.gitrepository.specs.Entries.{ids_of}
-use Rattle.gitrepository.proofs.WalkLemmas.{all_listed, entries_sent_more, gathered, keeps_on, opens, parents_decided_more, received_none, trees_none}
+use Rattle.gitrepository.proofs.WalkLemmas.{all_listed, entries_sent_more, gathered, keeps_on, opens, parents_decided_more, still_alone, trees_none}
 use Rattle.gitrepository.proofs.gather.gather.Goals as goal
 
 pub returns : goal.returns
@@ -7,7 +7,7 @@ returns g c =
     let entries = c.args.entries.now in let has = g.S.WalkedStore.has in let new = c.new-walk.ensures in
     let first = c.send_all.new.self in let second = c.leave_out_parents.new.self in let last = c.send_trees.new.self in
     let sent = c.in_ok-send_all.ensures in let left = c.in_ok-leave_out_parents.ensures in let walked = c.in_ok-send_trees.ensures in
-    let alone = received_none c.new-walk.result first new.received sent.received in
+    let alone = still_alone c.new-walk.result first new.received sent.received in
     let empty = trees_none c.new-walk.result first new.trees sent.trees in
     let all_sent = sent.each new.received new.fates in
     let way = left.open (opens has entries first alone empty (sent.only new.received new.fates)) in

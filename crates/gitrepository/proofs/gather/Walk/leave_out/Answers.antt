@@ -2,7 +2,7 @@ use Rattle.std.proofs.Common.{◌≤◌, take, length, subst, sym, ◌∙◌, ar
 use Rattle.std.proofs.lemmas.List.{take_all}
 use Rattle.std.proofs.lemmas.List.Elements.{All-get_or, All-more}
 use Rattle.gitrepository.specs.Gathering.{IsDecided, IsParent}
-use Rattle.gitrepository.proofs.WalkLemmas.{all_decided_more, keeps_on, received_on}
+use Rattle.gitrepository.proofs.WalkLemmas.{all_decided_more, keeps_on, received_on, still_alone}
 use Rattle.gitrepository.proofs.gather.Walk.leave_out.Goals as goal
 
 pub loop-id-preserved : goal.loop-id-preserved
@@ -14,7 +14,7 @@ loop-id-preserved g c =
       keeps_on c.args.self.now.fates old.fates new.fates inv.2 said.keeps,
       λ entries all way. said.open entries (subst (IsParent entries) (sym c.id-item.is) (All-get_or (IsParent entries) ids k _ c.loop-id-test.true all)) (inv.3 entries all way),
       λ alone. All-more (IsDecided new.fates) ids k _ c.loop-id-test.true (all_decided_more old.fates new.fates said.keeps (take k ids) (inv.4 alone))
-          (subst (IsDecided new.fates) c.id-item.is (said.parent (inv.0 ∙ alone))),
+          (subst (IsDecided new.fates) c.id-item.is (said.parent (still_alone c.args.self.now old alone inv.0))),
     )
 
 pub returns-clause-parents : goal.returns-clause-parents

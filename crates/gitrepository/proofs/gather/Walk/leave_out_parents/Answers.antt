@@ -3,7 +3,7 @@ use Rattle.std.proofs.lemmas.List.{take_all}
 use Rattle.std.proofs.lemmas.List.Elements.{All-more}
 use Rattle.gitrepository.specs.Gathering.{IsDecided}
 use Rattle.gitrepository.specs.steps.Walking.{HasDecidedParents}
-use Rattle.gitrepository.proofs.WalkLemmas.{keeps_on, parents_decided_more, parents_of, received_on}
+use Rattle.gitrepository.proofs.WalkLemmas.{keeps_on, parents_decided_more, parents_of, received_on, still_alone}
 use Rattle.gitrepository.proofs.gather.Walk.leave_out_parents.Goals as goal
 
 pub loop-entry-preserved : goal.loop-entry-preserved
@@ -16,7 +16,7 @@ loop-entry-preserved g c =
       keeps_on c.args.self.now.fates old.fates new.fates inv.2 said.keeps,
       λ way. said.open entries (parents_of entries k entry _ c.loop-entry-test.true c.entry-item.is slice) (inv.3 way),
       λ alone. All-more (HasDecidedParents new.fates) entries k _ c.loop-entry-test.true (parents_decided_more old.fates new.fates said.keeps (take k entries) (inv.4 alone))
-          (subst (HasDecidedParents new.fates) c.entry-item.is (subst (All (IsDecided new.fates)) slice (said.parents (inv.0 ∙ alone)))),
+          (subst (HasDecidedParents new.fates) c.entry-item.is (subst (All (IsDecided new.fates)) slice (said.parents (still_alone c.args.self.now old alone inv.0)))),
     )
 
 pub returns-clause-parents : goal.returns-clause-parents

@@ -2,7 +2,7 @@ use Rattle.std.proofs.Common.{◌≤◌, Contains, take, length, refl, subst, sy
 use Rattle.std.proofs.lemmas.List.{take_all}
 use Rattle.std.proofs.lemmas.List.Elements.{All-more, All-nil}
 use Rattle.gitrepository.specs.steps.Walking.{IsOnlyListed, IsSentEntry}
-use Rattle.gitrepository.proofs.WalkLemmas.{entries_sent_more, nothing_listed, one_listed, received_on, trees_on}
+use Rattle.gitrepository.proofs.WalkLemmas.{entries_sent_more, nothing_listed, one_listed, received_on, still_alone, trees_on}
 use Rattle.gitrepository.proofs.gather.Walk.send_all.Goals as goal
 
 pub loop-entry-init : goal.loop-entry-init
@@ -21,7 +21,7 @@ loop-entry-preserved g c =
       λ alone empty.
           let before = inv.2 alone empty in
           let here : Contains entries entry = (k, c.loop-entry-test.true, sym c.entry-item.is) in
-          let one = one_listed entries old new entry _ c.in_ok-_found._found (inv.0 ∙ alone) refl here said.settles before.0 in (
+          let one = one_listed g.S.WalkedStore.located entries old new entry _ c.in_ok-_found._found (still_alone c.args.self.now old alone inv.0) refl here said.settles before.0 in (
             one.0,
             All-more (IsSentEntry new.fates) entries k _ c.loop-entry-test.true (entries_sent_more old.fates new.fates one.1 (take k entries) before.1)
                 (subst (IsSentEntry new.fates) c.entry-item.is one.2),

@@ -2,7 +2,7 @@ use Rattle.std.proofs.Common.{◌≤◌, take, length, refl, subst, sym, ◌∙�
 use Rattle.std.proofs.lemmas.List.{take_all}
 use Rattle.std.proofs.lemmas.List.Elements.{All-get_or, All-more}
 use Rattle.gitrepository.specs.steps.Walking.{HasIdIn, IsSentEntry, IsWalkedEntry}
-use Rattle.gitrepository.proofs.WalkLemmas.{entries_walked_more, fate_as_sent, keeps_on, received_on, sent_more}
+use Rattle.gitrepository.proofs.WalkLemmas.{entries_walked_more, fate_as_sent, keeps_on, received_on, sent_more, still_alone}
 use Rattle.gitrepository.proofs.gather.Walk.send_trees.Goals as goal
 
 pub loop-entry-preserved : goal.loop-entry-preserved
@@ -21,7 +21,7 @@ loop-entry-preserved g c =
           let among = subst (HasIdIn listed) (sym c.entry-item.is) (All-get_or (HasIdIn listed) entries k _ c.loop-entry-test.true all) in
           All-more W entries k _ c.loop-entry-test.true
           (entries_walked_more has listed old.fates new.fates said.keeps (take k entries) (inv.4 alone listed all))
-          (subst W c.entry-item.is (said.walked (inv.0 ∙ alone) listed among)),
+          (subst W c.entry-item.is (said.walked (still_alone start old alone inv.0) listed among)),
     )
 
 pub returns-clause-walked : goal.returns-clause-walked

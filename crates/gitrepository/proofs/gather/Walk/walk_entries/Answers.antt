@@ -14,12 +14,12 @@ loop-rest-preserved g c =
       inv.0 ++ entry_of parts.0 ∷ [],
       entries_more inv.0 (entry_of parts.0) inv.1 begins.is,
       tree_more c.args.body.now c.loop-rest.rest.now parts.1.now inv.0 (entry_of parts.0) inv.2 begins.parts,
-      notes_entry c.args.self.now c.loop-rest.self new inv.0 (entry_of parts.0) c.link.result (is_sent c.args.fate) (is_sent c.of_entry.result)
+      notes_entry g.S.WalkedStore.located c.args.self.now c.loop-rest.self new inv.0 (entry_of parts.0) c.link.result (is_sent c.args.fate) (is_sent c.of_entry.result)
           (c.link.ensures ∙ c.in-Some.ensures.link) c.of_entry.ensures inv.3 c.in_ok-settle_some.ensures,
     )
 
 pub returns : goal.returns
 returns g c =
     let inv = c.loop-rest.invariant in
-    notes_tree_body c.args.self.now c.loop-rest.self c.args.body.now c.loop-rest.rest.now inv.0 (is_sent c.args.fate) inv.1 inv.2
+    notes_tree_body g.S.WalkedStore.located c.args.self.now c.loop-rest.self c.args.body.now c.loop-rest.rest.now inv.0 (is_sent c.args.fate) inv.1 inv.2
     (c.is_over.ensures.0 c.loop-rest-test.false) inv.3

@@ -8,7 +8,7 @@ use Rattle.gitrepository.proofs.gather.Walk.walk_entries.Given as goal
 abbrev pub invariant-loop-rest : goal.invariant-loop-rest
 invariant-loop-rest g l =
     (done : List Entry) × All IsEntry done × (l.body ≡ tree_text done ++ l.rest)
-    × Notes l.fn.self (filter_map entry_link done) (is_sent l.fate) l.self
+    × Notes g.S.WalkedStore.located l.fn.self (filter_map entry_link done) (is_sent l.fate) l.self
 
 abbrev pub decreases-loop-rest : goal.decreases-loop-rest
 decreases-loop-rest g l = length l.rest

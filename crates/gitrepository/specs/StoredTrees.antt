@@ -1,0 +1,48 @@
+-- The objects of the store that a received pack relies on (git-fsck(1)).
+use Rattle.std.specs.Prelude.{◌≡◌, ◌⊎◌, ⊤, ℕ, List, All, Some}
+use Rattle.gname.specs.Ids.{Id}
+use Rattle.gitobject.specs.Links.{LinksOf}
+use Rattle.gitobject.specs.Trees.{link_of}
+use Rattle.gitobject.specs.declared.links.Link.{Link}
+use Rattle.gitobject.specs.declared.types.ObjectType.TheVariants.{Tree}
+use Rattle.gitobjects.specs.declared.store.Found.{Found}
+use Rattle.gitpack.specs.declared.indexing.IndexedEntry.{IndexedEntry}
+use Rattle.gcomplete.specs.Stores.{GitObject, object_of}
+use Rattle.gitrepository.specs.Gathering.{Fates, decided_at}
+use Rattle.gitrepository.specs.Received.{IsInPack}
+use Rattle.gitrepository.specs.declared.fates.Decided.{Decided}
+
+-- The definition says nothing, because contracts cannot describe the contents of system files. The reader of the store
+-- found an object with this id at this location.
+abbrev pub IsLocated : Id → Found → Type 0
+IsLocated id found = ⊤
+
+-- the object of the link was looked up, and a link gives it the same type
+abbrev pub IsLookedUp : Fates → Link → Type 0
+IsLookedUp fates link = (decided : Decided) × (decided_at fates link.id ≡ Some decided) × (decided.kind ≡ Some link.kind)
+
+-- the link leads to an object of the pack, or to an object of the store that was looked up
+abbrev pub LeadsToKnown : Fates → List IndexedEntry → Link → Type 0
+LeadsToKnown fates objects link = IsInPack objects link ⊎ IsLookedUp fates link
+
+-- The relation `has` says which object was read for an id. A tree was read for the id `a`. Each of its links leads to an
+-- object of the pack, or to an object of the store that was looked up.
+pub record IsTreeRead (has : Id → GitObject → Type 0) (objects : List IndexedEntry) (fates : Fates) (a : Id) : Type 0 where
+  pub body : List ℕ
+  pub read : has a (object_of Tree body)
+  pub links : List Link
+  pub reads : LinksOf Tree body links
+  pub each : All (LeadsToKnown fates objects) links
+
+-- what each prerequisite leads to, if it is a tree
+abbrev pub IsTreeKnown : Fates → List IndexedEntry → Link → Type 0
+IsTreeKnown fates objects link = link.kind ≡ Tree → LeadsToKnown fates objects link
+
+-- The trees of the store that a received pack relies on were read, with all trees that they reach. The pack has these
+-- objects and prerequisites. Each object of the store that was looked up was found at its location. Each tree that was
+-- looked up was read.
+pub record AreTreesRead (has : Id → GitObject → Type 0) (located : Id → Found → Type 0) (objects : List IndexedEntry) (prerequisites : List Link) : Type 0 where
+  pub fates : Fates
+  pub each : All (IsTreeKnown fates objects) prerequisites
+  pub trees : (a : Id) → IsLookedUp fates (link_of Tree a) → IsTreeRead has objects fates a
+  pub found : (a : Id) (decided : Decided) → decided_at fates a ≡ Some decided → located a decided.found
