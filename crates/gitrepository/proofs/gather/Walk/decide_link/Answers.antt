@@ -1,6 +1,6 @@
-use Rattle.std.proofs.Common.{Some, true≢false, inr, refl, subst, sym, ◌∙◌}
+use Rattle.std.proofs.Common.{Some, true≢false, refl, subst, sym, ◌∙◌}
 use Rattle.gitrepository.specs.steps.Walking.{Decides}
-use Rattle.gitrepository.proofs.WalkLemmas.{notes_covered, notes_other, notes_tree}
+use Rattle.gitrepository.proofs.WalkLemmas.{notes_other, notes_tree}
 use Rattle.gitrepository.specs.declared.fates.Decided.{Decided}
 use Rattle.gitrepository.specs.declared.gather.PendingTree.{PendingTree}
 use Rattle.gitrepository.proofs.gather.Walk.decide_link.Goals as goal

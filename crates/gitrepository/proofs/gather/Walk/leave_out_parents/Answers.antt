@@ -1,4 +1,4 @@
-use Rattle.std.proofs.Common.{◌≤◌, All, take, length, subst, ◌∙◌, arith}
+use Rattle.std.proofs.Common.{◌≤◌, All, take, length, subst, arith}
 use Rattle.std.proofs.lemmas.List.{take_all}
 use Rattle.std.proofs.lemmas.List.Elements.{All-more}
 use Rattle.gitrepository.specs.Gathering.{IsDecided}

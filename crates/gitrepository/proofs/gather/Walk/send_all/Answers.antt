@@ -1,4 +1,4 @@
-use Rattle.std.proofs.Common.{◌≤◌, Contains, take, length, refl, subst, sym, ◌∙◌, arith}
+use Rattle.std.proofs.Common.{◌≤◌, Contains, take, length, refl, subst, sym, arith}
 use Rattle.std.proofs.lemmas.List.{take_all}
 use Rattle.std.proofs.lemmas.List.Elements.{All-more, All-nil}
 use Rattle.gitrepository.specs.steps.Walking.{IsOnlyListed, IsSentEntry}

@@ -1,4 +1,4 @@
-use Rattle.std.proofs.Common.{◌≤◌, take, length, refl, subst, sym, ◌∙◌, arith}
+use Rattle.std.proofs.Common.{◌≤◌, take, length, refl, subst, sym, arith}
 use Rattle.std.proofs.lemmas.List.{take_all}
 use Rattle.std.proofs.lemmas.List.Elements.{All-get_or, All-more}
 use Rattle.gitrepository.specs.steps.Walking.{HasIdIn, IsSentEntry, IsWalkedEntry}
