@@ -7,6 +7,7 @@ pub mod PartLemmas
 pub mod LinkLemmas
 pub mod LookupLemmas
 pub mod LawLemmas
+pub mod TreeLawLemmas
 pub mod CheckLemmas
 pub mod WalkLemmas
 pub mod SentLemmas

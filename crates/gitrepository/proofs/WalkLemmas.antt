@@ -21,7 +21,8 @@ use Rattle.gcomplete.specs.Stores.{GitObject, object_of}
 use Rattle.gitrepository.specs.Entries.{id_of_entry, ids_of}
 use Rattle.gitrepository.specs.Gathering.{AreDistinct, Fates, FollowedOf, IsBelowLeftOut, IsBelowListed, IsDecided, IsFollowed, IsGathered, IsLeftOut, IsListed, IsNamedBlob, IsParent, IsSentAt, IsWalked, LeadsToDecided, decided_at, fate_at, fate_of, here, is_sent, is_sent_at, onward}
 use Rattle.gitrepository.specs.Received.{IsInPack}
-use Rattle.gitrepository.specs.steps.Walking.{Decides, HasDecidedParents, HasFateAs, HasIdIn, HasItsFate, IsAlone, IsCovered, IsDecidedAs, IsNew, IsOnTheWay, IsOnlyListed, IsOpen, IsPending, IsReceived, IsSentEntry, IsUnderWay, IsWalkedEntry, LeadsToCovered, Notes, NotesObject, Puts, SetsFate, Settles, StaysDecided, id_of_tree, linked_kind}
+use Rattle.gitrepository.specs.StoredTrees.{linked_kind}
+use Rattle.gitrepository.specs.steps.Walking.{Decides, HasDecidedParents, HasFateAs, HasIdIn, HasItsFate, IsAlone, IsCovered, IsDecidedAs, IsNew, IsOnTheWay, IsOnlyListed, IsOpen, IsPending, IsReceived, IsSentEntry, IsUnderWay, IsWalkedEntry, LeadsToCovered, Notes, NotesObject, Puts, SetsFate, Settles, StaysDecided, id_of_tree}
 use Rattle.gitrepository.specs.declared.fates.Decided.{Decided}
 use Rattle.gitrepository.specs.declared.fates.Fate.{Fate}
 use Rattle.gitrepository.specs.declared.fates.Fate.TheVariants.{Sent, NotSent}
@@ -342,7 +343,7 @@ notes_tree_body located old new body rest done sent each is over notes = record 
 
 -- ---- followed links lead to trees and blobs
 
-abbrev IsTreeOrBlob : Link → Type 0
+abbrev pub IsTreeOrBlob : Link → Type 0
 IsTreeOrBlob link = (link.kind ≡ Tree) ⊎ (link.kind ≡ Blob)
 
 entry_cases : (p q r : Bool) (a : Id) (links : List Link) → All IsTreeOrBlob links

@@ -1,10 +1,13 @@
 -- Laws that follow from the definitions of received packs and of packs that are sent.
-use Rattle.std.specs.Prelude.{◌≡◌, ◌≢◌, ◌⊎◌, List, All, Contains, None, Some, map, if◌then◌else◌}
+use Rattle.std.specs.Prelude.{◌≡◌, ◌≢◌, ◌⊎◌, List, ◌++◌, All, Contains, Option, None, Some, map, if◌then◌else◌}
+use Rattle.std.specs.List.{filter_map}
 use Rattle.gname.specs.Ids.{Id}
 use Rattle.gobject.specs.declared.node.Entry.{Entry}
 use Rattle.gdag.specs.Graphs as graph
 use Rattle.gitobject.specs.declared.links.Link.{Link}
 use Rattle.gitobject.specs.declared.types.ObjectType.{ObjectType}
+use Rattle.gitobject.specs.declared.types.ObjectType.TheVariants.{Tree, Blob}
+use Rattle.gitobject.specs.Trees.{link_of}
 use Rattle.gcomplete.specs.Closed.{IsClosed, IsComplete, LeadsIn}
 use Rattle.gcomplete.specs.Linked.{HasClosed}
 use Rattle.gcomplete.specs.Naming.{Collide, IsCollision, IsNameOf, IsNamed, text_of}
@@ -13,8 +16,9 @@ use Rattle.gcomplete.specs.Stores.{AreTypesOf, GitObject, Holds, Store, Types, j
 use Rattle.gitpack.specs.Indexes.{object_id}
 use Rattle.gitpack.specs.declared.indexing.IndexedEntry.{IndexedEntry}
 use Rattle.gitrepository.specs.Entries.{IsNodeOf}
-use Rattle.gitrepository.specs.Gathering.{Fates, IsGathered, IsLeftOut, IsParent, fate_at, is_sent_at}
+use Rattle.gitrepository.specs.Gathering.{Fates, IsGathered, IsLeftOut, IsParent, decided_at, fate_at, is_sent_at}
 use Rattle.gitrepository.specs.Received.{AreLinked, IsInReceived}
+use Rattle.gitrepository.specs.StoredTrees.{AreTreesRead, IsLocated, IsLookedUp, linked_kind}
 
 -- the id and the type of an object of a pack
 abbrev pub type_of : IndexedEntry → Id × ObjectType
@@ -59,6 +63,34 @@ KeptIsComplete A =
     → All (LeadsIn s) prerequisites
     → ((a : Id) → graph.Holds new a → graph.Holds old a ⊎ IsInReceived prerequisites objects a)
     → CompletesKept (graph.Holds new) objects s ⊎ HasTwoTypes objects
+
+-- ---- the trees of the store that a received pack relies on
+
+-- a tree that was looked up, in the form of an object of a pack
+abbrev pub tree_at : Id → Option ObjectType → Option IndexedEntry
+tree_at a (Some Tree) = Some (record { entry = record { id = a; crc = 0; offset = 0 }; kind = Tree })
+tree_at a _ = None
+
+-- the trees of the store that were looked up
+abbrev pub trees_of : Fates → List IndexedEntry
+trees_of fates = filter_map (λ pair. tree_at pair.0 (linked_kind (decided_at fates pair.0))) fates
+
+-- The store has what a received pack relies on, except for trees: each prerequisite that is not a tree, and each blob
+-- that was looked up.
+pub record HasAllButTrees (s : Store) (fates : Fates) (prerequisites : List Link) : Type 0 where
+  pub others : (link : Link) → Contains prerequisites link → link.kind ≢ Tree → LeadsIn s link
+  pub blobs : (a : Id) → IsLookedUp fates (link_of Blob a) → LeadsIn s (link_of Blob a)
+
+-- The same, for trees of the store that need not be in the closed store `s`. The trees among the prerequisites were
+-- read, with all trees that they reach. The store `s` has the other prerequisites, and the blobs that these trees name.
+-- Then each id of the graph is complete in `s`, the objects of the pack and the trees that were read together.
+abbrev pub ReadIsComplete : Type 0 → Type 0
+ReadIsComplete A =
+    (old new : List (Entry A)) (prerequisites : List Link) (objects : List IndexedEntry) (s : Store) → IsNamed s
+    → IsClosed s → ((a : Id) → graph.Holds old a → Holds s a) → AreLinked prerequisites objects
+    → (read : AreTreesRead IsNameOf IsLocated objects prerequisites) → HasAllButTrees s read.fates prerequisites
+    → ((a : Id) → graph.Holds new a → graph.Holds old a ⊎ IsInReceived prerequisites objects a)
+    → CompletesKept (graph.Holds new) (objects ++ trees_of read.fates) s ⊎ HasTwoTypes (objects ++ trees_of read.fates)
 
 -- ---- the objects that are sent
 

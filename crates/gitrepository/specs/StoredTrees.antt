@@ -1,9 +1,10 @@
 -- The objects of the store that a received pack relies on (git-fsck(1)).
-use Rattle.std.specs.Prelude.{◌≡◌, ◌⊎◌, ⊤, ℕ, List, All, Some}
+use Rattle.std.specs.Prelude.{◌≡◌, ◌⊎◌, ⊤, ℕ, List, All, Option, None, Some}
 use Rattle.gname.specs.Ids.{Id}
 use Rattle.gitobject.specs.Links.{LinksOf}
 use Rattle.gitobject.specs.Trees.{link_of}
 use Rattle.gitobject.specs.declared.links.Link.{Link}
+use Rattle.gitobject.specs.declared.types.ObjectType.{ObjectType}
 use Rattle.gitobject.specs.declared.types.ObjectType.TheVariants.{Tree}
 use Rattle.gitobjects.specs.declared.store.Found.{Found}
 use Rattle.gitpack.specs.declared.indexing.IndexedEntry.{IndexedEntry}
@@ -16,6 +17,11 @@ use Rattle.gitrepository.specs.declared.fates.Decided.{Decided}
 -- found an object with this id at this location.
 abbrev pub IsLocated : Id → Found → Type 0
 IsLocated id found = ⊤
+
+-- the type that a link gives a decided object, or `None` if no link was followed to it
+abbrev pub linked_kind : Option Decided → Option ObjectType
+linked_kind None = None
+linked_kind (Some decided) = decided.kind
 
 -- the object of the link was looked up, and a link gives it the same type
 abbrev pub IsLookedUp : Fates → Link → Type 0

@@ -3,7 +3,8 @@
 ghost use Rattle.std.specs.Prelude.{◌≡◌, [], OnOk, length, slice_get};
 ghost use Rattle.std.specs.Option.{option_map};
 ghost use Rattle.gitrepository.specs.Gathering.{AreDistinct, decided_at, fate_at, is_sent, sent_count};
-ghost use Rattle.gitrepository.specs.steps.Walking.{Puts, decision_of, is_sent_some, linked_kind};
+ghost use Rattle.gitrepository.specs.StoredTrees.{linked_kind};
+ghost use Rattle.gitrepository.specs.steps.Walking.{Puts, decision_of, is_sent_some};
 
 use crate::path_hash::PathHash;
 use ggraph::IdHasher;

@@ -1,7 +1,7 @@
 //! Proved laws of received packs and of packs that are sent. Each function does nothing at run time.
 //! The contract of each function states a law, which the proof of a caller can use.
 
-ghost use Rattle.gitrepository.specs.Laws.{GatheredIsHeld, GatheredIsSent, KeptIsComplete, PacksKeepClosed};
+ghost use Rattle.gitrepository.specs.Laws.{GatheredIsHeld, GatheredIsSent, KeptIsComplete, PacksKeepClosed, ReadIsComplete};
 
 use std::alloc::Allocator;
 
@@ -20,6 +20,15 @@ pub fn packs_keep_closed()
 /// only ids that the indexer keeps. The exceptions are those of [`packs_keep_closed`].
 pub fn kept_is_complete<A: Allocator + Copy>()
     ensures { KeptIsComplete A }
+{}
+
+/// Proves the same as [`kept_is_complete`] for stored trees that the closed store need not have,
+/// such as those of a killed fetch. The trees among the prerequisites must have been read, with all
+/// trees that they reach. The closed store must have the other prerequisites, and the blobs that
+/// these trees name. Each id of the graph is complete in the store with the objects of the pack and
+/// these trees.
+pub fn read_is_complete<A: Allocator + Copy>()
+    ensures { ReadIsComplete A }
 {}
 
 /// Proves that the objects that a packer reads to choose what is sent are those of a store, because

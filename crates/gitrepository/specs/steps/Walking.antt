@@ -22,11 +22,6 @@ use Rattle.gitrepository.specs.declared.gather.Walk.{Walk}
 abbrev pub decision_of : Id × Decided → Id × Found × Fate
 decision_of pair = (pair.0, pair.1.found, pair.1.fate)
 
--- the type that a link gives a decided object, or `None` if no link was followed to it
-abbrev pub linked_kind : Option Decided → Option ObjectType
-linked_kind None = None
-linked_kind (Some decided) = decided.kind
-
 -- whether there is an object, and it is sent
 abbrev pub is_sent_some : Option (Id × Decided) → Bool
 is_sent_some None = false
