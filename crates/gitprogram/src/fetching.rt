@@ -490,6 +490,7 @@ fn make_client(
 ) -> Result<Client, Fault>
     ensures before { IfOk result (λ client. client.before ≡ repository.refs) }
     ensures graph { IfOk result (λ client. client.repo.graph ≡ repository.graph) }
+    ensures refs { IfOk result (λ client. client.repo.refs ≡ repository.refs) }
 {
     let Repository {
         graph,

@@ -13,7 +13,7 @@ use Rattle.gitpack.specs.declared.indexing.IndexedEntry.{IndexedEntry}
 use Rattle.gcomplete.specs.Stores.{GitObject, object_of}
 use Rattle.gitrepository.specs.Gathering.{Fates, decided_at}
 use Rattle.gitrepository.specs.Received.{IsInPack}
-use Rattle.gitrepository.specs.StoredTrees.{AreTreesRead, IsLookedUp, IsTreeKnown, IsTreeRead, LeadsToKnown}
+use Rattle.gitrepository.specs.StoredTrees.{AreTreesRead, IsLookedUp, IsTreeRead, LeadsToKnown}
 use Rattle.gitrepository.specs.declared.fates.Decided.{Decided}
 use Rattle.gitrepository.specs.declared.gather.PendingTree.{PendingTree}
 use Rattle.gitrepository.specs.declared.gather.Walk.{Walk}
@@ -38,10 +38,9 @@ known_on : (old new : Fates) → StaysDecided old new → (objects : List Indexe
 known_on old new keeps objects link (inl received) = inl received
 known_on old new keeps objects link (inr up) = inr (up.0, keeps link.id up.0 up.1, up.2)
 
-pub known_more : (old new : Fates) → StaysDecided old new → (objects : List IndexedEntry) (links : List Link) → All (IsTreeKnown old objects) links
-    → All (IsTreeKnown new objects) links
-known_more old new keeps objects links all =
-    All-weaker (IsTreeKnown old objects) (IsTreeKnown new objects) (λ link known tree. known_on old new keeps objects link (known tree)) links all
+pub known_more : (old new : Fates) → StaysDecided old new → (objects : List IndexedEntry) (links : List Link) → All (LeadsToKnown old objects) links
+    → All (LeadsToKnown new objects) links
+known_more old new keeps objects links all = All-weaker (LeadsToKnown old objects) (LeadsToKnown new objects) (known_on old new keeps objects) links all
 
 module _ {A : Type 0} (has : Id → GitObject → Type 0) (located : Id → Found → Type 0) where
   -- at first nothing is looked up
@@ -179,7 +178,7 @@ module _ {A : Type 0} (has : Id → GitObject → Type 0) (located : Id → Foun
 
   -- the walk is over
   pub trees_read : (walk : Walk A) (objects : List IndexedEntry) (prerequisites : List Link) → walk.received.now ≡ objects → walk.trees.items ≡ []
-      → LooksUp has located walk → All (IsTreeKnown walk.fates objects) prerequisites → AreTreesRead has located objects prerequisites
+      → LooksUp has located walk → All (LeadsToKnown walk.fates objects) prerequisites → AreTreesRead has located objects prerequisites
   trees_read walk objects prerequisites same empty way each = record {
     fates = walk.fates;
     each = each;

@@ -1,24 +1,22 @@
 -- The ids of a graph are complete, with the trees of the store that were read.
-use Rattle.std.proofs.Common.{◌≡◌, ◌≢◌, ◌⊎◌, inl, inr, Bool, true, false, List, [], ◌∷◌, ◌++◌, All, Contains, Option, None, Some, refl, sym, ap, subst, ◌∙◌}
+use Rattle.std.proofs.Common.{◌≡◌, ◌⊎◌, inl, inr, Bool, true, false, List, [], ◌∷◌, ◌++◌, All, Contains, Option, None, Some, refl, sym, ap, subst, ◌∙◌}
 use Rattle.std.specs.List.{cons_option, filter_map}
-use Rattle.std.specs.Str.{bytes_eq}
 use Rattle.std.proofs.lemmas.Bool.{false≢true}
-use Rattle.std.proofs.lemmas.List.Elements.{All-append, All-cons, All-contains, All-contains_itself, All-nil, All-weaker, Contains-append_left, Contains-append_right}
+use Rattle.std.proofs.lemmas.List.Elements.{All-append, All-cons, All-contains, All-nil, All-weaker, Contains-append_left, Contains-append_right}
 use Rattle.std.proofs.lemmas.Map.Views.{Contains-from_lookup}
 use Rattle.std.proofs.lemmas.Option.{none-some, same_Some}
 use Rattle.std.proofs.lemmas.Slice.Eq.{bytes_eq-Decides}
 use Rattle.gname.specs.Ids.{Id}
-use Rattle.gobject.specs.declared.node.Entry.{Entry}
 use Rattle.gdag.specs.Graphs as graph
 use Rattle.gdag.proofs.IdLists.{contains_cases, contains_head, contains_tail, nothing_in_nil}
 use Rattle.gitobject.specs.Trees.{link_of}
 use Rattle.gitobject.specs.declared.links.Link.{Link}
 use Rattle.gitobject.specs.declared.types.ObjectType.{ObjectType}
 use Rattle.gitobject.specs.declared.types.ObjectType.TheVariants.{Commit, Tree, Blob, Tag}
-use Rattle.gcomplete.specs.Closed.{IsClosed, LeadsIn}
+use Rattle.gcomplete.specs.Closed.{LeadsIn}
 use Rattle.gcomplete.specs.Linked.{IsLinked}
-use Rattle.gcomplete.specs.Naming.{IsNameOf, IsNamed}
-use Rattle.gcomplete.specs.Stores.{Holds, Store}
+use Rattle.gcomplete.specs.Naming.{IsNameOf}
+use Rattle.gcomplete.specs.Stores.{Store}
 use Rattle.gitpack.specs.declared.indexing.IndexedEntry.{IndexedEntry}
 use Rattle.gitrepository.specs.Gathering.{Fates, decided_at}
 use Rattle.gitrepository.specs.Laws.{HasAllButTrees, ReadIsComplete, tree_at, trees_of}
@@ -27,7 +25,6 @@ use Rattle.gitrepository.specs.StoredTrees.{AreTreesRead, IsLocated, IsLookedUp,
 use Rattle.gitrepository.specs.declared.fates.Decided.{Decided}
 use Rattle.gitrepository.proofs.LawLemmas.{kept_complete}
 use Rattle.gitrepository.proofs.LinkLemmas.{linked_weaker}
-use Rattle.gitrepository.proofs.WalkLemmas.{IsTreeOrBlob, follows_down}
 
 -- ---- lists without some of their items
 
@@ -54,7 +51,7 @@ all_filtered h P (x ∷ xs) each =
     all_more P (h x) (filter_map h xs) (λ y is. each x y (contains_head x xs) is)
     (all_filtered h P xs (λ z y among is. each z y (contains_tail x xs z among) is))
 
--- ---- what is outside the pack and is not a tree that was read
+-- ---- what was looked up and is not a tree
 
 abbrev is_tree : ObjectType → Bool
 is_tree Tree = true
@@ -62,18 +59,12 @@ is_tree Commit = false
 is_tree Blob = false
 is_tree Tag = false
 
-abbrev unless_tree : ObjectType → Link → Option Link
-unless_tree Tree link = None
-unless_tree Commit link = Some link
-unless_tree Blob link = Some link
-unless_tree Tag link = Some link
-
-abbrev blob_at : Id → Option ObjectType → Option Link
-blob_at a (Some Blob) = Some (link_of Blob a)
-blob_at a (Some Commit) = None
-blob_at a (Some Tree) = None
-blob_at a (Some Tag) = None
-blob_at a None = None
+abbrev other_at : Id → Option ObjectType → Option Link
+other_at a (Some Tree) = None
+other_at a (Some Commit) = Some (link_of Commit a)
+other_at a (Some Blob) = Some (link_of Blob a)
+other_at a (Some Tag) = Some (link_of Tag a)
+other_at a None = None
 
 abbrev tree_entry : Id → IndexedEntry
 tree_entry a = record { entry = record { id = a; crc = 0; offset = 0 }; kind = Tree }
@@ -86,7 +77,7 @@ looked_up fates a kind is = by (decided_at fates a) refl
     by (Some d) some = (d, some, sym (ap linked_kind some) ∙ is)
 
 module _ (prerequisites : List Link) (objects : List IndexedEntry) (s : Store) (linked : AreLinked prerequisites objects)
-    (read : AreTreesRead IsNameOf IsLocated objects prerequisites) (has : HasAllButTrees s read.fates prerequisites) where
+    (read : AreTreesRead IsNameOf IsLocated objects prerequisites) (has : HasAllButTrees s read.fates) where
   abbrev fates : Fates
   fates = read.fates
 
@@ -94,119 +85,95 @@ module _ (prerequisites : List Link) (objects : List IndexedEntry) (s : Store) (
   all = objects ++ trees_of fates
 
   abbrev others : List Link
-  others = filter_map (λ link. unless_tree link.kind link) prerequisites
+  others = filter_map (λ pair. other_at pair.0 (linked_kind (decided_at fates pair.0))) fates
 
-  abbrev blobs : List Link
-  blobs = filter_map (λ pair. blob_at pair.0 (linked_kind (decided_at fates pair.0))) fates
+  -- the id and the decision about it are in the list of fates
+  in_fates : (link : Link) → (up : IsLookedUp fates link) → Contains fates (link.id, up.0)
+  in_fates link up = Contains-from_lookup (λ x y is. (bytes_eq-Decides x y).0 is) link.id up.0 fates up.1
 
-  abbrev rest : List Link
-  rest = others ++ blobs
+  known_kind : (link : Link) (kind : ObjectType) → link.kind ≡ kind → IsLookedUp fates link → linked_kind (decided_at fates link.id) ≡ Some kind
+  known_kind link kind is up = ap linked_kind up.1 ∙ up.2 ∙ ap (λ k. Some k) is
 
-  -- the id and what is decided for it are in the list of fates
-  in_fates : (a : Id) (kind : ObjectType) → (up : IsLookedUp fates (link_of kind a)) → Contains fates (a, up.0)
-  in_fates a kind up = Contains-from_lookup (λ x y is. (bytes_eq-Decides x y).0 is) a up.0 fates up.1
+  lead_other : (link other : Link) (kind : ObjectType) → link.kind ≡ kind → other_at link.id (Some kind) ≡ Some other → link_of kind link.id ≡ other
+      → IsLookedUp fates link → Leads others all link
+  lead_other link other kind is at same up =
+      inr (filtered (λ pair. other_at pair.0 (linked_kind (decided_at fates pair.0))) fates (link.id, up.0) link (in_fates link up)
+      (ap (other_at link.id) (known_kind link kind is up) ∙ at ∙ ap (λ l. Some l) (sym same ∙ ap (λ k. link_of k link.id) (sym is))))
 
-  known_kind : (a : Id) (kind : ObjectType) → (up : IsLookedUp fates (link_of kind a)) → linked_kind (decided_at fates a) ≡ Some kind
-  known_kind a kind up = ap linked_kind up.1 ∙ up.2
-
-  lead_tree : (a : Id) → IsLookedUp fates (link_of Tree a) → Leads rest all (link_of Tree a)
-  lead_tree a up =
+  lead_up : (link : Link) (kind : ObjectType) → link.kind ≡ kind → IsLookedUp fates link → Leads others all link
+  lead_up link Tree is up =
       inl (record {
-        object = tree_entry a;
-        among = Contains-append_right objects (trees_of fates) (tree_entry a)
-            (filtered (λ pair. tree_at pair.0 (linked_kind (decided_at fates pair.0))) fates (a, up.0) (tree_entry a) (in_fates a Tree up)
-            (ap (tree_at a) (known_kind a Tree up)));
+        object = tree_entry link.id;
+        among = Contains-append_right objects (trees_of fates) (tree_entry link.id)
+            (filtered (λ pair. tree_at pair.0 (linked_kind (decided_at fates pair.0))) fates (link.id, up.0) (tree_entry link.id) (in_fates link up)
+            (ap (tree_at link.id) (known_kind link Tree is up)));
         id = refl;
-        kind = refl;
+        kind = sym is;
       })
+  lead_up link Commit is up = lead_other link (link_of Commit link.id) Commit is refl refl up
+  lead_up link Blob is up = lead_other link (link_of Blob link.id) Blob is refl refl up
+  lead_up link Tag is up = lead_other link (link_of Tag link.id) Tag is refl refl up
 
-  lead_blob : (a : Id) → IsLookedUp fates (link_of Blob a) → Leads rest all (link_of Blob a)
-  lead_blob a up =
-      inr (Contains-append_right others blobs (link_of Blob a)
-      (filtered (λ pair. blob_at pair.0 (linked_kind (decided_at fates pair.0))) fates (a, up.0) (link_of Blob a) (in_fates a Blob up)
-      (ap (blob_at a) (known_kind a Blob up))))
-
-  lead_pack : (link : Link) → Leads [] objects link → Leads rest all link
-  lead_pack link (inl mine) =
+  lead_known : (link : Link) → LeadsToKnown fates objects link → Leads others all link
+  lead_known link (inl mine) =
       inl (record { object = mine.object; among = Contains-append_left objects (trees_of fates) mine.object mine.among; id = mine.id; kind = mine.kind })
-  lead_pack link (inr outside) = nothing_in_nil link outside
+  lead_known link (inr up) = lead_up link link.kind refl up
 
-  lead_known : (a : Id) (kind : ObjectType) → LeadsToKnown fates objects (link_of kind a) → (kind ≡ Tree) ⊎ (kind ≡ Blob) → Leads rest all (link_of kind a)
-  lead_known a kind (inl mine) down = lead_pack (link_of kind a) (inl mine)
-  lead_known a kind (inr up) (inl tree) =
-      subst (λ k. Leads rest all (link_of k a)) (sym tree) (lead_tree a (subst (λ k. IsLookedUp fates (link_of k a)) tree up))
-  lead_known a kind (inr up) (inr blob) =
-      subst (λ k. Leads rest all (link_of k a)) (sym blob) (lead_blob a (subst (λ k. IsLookedUp fates (link_of k a)) blob up))
-
-  lead_outside : (link : Link) (kind : ObjectType) → link.kind ≡ kind → Contains prerequisites link → Leads rest all link
-  lead_outside link Tree is among = lead_known link.id link.kind (All-contains (λ l. l.kind ≡ Tree → LeadsToKnown fates objects l) prerequisites link read.each among is) (inl is)
-  lead_outside link Commit is among = inr (Contains-append_left others blobs link (filtered (λ l. unless_tree l.kind l) prerequisites link link among (ap (λ k. unless_tree k link) is)))
-  lead_outside link Blob is among = inr (Contains-append_left others blobs link (filtered (λ l. unless_tree l.kind l) prerequisites link link among (ap (λ k. unless_tree k link) is)))
-  lead_outside link Tag is among = inr (Contains-append_left others blobs link (filtered (λ l. unless_tree l.kind l) prerequisites link link among (ap (λ k. unless_tree k link) is)))
-
-  lead : (link : Link) → Leads prerequisites objects link → Leads rest all link
-  lead link (inl mine) = lead_pack link (inl mine)
-  lead link (inr outside) = lead_outside link link.kind refl outside
+  lead : (link : Link) → Leads prerequisites objects link → Leads others all link
+  lead link (inl mine) = lead_known link (inl mine)
+  lead link (inr outside) = lead_known link (All-contains (LeadsToKnown fates objects) prerequisites link read.each outside)
 
   -- each tree that was read is linked
-  tree_linked : (a : Id) → IsTreeRead IsNameOf objects fates a → IsLinked (Leads rest all) a Tree
+  tree_linked : (a : Id) → IsTreeRead IsNameOf objects fates a → IsLinked (Leads others all) a Tree
   tree_linked a is = record {
     body = is.body;
     name = is.read;
     links = is.links;
     reads = is.reads;
-    each = All-weaker (Contains is.links) (Leads rest all)
-        (λ link among. lead_known link.id link.kind (All-contains (LeadsToKnown fates objects) is.links link is.each among)
-        (All-contains IsTreeOrBlob is.links link (follows_down Tree is.body is.links is.reads) among))
-        is.links (All-contains_itself is.links);
+    each = All-weaker (LeadsToKnown fates objects) (Leads others all) lead_known is.links is.each;
   }
 
-  entry_linked : (a : Id) (kind : Option ObjectType) (e : IndexedEntry) → linked_kind (decided_at fates a) ≡ kind → tree_at a kind ≡ Some e → IsLinkedEntry rest all e
+  entry_linked : (a : Id) (kind : Option ObjectType) (e : IndexedEntry) → linked_kind (decided_at fates a) ≡ kind → tree_at a kind ≡ Some e → IsLinkedEntry others all e
   entry_linked a (Some Tree) e at is =
-      subst (IsLinkedEntry rest all) (same_Some (tree_entry a) e is) (tree_linked a (read.trees a (looked_up fates a Tree at)))
+      subst (IsLinkedEntry others all) (same_Some (tree_entry a) e is) (tree_linked a (read.trees a (looked_up fates a Tree at)))
   entry_linked a (Some Commit) e at is = absurd (none-some e is)
   entry_linked a (Some Blob) e at is = absurd (none-some e is)
   entry_linked a (Some Tag) e at is = absurd (none-some e is)
   entry_linked a None e at is = absurd (none-some e is)
 
-  all_linked : AreLinked rest all
+  all_linked : AreLinked others all
   all_linked =
-      All-append (IsLinkedEntry rest all) objects (trees_of fates)
-      (All-weaker (IsLinkedEntry prerequisites objects) (IsLinkedEntry rest all)
-      (λ e is. linked_weaker (Leads prerequisites objects) (Leads rest all) lead e.entry.id e.kind is) objects linked)
-      (all_filtered (λ pair. tree_at pair.0 (linked_kind (decided_at fates pair.0))) (IsLinkedEntry rest all) fates
+      All-append (IsLinkedEntry others all) objects (trees_of fates)
+      (All-weaker (IsLinkedEntry prerequisites objects) (IsLinkedEntry others all)
+      (λ e is. linked_weaker (Leads prerequisites objects) (Leads others all) lead e.entry.id e.kind is) objects linked)
+      (all_filtered (λ pair. tree_at pair.0 (linked_kind (decided_at fates pair.0))) (IsLinkedEntry others all) fates
       (λ pair e among is. entry_linked pair.0 (linked_kind (decided_at fates pair.0)) e refl is))
 
-  -- the store has all that is outside
-  other_held : (link : Link) (kind : ObjectType) (found : Link) → link.kind ≡ kind → unless_tree kind link ≡ Some found → Contains prerequisites link → LeadsIn s found
-  other_held link Tree found is some among = absurd (none-some found some)
-  other_held link Commit found is some among = subst (LeadsIn s) (same_Some link found some) (has.others link among (λ tree. false≢true (ap is_tree (sym is ∙ tree))))
-  other_held link Blob found is some among = subst (LeadsIn s) (same_Some link found some) (has.others link among (λ tree. false≢true (ap is_tree (sym is ∙ tree))))
-  other_held link Tag found is some among = subst (LeadsIn s) (same_Some link found some) (has.others link among (λ tree. false≢true (ap is_tree (sym is ∙ tree))))
+  -- the store has what is not a tree
+  other_held : (a : Id) (kind : Option ObjectType) (found : Link) → linked_kind (decided_at fates a) ≡ kind → other_at a kind ≡ Some found → LeadsIn s found
+  other_held a (Some Tree) found at some = absurd (none-some found some)
+  other_held a (Some Commit) found at some =
+      subst (LeadsIn s) (same_Some (link_of Commit a) found some) (has (link_of Commit a) (looked_up fates a Commit at) (λ tree. false≢true (ap is_tree tree)))
+  other_held a (Some Blob) found at some =
+      subst (LeadsIn s) (same_Some (link_of Blob a) found some) (has (link_of Blob a) (looked_up fates a Blob at) (λ tree. false≢true (ap is_tree tree)))
+  other_held a (Some Tag) found at some =
+      subst (LeadsIn s) (same_Some (link_of Tag a) found some) (has (link_of Tag a) (looked_up fates a Tag at) (λ tree. false≢true (ap is_tree tree)))
+  other_held a None found at some = absurd (none-some found some)
 
-  blob_held : (a : Id) (kind : Option ObjectType) (found : Link) → linked_kind (decided_at fates a) ≡ kind → blob_at a kind ≡ Some found → LeadsIn s found
-  blob_held a (Some Blob) found at some = subst (LeadsIn s) (same_Some (link_of Blob a) found some) (has.blobs a (looked_up fates a Blob at))
-  blob_held a (Some Commit) found at some = absurd (none-some found some)
-  blob_held a (Some Tree) found at some = absurd (none-some found some)
-  blob_held a (Some Tag) found at some = absurd (none-some found some)
-  blob_held a None found at some = absurd (none-some found some)
-
-  all_held : All (LeadsIn s) rest
+  all_held : All (LeadsIn s) others
   all_held =
-      All-append (LeadsIn s) others blobs
-      (all_filtered (λ link. unless_tree link.kind link) (LeadsIn s) prerequisites (λ link found among some. other_held link link.kind found refl some among))
-      (all_filtered (λ pair. blob_at pair.0 (linked_kind (decided_at fates pair.0))) (LeadsIn s) fates
-      (λ pair found among some. blob_held pair.0 (linked_kind (decided_at fates pair.0)) found refl some))
+      all_filtered (λ pair. other_at pair.0 (linked_kind (decided_at fates pair.0))) (LeadsIn s) fates
+      (λ pair found among some. other_held pair.0 (linked_kind (decided_at fates pair.0)) found refl some)
 
-  still_received : (a : Id) → IsInReceived prerequisites objects a → IsInReceived rest all a
+  still_received : (a : Id) → IsInReceived prerequisites objects a → IsInReceived others all a
   still_received a is = (is.0, lead (link_of is.0 a) is.1)
 
 pub read_complete : {A : Type 0} → ReadIsComplete A
 read_complete old new prerequisites objects s named closed has linked read held gained =
-    kept_complete old new (rest prerequisites objects s linked read held) (all prerequisites objects s linked read held) s named closed has
+    kept_complete old new (others prerequisites objects s linked read held) (all prerequisites objects s linked read held) s named closed has
     (all_linked prerequisites objects s linked read held) (all_held prerequisites objects s linked read held) gains
   where
-    gains : (a : Id) → graph.Holds new a → graph.Holds old a ⊎ IsInReceived (rest prerequisites objects s linked read held) (all prerequisites objects s linked read held) a
+    gains : (a : Id) → graph.Holds new a → graph.Holds old a ⊎ IsInReceived (others prerequisites objects s linked read held) (all prerequisites objects s linked read held) a
     gains a is =
         elim (gained a is) [
           | inl was ↦ inl was

@@ -22,7 +22,7 @@ use Rattle.gitrepository.specs.Entries.{id_of_entry, ids_of}
 use Rattle.gitrepository.specs.Gathering.{AreDistinct, Fates, FollowedOf, IsBelowLeftOut, IsBelowListed, IsDecided, IsFollowed, IsGathered, IsLeftOut, IsListed, IsNamedBlob, IsParent, IsSentAt, IsWalked, LeadsToDecided, decided_at, fate_at, fate_of, here, is_sent, is_sent_at, onward}
 use Rattle.gitrepository.specs.Received.{IsInPack}
 use Rattle.gitrepository.specs.StoredTrees.{linked_kind}
-use Rattle.gitrepository.specs.steps.Walking.{Decides, HasDecidedParents, HasFateAs, HasIdIn, HasItsFate, IsAlone, IsCovered, IsDecidedAs, IsNew, IsOnTheWay, IsOnlyListed, IsOpen, IsPending, IsReceived, IsSentEntry, IsUnderWay, IsWalkedEntry, LeadsToCovered, Notes, NotesObject, Puts, SetsFate, Settles, StaysDecided, id_of_tree}
+use Rattle.gitrepository.specs.steps.Walking.{Decides, HasDecidedParents, HasFateAs, HasIdIn, HasItsFate, HasNoReceived, IsCovered, IsDecidedAs, IsNew, IsOnTheWay, IsOnlyListed, IsOpen, IsPending, IsReceived, IsSentEntry, IsUnderWay, IsWalkedEntry, LeadsToCovered, Notes, NotesObject, Puts, SetsFate, Settles, StaysDecided, id_of_tree}
 use Rattle.gitrepository.specs.declared.fates.Decided.{Decided}
 use Rattle.gitrepository.specs.declared.fates.Fate.{Fate}
 use Rattle.gitrepository.specs.declared.fates.Fate.TheVariants.{Sent, NotSent}
@@ -95,11 +95,11 @@ received_on old mid new one two = two ∙ one
 pub trees_on : {A : Type 0} (old mid new : Walk A) → mid.trees.items ≡ old.trees.items → new.trees.items ≡ mid.trees.items → new.trees.items ≡ old.trees.items
 trees_on old mid new one two = two ∙ one
 
-pub still_alone : {A : Type 0} (old new : Walk A) → IsAlone old → new.received ≡ old.received → IsAlone new
+pub still_alone : {A : Type 0} (old new : Walk A) → HasNoReceived old → new.received ≡ old.received → HasNoReceived new
 still_alone old new alone same = ap (λ r. r.now) same ∙ alone
 
 -- nothing is received by a walk that is alone
-pub not_received : {A : Type 0} (walk : Walk A) (link : Link) → IsAlone walk → IsReceived walk link → ⊥
+pub not_received : {A : Type 0} (walk : Walk A) (link : Link) → HasNoReceived walk → IsReceived walk link → ⊥
 not_received walk link alone is = nothing_in_nil is.object (subst (λ objects. Contains objects is.object) alone is.among)
 
 pub trees_none : {A : Type 0} (old new : Walk A) → old.trees.items ≡ [] → new.trees.items ≡ old.trees.items → new.trees.items ≡ []
@@ -343,7 +343,7 @@ notes_tree_body located old new body rest done sent each is over notes = record 
 
 -- ---- followed links lead to trees and blobs
 
-abbrev pub IsTreeOrBlob : Link → Type 0
+abbrev IsTreeOrBlob : Link → Type 0
 IsTreeOrBlob link = (link.kind ≡ Tree) ⊎ (link.kind ≡ Blob)
 
 entry_cases : (p q r : Bool) (a : Id) (links : List Link) → All IsTreeOrBlob links
@@ -396,17 +396,17 @@ on_way_more has listed waiting old new keeps pending a (inr (inr (inl walked))) 
 on_way_more has listed waiting old new keeps pending a (inr (inr (inr there))) = inr (inr (inr (pending a there)))
 
 -- a walk that is alone decides what it covers
-pub link_decided : {A : Type 0} (walk : Walk A) (link : Link) → IsAlone walk → LeadsToCovered walk link → IsDecided walk.fates link.id
+pub link_decided : {A : Type 0} (walk : Walk A) (link : Link) → HasNoReceived walk → LeadsToCovered walk link → IsDecided walk.fates link.id
 link_decided walk link alone (inl received) = absurd (not_received walk link alone received)
 link_decided walk link alone (inr decided) = (decided.0.fate, fate_there walk.fates link.id decided.0 decided.1)
 
-pub all_decided : {A : Type 0} (walk : Walk A) (links : List Link) → IsAlone walk → All (LeadsToCovered walk) links → All (LeadsToDecided walk.fates) links
+pub all_decided : {A : Type 0} (walk : Walk A) (links : List Link) → HasNoReceived walk → All (LeadsToCovered walk) links → All (LeadsToDecided walk.fates) links
 all_decided walk links alone all = All-weaker (LeadsToCovered walk) (LeadsToDecided walk.fates) (λ link is. link_decided walk link alone is) links all
 
 -- an object was read, and its links were noted
 pub walked_now : {A : Type 0} (has : Id → GitObject → Type 0) (located : Id → Found → Type 0) (listed : List Id) (old new : Walk A) (a : Id) (object : GitObject)
     (links : List Link) (sent : Bool) → has a object → FollowedOf object.kind object.body links → (object.kind ≡ Tree) ⊎ Contains listed a
-    → Notes located old links sent new → IsAlone old → IsWalked has listed new.fates a
+    → Notes located old links sent new → HasNoReceived old → IsWalked has listed new.fates a
 walked_now has located listed old new a object links sent read follows part notes alone = record {
   object = object;
   read = read;
@@ -600,7 +600,7 @@ parent_left has located entries waiting old new a d received trees of_entry unse
         ]
 
 -- an id is decided if it was covered
-pub covered_decided : {A : Type 0} (walk : Walk A) (a : Id) → IsAlone walk → IsCovered walk a → IsDecided walk.fates a
+pub covered_decided : {A : Type 0} (walk : Walk A) (a : Id) → HasNoReceived walk → IsCovered walk a → IsDecided walk.fates a
 covered_decided walk a alone (inl decided) = decided
 covered_decided walk a alone (inr received) = absurd (not_received walk (link_of received.0 a) alone received.1)
 
@@ -662,7 +662,7 @@ pub nothing_listed : {A : Type 0} (entries : List (Entry A)) → IsOnlyListed en
 nothing_listed entries = record { sent = λ a fate is. absurd (none-some fate is); listed = λ a fate is. absurd (none-some fate is) }
 
 -- after the listed objects are sent, the walk is under way
-pub opens : {A : Type 0} (has : Id → GitObject → Type 0) (entries : List (Entry A)) (walk : Walk A) → IsAlone walk → walk.trees.items ≡ []
+pub opens : {A : Type 0} (has : Id → GitObject → Type 0) (entries : List (Entry A)) (walk : Walk A) → HasNoReceived walk → walk.trees.items ≡ []
     → IsOnlyListed entries walk.fates → IsOpen has entries walk
 opens has entries walk alone empty only = record {
   alone = alone;
@@ -699,7 +699,7 @@ gathered has entries walk distinct empty way sent parents walked = record {
 
 -- one more listed object is sent
 pub one_listed : {A : Type 0} (located : Id → Found → Type 0) (entries : List (Entry A)) (old new : Walk A) (e : Entry A) (fate : Fate) (found : Option Found)
-    → IsAlone old → is_sent fate ≡ true → Contains entries e → Settles located old e.id fate found new → IsOnlyListed entries old.fates
+    → HasNoReceived old → is_sent fate ≡ true → Contains entries e → Settles located old e.id fate found new → IsOnlyListed entries old.fates
     → IsOnlyListed entries new.fates × StaysDecided old.fates new.fates × IsSentAt new.fates e.id
 one_listed located entries old new e fate None alone comes among settles only =
     let keeps = keeps_same old.fates new.fates settles.1 in let back = keeps_fate new.fates old.fates (keeps_same new.fates old.fates (sym settles.1)) in

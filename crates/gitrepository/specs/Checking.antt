@@ -29,9 +29,3 @@ pub record IsChecked {A : Type 0} (refs : RefList) (head : Head A) (checked : Ch
   pub refs_counted : checked.refs ≡ length refs
   pub nodes_counted : checked.nodes ≡ length (filter is_commit_or_tag types)
   pub objects_counted : checked.objects ≡ length types
-
--- the same for some refs and some HEAD
-pub record HasChecked (A : Type 0) (checked : Checked) : Type 0 where
-  pub refs : RefList
-  pub head : Head A
-  pub is : IsChecked refs head checked

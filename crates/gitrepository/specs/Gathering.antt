@@ -31,7 +31,7 @@ AreDistinct fates = IsDistinct bytes_eq (keys_of fates)
 abbrev pub fate_of : Decided → Fate
 fate_of decided = decided.fate
 
--- what is decided for this id, or `None` if the fate is undecided
+-- the decision about this id, or `None` if the fate is undecided
 abbrev pub decided_at : Fates → Id → Option Decided
 decided_at fates a = lookup (bytes_eq a) fates
 

@@ -6,8 +6,7 @@ use Rattle.gobject.specs.declared.node.Entry.{Entry}
 use Rattle.gdag.specs.Graphs as graph
 use Rattle.gitobject.specs.declared.links.Link.{Link}
 use Rattle.gitobject.specs.declared.types.ObjectType.{ObjectType}
-use Rattle.gitobject.specs.declared.types.ObjectType.TheVariants.{Tree, Blob}
-use Rattle.gitobject.specs.Trees.{link_of}
+use Rattle.gitobject.specs.declared.types.ObjectType.TheVariants.{Tree}
 use Rattle.gcomplete.specs.Closed.{IsClosed, IsComplete, LeadsIn}
 use Rattle.gcomplete.specs.Linked.{HasClosed}
 use Rattle.gcomplete.specs.Naming.{Collide, IsCollision, IsNameOf, IsNamed, text_of}
@@ -64,7 +63,7 @@ KeptIsComplete A =
     → ((a : Id) → graph.Holds new a → graph.Holds old a ⊎ IsInReceived prerequisites objects a)
     → CompletesKept (graph.Holds new) objects s ⊎ HasTwoTypes objects
 
--- ---- the trees of the store that a received pack relies on
+-- ---- the trees of the store among the prerequisites
 
 -- a tree that was looked up, in the form of an object of a pack
 abbrev pub tree_at : Id → Option ObjectType → Option IndexedEntry
@@ -75,20 +74,18 @@ tree_at a _ = None
 abbrev pub trees_of : Fates → List IndexedEntry
 trees_of fates = filter_map (λ pair. tree_at pair.0 (linked_kind (decided_at fates pair.0))) fates
 
--- The store has what a received pack relies on, except for trees: each prerequisite that is not a tree, and each blob
--- that was looked up.
-pub record HasAllButTrees (s : Store) (fates : Fates) (prerequisites : List Link) : Type 0 where
-  pub others : (link : Link) → Contains prerequisites link → link.kind ≢ Tree → LeadsIn s link
-  pub blobs : (a : Id) → IsLookedUp fates (link_of Blob a) → LeadsIn s (link_of Blob a)
+-- the store has each object that was looked up, unless it is a tree
+abbrev pub HasAllButTrees : Store → Fates → Type 0
+HasAllButTrees s fates = (link : Link) → IsLookedUp fates link → link.kind ≢ Tree → LeadsIn s link
 
--- The same, for trees of the store that need not be in the closed store `s`. The trees among the prerequisites were
--- read, with all trees that they reach. The store `s` has the other prerequisites, and the blobs that these trees name.
--- Then each id of the graph is complete in `s`, the objects of the pack and the trees that were read together.
+-- The same law, for a closed store that need not have the trees that were looked up, because they were read. The store
+-- has all other objects that were looked up. Then each id of the graph is complete in this store, the objects of the
+-- pack and the trees together.
 abbrev pub ReadIsComplete : Type 0 → Type 0
 ReadIsComplete A =
     (old new : List (Entry A)) (prerequisites : List Link) (objects : List IndexedEntry) (s : Store) → IsNamed s
     → IsClosed s → ((a : Id) → graph.Holds old a → Holds s a) → AreLinked prerequisites objects
-    → (read : AreTreesRead IsNameOf IsLocated objects prerequisites) → HasAllButTrees s read.fates prerequisites
+    → (read : AreTreesRead IsNameOf IsLocated objects prerequisites) → HasAllButTrees s read.fates
     → ((a : Id) → graph.Holds new a → graph.Holds old a ⊎ IsInReceived prerequisites objects a)
     → CompletesKept (graph.Holds new) (objects ++ trees_of read.fates) s ⊎ HasTwoTypes (objects ++ trees_of read.fates)
 

@@ -2,6 +2,7 @@
 use Rattle.std.specs.Prelude.{◌≡◌, ℕ, List, ◌++◌, length, All}
 use Rattle.std.specs.List.{concat}
 use Rattle.gcomplete.specs.Naming.{IsNameOf}
+use Rattle.gname.specs.Ids.{Id}
 use Rattle.gobject.specs.declared.node.Entry.{Entry}
 use Rattle.gitpack.specs.Packs.{IsEntry, IsFramed, pack_header, with_trailer}
 use Rattle.gitpack.specs.declared.entry.EntryForm.{EntryForm}
@@ -34,6 +35,10 @@ pub record IsPackOf {A : Type 0} (entries : List (Entry A)) (pack : List ℕ) : 
   pub fates : Fates
   pub gathered : IsGathered IsNameOf entries fates
   pub whole : IsWholePack (sent_count fates) pack
+
+-- the trailer of the pack is this checksum, which is the SHA-1 of all preceding bytes
+abbrev pub IsChecksumOf : Id → List ℕ → Type 0
+IsChecksumOf checksum pack = (count : ℕ) × IsFramed count checksum pack
 
 -- An indexed pack: its trailer is the SHA-1 of all preceding bytes. Each returned entry describes an object, or is a
 -- tree or blob that a tag among the entries names.

@@ -1,4 +1,4 @@
--- The objects of the store that a received pack relies on (git-fsck(1)).
+-- The prerequisites of a received pack, and the trees of the store among them (git-fsck(1), "--connectivity-only").
 use Rattle.std.specs.Prelude.{◌≡◌, ◌⊎◌, ⊤, ℕ, List, All, Option, None, Some}
 use Rattle.gname.specs.Ids.{Id}
 use Rattle.gitobject.specs.Links.{LinksOf}
@@ -13,8 +13,8 @@ use Rattle.gitrepository.specs.Gathering.{Fates, decided_at}
 use Rattle.gitrepository.specs.Received.{IsInPack}
 use Rattle.gitrepository.specs.declared.fates.Decided.{Decided}
 
--- The definition says nothing, because contracts cannot describe the contents of system files. The reader of the store
--- found an object with this id at this location.
+-- The definition says nothing, because contracts cannot describe the contents of system files. The meaning is that the
+-- reader of the store found an object with this id at this location.
 abbrev pub IsLocated : Id → Found → Type 0
 IsLocated id found = ⊤
 
@@ -40,15 +40,10 @@ pub record IsTreeRead (has : Id → GitObject → Type 0) (objects : List Indexe
   pub reads : LinksOf Tree body links
   pub each : All (LeadsToKnown fates objects) links
 
--- what each prerequisite leads to, if it is a tree
-abbrev pub IsTreeKnown : Fates → List IndexedEntry → Link → Type 0
-IsTreeKnown fates objects link = link.kind ≡ Tree → LeadsToKnown fates objects link
-
--- The trees of the store that a received pack relies on were read, with all trees that they reach. The pack has these
--- objects and prerequisites. Each object of the store that was looked up was found at its location. Each tree that was
--- looked up was read.
+-- The pack has these objects and prerequisites. Each prerequisite is an object of the pack, or was looked up in the
+-- store. Each tree that was looked up was read. Each object that was looked up was found at its location.
 pub record AreTreesRead (has : Id → GitObject → Type 0) (located : Id → Found → Type 0) (objects : List IndexedEntry) (prerequisites : List Link) : Type 0 where
   pub fates : Fates
-  pub each : All (IsTreeKnown fates objects) prerequisites
+  pub each : All (LeadsToKnown fates objects) prerequisites
   pub trees : (a : Id) → IsLookedUp fates (link_of Tree a) → IsTreeRead has objects fates a
   pub found : (a : Id) (decided : Decided) → decided_at fates a ≡ Some decided → located a decided.found

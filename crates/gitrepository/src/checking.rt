@@ -3,7 +3,7 @@
 ghost use Rattle.std.specs.Prelude.{◌≡◌, All, IfOk, OnOk};
 ghost use Rattle.gcomplete.specs.Batches.{KeepsTypes};
 ghost use Rattle.gcomplete.specs.Judging.{IsKept};
-ghost use Rattle.gitrepository.specs.Checking.{AreRefsKept, HasChecked, IsChecked, IsHeadKept};
+ghost use Rattle.gitrepository.specs.Checking.{AreRefsKept, IsChecked, IsHeadKept};
 
 use crate::fault::{CheckFault, RepositoryFault};
 use crate::source::{MAX_NAMED, Source, fault_of_batch, fault_of_judge};
@@ -40,9 +40,7 @@ pub struct Checked {
 pub fn check_repository<R: Files, F: ObjectFiles, A: Allocator + Copy>(
     directory: &GitDirectory<'_, R, A>,
     reader: &mut ObjectReader<'_, F, A>,
-) -> Result<Checked, CheckFault<A>>
-    ensures { IfOk result (HasChecked A) }
-{
+) -> Result<Checked, CheckFault<A>> {
     let read = match directory.broken_ref() {
         Ok(None) => directory.read_refs(),
         Ok(Some((name, fault))) => return Err(CheckFault::Ref {

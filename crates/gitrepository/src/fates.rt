@@ -60,7 +60,7 @@ pub(crate) struct Decided {
 }
 
 /// The objects whose fates are decided, in the order of decision. Contracts treat `Fates` as the
-/// list of their ids, fates and locations.
+/// list of their ids, fates, locations and types.
 #[derive(Drop)]
 pub(crate) struct Fates<A: Allocator + Copy> {
     map: IndexMap<Oid, Decided, IdHasher, A>,

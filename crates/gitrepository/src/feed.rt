@@ -1,9 +1,8 @@
 //! A pack that a Git directory is receiving.
 
-ghost use Rattle.std.specs.Prelude.{◌≡◌, ◌++◌, [], ℕ, All, IfOk, OnOk};
+ghost use Rattle.std.specs.Prelude.{◌≡◌, ◌++◌, [], All, IfOk, OnOk};
 ghost use Rattle.gcomplete.specs.Naming.{IsNameOf};
-ghost use Rattle.gitpack.specs.Packs.{IsFramed};
-ghost use Rattle.gitrepository.specs.Packs.{IsIndexed};
+ghost use Rattle.gitrepository.specs.Packs.{IsChecksumOf, IsIndexed};
 ghost use Rattle.gitrepository.specs.Received.{AreLinked, IsEntryInReceived};
 ghost use Rattle.gitrepository.specs.StoredTrees.{AreTreesRead, IsLocated};
 
@@ -40,9 +39,9 @@ impl<S: Spool + Drop, A: Allocator + Copy> Received<S, A> {
     /// Each link of this object leads to an object of the index or to a prerequisite. The contract
     /// does not say that the pack contains this object.
     ///
-    /// Proves also that each tree among the prerequisites was read, with all trees that it reaches.
-    /// Each link of a tree that was read leads to an object of the index, or to an object of the
-    /// store that was looked up.
+    /// Proves also that each prerequisite is in the index, or was looked up. For each tree that was
+    /// looked up, there is a tree whose SHA-1 is the id. Each link of this tree leads to an object
+    /// of the index, or to an object that was looked up.
     pub fn laws(&self)
         ensures linked { ∥ AreLinked self.now.prerequisites.items self.now.index.entries ∥₁ }
         ensures read { ∥ AreTreesRead IsNameOf IsLocated self.now.index.entries
@@ -102,6 +101,7 @@ impl<S: Spool + Drop, A: Allocator + Copy> StoreFeed<S, A> {
         tips: &Tips<A>,
     ) -> Result<(Received<S, A>, Vec<Entry<A>, A>), RepositoryFault<A>>
         ensures bytes { IfOk result (λ it. S.bytes it.0.pack ≡ self) }
+        ensures checksum { IfOk result (λ it. IsChecksumOf it.0.index.checksum self) }
         ensures entries { IfOk result (λ it. IsIndexed self it.1.items) }
         ensures received { IfOk result (λ it. All
             (IsEntryInReceived it.0.prerequisites.items it.0.index.entries) it.1.items) }
@@ -139,7 +139,7 @@ fn finish_pack<F: ObjectFiles, S: Spool + Drop, A: Allocator + Copy>(
     inspector: &mut Inspector<'_, '_, '_, '_, F, A>,
 ) -> Result<(S, IndexedPack<A>), RepositoryFault<A>>
     ensures bytes { IfOk result (λ it. S.bytes it.0 ≡ pack) }
-    ensures frame { IfOk result (λ it. (count : ℕ) × IsFramed count it.1.checksum pack) }
+    ensures checksum { IfOk result (λ it. IsChecksumOf it.1.checksum pack) }
 {
     match pack.finish(inspector) {
         Ok(parts) => Ok(parts),

@@ -13,7 +13,7 @@ ghost use Rattle.gitobject.specs.Naming.{id_of};
 ghost use Rattle.gitobjects.specs.declared.store.Found.{Found};
 ghost use Rattle.gitrepository.specs.Gathering.{IsDecided, IsGathered, IsParent, IsWalked, decided_at, is_sent};
 ghost use Rattle.gitrepository.specs.StoredTrees.{IsLocated};
-ghost use Rattle.gitrepository.specs.steps.Walking.{Decides, HasDecidedParents, HasFateAs, HasIdIn, IsAlone, IsCovered, IsDecidedAs, IsOnlyListed, IsOpen, IsReceived, IsSentEntry, IsWalkedEntry, LeadsOn, LooksUp, Notes, NotesObject, Settles, StaysDecided};
+ghost use Rattle.gitrepository.specs.steps.Walking.{Decides, HasDecidedParents, HasFateAs, HasIdIn, HasNoReceived, IsCovered, IsDecidedAs, IsOnlyListed, IsOpen, IsReceived, IsSentEntry, IsWalkedEntry, LeadsOn, LooksUp, Notes, NotesObject, Settles, StaysDecided};
 
 use crate::fates::{Decided, Fate, Fates};
 use crate::fault::{ObjectCause, RepositoryFault};
@@ -37,18 +37,17 @@ pub(crate) trait WalkedStore<A: Allocator + Copy> {
     /// Returns the allocator of the store.
     fn allocator(&self) -> A;
 
-    /// Returns the location of the object with this id. Fails if the object is missing, or if the
-    /// store cannot be read.
+    /// Returns the location of the object with this id. Fails if the object is missing or broken, if
+    /// the store cannot be read, or if out of memory.
     fn locate(&mut self, id: &Oid) -> Result<Found, RepositoryFault<A>>
         ensures { IfOk result (λ found. located id.now found) };
 
     /// Returns the object with this id. Fails if the object is missing or broken, or has another
-    /// id.
+    /// id. Fails also if the store cannot be read, or if out of memory.
     fn object(&mut self, id: &Oid) -> Result<Object<A>, RepositoryFault<A>>
         ensures { IfOk result (λ object. has id.now (object_of object.kind object.body.items)) };
 
-    /// Returns the object with this id, which is expected at this location. Fails if the object is
-    /// missing or broken, or has another id.
+    /// Returns the object with this id, which is expected at this location. Fails as `object` does.
     fn object_at(&mut self, id: &Oid, found: Found) -> Result<Object<A>, RepositoryFault<A>>
         ensures { IfOk result (λ object. has id.now (object_of object.kind object.body.items)) };
 }
@@ -106,8 +105,8 @@ fn names_object(id: &Oid, kind: ObjectType, body: &[u8])
 ///
 /// Fails at the first object that is missing. Fails also at a commit or tree that is malformed, and
 /// at a read object that is broken or has another id. Fails with `Type` if a link to a tree leads to
-/// an object of another type, or if two links give an object two types. Fails with `Memory` if out
-/// of memory.
+/// an object of another type. Fails with `Type` also if two links give an object two types, unless
+/// the object is listed or a parent of a listed object. Fails with `Memory` if out of memory.
 pub(crate) fn gather<S: WalkedStore<A>, A: Allocator + Copy>(
     store: &mut S,
     entries: &[Entry<A>],
@@ -148,7 +147,7 @@ impl<'r, A: Allocator + Copy> Walk<'r, A> {
     pub(crate) fn new(alloc: A) -> Walk<'r, A>
         ensures fates { result.fates ≡ [] }
         ensures trees { result.trees.items ≡ [] }
-        ensures received { IsAlone result }
+        ensures received { HasNoReceived result }
     {
         Walk::beside(alloc, &[])
     }
@@ -168,26 +167,21 @@ impl<'r, A: Allocator + Copy> Walk<'r, A> {
         }
     }
 
-    /// Marks a tree as sent, with the trees and blobs it reaches, unless its fate is already decided.
-    /// Fails as [`gather`] does, or with `Type` if the received pack has a reached object with
-    /// another type than the link to it.
-    pub(crate) fn send_tree<S: WalkedStore<A>>(
+    /// Marks a linked object as sent, unless its fate is already decided. If the object is a tree,
+    /// marks also the trees and blobs that it reaches. Fails as [`gather`] does, or with `Type` if
+    /// the received pack has a reached object with another type than the link to it.
+    pub(crate) fn send_link<S: WalkedStore<A>>(
         &mut self,
         store: &mut S,
-        id: &Oid,
+        link: Link,
     ) -> Result<(), RepositoryFault<A>>
         ensures received { OnOk result (self.new.received ≡ self.old.received) }
         ensures empty { OnOk result (self.new.trees.items ≡ []) }
         ensures keeps { OnOk result (StaysDecided self.old.fates self.new.fates) }
         ensures looks { OnOk result (LooksUp S.has S.located self.old
             → LooksUp S.has S.located self.new) }
-        ensures leads { OnOk result (LooksUp S.has S.located self.old
-            → LeadsOn self.new (link_of types.Tree id.now)) }
+        ensures leads { OnOk result (LooksUp S.has S.located self.old → LeadsOn self.new link) }
     {
-        let link = Link {
-            id: *id,
-            kind: ObjectType::Tree,
-        };
         self.settle_link(store, link, Fate::Sent(PathHash::NONE))?;
         self.walk_trees(store)?;
         Ok(())
@@ -201,9 +195,9 @@ impl<'r, A: Allocator + Copy> Walk<'r, A> {
     ) -> Result<(), RepositoryFault<A>>
         ensures received { self.new.received ≡ self.old.received }
         ensures trees { self.new.trees.items ≡ self.old.trees.items }
-        ensures only { OnOk result (IsAlone self.old → self.old.fates ≡ []
+        ensures only { OnOk result (HasNoReceived self.old → self.old.fates ≡ []
             → IsOnlyListed entries.now self.new.fates) }
-        ensures each { OnOk result (IsAlone self.old → self.old.fates ≡ []
+        ensures each { OnOk result (HasNoReceived self.old → self.old.fates ≡ []
             → All (IsSentEntry self.new.fates) entries.now) }
     {
         for entry in entries {
@@ -224,7 +218,7 @@ impl<'r, A: Allocator + Copy> Walk<'r, A> {
         ensures keeps { OnOk result (StaysDecided self.old.fates self.new.fates) }
         ensures open { OnOk result (IsOpen S.has entries.now self.old
             → IsOpen S.has entries.now self.new) }
-        ensures parents { OnOk result (IsAlone self.old
+        ensures parents { OnOk result (HasNoReceived self.old
             → All (HasDecidedParents self.new.fates) entries.now) }
     {
         for entry in entries {
@@ -245,7 +239,7 @@ impl<'r, A: Allocator + Copy> Walk<'r, A> {
         ensures keeps { OnOk result (StaysDecided self.old.fates self.new.fates) }
         ensures open { OnOk result ((entries : List (GraphEntry A)) → All (IsParent entries) parents.now
             → IsOpen S.has entries self.old → IsOpen S.has entries self.new) }
-        ensures parents { OnOk result (IsAlone self.old
+        ensures parents { OnOk result (HasNoReceived self.old
             → All (IsDecided self.new.fates) parents.now) }
     {
         for id in parents {
@@ -266,7 +260,7 @@ impl<'r, A: Allocator + Copy> Walk<'r, A> {
         ensures keeps { OnOk result (StaysDecided self.old.fates self.new.fates) }
         ensures open { OnOk result ((entries : List (GraphEntry A)) → IsParent entries id.now
             → IsOpen S.has entries self.old → IsOpen S.has entries self.new) }
-        ensures parent { OnOk result (IsAlone self.old → IsDecided self.new.fates id.now) }
+        ensures parent { OnOk result (HasNoReceived self.old → IsDecided self.new.fates id.now) }
     {
         let Some(_found) = self.settle(store, id, Fate::NotSent)? else {
             return Ok(());
@@ -285,7 +279,7 @@ impl<'r, A: Allocator + Copy> Walk<'r, A> {
         ensures keeps { OnOk result (StaysDecided self.old.fates self.new.fates) }
         ensures open { OnOk result (All (IsSentEntry self.old.fates) entries.now
             → IsOpen S.has entries.now self.old → IsOpen S.has entries.now self.new) }
-        ensures walked { OnOk result (IsAlone self.old → (listed : List Id)
+        ensures walked { OnOk result (HasNoReceived self.old → (listed : List Id)
             → All (HasIdIn listed) entries.now
             → All (IsWalkedEntry S.has listed self.new.fates) entries.now) }
     {
@@ -368,7 +362,7 @@ impl<'r, A: Allocator + Copy> Walk<'r, A> {
         ensures keeps { OnOk result (StaysDecided self.old.fates self.new.fates) }
         ensures open { OnOk result ((entries : List (GraphEntry A)) → HasFateAs self.old.fates id.now fate
             → IsOpen S.has entries self.old → IsOpen S.has entries self.new) }
-        ensures walked { OnOk result (IsAlone self.old → (listed : List Id)
+        ensures walked { OnOk result (HasNoReceived self.old → (listed : List Id)
             → Contains listed id.now → IsWalked S.has listed self.new.fates id.now) }
     {
         let object = store.object(id)?;

@@ -3,7 +3,7 @@
 ghost use Rattle.std.specs.Prelude.{◌≡◌, ◌++◌, ⊤, ℕ, List, All, IfOk, IsSomeAnd, MatchResult, None, OnErr, OnOk};
 ghost use Rattle.gname.specs.Ids.{Id};
 ghost use Rattle.gitrepository.specs.Keeping.{IsEntryKeptBy, IsKeptBy};
-ghost use Rattle.gitrepository.specs.Packs.{IsIndexed};
+ghost use Rattle.gitrepository.specs.Packs.{IsChecksumOf, IsIndexed};
 ghost use Rattle.gitrepository.specs.Received.{IsEntryInReceived};
 
 use crate::fault::RepositoryFault;
@@ -33,7 +33,7 @@ use std::cell::RefCell;
 /// and the maximum total size of all objects and deltas is 64 GiB. A delta chain may have at most
 /// 8,191 deltas, and an entry of the pack at most 128 MiB. The commits, tags and named ids may use
 /// at most 112 MiB of memory. This is enough for about two million ids, or for 485,000 commits with
-/// a tree each.
+/// a tree each. The ids that stored trees name have no such limit.
 #[derive(Drop)]
 pub struct StoreIndexer<'t, 'f, F, P, A>
 where
@@ -132,8 +132,11 @@ where
         feed: StoreFeed<P::Spool, A>,
     ) -> Result<Vec<Entry<A>, A>, RepositoryFault<A>>
         ensures indexed { IfOk result (λ entries. IsIndexed feed entries.items) }
+        ensures free { OnOk result (self.old.received ≡ None) }
         ensures pack { OnOk result (IsSomeAnd self.new.received
             (λ it. P.Spool.bytes it.pack ≡ feed)) }
+        ensures checksum { OnOk result (IsSomeAnd self.new.received
+            (λ it. IsChecksumOf it.index.checksum feed)) }
         ensures kept { IfOk result (λ entries. All (IsEntryKeptBy self.new.received)
             entries.items) }
         ensures stays { (id : Id) → IsKeptBy self.old.received id → IsKeptBy self.new.received id }
@@ -157,6 +160,7 @@ where
         feed: StoreFeed<P::Spool, A>,
     ) -> Result<(Received<P::Spool, A>, Vec<Entry<A>, A>), RepositoryFault<A>>
         ensures pack { IfOk result (λ it. P.Spool.bytes it.0.pack ≡ feed) }
+        ensures checksum { IfOk result (λ it. IsChecksumOf it.0.index.checksum feed) }
         ensures indexed { IfOk result (λ it. IsIndexed feed it.1.items) }
         ensures received { IfOk result (λ it. All
             (IsEntryInReceived it.0.prerequisites.items it.0.index.entries) it.1.items) }
@@ -217,8 +221,11 @@ where
         ensures answers { MatchResult result
             (λ entries. ((given : List ℕ) → feed ≡ given → IsIndexed given entries.items))
             (λ fault. ((given : List ℕ) → feed ≡ given → ⊤)) }
+        ensures free { OnOk result (self.old.received ≡ None) }
         ensures pack { OnOk result (IsSomeAnd self.new.received
             (λ it. P.Spool.bytes it.pack ≡ feed)) }
+        ensures checksum { OnOk result (IsSomeAnd self.new.received
+            (λ it. IsChecksumOf it.index.checksum feed)) }
         ensures kept { IfOk result (λ entries. All (IsEntryKeptBy self.new.received)
             entries.items) }
         ensures stays { (id : Id) → IsKeptBy self.old.received id → IsKeptBy self.new.received id }

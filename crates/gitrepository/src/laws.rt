@@ -22,11 +22,11 @@ pub fn kept_is_complete<A: Allocator + Copy>()
     ensures { KeptIsComplete A }
 {}
 
-/// Proves the same as [`kept_is_complete`] for stored trees that the closed store need not have,
-/// such as those of a killed fetch. The trees among the prerequisites must have been read, with all
-/// trees that they reach. The closed store must have the other prerequisites, and the blobs that
-/// these trees name. Each id of the graph is complete in the store with the objects of the pack and
-/// these trees.
+/// Proves the same as [`kept_is_complete`] for a closed store that need not have the trees among the
+/// prerequisites, such as those of a killed fetch. The prerequisites must have been looked up, and
+/// each tree that was looked up must have been read. The closed store must have all other objects
+/// that were looked up. Each id of the graph is complete in the store with the objects of the pack
+/// and these trees.
 pub fn read_is_complete<A: Allocator + Copy>()
     ensures { ReadIsComplete A }
 {}

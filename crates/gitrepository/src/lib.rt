@@ -44,16 +44,17 @@
 //! - A pack is accepted only if its trailer is the SHA-1 of all preceding bytes. Each entry that
 //!   the indexer returns describes an object, or is a tree or blob that a tag names. In the second
 //!   case the entry of the tag is also returned.
-//! - The spool that stores a received pack was given exactly the received bytes, in order. A
-//!   [`StoreIndexer`] keeps this pack until it is taken.
+//! - The spool that stores a received pack was given exactly the received bytes, in order. The
+//!   checksum of the index is the trailer of the pack. A [`StoreIndexer`] keeps this pack, and
+//!   accepts no other pack before it is taken.
 //! - For each id and type in the index of a [`Received`] pack, there is an object of this type
 //!   whose SHA-1 is the id. The parts of the object that contain links are well-formed. Each object
 //!   that it names is in the index, or is one of the prerequisites of the pack. In both cases the
 //!   named object has the expected type ([`Received::laws`]).
-//! - Suppose a tree of the store is a prerequisite of a received pack. Then this tree was read, and
-//!   also each tree that it reaches. The id of each of these trees was checked. Each of their links
-//!   leads to an object of the index, or to an object that was found in the store. If several links
-//!   lead to the same object, they give it the same type ([`Received::laws`]).
+//! - Each prerequisite of a received pack is in the index, or was looked up. For each tree that was
+//!   looked up, there is a tree whose SHA-1 is the id. Each link of this tree leads to an object of
+//!   the index, or to an object that was looked up. Suppose an object was looked up and is not in
+//!   the index. Then these links and prerequisites all give it the same type ([`Received::laws`]).
 //! - A store is closed if each object that its objects name is in the store, with the expected
 //!   type. Suppose a closed store has the prerequisites of a received pack. Then it stays closed
 //!   when the objects of the pack are added, unless two different objects have the same id
@@ -64,7 +65,8 @@
 //!   Suppose also that the graph gains only ids that the indexer keeps, as in a fetch. Then each id
 //!   of the graph is complete once the objects of the pack are added: the store has everything that
 //!   it reaches. The exception is again two different objects with the same id
-//!   ([`laws::kept_is_complete`]).
+//!   ([`laws::kept_is_complete`]). The closed store need not have the trees that were looked up. The
+//!   ids are then complete together with these trees ([`laws::read_is_complete`]).
 //! - [`install_files`] installs a pack in a [`PackFolder`], and then its index. After `Ok` both
 //!   files exist, with the bytes that they were given. A file gets its final name only once both
 //!   files are written and synced. After a fault the folder has both files, only the pack, or
@@ -75,8 +77,8 @@
 //!
 //! # What the proofs rely on
 //!
-//! No contract can describe the contents of a system file. So the proofs about received packs say
-//! nothing about the objects of the store. They also rely on the file system, which must return the
+//! No contract can describe the contents of a system file. So the proofs about received packs do not
+//! say which objects the store has. They also rely on the file system, which must return the
 //! pack as it was written.
 //!
 //! The walk that chooses the objects to send is proved for every store. The contract of
@@ -118,7 +120,7 @@
 //!
 //! - The packer may send one object's entry in place of another's, or an entry twice. The contracts
 //!   cover only the ids of the objects to send, and the number of entries. An object that a tree
-//!   names as a blob may have another type.
+//!   names as a tree or blob may have another type.
 //! - The packer may send trees and blobs that the client has, if a listed commit reaches them too.
 //!   It may compare the wrong objects to make deltas, because no contract covers path hashes.
 //! - The other object in [`laws::gathered_is_held`] need not be an object that the packer read.
@@ -136,8 +138,8 @@
 //!   object. The function trusts the peeled ids in `packed-refs`, as Git does.
 //! - [`lead_with_newest`] may leave refs out, or put other refs first.
 //! - No contract says that the closed store of [`check_refs`] has the bytes that the reader
-//!   returned, or only objects that the refs reach. No contract says that [`check_repository`]
-//!   checks the refs and HEAD of the directory.
+//!   returned, or only objects that the refs reach. The function [`check_repository`] has no
+//!   contract.
 //! - [`Tips`] may lose an id or have other ids, and [`add_leaves`] may add or remove other nodes.
 //!   No contract covers the result of [`Tips::contains`].
 //! - No contract says which repository formats are opened or refused. No contract covers the result
@@ -147,11 +149,12 @@
 //!   have, or state a wrong offset or CRC-32.
 //! - The prerequisites may include an object of the pack, or one that no object of the pack names.
 //!   No public contract says that the store returned their types. No contract covers the limits on
-//!   a received pack: its number of objects, their sizes, and the memory for the ids that they name.
-//! - The store may lack a blob that the prerequisites reach, or have another object with its id. The
-//!   blobs of stored trees are only looked up, and no contract says that the store found them. The
-//!   history of commits and tags among the prerequisites is not checked here, because a session
-//!   moves no ref to an unconnected id.
+//!   a received pack, such as its number of objects, their sizes, and the memory for the ids that
+//!   they name.
+//! - The store may lack objects that the prerequisites reach, because no contract says that the
+//!   store has what was looked up. Nothing that a commit or tag among the prerequisites reaches is
+//!   checked here. A session moves no ref to an unconnected id.
+//! - A link of a stored tree may give an object of the index another type.
 //! - The store may return the type of an object that it does not have, or that is malformed.
 //! - The indexer compares objects that the store already has. No contract covers these comparisons,
 //!   or states when the indexer reads an object. The indexer can miss a loose object that is added

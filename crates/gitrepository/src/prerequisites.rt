@@ -1,13 +1,11 @@
 //! The objects of the store that the objects of a received pack name.
 
-ghost use Rattle.std.specs.Prelude.{◌≡◌, [], OnOk};
-ghost use Rattle.gitobject.specs.declared.types.ObjectType.TheVariants as types;
+ghost use Rattle.std.specs.Prelude.{OnOk};
 ghost use Rattle.gitrepository.specs.StoredTrees.{AreTreesRead};
-ghost use Rattle.gitrepository.specs.steps.Walking.{LeadsOn, LooksUp, StaysDecided};
 
 use crate::fault::RepositoryFault;
 use crate::gather::{Walk, WalkedStore};
-use gitobject::{Link, ObjectType};
+use gitobject::Link;
 use gitpack::IndexedEntry;
 use std::alloc::Allocator;
 
@@ -16,12 +14,13 @@ use std::alloc::Allocator;
 /// trees that no ref reaches, such as those of a killed fetch. Objects that they name may be
 /// missing.
 ///
-/// Commits and tags are not checked, because the session looks up their history in its graph.
+/// Nothing that a commit or tag among the prerequisites reaches is checked, because the session
+/// looks up their history in its graph.
 ///
 /// Fails at the first missing object, and at a tree that is broken, malformed or has another id.
-/// Fails with `Type` if a reached tree has another type than a link to it. Fails with `Type` also
+/// Fails with `Type` if a link to a tree leads to an object of another type. Fails with `Type` also
 /// if a link gives an object of the received pack another type, or if two links give an object two
-/// types. No other types of blobs are checked. Fails with `Memory` if out of memory.
+/// types. The types of other blobs are not checked. Fails with `Memory` if out of memory.
 pub(crate) fn check_trees<S: WalkedStore<A>, A: Allocator + Copy>(
     store: &mut S,
     received: &[IndexedEntry],
@@ -32,27 +31,7 @@ pub(crate) fn check_trees<S: WalkedStore<A>, A: Allocator + Copy>(
     // Nothing is sent: the walk only visits everything that a tree reaches.
     let mut walk = Walk::beside(store.allocator(), received);
     for link in prerequisites {
-        check_tree(store, &mut walk, link)?;
+        walk.send_link(store, *link)?;
     }
     Ok(())
-}
-
-// Visits everything that a prerequisite reaches, if it is a tree.
-fn check_tree<S: WalkedStore<A>, A: Allocator + Copy>(
-    store: &mut S,
-    walk: &mut Walk<'_, A>,
-    link: &Link,
-) -> Result<(), RepositoryFault<A>>
-    ensures received { OnOk result (walk.new.received ≡ walk.old.received) }
-    ensures empty { walk.old.trees.items ≡ [] → OnOk result (walk.new.trees.items ≡ []) }
-    ensures keeps { OnOk result (StaysDecided walk.old.fates walk.new.fates) }
-    ensures looks { OnOk result (LooksUp S.has S.located walk.old
-        → LooksUp S.has S.located walk.new) }
-    ensures leads { OnOk result (LooksUp S.has S.located walk.old
-        → link.now.kind ≡ types.Tree → LeadsOn walk.new link.now) }
-{
-    match link.kind {
-        ObjectType::Tree => walk.send_tree(store, &link.id),
-        ObjectType::Commit | ObjectType::Blob | ObjectType::Tag => Ok(()),
-    }
 }

@@ -36,8 +36,8 @@ abbrev pub StaysDecided : Fates → Fates → Type 0
 StaysDecided old new = (a : Id) (decided : Decided) → decided_at old a ≡ Some decided → decided_at new a ≡ Some decided
 
 -- the walk has no received pack, or an empty one
-abbrev pub IsAlone : {A : Type 0} → Walk A → Type 0
-IsAlone walk = walk.received.now ≡ []
+abbrev pub HasNoReceived : {A : Type 0} → Walk A → Type 0
+HasNoReceived walk = walk.received.now ≡ []
 
 -- the received pack has an object with the id and the type of the link
 abbrev pub IsReceived : {A : Type 0} → Walk A → Link → Type 0
@@ -51,11 +51,12 @@ IsCovered walk a = IsDecided walk.fates a ⊎ ((kind : ObjectType) × IsReceived
 abbrev pub IsDecidedAs : Fates → Link → Type 0
 IsDecidedAs fates link = (decided : Decided) × (decided_at fates link.id ≡ Some decided) × ((decided.kind ≡ None) ⊎ (decided.kind ≡ Some link.kind))
 
--- the received pack has the object, or the fate of the object is decided, with the type of the link
+-- The received pack has the object, with the type of the link. Or the fate of the object is decided, and no earlier link
+-- gives the object another type.
 abbrev pub LeadsToCovered : {A : Type 0} → Walk A → Link → Type 0
 LeadsToCovered walk link = IsReceived walk link ⊎ IsDecidedAs walk.fates link
 
--- the undecided object `a` was found at this location, and its fate is set
+-- the object `a` was undecided, was found at the location in `decided`, and is now decided in this way
 pub record SetsFate (located : Id → Found → Type 0) (old : Fates) (a : Id) (decided : Decided) (new : Fates) : Type 0 where
   pub undecided : decided_at old a ≡ None
   pub puts : Puts old a decided new
@@ -82,8 +83,8 @@ IsPending walk a = Contains (map id_of_tree walk.trees.items) a
 abbrev pub HasItsFate : Fates → PendingTree → Type 0
 HasItsFate fates tree = fate_at fates tree.id ≡ Some tree.fate
 
--- The id was undecided. A link leads to it, with the type that is on record. If the link is a link to a tree, the tree is
--- waiting to be walked.
+-- The object was found at its location. A link leads to it, and the type of the link is recorded. If the link is a link
+-- to a tree, the tree is waiting to be walked.
 pub record IsNew {A : Type 0} (located : Id → Found → Type 0) (new : Walk A) (links : List Link) (a : Id) (decided : Decided) : Type 0 where
   pub found : located a decided.found
   pub kind : ObjectType
@@ -91,8 +92,7 @@ pub record IsNew {A : Type 0} (located : Id → Found → Type 0) (new : Walk A)
   pub among : Contains links (link_of kind a)
   pub waits : (kind ≢ Tree) ⊎ IsPending new a
 
--- The objects that these links lead to are covered, with the types of the links. Each new fate is the fate of such an
--- object.
+-- The objects that these links lead to are covered. Each new fate is the fate of such an object.
 pub record Notes {A : Type 0} (located : Id → Found → Type 0) (old : Walk A) (links : List Link) (sent : Bool) (new : Walk A) : Type 0 where
   pub received : new.received ≡ old.received
   pub keeps : StaysDecided old.fates new.fates
@@ -115,7 +115,7 @@ IsOnTheWay has listed waiting walk a =
 
 -- The walk of a list of commits and tags is under way. The listed objects, and the ids in `waiting`, are walked later.
 pub record IsUnderWay {A : Type 0} (has : Id → GitObject → Type 0) (entries : List (Entry A)) (waiting : List Id) (walk : Walk A) : Type 0 where
-  pub alone : IsAlone walk
+  pub alone : HasNoReceived walk
   pub sent : (a : Id) → IsSentAt walk.fates a → IsOnTheWay has (ids_of entries) waiting walk a
   pub from : (a : Id) → IsSentAt walk.fates a → IsBelowListed has entries a
   pub left_out : (a : Id) → IsLeftOut walk.fates a → IsBelowLeftOut has entries walk.fates a
@@ -125,8 +125,8 @@ pub record IsUnderWay {A : Type 0} (has : Id → GitObject → Type 0) (entries 
 abbrev pub IsOpen : {A : Type 0} → (Id → GitObject → Type 0) → List (Entry A) → Walk A → Type 0
 IsOpen has entries walk = IsUnderWay has entries (ids_of entries) walk
 
--- The objects that a received pack relies on are looked up in the store. A link gives each of them its type, and each was
--- found. Each tree was read, is waiting to be walked, or is one of `waiting`.
+-- The prerequisites of a received pack are looked up in the store. Each object that was looked up was found, and a link
+-- gives it its type. Each tree was read, is waiting to be walked, or is one of `waiting`.
 pub record IsLookingUp {A : Type 0} (has : Id → GitObject → Type 0) (located : Id → Found → Type 0) (waiting : List Id) (walk : Walk A) : Type 0 where
   pub linked : (a : Id) (decided : Decided) → decided_at walk.fates a ≡ Some decided → (kind : ObjectType) × (decided.kind ≡ Some kind)
   pub found : (a : Id) (decided : Decided) → decided_at walk.fates a ≡ Some decided → located a decided.found

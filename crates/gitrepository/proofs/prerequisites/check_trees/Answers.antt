@@ -2,7 +2,7 @@ use Rattle.std.proofs.Common.{◌≡◌, ◌≤◌, List, take, length, ap, subs
 use Rattle.std.proofs.lemmas.List.{take_all}
 use Rattle.std.proofs.lemmas.List.Elements.{All-more, All-nil}
 use Rattle.gitpack.specs.declared.indexing.IndexedEntry.{IndexedEntry}
-use Rattle.gitrepository.specs.StoredTrees.{IsTreeKnown, LeadsToKnown}
+use Rattle.gitrepository.specs.StoredTrees.{LeadsToKnown}
 use Rattle.gitrepository.proofs.LookupLemmas.{known_more, looks_first, trees_read}
 use Rattle.gitrepository.proofs.prerequisites.check_trees.Goals as goal
 
@@ -12,19 +12,19 @@ loop-link-init g c =
       begun.received,
       begun.trees,
       looks_first g.S.WalkedStore.has g.S.WalkedStore.located walk begun.fates,
-      All-nil (IsTreeKnown walk.fates c.args.received.now),
+      All-nil (LeadsToKnown walk.fates c.args.received.now),
     )
 
 pub loop-link-preserved : goal.loop-link-preserved
 loop-link-preserved g c =
     let links = c.args.prerequisites.now in let k = c.loop-link.link-index in let link = c.link-item.result in let objects = c.args.received.now in
-    let old = c.loop-link.walk in let new = c.check_tree.new.walk in let said = c.in_ok-check_tree.ensures in let inv = c.loop-link.invariant in
+    let old = c.loop-link.walk in let new = c.send_link.new.self in let said = c.in_ok-send_link.ensures in let inv = c.loop-link.invariant in
     let same : new.received.now ≡ objects = ap (λ r. r.now) said.received ∙ inv.0 in (
       same,
-      said.empty inv.1,
+      said.empty,
       said.looks inv.2,
-      All-more (IsTreeKnown new.fates objects) links k _ c.loop-link-test.true (known_more old.fates new.fates said.keeps objects (take k links) inv.3)
-          (subst (IsTreeKnown new.fates objects) c.link-item.is (λ tree. subst (λ (os : List IndexedEntry). LeadsToKnown new.fates os link) same (said.leads inv.2 tree))),
+      All-more (LeadsToKnown new.fates objects) links k _ c.loop-link-test.true (known_more old.fates new.fates said.keeps objects (take k links) inv.3)
+          (subst (LeadsToKnown new.fates objects) c.link-item.is (subst (λ (os : List IndexedEntry). LeadsToKnown new.fates os link) same (said.leads inv.2))),
     )
 
 pub returns : goal.returns

@@ -1,11 +1,9 @@
 use Rattle.std.proofs.Common.{[], ◌∷◌}
 use Rattle.std.proofs.lemmas.List.Elements.{All-head}
-use Rattle.gitobject.specs.Trees.{link_of}
-use Rattle.gitobject.specs.declared.types.ObjectType.TheVariants.{Tree}
 use Rattle.gitrepository.specs.steps.Walking.{LeadsToCovered}
 use Rattle.gitrepository.proofs.LookupLemmas.{leads_more, looked_up, looks_on}
 use Rattle.gitrepository.proofs.WalkLemmas.{keeps_on}
-use Rattle.gitrepository.proofs.gather.Walk.send_tree.Goals as goal
+use Rattle.gitrepository.proofs.gather.Walk.send_link.Goals as goal
 
 pub returns-clause-keeps : goal.returns-clause-keeps
 returns-clause-keeps g c =
@@ -15,11 +13,11 @@ pub returns-clause-looks : goal.returns-clause-looks
 returns-clause-looks g c way =
     let has = g.S.WalkedStore.has in let located = g.S.WalkedStore.located in
     c.in_ok-walk_trees.ensures.looks
-    (looks_on has located [] c.args.self.now c.settle_link.new.self (link_of Tree c.args.id.now ∷ []) c.in_ok-settle_link.ensures way)
+    (looks_on has located [] c.args.self.now c.settle_link.new.self (c.args.link ∷ []) c.in_ok-settle_link.ensures way)
 
 pub returns-clause-leads : goal.returns-clause-leads
 returns-clause-leads g c way =
-    let has = g.S.WalkedStore.has in let located = g.S.WalkedStore.located in let link = link_of Tree c.args.id.now in
+    let has = g.S.WalkedStore.has in let located = g.S.WalkedStore.located in let link = c.args.link in
     let mid = c.settle_link.new.self in let notes = c.in_ok-settle_link.ensures in let walk = c.in_ok-walk_trees.ensures in
     leads_more mid c.walk_trees.new.self walk.received walk.keeps link
     (looked_up has located [] mid (looks_on has located [] c.args.self.now mid (link ∷ []) notes way) link (All-head (LeadsToCovered mid) link [] notes.each))
