@@ -40,8 +40,8 @@ turn_of (stage.Says reply) = Speaks
 turn_of (stage.Ends reply) = Speaks
 turn_of stage.Over = Done
 
--- A bound on the rest of a dialogue: two turns for each further message, and at most three turns for the current stage.
--- The steps of a message are its packets, at most 2^60 in all. The steps of a reply are its calls.
+-- a bound on the rest of a dialogue: two turns for each further message, and fewer than 2^60 packets in the current
+-- message
 abbrev pub left_of : {M R : Type 0} → (R → ℕ) → ℕ → DialogueStage M R → Left
 left_of calls messages (stage.Hears message frame) = record { turns = messages + messages + 2; steps = 2 ^ 60 - frame }
 left_of calls messages (stage.Says reply) = record { turns = messages + messages + 3; steps = calls reply }
@@ -51,7 +51,7 @@ left_of calls messages stage.Over = record { turns = 0; steps = 0 }
 module _ {S : Type 0} (judge : S → Judge) (brings : S → List Packet → Packet → Bool)
     (opens : S → List Packet → Bool → Type 0) (answers : S → List Packet → List Packet → Bool → S → Type 0)
     (refuses : S → MessageFault → List Packet → S → Type 0) where
-  -- The dialogue from the first state of this end until now. This end first sent the packets that `opens` allows.
+  -- The dialogue from the first state of this end until now. This end first sent its packets before the first message.
   -- This end then answered each received message in the state before that message.
   pub data Answered (first : S) : List Packet → List Packet → S → Type 0 where
     opened : (said : List Packet) → opens first said true → Answered first [] said first
@@ -75,8 +75,7 @@ module _ {S : Type 0} (judge : S → Judge) (brings : S → List Packet → Pack
   IsSoFar first true heard stop said side = Answered first heard said side × (stop ≡ None)
   IsSoFar first false heard stop said side = HasEnded first heard stop said side
 
-  module _ {M R : Type 0} (judge_of : M → Judge) (brings_of : M → List Packet → Packet → Bool)
-      (message_holds : M → List Packet → Type 0) (may : R → List Packet → Bool → Type 0) where
+  module _ {M R : Type 0} (hears : S → M → List Packet → Type 0) (may : R → List Packet → Bool → Type 0) where
     -- this end is receiving a message, and has answered all earlier messages
     pub record HoldsHearing (side : S) (message : M) (frame : ℕ) (talk : Talk) : Type 0 where
       pub first : S
@@ -84,10 +83,8 @@ module _ {S : Type 0} (judge : S → Judge) (brings : S → List Packet → Pack
       pub answered : Answered first heard talk.said side
       pub front : List Packet
       pub all : talk.heard ≡ heard ++ front
-      pub judged : judge_of message ≡ judge side
-      pub brought : brings_of message ≡ brings side
       pub goes : IsOpen (judge side) front
-      pub held : message_holds message front
+      pub held : hears side message front
       pub count : frame ≡ length front
       pub unstopped : talk.stopped ≡ None
 

@@ -13,8 +13,8 @@ use Rattle.gfetchreply.specs.FetchReplies.{judge, Says, FetchReply, reply_of, ac
 use Rattle.gfetchreply.specs.FetchReplies.{data_of, is_ready, Acks, Ready, Pack, IsCanonical, canonical_reply}
 use Rattle.gfetchreply.specs.FetchHeads.{FetchHead, head_of, pack_of}
 use Rattle.gfetchreply.specs.steps.FetchHeads.{head_by, reply_with}
-use Rattle.gfetchreply.specs.steps.ReplyState.{Kept, data_there, Holds, Leaves}
-use Rattle.gfetchreply.specs.ReplyReading.{TakesReply, RefusesReply, ReadsReply}
+use Rattle.gfetchreply.specs.steps.ReplyState.{Kept, data_there, Holds, HoldsReply, Leaves}
+use Rattle.gfetchreply.specs.ReplyReading.{HasRead, TakesReply, RefusesReply, ReadsReply}
 use Rattle.gfetchreply.proofs.StateLemmas.{pack_push}
 use Rattle.gfetchreply.proofs.ReplyEndings.{open_keeps_limit}
 use Rattle.gfetchreply.proofs.ReplyManual.{said_pack}
@@ -81,6 +81,21 @@ module _ {S : Type 0} (taken : S → List ℕ → Type 0) (same : S → S → Ty
       let left : Leaves taken same had starts seat lent asked sink name packets =
       subst (λ r. Leaves taken same had starts seat lent r sink name packets) (before.kind ∙ sym from) before in
       record { packets = packets; refused = refused; short = open_keeps_limit asked packets refused.goes; pack = left.pack }
+
+-- a reader that owns its sink has read the reply that the packets encode, and the sink has accepted its pack
+pub has_read : {S : Type 0} (taken : S → List ℕ → Type 0) (same : S → S → Type 0) (reading : Reading) (kept : Kept) (sink : S) (packets : List Packet) (head : FetchHead)
+    → IsWhole (judge reading) packets → HoldsReply taken same reading kept sink packets → head ≡ head_by reading.direct kept.ready kept.acks.ids
+    → HasRead taken reading packets head sink
+has_read taken same reading kept sink packets head whole held is =
+    let says : Says reading packets (reply_of reading packets) = record { whole = whole; says = refl } in
+    let pack = said_pack reading packets (reply_of reading packets) says in
+    record {
+      reply = reply_of reading packets;
+      says = says;
+      is_head =
+          is ∙ (ap (λ (k : Kept). head_by reading.direct k.ready k.acks.ids) held.counts ∙ head_is reading packets);
+      pack = subst (taken sink) (sym pack) (held.pack [] refl);
+    }
 
 -- ---- a sink whose accepted bytes are known, which holds the pack
 

@@ -1,31 +1,27 @@
 //! Reading a fetch reply.
 
-ghost use Rattle.std.specs.Prelude.{◌≡◌, ◌≤◌, ◌&&◌, ℕ, List, length, nat_lt, IfOk, OnOk, Ok};
-ghost use Rattle.gpkt.specs.Packets.{Bytes, Data, packet_of};
-ghost use Rattle.gpkt.specs.Bands.{Data as BandData, band_form};
-ghost use Rattle.ggrammar.specs.PeerErrors.{peer_error, unless_error};
+ghost use Rattle.std.specs.Prelude.{◌≡◌, ◌≤◌, ℕ, List, length, IfOk, OnOk};
+ghost use Rattle.gpkt.specs.Packets.{Bytes, packet_of};
 ghost use Rattle.gpkt.specs.Change.{change_of};
 ghost use Rattle.gname.specs.declared.formats.Format.TheVariants.{Sha1};
 ghost use Rattle.ggrammar.specs.Kinds.{ReadsOrRefuses};
 ghost use Rattle.ggrammar.specs.Limits.{profile};
 ghost use Rattle.ggrammar.specs.MessageReading.{LeavesReader};
-ghost use Rattle.gfetchreply.specs.FetchReplies.{Says, band_brings, brings, data_in, judge, judge_at, judge_band, judge_payload, payload_brings};
+ghost use Rattle.gfetchreply.specs.FetchReplies.{Says, brings, judge, judge_at};
 ghost use Rattle.gfetchreply.specs.FetchHeads.{pack_of};
-ghost use Rattle.gfetchreply.specs.steps.ReplyState.{TakesBoth, brings_there, data_there, first_kept, kept_in, place_in, state_in, with_band, with_packet, with_payload};
+ghost use Rattle.gfetchreply.specs.steps.ReplyState.{TakesBoth, brings_there, data_there, first_kept, kept_in, place_in, state_in, with_packet};
 ghost use Rattle.gfetchreply.specs.ReplyReading.{ReadsReply};
 ghost use Rattle.gfetchreply.specs.Views.{AreAcksOf, IsHeadOf, IsReplyOf, head_result, reading_in, reply_in, reply_result, sha1_reading};
 ghost use Rattle.gfetchreply.specs.steps.Views.{head_after, reading_with};
 
-use crate::form::reply_form;
+use crate::accepting::accept_packet;
 use crate::limit::{PackLimit, StreamLimit};
-use crate::sections::{Point, Sections, late};
+use crate::sections::Sections;
 use crate::sink::PackSink;
 use crate::value::{FetchHead, FetchReply};
-use ggrammar::{
-    Ends, Limits, Message, MessageFault, PeerText, Step, Why, peer_error, read_message,
-};
+use ggrammar::{Ends, Limits, Message, MessageFault, Step, Why, read_message};
 use gname::Format;
-use gpkt::{Band, Packet, PacketReader, Source, band_of, text_of};
+use gpkt::{Packet, PacketReader, Source};
 use std::alloc::Allocator;
 use std::marker::{Brand, PhantomData};
 
@@ -122,88 +118,7 @@ impl<'s, T: PackSink, A: Allocator + Copy, L: Lent<T>> ReplyReader<'s, T, A, L> 
             (data_there (place_in self.old.sections.place) (packet_of line.entry))
             self.old.sink.now self.new.sink.now result }
     {
-        // Laws that the proof uses.
-        T::laws();
-        match line {
-            Packet::Data(payload) => self.take_payload(payload),
-            Packet::Flush => self.sections.take_flush(self.reading.ends),
-            Packet::Delim => self.sections.take_delim(),
-            Packet::ResponseEnd => self.sections.take_response_end(),
-        }
-    }
-
-    fn take_payload(&mut self, payload: &[u8]) -> Result<Step, Why>
-        ensures reading { self.new.reading ≡ self.old.reading }
-        ensures in_place { self.new.sink.ghost_name ≡ self.old.sink.ghost_name }
-        ensures same { T.same self.old.sink.now self.new.sink.now }
-        ensures takes { TakesBoth T.taken
-            (unless_error (peer_error payload.now)
-            (judge_payload (reading_with self.old.reading self.old.sections)
-            (place_in self.old.sections.place) (state_in self.old.sections) payload.now))
-            (payload_brings T.refuses (place_in self.old.sections.place) payload.now)
-            (with_payload (place_in self.old.sections.place) (kept_in self.old.sections)
-            payload.now) (kept_in self.new.sections)
-            (data_there (place_in self.old.sections.place) (Data payload.now)) self.old.sink.now
-            self.new.sink.now result }
-    {
-        // Laws that the proof uses.
-        T::laws();
-        if let Some(error) = peer_error(payload) {
-            return Err(Why::RemoteErr(PeerText::new(error)));
-        }
-        let form = reply_form(text_of(payload));
-        match self.sections.place {
-            Point::Start => self.sections.take_start(form),
-            Point::Acking => self.sections.take_acking(form),
-            Point::AfterNak | Point::AfterReady => Err(late(form)),
-            Point::BeforePack => self.sections.take_before_pack(form),
-            Point::InPack => self.take_band(payload),
-            Point::Over => Err(Why::UnexpectedFrame),
-        }
-    }
-
-    fn take_band(&mut self, payload: &[u8]) -> Result<Step, Why>
-        ensures reading { self.new.reading ≡ self.old.reading }
-        ensures in_place { self.new.sink.ghost_name ≡ self.old.sink.ghost_name }
-        ensures same { T.same self.old.sink.now self.new.sink.now }
-        ensures takes { TakesBoth T.taken (judge_band self.old.reading.limit
-            (state_in self.old.sections) (band_form payload.now))
-            (band_brings T.refuses (band_form payload.now))
-            (with_band (kept_in self.old.sections) (length (data_in (band_form payload.now))))
-            (kept_in self.new.sections)
-            (data_in (band_form payload.now)) self.old.sink.now self.new.sink.now result }
-    {
-        // Laws that the proof uses.
-        T::laws();
-        match band_of(payload) {
-            Ok(Band::Data(bytes)) => self.take_data(bytes),
-            Ok(Band::Progress(_)) => self.sections.take_progress(),
-            Ok(Band::Fatal(error)) => Err(Why::RemoteFatal(PeerText::new(error))),
-            Err(fault) => Err(Why::Band(fault)),
-        }
-    }
-
-    fn take_data(&mut self, bytes: &[u8]) -> Result<Step, Why>
-        ensures reading { self.new.reading ≡ self.old.reading }
-        ensures in_place { self.new.sink.ghost_name ≡ self.old.sink.ghost_name }
-        ensures same { T.same self.old.sink.now self.new.sink.now }
-        ensures takes { TakesBoth T.taken (judge_band self.old.reading.limit
-            (state_in self.old.sections) (Ok (BandData bytes.now)))
-            (T.refuses && nat_lt 0 (length bytes.now))
-            (with_band (kept_in self.old.sections) (length bytes.now)) (kept_in self.new.sections)
-            bytes.now self.old.sink.now self.new.sink.now result }
-    {
-        // Laws that the proof uses.
-        T::laws();
-        let total = match self.sections.with_room(self.reading.limit, bytes.len()) {
-            Some(total) => total,
-            None => return Err(Why::Limit),
-        };
-        if !bytes.is_empty() && !self.sink.piece(bytes) {
-            return Err(Why::Memory);
-        }
-        self.sections.count(total);
-        Ok(Step::Open)
+        accept_packet(self.reading, &mut self.sections, &mut *self.sink, line)
     }
 }
 

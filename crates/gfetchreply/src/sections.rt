@@ -55,8 +55,7 @@ pub(crate) struct Sections<A: Allocator + Copy> {
 }
 
 impl<A: Allocator + Copy> Sections<A> {
-    /// Returns the contents of a reply before its first packet. If `direct` is true, the reply
-    /// starts with its pack, without acknowledgments.
+    /// Returns the contents of a reply before its first packet.
     pub(crate) fn new(alloc: A, limits: Limits, format: Format, direct: bool) -> Sections<A>
         ensures { kept_in result ≡ first_kept limits format direct }
     {

@@ -1,0 +1,115 @@
+-- Queuing the parts of a request.
+use Rattle.std.proofs.Common.{◌≡◌, ◌<◌, ◌≤◌, ◌+◌, ◌-◌, ◌∙◌, ℕ, Bool, List, [], ◌∷◌, ◌++◌, length, drop, map, codes, Option, Some, None, refl, sym, ap, ap₂, subst, arith, append-nil, append_assoc, length-drop, add-one, drop-cons, get_or}
+use Rattle.std.proofs.lemmas.List.{nil_from_length}
+use Rattle.gname.specs.declared.formats.Format.{Format}
+use Rattle.gpkt.specs.Packets.{Bytes, Packet, Delim, Flush, canonical, canonical_all}
+use Rattle.grequest.specs.Asked.{Asked, Empty, Ls, Fetches, FetchAsked, LsRefsAsked}
+use Rattle.grequest.specs.RequestWriting.{agent_packets, canonical_request, command_packet, format_packets, id_packet, prefix_packet}
+use Rattle.grequest.specs.declared.command.Command.TheVariants.{LsRefs, Fetch}
+use Rattle.gfetch.specs.Saying.{SaysPart, done_of, firsts_from, flags_of, haves_from, rest_of, steps_of}
+use Rattle.gfetch.specs.declared.asking.NextPart.{NextPart}
+use Rattle.gfetch.specs.declared.asking.NextPart.TheVariants as part
+
+-- one packet in an empty queue
+pub one_said : (packet : Packet) (before out : Bytes) → before ≡ [] → out ≡ before ++ canonical packet → out ≡ canonical_all (packet ∷ [])
+one_said packet before out empty is = is ∙ ap (λ (l : Bytes). l ++ canonical packet) empty ∙ sym (append-nil (canonical packet))
+
+canonical_joins : (lines more : List Packet) → canonical_all (lines ++ more) ≡ canonical_all lines ++ canonical_all more
+canonical_joins [] more = refl
+canonical_joins (line ∷ lines) more =
+    ap (λ (l : Bytes). canonical line ++ l) (canonical_joins lines more) ∙ sym (append_assoc (canonical line) (canonical_all lines) (canonical_all more))
+
+-- packets that are queued one list after the other
+pub more_said : (front more : List Packet) (before out : Bytes) → before ≡ canonical_all front → out ≡ before ++ canonical_all more
+    → out ≡ canonical_all (front ++ more)
+more_said front more before out so_far is = is ∙ ap (λ (l : Bytes). l ++ canonical_all more) so_far ∙ sym (canonical_joins front more)
+
+ls_parts : (format : Format) (asked : LsRefsAsked) → canonical_request format (Ls asked) ≡ command_packet LsRefs ∷ rest_of format (Ls asked) part.Agent
+unfolding canonical_request
+ls_parts format asked =
+    ap (λ (l : List Packet). command_packet LsRefs ∷ (agent_packets asked.agent ++ (format_packets format ++ Delim ∷ l)))
+    (append_assoc (flags_of (Ls asked)) (map prefix_packet asked.prefixes) (Flush ∷ []))
+
+fetch_parts : (format : Format) (asked : FetchAsked) → canonical_request format (Fetches asked) ≡ command_packet Fetch ∷ rest_of format (Fetches asked) part.Agent
+unfolding canonical_request
+fetch_parts format asked =
+    let flags = flags_of (Fetches asked) in
+    let wants = map (id_packet (codes "want ")) asked.wants in
+    let haves = map (id_packet (codes "have ")) asked.haves in
+    let done = done_of (Fetches asked) in
+    ap (λ (l : List Packet). command_packet Fetch ∷ (agent_packets asked.agent ++ (format_packets format ++ Delim ∷ l)))
+    (append_assoc flags (wants ++ (haves ++ done)) (Flush ∷ [])
+    ∙ ap (λ (l : List Packet). flags ++ l) (append_assoc wants (haves ++ done) (Flush ∷ []) ∙ ap (λ (l : List Packet). wants ++ l) (append_assoc haves done (Flush ∷ []))))
+
+pub ls_command_said : (format : Format) (asked : LsRefsAsked) (out : Bytes) → out ≡ canonical_all (command_packet LsRefs ∷ [])
+    → SaysPart format (Ls asked) part.Command out (Some part.Agent)
+ls_command_said format asked out is = (command_packet LsRefs ∷ [], is, ls_parts format asked, omega arith)
+
+pub fetch_command_said : (format : Format) (asked : FetchAsked) (out : Bytes) → out ≡ canonical_all (command_packet Fetch ∷ [])
+    → SaysPart format (Fetches asked) part.Command out (Some part.Agent)
+fetch_command_said format asked out is = (command_packet Fetch ∷ [], is, fetch_parts format asked, omega arith)
+
+empty_parts : (format : Format) → canonical_request format Empty ≡ Flush ∷ []
+unfolding canonical_request
+empty_parts format = refl
+
+pub empty_said : (format : Format) (out : Bytes) → out ≡ canonical_all (Flush ∷ []) → SaysPart format Empty part.Command out None
+empty_said format out is = (Flush ∷ [], is, empty_parts format)
+
+-- the items from a position are the item there, followed by the later items
+pub items_from : {X : Type 0} (items : List X) (at : ℕ) (item : X) → at < length items → item ≡ get_or items at item
+    → drop at items ≡ item ∷ drop (at + 1) items
+items_from items at item less is =
+    drop-cons items at item less ∙ ap₂ (λ x l. x ∷ l) (sym is) (ap (λ (n : ℕ). drop n items) (sym (add-one at)))
+
+pub no_items_from : {X : Type 0} (items : List X) (at : ℕ) → length items ≤ at → drop at items ≡ []
+no_items_from items at past = nil_from_length (drop at items) (omega (arith, length-drop at items, past))
+
+pub prefix_said : (format : Format) (asked : LsRefsAsked) (at : ℕ) (prefix : Bytes) (out : Bytes) → at < length asked.prefixes
+    → drop at asked.prefixes ≡ prefix ∷ drop (at + 1) asked.prefixes → out ≡ canonical_all (prefix_packet prefix ∷ [])
+    → SaysPart format (Ls asked) (part.First at) out (Some (part.First (at + 1)))
+prefix_said format asked at prefix out less parts is = (
+  prefix_packet prefix ∷ [],
+  is,
+  ap (λ (l : List Bytes). map prefix_packet l ++ Flush ∷ []) parts,
+  omega (arith, less),
+)
+
+pub want_said : (format : Format) (asked : FetchAsked) (at : ℕ) (id : List ℕ) (out : Bytes) → at < length asked.wants
+    → drop at asked.wants ≡ id ∷ drop (at + 1) asked.wants → out ≡ canonical_all (id_packet (codes "want ") id ∷ [])
+    → SaysPart format (Fetches asked) (part.First at) out (Some (part.First (at + 1)))
+want_said format asked at id out less parts is = (
+  id_packet (codes "want ") id ∷ [],
+  is,
+  ap (λ (l : List (List ℕ)). map (id_packet (codes "want ")) l ++ haves_from (Fetches asked) 0 ++ done_of (Fetches asked) ++ Flush ∷ []) parts,
+  omega (arith, less),
+)
+
+pub have_said : (format : Format) (asked : FetchAsked) (at : ℕ) (id : List ℕ) (out : Bytes) → at < length asked.haves
+    → drop at asked.haves ≡ id ∷ drop (at + 1) asked.haves → out ≡ canonical_all (id_packet (codes "have ") id ∷ [])
+    → SaysPart format (Fetches asked) (part.Have at) out (Some (part.Have (at + 1)))
+have_said format asked at id out less parts is = (
+  id_packet (codes "have ") id ∷ [],
+  is,
+  ap (λ (l : List (List ℕ)). map (id_packet (codes "have ")) l ++ done_of (Fetches asked) ++ Flush ∷ []) parts,
+  omega (arith, less),
+)
+
+-- no prefix, want or have is left
+pub firsts_over : (format : Format) (asked : Asked) (at : ℕ) (out : Bytes) → out ≡ [] → firsts_from asked at ≡ []
+    → SaysPart format asked (part.First at) out (Some (part.Have 0))
+firsts_over format asked at out empty over = (
+  [],
+  empty,
+  ap (λ (l : List Packet). l ++ haves_from asked 0 ++ done_of asked ++ Flush ∷ []) over,
+  omega arith,
+)
+
+pub haves_over : (format : Format) (asked : Asked) (at : ℕ) (out : Bytes) → out ≡ [] → haves_from asked at ≡ []
+    → SaysPart format asked (part.Have at) out (Some part.Done)
+haves_over format asked at out empty over = (
+  [],
+  empty,
+  ap (λ (l : List Packet). l ++ done_of asked ++ Flush ∷ []) over,
+  omega arith,
+)
