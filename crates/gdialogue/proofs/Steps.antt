@@ -2,7 +2,7 @@
 use Rattle.std.proofs.Common.{◌≡◌, ℕ, ◌+◌, ◌<◌, ◌^◌, Bool, true, false, List, [], ◌∷◌, ◌++◌, length, Option, Some, None, Result, Ok, Err, refl, sym, ap, ◌∙◌, subst, append-nil, append_assoc}
 use Rattle.std.proofs.lemmas.List.{length_push}
 use Rattle.gpkt.specs.Packets.{Bytes, Packet}
-use Rattle.ggrammar.specs.Grammar.{Judge, LawsOf, Whole, IsOpen, IsWhole}
+use Rattle.ggrammar.specs.Grammar.{Judge, LawsOf, IsOpen, IsWhole}
 use Rattle.ggrammar.specs.declared.message.Step.{Step}
 use Rattle.ggrammar.specs.declared.message.Step.TheVariants as step
 use Rattle.ggrammar.specs.declared.fault.Why.{Why}
@@ -99,7 +99,7 @@ module _ {S M R : Type 0} (judge : S → Judge) (brings : S → List Packet → 
       let t = taken side message new frame packet result (Ok step.Whole) talk takes is h in
       (record { front = h.front; last = packet; parts = refl; goes = h.goes; ends = t.0 }, t.1)
 
-  -- a dialogue that starts with this reply opens with it
+  -- if `opens` allows all packets that may complete this reply, a new dialogue may send the reply first
   pub opens_with : (side : S) (reply : R) → ((packets : List Packet) (goes : Bool) → may reply packets goes → opens side packets goes)
       → Saying side reply no_talk
   opens_with side reply opened = record { first = side; due = λ rest goes h. so_far rest goes (opened rest goes h) }
@@ -114,7 +114,7 @@ module _ {S M R : Type 0} (judge : S → Judge) (brings : S → List Packet → 
       → IsWhole (judge side) lines → hears side message lines
       → MayAnswer may result packets goes → answers side lines packets goes after
 
-  -- equal lists of packets and equal stop reasons describe the same end of a dialogue
+  -- equal lists of packets and equal stop reasons describe the same ending of a dialogue
   ends_so : (first after : S) (heard all said : List Packet) (stop stopped : Option Stop) → all ≡ heard → stopped ≡ stop
       → Ended first heard stop said after
       → Ended first all stopped said after

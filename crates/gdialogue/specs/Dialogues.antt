@@ -40,8 +40,8 @@ turn_of (stage.Says reply) = Speaks
 turn_of (stage.Ends reply) = Speaks
 turn_of stage.Over = Done
 
--- a bound on the rest of a dialogue: two turns for each further message, and fewer than 2^60 packets in the current
--- message
+-- A bound on the rest of a dialogue: two turns for each further message, and at most three turns for the current stage.
+-- The steps of a message are its packets, at most 2^60 in all. The steps of a reply are its calls.
 abbrev pub left_of : {M R : Type 0} → (R → ℕ) → ℕ → DialogueStage M R → Left
 left_of calls messages (stage.Hears message frame) = record { turns = messages + messages + 2; steps = 2 ^ 60 - frame }
 left_of calls messages (stage.Says reply) = record { turns = messages + messages + 3; steps = calls reply }
@@ -51,7 +51,7 @@ left_of calls messages stage.Over = record { turns = 0; steps = 0 }
 module _ {S : Type 0} (judge : S → Judge) (brings : S → List Packet → Packet → Bool)
     (opens : S → List Packet → Bool → Type 0) (answers : S → List Packet → List Packet → Bool → S → Type 0)
     (refuses : S → MessageFault → List Packet → S → Type 0) where
-  -- The dialogue from the first state of this end until now. This end first sent its packets before the first message.
+  -- The dialogue from the first state of this end until now. This end first sent the packets that `opens` allows.
   -- This end then answered each received message in the state before that message.
   pub data Answered (first : S) : List Packet → List Packet → S → Type 0 where
     opened : (said : List Packet) → opens first said true → Answered first [] said first

@@ -10,7 +10,7 @@ use Rattle.gdialogue.specs.declared.side.Answer.TheVariants as answer
 use Rattle.gdialogue.specs.declared.side.Said.{Said}
 use Rattle.gdialogue.specs.declared.side.Said.TheVariants.{More, Whole, Last}
 
--- a message accepts or rejects the next packet according to the judge; nothing is known of a message after a rejection
+-- the message accepts or rejects the packet according to the judge; after a rejection, nothing is known of the message
 abbrev pub HearsPacket : {M : Type 0} → Judge → (List Packet → Packet → Bool) → (M → List Packet → Type 0)
     → List Packet → Packet → M → Result Step Why → Type 0
 HearsPacket judge brings hears front packet new result =

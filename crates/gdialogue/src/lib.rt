@@ -7,10 +7,11 @@
 //!
 //! # Proved
 //!
-//! - Messages and answers alternate. Each message is complete according to the grammar of the
-//!   side's current state, and the side answers it in that state. The message belongs to that state
-//!   of the side (`Side::hears`), for example with the side's parameters. Apart from packets before
-//!   the first message, the side sends only answers (`Answered` in `specs/Dialogues.antt`).
+//! - Messages and answers alternate. Each message that is not refused is complete according to the
+//!   grammar of the side's current state, and the side answers it in that state. Apart from packets
+//!   before the first message, the side sends only answers (`Answered` in `specs/Dialogues.antt`).
+//! - The message that is being received consists of exactly its packets so far, and belongs to the
+//!   side's current state (`hears` in [`Side`], `HoldsHearing` in `specs/Dialogues.antt`).
 //! - A dialogue ends with a last answer, with a reply that ends the dialogue early, or with a
 //!   refused message (`HasEnded`). A message is refused at the first packet that its grammar
 //!   rejects, with the position of the packet and the reason. A message is also refused if memory
@@ -18,8 +19,8 @@
 //! - The packets of a complete reply are a list that the contract of the reply permits (`may` in
 //!   [`Reply`]). The reply can choose its packets while it is being sent (`SaysSome` in
 //!   `specs/Sides.antt`).
-//! - Each dialogue ends. Each call decreases one of three bounds (`left_of`): on the remaining
-//!   packets of the message, on the remaining calls for the reply, or on the remaining messages.
+//! - Each dialogue ends. Each call decreases a bound (`left_of`) on the remaining packets of the
+//!   message, the remaining calls for the reply, or the remaining messages.
 //!
 //! # What the contracts do not rule out
 //!
@@ -31,7 +32,8 @@
 //!
 //! # Dependencies
 //!
-//! `gtalk` defines conversations, `ggrammar` grammars of messages, and `gpkt` packets.
+//! `gtalk` defines conversations, `ggrammar` defines grammars of messages, and `gpkt` defines
+//! packets.
 #![tactic(auto)]
 
 mod dialogue;

@@ -14,7 +14,7 @@ use std::alloc::Allocator;
 pub enum Said {
     /// More packets of the reply follow.
     More,
-    /// The reply is complete, and the dialogue continues.
+    /// The reply is complete, and does not itself end the dialogue.
     Whole,
     /// The reply is complete, and the dialogue has ended.
     Last,
@@ -52,8 +52,8 @@ pub enum Answer<R> {
     Last(R),
 }
 
-/// One end of a dialogue: the messages that it accepts, and its answers. `M` is a message of which
-/// some packets may not have arrived yet.
+/// One end of a dialogue: the messages that it accepts, and its answers. A value of `M` is a message
+/// of which some packets may not have arrived yet.
 pub trait Side<M, R: Reply> {
     ghost use Rattle.ggrammar.specs.declared.fault.MessageFault.{MessageFault};
 
@@ -64,7 +64,7 @@ pub trait Side<M, R: Reply> {
     ghost brings: { Self → List Packet → Packet → Bool };
 
     // Whether a message consists of exactly these packets so far, and belongs to this state of the
-    // side. For example, the message may have to use the parameters of the side.
+    // side. For example, a side can require that the message has the side's parameters.
     ghost hears: { Self → M → List Packet → Type 0 };
 
     // Whether the end may send these packets before the first message. The boolean states whether
@@ -83,12 +83,12 @@ pub trait Side<M, R: Reply> {
     // The maximum number of further messages that the side answers without ending the dialogue.
     ghost messages: { Self → ℕ };
 
-    /// Returns the message to receive next, before its first packet.
+    /// Returns the state of the next message, before any of its packets is received.
     fn message(&self) -> M
         ensures { hears self.now result [] };
 
-    /// Adds the next packet to a message. Fails if the grammar rejects the packet, or if memory runs
-    /// out for its contents.
+    /// Adds the next packet to the message. Fails if the grammar rejects the packet, or if memory
+    /// runs out for its contents.
     fn hear(&self, message: &mut M, line: gpkt::Packet<'_>) -> Result<Step, Why>
         ensures { (front : List Packet) → IsOpen (judge self.now) front
             → hears self.now message.old front
@@ -108,8 +108,9 @@ pub trait Side<M, R: Reply> {
         ensures { (said : List Packet) (goes : Bool) → R.may result said goes
             → refuses self.old fault said self.new };
 
-    /// Proves that each list of packets has fewer than 2^60 packets if the next message continues
-    /// after each packet of the list.
+    /// Proves a law of the grammar for generic callers, and does nothing. A list of packets is open
+    /// if the next message continues after each packet of the list. Each open list has fewer than
+    /// 2^60 packets.
     fn laws()
         ensures { (side : Self) (front : List Packet) → IsOpen (judge side) front
             → length front < 2 ^ 60 };

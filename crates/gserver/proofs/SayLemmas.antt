@@ -24,7 +24,7 @@ module _ (first now : May) (steps_first steps_now count : ℕ) (before out : Byt
   joined : (more : List Packet) → out ≡ before ++ canonical_all more → out ≡ canonical_all (has.said ++ more)
   joined more is = is ∙ ap (λ l. l ++ canonical_all more) has.spelt ∙ sym (canonical_joins has.said more)
 
-  -- the packets that were queued up to and including one more step
+  -- all packets that are queued after one more step
   pub record SaidMore (new : May) (steps_new : ℕ) : Type 0 where
     pub said : List Packet
     pub spelt : out ≡ canonical_all said

@@ -91,7 +91,7 @@ module _ {A R P : Type 0} (server_of : R → Server A) (gives : R → P → Give
   answered_so Says Why (Err text) goes_on result why is ends said goes may =
       let r = is.refuses said goes may in inr (record { text = text; why = why; all = r.0; ended = r.1 })
 
-  -- an answer satisfies `Quiet`, or it ends the dialogue
+  -- `Quiet` holds, or the answer ends the dialogue
   pub quiet_so : (Quiet : Type 0) (answered : Result (ServerReply A R P) Bytes) (goes_on : Bool) (result : Answer (ServerReply A R P))
       → OnOk answered Quiet → AnswersOf server_of gives answered goes_on result
       → (said : List Packet) (goes : Bool) → MayAnswer (may_of server_of gives) result said goes → Quiet ⊎ (goes ≡ false)

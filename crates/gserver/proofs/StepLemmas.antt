@@ -54,7 +54,7 @@ last_one packet old goes before out is all = record {
   all = all;
 }
 
--- the ids from index `at` are the id at `at`, followed by the later ids
+-- the ids from index `at` on are the id at this index, followed by the later ids
 pub ids_from : (ids lent : List Id) (at : ℕ) (id : Id) → lent ≡ ids → at < length lent → id ≡ get_or lent at id
     → drop at ids ≡ id ∷ drop (at + 1) ids
 ids_from ids lent at id same less is =

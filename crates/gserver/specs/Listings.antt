@@ -44,7 +44,7 @@ steps_of_listing server next.Head = length server.refs + 3
 steps_of_listing server (next.Ref at) = (length server.refs - at) + 2
 steps_of_listing server next.ResponseEnd = 0
 
--- the result of the call that queues the last packet of a reply, given whether the dialogue then continues
+-- the result of the step that queues the last packet of a reply, given whether the dialogue then continues
 abbrev pub said_at_end : Bool → Said
 said_at_end true = said.Whole
 said_at_end false = said.Last

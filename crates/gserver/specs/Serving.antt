@@ -46,8 +46,7 @@ pub record Refuses (Why : Bytes → Type 0) (said : List Packet) (goes : Bool) :
   pub all : said ≡ text_packets text
   pub ended : goes ≡ false
 
--- the number of answered requests after a new request; an empty request is not counted, and the count stops at
--- `max_requests`
+-- the count of requests after a new request; an empty request is not counted, and the count stops at `max_requests`
 abbrev pub count_request : Asked → ℕ → ℕ
 count_request Empty requests = requests
 count_request (Ls asked) requests = min (requests + 1) max_requests
@@ -133,7 +132,7 @@ module _ {A R : Type 0} (server_of : R → Server A) where
       CannotAnswer repo (Ls asked) new kept text = (new ≡ Some repo) × LacksMemory says host kept text
       CannotAnswer repo (Fetches asked) new kept text = CannotSend repo asked new kept text
 
--- the host and the limits on a request stay the same, and each reply ends with the same packets
+-- the host, the limits on a request, and the packets that end each reply stay the same
 pub record Stays {A H R : Type 0} (old new : ServerSide A H R) : Type 0 where
   pub host : new.host ≡ old.host
   pub ends : new.ends ≡ old.ends
@@ -152,14 +151,14 @@ OpensFresh side said goes = IsFresh side × SaysNothing said goes
 module _ {A H R : Type 0} (server_of : R → Server A) (packs_of : R → Packs A) (fails_of : R → PackFails A)
     (finds : H → Hello → Result R Bytes → Type 0) (opens : H → R → Result R Bytes → Type 0)
     (says : H → ServeFault → Bytes → Type 0) where
-  -- the packets are a first line, and `said` is an answer to this line
+  -- the packets `lines` are a first line, and the packets `said` are an answer to this line
   pub record AnswersFirst (old new : ServerSide A H R) (lines said : List Packet) (goes : Bool) : Type 0 where
     pub asked : Hello
     pub says_so : hello.Says lines asked
     pub answers : AnswersHello server_of says old.host.now (finds old.host.now asked) new.repo new.fault said goes
     pub requests : new.requests ≡ old.requests
 
-  -- the packets are a request within the limits, and `said` is an answer to the request or an error packet
+  -- the packets `lines` are a request within the limits, and `said` is an answer to the request or an error packet
   pub record AnswersRequest (repo : R) (old new : ServerSide A H R) (lines said : List Packet)
       (goes : Bool) : Type 0 where
     pub asked : Asked
@@ -170,7 +169,7 @@ module _ {A H R : Type 0} (server_of : R → Server A) (packs_of : R → Packs A
         repo asked new.repo new.fault) said goes
     pub requests : new.requests ≡ count_request asked old.requests
 
-  -- the packets are a message, and `said` is an answer to this message
+  -- the packets `lines` are a message, and the packets `said` are an answer to this message
   abbrev pub AnswersBy : Option R → ServerSide A H R → ServerSide A H R → List Packet → List Packet → Bool → Type 0
   AnswersBy None old new lines said goes = AnswersFirst old new lines said goes
   AnswersBy (Some repo) old new lines said goes = AnswersRequest repo old new lines said goes
@@ -195,7 +194,7 @@ abbrev pub side_brings : {R : Type 0} → Option R → List Packet → Packet �
 side_brings None = hello.brings
 side_brings (Some repo) = request.brings
 
--- the message has the grammar of the side's next message, and consists of these packets so far
+-- the message has the grammar of the side's next message, and consists of exactly these packets so far
 pub record HearsMessage {A H R : Type 0} (server_of : R → Server A) (side : ServerSide A H R) (message : Heard A)
     (packets : List Packet) : Type 0 where
   pub judged : judge_of message ≡ side_judge side.limits server_of side.repo

@@ -120,7 +120,7 @@ impl<A: Allocator + Copy, R: ServedRepository<A>> Listing<A, R> {
     }
 }
 
-// Returns the result of the call that queues the last packet of a reply, given whether the dialogue
+// Returns the result of the step that queues the last packet of a reply, given whether the dialogue
 // then continues.
 fn said_at_end(goes_on: bool) -> Said
     ensures { result ≡ said_at_end goes_on }

@@ -172,7 +172,7 @@ fn say_flush<A: Allocator + Copy, B: Allocator + Copy, R: PartPacker<A> + Drop>(
     }
 }
 
-// Returns the result of the call that queues the last packet of a reply, given whether the dialogue
+// Returns the result of the step that queues the last packet of a reply, given whether the dialogue
 // then continues.
 fn end_of<A: Allocator + Copy, R, P>(goes_on: bool) -> Stepped<A, R, P>
     ensures { result ≡ end_of goes_on }

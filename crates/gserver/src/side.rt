@@ -304,7 +304,8 @@ fn count(requests: &mut u32) -> bool
     goes_on
 }
 
-// Returns an answer that is an error packet with this text, and ends the connection.
+// Returns an answer that consists of an error packet with this text. The answer ends the
+// connection.
 fn refusal_of<A: Allocator + Copy, R: ServedRepository<A> + PartPacker<A>>(
     text: ErrText,
 ) -> Answer<ServerReply<A, R, R::Parts>>

@@ -17,7 +17,7 @@ pub record SaysLines {A : Type 0} (server : Server A) (asked : LsRefsAsked) (ref
   pub shows : ShowsLines server asked refs lines
   pub spelt : out ≡ before ++ canonical_all (map ref_packet lines)
 
--- the line of the ref at this position is appended, or no ref is at this position
+-- the line of the ref at this position is appended if the ref is requested, or no ref is at this position
 abbrev pub SaysRefAt : {A : Type 0} → Server A → LsRefsAsked → ℕ → Bytes → Bytes → Bool → Type 0
 SaysRefAt server asked at before out true =
     (at < length server.refs) × ((ref : Name × Id) × (drop at server.refs ≡ ref ∷ drop (at + 1) server.refs)

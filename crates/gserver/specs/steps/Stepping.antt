@@ -37,7 +37,7 @@ module _ {A R P : Type 0} (gives : R → P → Gives) (most : R → P → ℕ) (
   StepsFrom from before out stepped.Whole = PutsLast (SaysRest gives ends goes_on from) true before out
   StepsFrom from before out stepped.Last = PutsLast (SaysRest gives ends goes_on from) false before out
 
--- the result of the call that queues the last packet of a reply, given whether the dialogue then continues
+-- the result of the step that queues the last packet of a reply, given whether the dialogue then continues
 abbrev pub end_of : {A R P : Type 0} → Bool → Stepped A R P
 end_of true = stepped.Whole
 end_of false = stepped.Last
