@@ -28,7 +28,6 @@ use ggrammar::laws::grammars_are_exact;
 use ggrammar::{Ends, Limits, Message, MessageFault, Step, Why};
 use ghello::{Hello, HelloReader};
 use gparts::PartPacker;
-use gpkt::Packet;
 use grequest::{FetchRequest, LsRefsRequest, Request, RequestReader};
 use std::alloc::Allocator;
 
@@ -363,7 +362,7 @@ where
         }
     }
 
-    fn hear(&self, message: &mut Heard<A>, line: Packet<'_>) -> Result<Step, Why> {
+    fn hear(&self, message: &mut Heard<A>, line: gpkt::Packet<'_>) -> Result<Step, Why> {
         message.accept_packet(line)
     }
 
