@@ -1,3 +1,4 @@
 -- The steps: definitions that only private functions and proofs use.
 pub mod Fields
 pub mod Calls
+pub mod Readers
