@@ -42,7 +42,7 @@ use Rattle.grequest.specs.RequestValues.{asked_by_request}
 use Rattle.grequest.specs.declared.request.Request.{Request}
 use Rattle.gsession.specs.Sessions.{SessionState, AreCommons, IsOpenFetch, LeavesReplies, after_fault}
 use Rattle.gsession.specs.steps.Calls.{AnswersLs, AnswersRead, AnswersRefs, AnswersReply, FitsHead, IsAcksFault, IsStrangeAck, MayHaveFed}
-use Rattle.gsession.specs.steps.Readers.{HoldsObjects}
+use Rattle.gsession.specs.Readers.{HoldsObjects}
 use Rattle.gsession.specs.declared.reader.ObjectsReader.{ObjectsReader}
 use Rattle.gsession.specs.TakingRefs.{AcceptsRefs, AwaitsRefs, IsLsFault, IsUnaccepted, IsRefsFault, ReadsRefs}
 use Rattle.gsession.specs.TakingReplies.{AcceptsRead, Awaits, HasPack, IsFirstStrange, IsReplyFault, IsTakeFault, ReadsFetch}

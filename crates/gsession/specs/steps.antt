@@ -1,4 +1,3 @@
 -- The steps: definitions that only private functions and proofs use.
 pub mod Fields
 pub mod Calls
-pub mod Readers

@@ -6,7 +6,7 @@ ghost use Rattle.ggrammar.specs.Grammar.{IsOpen};
 ghost use Rattle.ggrammar.specs.MessageReading.{TakesPacket};
 ghost use Rattle.gfetchreply.specs.FetchReplies.{Reading, brings_into, judge};
 ghost use Rattle.gfetchreply.specs.Views.{reading_in};
-ghost use Rattle.gsession.specs.steps.Readers.{HoldsObjects};
+ghost use Rattle.gsession.specs.Readers.{HoldsObjects};
 
 use crate::feed::PackFeed;
 use gfetchreply::{FetchReader, FetchReading, StreamLimit};
@@ -55,6 +55,7 @@ impl<F: Drop, A: Allocator + Copy> ObjectsReader<F, A> {
             (HoldsObjects K.fed K.index_fails reading) (λ reader packets. Unit {0}) front
             (packet_of line.entry) self.new result }
     {
+        // A placeholder stands for the state of the indexer while the sink owns it.
         let feed = mem::replace(&mut self.feed, Err(IndexFault::Memory));
         let mut sink = PackFeed::resume(indexer, feed);
         let heard = self.reply.hear_packet(&mut sink, line);

@@ -32,7 +32,7 @@ impl<A: Allocator + Copy> Session<A> {
     ghost use Rattle.gsession.specs.Keeping.{KeepsOn};
     ghost use Rattle.gsession.specs.Sessions.{AreCommons, LeavesReplies};
     ghost use Rattle.gsession.specs.steps.Calls.{AnswersRead, AnswersReply, FitsOpen, IsAcksFault, IsStrangeAck, MayHaveFed};
-    ghost use Rattle.gsession.specs.steps.Readers.{HoldsObjects};
+    ghost use Rattle.gsession.specs.Readers.{HoldsObjects};
     ghost use Rattle.gsession.specs.TakingReplies.{AcceptsRead, Awaits, AwaitsObjects, HasPack, HasTaken, TakesReply, after_acks, reading_for};
 
     /// Reads the reply to a request for objects, and nothing after it. Passes the pack to the
