@@ -19,9 +19,10 @@
 //!   vector can. [`read_fetch_reply_into`] has the same contract for SHA-1 ids and the default
 //!   limits. The functions [`read_fetch_reply_in`] and [`read_fetch_reply`] store the pack in
 //!   memory.
-//! - A [`FetchReader`] owns its sink. It is a [`ggrammar::Message`], with the same grammar. When the
-//!   reply is complete, [`FetchReader::finish`] returns the reply without its pack, and the sink,
-//!   which has accepted the pack (`HasRead` in `specs/ReplyReading.antt`).
+//! - A [`FetchReader`] reads one reply packet by packet ([`FetchReader::hear_packet`]), with the
+//!   same grammar. Each call passes the data of its packet to the sink that it borrows. When the
+//!   reply is complete, [`FetchReader::finish`] returns the reply without its pack. The sink has
+//!   then accepted exactly the pack (`HasHead` in `specs/ReplyReading.antt`).
 //! - [`Acks`] has ids of one format. Their number is within the limit on haves of its
 //!   [`ggrammar::Limits`], which is 4,096 by default. With any limits, the number is at most
 //!   4,294,967,295. [`PackBytes`] has at most `gname::MAX_PACK` bytes, and a [`PackLimit`] is at

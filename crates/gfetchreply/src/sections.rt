@@ -55,7 +55,8 @@ pub(crate) struct Sections<A: Allocator + Copy> {
 }
 
 impl<A: Allocator + Copy> Sections<A> {
-    /// Returns the contents of a reply before its first packet.
+    /// Returns the contents of a reply before its first packet. If `direct` is true, the reply
+    /// starts with its pack, without acknowledgments.
     pub(crate) fn new(alloc: A, limits: Limits, format: Format, direct: bool) -> Sections<A>
         ensures { kept_in result ≡ first_kept limits format direct }
     {

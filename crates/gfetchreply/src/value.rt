@@ -238,11 +238,11 @@ impl<A: Allocator + Copy> PackBytes<A> {
 /// A fetch reply (gitprotocol-v2(5), "fetch").
 #[derive(Debug, Drop)]
 pub enum FetchReply<A: Allocator + Copy> {
-    /// The acknowledged ids without a pack, since some want reaches no acknowledged id.
+    /// The reply has acknowledgments and no pack, since some want reaches no acknowledged id.
     Acks(Acks<A>),
-    /// The acknowledged ids and the pack, since each want reaches an acknowledged id.
+    /// The reply has acknowledgments and the pack, since each want reaches an acknowledged id.
     Ready(Acks<A>, PackBytes<A>),
-    /// Only the pack, for a request with `done` or without haves.
+    /// The reply has only the pack, since the request has `done` or no haves.
     Pack(PackBytes<A>),
 }
 
@@ -264,10 +264,10 @@ impl<A: Allocator + Copy> FetchReply<A> {
 /// A fetch reply without its pack.
 #[derive(Debug, Drop)]
 pub enum FetchHead<A: Allocator + Copy> {
-    /// The acknowledged ids without a pack, since some want reaches no acknowledged id.
+    /// The reply has acknowledgments and no pack, since some want reaches no acknowledged id.
     Acks(Acks<A>),
-    /// The acknowledged ids of a reply with a pack, since each want reaches an acknowledged id.
+    /// The reply has acknowledgments and a pack, since each want reaches an acknowledged id.
     Ready(Acks<A>),
-    /// The reply has only a pack, without acknowledgments.
+    /// The reply has a pack and no acknowledgments.
     Pack,
 }

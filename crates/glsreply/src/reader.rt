@@ -1,7 +1,8 @@
 //! Reading an ls-refs reply.
 
 ghost use Rattle.std.specs.Prelude.{◌≡◌, ◌<◌, true, false, [], IfOk, IfSome, List, Ok};
-ghost use Rattle.gpkt.specs.Packets.{Data, Flush, Packet, ResponseEnd, packet_of, text};
+ghost use Rattle.gpkt.specs.Packets.{Data, Flush, ResponseEnd, packet_of, text};
+ghost use Rattle.gpkt.specs.Packets as packets;
 ghost use Rattle.gpkt.specs.Change.{change_of};
 ghost use Rattle.ggrammar.specs.Kinds.{ReadsOrRefuses};
 ghost use Rattle.ggrammar.specs.MessageReading.{LeavesReader, TakesAs, TakesPacket};
@@ -113,7 +114,7 @@ impl<A: Allocator + Copy> LsReplyReader<A> {
     /// Returns the reply that the accepted packets encode. Returns `None` if that reply has too many
     /// lines, or an id of another format, which never happens after a complete reply.
     pub fn into_reply(self, format: Format) -> Option<LsReply<A>>
-        ensures read { (ends : Ends) (lines : List Packet) → IsWhole (judge format ends) lines
+        ensures read { (ends : Ends) (lines : List packets.Packet) → IsWhole (judge format ends) lines
             → Holds self lines → IsRead format ends lines result }
         ensures formed { IfSome result (IsLsReplyIn format) }
     {
@@ -126,7 +127,7 @@ impl<A: Allocator + Copy> LsReplyReader<A> {
     /// Accepts the next packet, as [`Message::accept_packet`] does.
     pub fn hear_packet(&mut self, line: Packet<'_>) -> Result<Step, Why>
         ensures kept { KeepsKind self.old self.new }
-        ensures takes { (front : List Packet)
+        ensures takes { (front : List packets.Packet)
             → IsOpen (judge self.old.format self.old.ends) front → Holds self.old front
             → TakesPacket (judge self.old.format self.old.ends) brings Holds
             (λ reply packets. Unit {0}) front (packet_of line.entry) self.new result }

@@ -1,10 +1,12 @@
 //! An ls-refs reply as an owned value.
 
-ghost use Rattle.std.specs.Prelude.{◌≡◌, ◌↔◌, [], All, length, IfErr, IsTrue, MatchOption, None};
+ghost use Rattle.std.specs.Prelude.{◌≡◌, ◌↔◌, ◌+◌, [], All, length, IfErr, IfSome, IsTrue, MatchOption, None};
 ghost use Rattle.std.specs.List.{slice_get};
 ghost use Rattle.std.specs.Option.{option_copied};
 ghost use Rattle.ggrammar.specs.declared.fault.Why.TheVariants.{Limit};
+ghost use Rattle.gname.specs.Names.{IsRefName};
 ghost use Rattle.glsreply.specs.LentViews.{lent_view};
+ghost use Rattle.glsreply.specs.LsReplies.{max_lines, unborn_packets};
 ghost use Rattle.glsreply.specs.steps.WellFormed.{Adds};
 ghost use Rattle.glsreply.specs.WellFormed.{IsLsReplyIn, IsRefLine, IsReplyValue, Pushes, SetsUnborn, has_one_format, has_room, last_frame, line_count};
 
@@ -104,19 +106,13 @@ impl<A: Allocator + Copy> LsReply<A> {
             (λ reply. (reply ≡ record { unborn = unborn; lines = lines.items })
             × IsLsReplyIn format reply) }
     {
-        let most = match &unborn {
-            Some(target) => {
-                // Laws that the proof uses.
-                target.laws();
-                MAX_LINES - 1
-            }
-            None => MAX_LINES,
-        };
-        if lines.len() <= most && are_ref_lines(format, lines.as_slice()) {
-            Some(LsReply::of_parts(unborn, lines))
-        } else {
-            None
+        if lines.len() > most_lines(&unborn) {
+            return None;
         }
+        if !are_ref_lines(format, lines.as_slice()) {
+            return None;
+        }
+        Some(LsReply::of_parts(unborn, lines))
     }
 
     /// Sets or replaces the target of an unborn `HEAD`. Fails with `Limit` and changes nothing if
@@ -211,6 +207,21 @@ impl<A: Allocator + Copy> LsReply<A> {
         ensures { option_copied result ≡ self.now.unborn }
     {
         self.unborn.as_ref()
+    }
+}
+
+// Returns the maximum number of lines of a reply with this target of an unborn `HEAD`.
+fn most_lines<A: Allocator + Copy>(unborn: &Option<RefName<A>>) -> usize
+    ensures count { result + length (unborn_packets unborn.now) ≡ max_lines }
+    ensures name { IfSome unborn.now IsRefName }
+{
+    match unborn {
+        Some(target) => {
+            // Laws that the proof uses.
+            target.laws();
+            MAX_LINES - 1
+        }
+        None => MAX_LINES,
     }
 }
 

@@ -173,7 +173,7 @@ module _ {S : Type 0} (taken : S → Bytes → Type 0) (same : S → S → Type 
     pub in_place : name ≡ seat
 
 module _ {S : Type 0} (taken : S → Bytes → Type 0) (same : S → S → Type 0) where
-  -- the state after these packets of a reader that owns its sink: the stored values, and a sink that has accepted the
+  -- the state after these packets, which one sink accepted: the stored values, and the sink, which has accepted the
   -- pack's data and nothing else
   abbrev pub HoldsReply : Reading → Kept → S → List Packet → Type 0
   HoldsReply reading kept sink packets =

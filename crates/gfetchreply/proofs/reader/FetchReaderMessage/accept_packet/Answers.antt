@@ -1,4 +1,0 @@
-use Rattle.gfetchreply.proofs.reader.FetchReaderMessage.accept_packet.Goals as goal
-
-pub returns-clause-takes : goal.returns-clause-takes
-returns-clause-takes g c = λ front opened held. c.hear_packet.ensures.takes front opened held
