@@ -154,7 +154,10 @@
 //! - The store may lack objects that the prerequisites reach, because no contract says that the
 //!   store has what was looked up. Nothing that a commit or tag among the prerequisites reaches is
 //!   checked here. A session moves no ref to an unconnected id.
-//! - A link of a stored tree may give an object of the index another type.
+//! - A prerequisite that is not a tree need not have been looked up. The same holds for an object
+//!   that a stored tree names, unless it is a tree. Only the types of these objects are proved to be
+//!   the same everywhere.
+//! - A link of a stored tree may give an object of the index, or a blob of the store, another type.
 //! - The store may return the type of an object that it does not have, or that is malformed.
 //! - The indexer compares objects that the store already has. No contract covers these comparisons,
 //!   or states when the indexer reads an object. The indexer can miss a loose object that is added
@@ -175,8 +178,8 @@
 //!   in the wrong folder.
 //! - `MemoryFolder::clean` may keep the bytes of the pack and the index.
 //! - A call may fail without a reason. The contracts do not cover which fault is returned, the text
-//!   of a fault, running time, or memory use. No contract covers the result of
-//!   [`RepositoryFault::is_of_spool`].
+//!   of a fault, running time, or memory use. The `take_fault` of a packer or an indexer may return
+//!   no fault. No contract covers the result of [`RepositoryFault::is_of_spool`].
 //!
 //! This crate has no tests.
 //!
