@@ -32,15 +32,15 @@
 //!   what a listed object leads to is sent. Only what a left-out parent leads to is left out. Here
 //!   commits lead to their trees, and trees to the trees and blobs that they name. The objects that
 //!   the packer reads for this choice have the ids by which they were read.
-//! - Suppose the packer reads the objects of a closed store, which the listed entries describe. Then
-//!   each link of a sent object leads to a sent object, or to an object that a left-out parent
+//! - Suppose the packer reads the objects of a closed store, which the listed entries describe.
+//!   Then each link of a sent object leads to a sent object, or to an object that a left-out parent
 //!   reaches ([`laws::gathered_is_sent`]). If this store has each object under its own id, the
 //!   objects that are read for this choice are those of the store. The exception is another object
 //!   with the same id as an object of the store ([`laws::gathered_is_held`]).
 //! - A sent pack consists of a header, as many entries as there are objects to send, and the SHA-1
-//!   of all preceding bytes. Each entry of a sent pack has a well-formed header. The pack has at most
-//!   `gparts::MAX_PARTS` bytes. The concatenation of the returned parts is the pack. If the call
-//!   for a part fails, no contract describes the parts returned before.
+//!   of all preceding bytes. Each entry of a sent pack has a well-formed header. The pack has at
+//!   most `gparts::MAX_PARTS` bytes. The concatenation of the returned parts is the pack. If the
+//!   call for a part fails, no contract describes the parts returned before.
 //! - A pack is accepted only if its trailer is the SHA-1 of all preceding bytes. Each entry that
 //!   the indexer returns describes an object, or is a tree or blob that a tag names. In the second
 //!   case the entry of the tag is also returned.
@@ -65,8 +65,8 @@
 //!   Suppose also that the graph gains only ids that the indexer keeps, as in a fetch. Then each id
 //!   of the graph is complete once the objects of the pack are added: the store has everything that
 //!   it reaches. The exception is again two different objects with the same id
-//!   ([`laws::kept_is_complete`]). The closed store need not have the trees that were looked up. The
-//!   ids are then complete together with these trees ([`laws::read_is_complete`]).
+//!   ([`laws::kept_is_complete`]). The closed store need not have the trees that were looked up.
+//!   The ids are then complete together with these trees ([`laws::read_is_complete`]).
 //! - [`install_files`] installs a pack in a [`PackFolder`], and then its index. After `Ok` both
 //!   files exist, with the bytes that they were given. A file gets its final name only once both
 //!   files are written and synced. After a fault the folder has both files, only the pack, or
@@ -77,14 +77,14 @@
 //!
 //! # What the proofs rely on
 //!
-//! No contract can describe the contents of a system file. So the proofs about received packs do not
-//! say which objects the store has. They also rely on the file system, which must return the
+//! No contract can describe the contents of a system file. So the proofs about received packs do
+//! not say which objects the store has. They also rely on the file system, which must return the
 //! pack as it was written.
 //!
 //! The walk that chooses the objects to send is proved for every store. The contract of
-//! [`StorePacker`] says that each object that the walk reads has the id by which it is read. It does
-//! not say that the Git directory has these objects. The walk reads commits, tags and trees, and
-//! only locates the blobs that trees name.
+//! [`StorePacker`] says that each object that the walk reads has the id by which it is read. It
+//! does not say that the Git directory has these objects. The walk reads commits, tags and trees,
+//! and only locates the blobs that trees name.
 //!
 //! # Differences from Git
 //!
@@ -145,8 +145,8 @@
 //! - No contract says which repository formats are opened or refused. No contract covers the result
 //!   of [`is_bare`], or the names and ids of peeled refs in a new repository.
 //! - The indexer may leave out an entry, or return an entry for a prerequisite. The index of a
-//!   received pack may leave out an object of the pack. It may have an object that the pack does not
-//!   have, or state a wrong offset or CRC-32.
+//!   received pack may leave out an object of the pack. It may have an object that the pack does
+//!   not have, or state a wrong offset or CRC-32.
 //! - The prerequisites may include an object of the pack, or one that no object of the pack names.
 //!   No public contract says that the store returned their types. No contract covers the limits on
 //!   a received pack, such as its number of objects, their sizes, and the memory for the ids that
@@ -154,7 +154,10 @@
 //! - The store may lack objects that the prerequisites reach, because no contract says that the
 //!   store has what was looked up. Nothing that a commit or tag among the prerequisites reaches is
 //!   checked here. A session moves no ref to an unconnected id.
-//! - A link of a stored tree may give an object of the index another type.
+//! - A prerequisite that is not a tree need not have been looked up. The same holds for an object
+//!   that a stored tree names, unless it is a tree. Only the types of these objects are proved to
+//!   be the same everywhere.
+//! - A link of a stored tree may give an object of the index, or a blob of the store, another type.
 //! - The store may return the type of an object that it does not have, or that is malformed.
 //! - The indexer compares objects that the store already has. No contract covers these comparisons,
 //!   or states when the indexer reads an object. The indexer can miss a loose object that is added
@@ -175,8 +178,8 @@
 //!   in the wrong folder.
 //! - `MemoryFolder::clean` may keep the bytes of the pack and the index.
 //! - A call may fail without a reason. The contracts do not cover which fault is returned, the text
-//!   of a fault, running time, or memory use. No contract covers the result of
-//!   [`RepositoryFault::is_of_spool`].
+//!   of a fault, running time, or memory use. The `take_fault` of a packer or an indexer may return
+//!   no fault. No contract covers the result of [`RepositoryFault::is_of_spool`].
 //!
 //! This crate has no tests.
 //!
