@@ -1,21 +1,24 @@
 -- The answers of a client to its messages.
 use Rattle.std.proofs.Common.{◌≡◌, ◌≢◌, ◌<◌, ◌≤◌, ◌+◌, ◌-◌, ◌^◌, ◌⊎◌, ◌∙◌, inl, inr, ℕ, Bool, true, false, List, [], Option, Some, None, Result, Ok, Err, refl, sym, ap, subst, arith}
 use Rattle.gpkt.specs.Packets.{Packet}
+use Rattle.ggrammar.specs.Grammar.{IsWhole}
 use Rattle.ggrammar.specs.Capabilities.{Capability}
+use Rattle.ghello.specs.Adverts as advert
 use Rattle.ghello.specs.Offers.{check_fault}
 use Rattle.glsreply.specs.LsReplies as ls
 use Rattle.glsreply.specs.LsReplies.{LsReply}
+use Rattle.gname.specs.Ids.{Id}
 use Rattle.gname.specs.Names.{Name}
 use Rattle.gobject.specs.declared.node.Entry.{Entry}
 use Rattle.gobject.specs.Packs.{Indexes, IndexFails}
 use Rattle.gclientrepo.specs.Repos.{RepoState}
 use Rattle.gdag.specs.declared.fault.GraphFault.TheVariants as graph
 use Rattle.gclientrepo.specs.declared.fault.RepoFault.TheVariants as repo
-use Rattle.gfetchreply.specs.FetchReplies.{FetchReply}
+use Rattle.gfetchreply.specs.FetchReplies.{FetchReply, reply_of}
 use Rattle.gfetchreply.specs.FetchReplies as fetch
 use Rattle.grequest.specs.Asked.{Asked, Empty, Ls, Fetches, FetchAsked, LsRefsAsked}
 use Rattle.gsession.specs.Requesting.{MakesNext, Requests, is_due}
-use Rattle.gsession.specs.Sessions.{SessionState, Hears, IsBegun, after_fault, no_memory, over}
+use Rattle.gsession.specs.Sessions.{SessionState, Hears, IsBegun, after_fault, no_memory, over, tells_unborn}
 use Rattle.gsession.specs.TakingRefs.{AcceptsRefs as SessionAcceptsRefs, AwaitsRefs, IsRefsFault, IsUnaccepted, stage_for}
 use Rattle.gsession.specs.TakingReplies.{AcceptsRead, Awaits, HasTaken, IsReplyFault, reading_for, stage_after}
 use Rattle.gsession.specs.declared.stage.Stage.{Stage}
@@ -25,16 +28,17 @@ use Rattle.gsession.specs.declared.fault.ClientFault.TheVariants as client
 use Rattle.gsession.specs.declared.taken.LsTaken.{LsTaken}
 use Rattle.gsession.specs.declared.taken.Taken.{Taken}
 use Rattle.gsession.specs.declared.taken.Taken.TheVariants.{Round, PackTaken}
+use Rattle.gsession.proofs.KeepingLemmas.{keeps_stays, keeps_then}
 use Rattle.gdialogue.specs.Sides.{MayAnswer, SaysExactly}
 use Rattle.gdialogue.specs.declared.side.Answer.{Answer}
 use Rattle.gdialogue.specs.declared.side.Answer.TheVariants as answer
-use Rattle.gfetch.specs.Fetching.{AcceptsReply, DeclinesReply, Fails, GoesOn, IsDeclined, LacksMemory, client_of, messages_after, messages_of}
+use Rattle.gfetch.specs.Fetching.{AcceptsReply, AnswersAdvert, DeclinesReply, Fails, GoesOn, IsDeclined, KeepsObjects, LacksMemory, MismatchesAdvert, client_of, messages_after, messages_of}
 use Rattle.gfetch.specs.Saying.{reply_rest}
 use Rattle.gfetch.specs.Turns.{ClientState, Takes, TakesObjects, TakesRefs}
 use Rattle.gfetch.specs.declared.asking.ClientReply.{ClientReply}
 use Rattle.gfetch.specs.declared.asking.ClientReply.TheVariants as reply
 use Rattle.gfetch.specs.declared.side.ClientSide.{ClientSide}
-use Rattle.gfetch.specs.steps.Accepting.{AcceptsAdvert, AcceptsObjects, AcceptsRefs, Declines, DeclinesRefs, IsReady}
+use Rattle.gfetch.specs.steps.Accepting.{AcceptsAdvert, AcceptsObjects, AcceptsRefs, Declines, DeclinesRefs, IsReady, KeepsRest}
 
 module _ {A : Type 0} where
   -- ---- the advertisement
@@ -107,6 +111,11 @@ module _ {A : Type 0} where
       }
 
   -- ---- the objects
+
+  -- the packets of a complete reply are a reply
+  pub reply_said : (s : SessionState A) (asked : FetchAsked) (lines : List Packet) → IsWhole (fetch.judge (reading_for s asked)) lines
+      → fetch.Says (reading_for s asked) lines (reply_of (reading_for s asked) lines)
+  reply_said s asked lines whole = record { whole = whole; says = refl }
 
   module _ (indexes : Indexes A) (index_fails : IndexFails) where
     fault_ends : (haves : List (List ℕ)) (r : RepoState A) (reply : FetchReply) (fault : ClientFault A) (s : SessionState A)
@@ -210,6 +219,32 @@ module _ {A : Type 0} where
       let count : new.rounds ≡ old.rounds + 1 = ap (λ (s : SessionState A). s.rounds) made.1.2 in
       omega (arith, was, is, count, few)
 
+-- ---- the indexer
+
+module _ {A K : Type 0} (keeps : K → Id → Type 0) where
+  -- an unchanged indexer keeps each object of an unchanged graph
+  pub objects_stay : (old new : ClientSide A K) → KeepsRest old new → KeepsObjects keeps old new
+  objects_stay old new rest = record {
+    keeps_on = keeps_stays (keeps old.indexer.now) (keeps new.indexer.now) old.repo.graph.entries new.repo.graph.entries
+        (λ id is. subst (λ (k : K). keeps k id) (sym rest.indexer.value) is) (ap (λ (r : RepoState A). r.graph.entries) rest.repo);
+    in_place = rest.indexer.in_place;
+  }
+
+  -- one change after the other
+  pub objects_then : (old mid new : ClientSide A K) → KeepsObjects keeps old mid → KeepsObjects keeps mid new → KeepsObjects keeps old new
+  objects_then old mid new one two = record {
+    keeps_on = keeps_then (keeps old.indexer.now) (keeps mid.indexer.now) (keeps new.indexer.now) old.repo.graph.entries mid.repo.graph.entries new.repo.graph.entries
+        one.keeps_on two.keeps_on;
+    in_place = two.in_place ∙ one.in_place;
+  }
+
+-- one unchanged step after the other
+pub rest_then : {A K : Type 0} (old mid new : ClientSide A K) → KeepsRest old mid → KeepsRest mid new → KeepsRest old new
+rest_then old mid new one two = record {
+  indexer = record { value = two.indexer.value ∙ one.indexer.value; in_place = two.indexer.in_place ∙ one.indexer.in_place };
+  repo = two.repo ∙ one.repo;
+}
+
 -- ---- answers
 
 -- an answer without a packet ends the dialogue
@@ -240,6 +275,52 @@ module _ {A K : Type 0} (old mid new : ClientSide A K) (result : Answer (ClientR
         unborn = target ∙ unborn;
         fault = stored ∙ ap (λ (f : ClientFault A). Some f) same;
       }
+
+module _ {A K : Type 0} (old mid new : ClientSide A K) (capabilities : List Capability) (lines said : List Packet) (goes : Bool)
+    (says : advert.Says lines capabilities) where
+  -- the state of the client after the advertisement
+  heard_client : AcceptsAdvert old.session capabilities mid.session (Ok tt) → mid.repo ≡ old.repo → mid.unborn ≡ old.unborn
+      → client_of mid ≡ record (client_of old) { session = record old.session { offers_unborn = tells_unborn capabilities } }
+  heard_client accepts repo unborn =
+      let session : SessionState A = record old.session { offers_unborn = tells_unborn capabilities } in
+      ap (λ (s : SessionState A). record (client_of mid) { session = s }) accepts.2
+      ∙ ap (λ (r : RepoState A). record (client_of mid) { session = session; repo = r }) repo
+      ∙ ap (λ (u : Option Name). record (client_of old) { session = session; unborn = u }) unborn
+
+  -- the client accepts the advertisement
+  pub advert_goes : AcceptsAdvert old.session capabilities mid.session (Ok tt) → mid.repo ≡ old.repo → mid.unborn ≡ old.unborn → mid.fault ≡ old.fault
+      → (mid.session.pending ≡ None → mid.session.stage ≢ Over → GoesOn (client_of mid) mid.fault new said goes)
+      → AnswersAdvert old new lines said goes
+  advert_goes accepts repo unborn fault goes_on =
+      let pending : mid.session.pending ≡ None = ap (λ (s : SessionState A). s.pending) accepts.2 ∙ accepts.1.1 in
+      let listing : mid.session.stage ≡ Listing = ap (λ (s : SessionState A). s.stage) accepts.2 ∙ accepts.1.0 in
+      let stage : mid.session.stage ≢ Over = λ e. absurd (cc (sym listing ∙ e)) in
+      record {
+        capabilities = capabilities;
+        advertises = record { says = says; fits = accepts.0 };
+        goes_on = subst (λ (c : ClientState A). GoesOn c old.fault new said goes) (heard_client accepts repo unborn)
+            (subst (λ (f : Option (ClientFault A)). GoesOn (client_of mid) f new said goes) fault (goes_on pending stage));
+      }
+
+  -- the client rejects the advertisement
+  pub advert_mismatches : (cause : ClientFault A) → IsBegun old.session → AcceptsAdvert old.session capabilities mid.session (Err cause)
+      → (mid.session ≡ over old.session → Fails old new cause said goes)
+      → MismatchesAdvert old new lines said goes
+  advert_mismatches client.NoOpenRequest begun accepts fails = absurd (accepts begun)
+  advert_mismatches (client.Message cause) begun accepts fails = record {
+    capabilities = capabilities;
+    says = says;
+    cause = cause;
+    why = accepts.0;
+    frame = accepts.1;
+    fails = fails accepts.2;
+  }
+  advert_mismatches _ begun accepts fails = absurd accepts
+
+-- an advertisement leaves the number of further messages
+pub advert_messages : {A : Type 0} (old new : SessionState A) (capabilities : List Capability) → AcceptsAdvert old capabilities new (Ok tt)
+    → messages_of new ≡ messages_of old
+advert_messages old new capabilities accepts = ap messages_of accepts.2
 
 module _ {A K : Type 0} (indexes : Indexes A) (index_fails : IndexFails) (old mid new : ClientSide A K) (asked : Asked) (lines said : List Packet) (goes : Bool) where
   pub reply_answered : Takes indexes index_fails old.session asked (client_of old) lines (client_of mid) → mid.fault ≡ old.fault

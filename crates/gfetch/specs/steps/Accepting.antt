@@ -9,13 +9,14 @@ use Rattle.gsession.specs.Sessions.{SessionState, IsBegun, over, tells_unborn}
 use Rattle.gsession.specs.declared.fault.ClientFault.{ClientFault}
 use Rattle.gsession.specs.declared.fault.ClientFault.TheVariants as client
 use Rattle.gsession.specs.declared.stage.Stage.TheVariants.{Over}
-use Rattle.gfetch.specs.Fetching.{IsDeclined, messages_of}
+use Rattle.gfetch.specs.Fetching.{IsDeclined, KeepsIndexer, messages_of}
 use Rattle.gfetch.specs.Turns.{ClientState, TakesObjects, TakesRefs}
 use Rattle.gfetch.specs.declared.side.ClientSide.{ClientSide}
 
--- the indexer stays the same
-abbrev pub KeepsRest : {A K : Type 0} → ClientSide A K → ClientSide A K → Type 0
-KeepsRest old new = new.indexer.now ≡ old.indexer.now
+-- the indexer and the repository are unchanged
+pub record KeepsRest {A K : Type 0} (old new : ClientSide A K) : Type 0 where
+  pub indexer : KeepsIndexer old new
+  pub repo : new.repo ≡ old.repo
 
 -- the session is ready for its next request or for its end, and not more messages remain than before
 pub record IsReady {A : Type 0} (old new : SessionState A) : Type 0 where

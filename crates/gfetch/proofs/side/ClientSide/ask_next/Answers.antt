@@ -37,7 +37,7 @@ pub returns-in-Err-clause-goes : goal.returns-in-Err-clause-goes
 returns-in-Err-clause-goes g c = λ pending going said goes may.
     let f = request_fault c.args.self.now.session _ c.args.self.now.repo.graph.entries c.in-Err.fault (sym c.is_due.ensures ∙ c.if-not-is_due.false) c.in-Err.ensures.requests in
     inr (inr (lacked c.args.self.now _ c.fail.new.self c.fail.result c.in-Err.fault said goes c.fail.ensures.silent may
-    c.fail.ensures.fault c.fail.ensures.session c.fail.ensures.repo c.fail.ensures.unborn f.1 f.0 refl refl))
+    c.fail.ensures.fault c.fail.ensures.session c.fail.ensures.stays.repo c.fail.ensures.unborn f.1 f.0 refl refl))
 
 pub returns-in-Err-clause-fewer : goal.returns-in-Err-clause-fewer
 returns-in-Err-clause-fewer g c = λ reply is. absurd (cc (sym c.fail.ensures.silent ∙ is))
