@@ -8,7 +8,7 @@ use Rattle.ggrammar.specs.declared.fault.Why.{Why}
 use Rattle.ggrammar.specs.declared.message.Step.{Step}
 use Rattle.ggrammar.specs.declared.message.Step.TheVariants as step
 use Rattle.ghello.specs.Adverts as advert
-use Rattle.gfetch.specs.declared.stub.AdvertReader.{AdvertReader}
+use Rattle.ghello.specs.declared.advert.AdvertReader.{AdvertReader}
 use Rattle.ghello.specs.steps.AdvertReading.{IsKept}
 use Rattle.glsreply.specs.LsReplies as ls
 use Rattle.glsreply.specs.declared.reader.LsReplyReader.{LsReplyReader}

@@ -1,5 +1,5 @@
 -- The answers of a client to its messages.
-use Rattle.std.proofs.Common.{◌≡◌, ◌≢◌, ◌<◌, ◌≤◌, ◌+◌, ◌-◌, ◌^◌, ◌⊎◌, ◌∙◌, inl, inr, ℕ, Bool, true, false, List, [], Option, Some, None, Result, Ok, Err, refl, sym, ap, subst, arith}
+use Rattle.std.proofs.Common.{◌≡◌, ◌≢◌, ◌<◌, ◌≤◌, ◌+◌, ◌-◌, ◌^◌, ◌⊎◌, ◌∙◌, inl, inr, ℕ, Bool, true, false, List, [], ◌∷◌, Option, Some, None, Result, Ok, Err, refl, sym, ap, subst, arith}
 use Rattle.gpkt.specs.Packets.{Packet}
 use Rattle.ggrammar.specs.Grammar.{IsWhole}
 use Rattle.ggrammar.specs.Capabilities.{Capability}
@@ -32,13 +32,58 @@ use Rattle.gsession.proofs.KeepingLemmas.{keeps_stays, keeps_then}
 use Rattle.gdialogue.specs.Sides.{MayAnswer, SaysExactly}
 use Rattle.gdialogue.specs.declared.side.Answer.{Answer}
 use Rattle.gdialogue.specs.declared.side.Answer.TheVariants as answer
-use Rattle.gfetch.specs.Fetching.{AcceptsReply, AnswersAdvert, DeclinesReply, Fails, GoesOn, IsDeclined, KeepsObjects, LacksMemory, MismatchesAdvert, client_of, messages_after, messages_of}
+use Rattle.gfetch.specs.Fetching.{AcceptsReply, AnswersAdvert, AreDeclinedRefs, DeclinesReply, Fails, GoesOn, IsDeclined, KeepsObjects, LacksMemory, MismatchesAdvert, client_of, messages_after, messages_of}
 use Rattle.gfetch.specs.Saying.{reply_rest}
 use Rattle.gfetch.specs.Turns.{ClientState, Takes, TakesObjects, TakesRefs}
 use Rattle.gfetch.specs.declared.asking.ClientReply.{ClientReply}
 use Rattle.gfetch.specs.declared.asking.ClientReply.TheVariants as reply
 use Rattle.gfetch.specs.declared.side.ClientSide.{ClientSide}
 use Rattle.gfetch.specs.steps.Accepting.{AcceptsAdvert, AcceptsObjects, AcceptsRefs, Declines, DeclinesRefs, IsReady, KeepsRest}
+
+-- ---- the stages
+
+-- fetching or settling is not the end of the session
+stage_goes : (wants : List (List ℕ)) → stage_for wants ≢ Over
+stage_goes [] = λ e. absurd (cc e)
+stage_goes (want ∷ wants) = λ e. absurd (cc e)
+
+few_after_refs : (wants : List (List ℕ)) (rounds : ℕ) → messages_after (stage_for wants) None rounds ≤ 2 ^ 64 + 2
+few_after_refs [] rounds = omega arith
+few_after_refs (want ∷ wants) rounds = omega arith
+
+awaited_refs : (stage : Stage) (asked : LsRefsAsked) (rounds : ℕ) → messages_after stage (Some (Ls asked)) rounds ≡ 2 ^ 64 + 2
+awaited_refs Listing asked rounds = refl
+awaited_refs Fetching asked rounds = refl
+awaited_refs Settling asked rounds = refl
+awaited_refs Over asked rounds = refl
+
+taken_goes : (taken : Taken) → stage_after taken ≢ Over
+taken_goes (Round common) = λ e. absurd (cc e)
+taken_goes (PackTaken added) = λ e. absurd (cc e)
+
+few_after_objects : (taken : Taken) (rounds : ℕ) → messages_after (stage_after taken) None rounds ≤ (2 ^ 64 + 1) - rounds
+few_after_objects (Round common) rounds = omega arith
+few_after_objects (PackTaken added) rounds = omega arith
+
+awaited_objects : (stage : Stage) (asked : FetchAsked) (rounds : ℕ) → messages_after stage (Some (Fetches asked)) rounds ≡ (2 ^ 64 + 1) - rounds
+awaited_objects Listing asked rounds = refl
+awaited_objects Fetching asked rounds = refl
+awaited_objects Settling asked rounds = refl
+awaited_objects Over asked rounds = refl
+
+settles_if : (stage : Stage) → is_due stage None ≡ false → stage ≢ Over → stage ≡ Settling
+settles_if Listing undue goes = absurd (cc undue)
+settles_if Fetching undue goes = absurd (cc undue)
+settles_if Settling undue goes = refl
+settles_if Over undue goes = absurd (goes refl)
+
+-- a session that can make its next request has no open request
+due_none : (stage : Stage) (pending : Option Asked) → is_due stage pending ≡ true → pending ≡ None
+due_none stage None due = refl
+due_none Listing (Some asked) due = absurd (cc due)
+due_none Fetching (Some asked) due = absurd (cc due)
+due_none Settling (Some asked) due = absurd (cc due)
+due_none Over (Some asked) due = absurd (cc due)
 
 module _ {A : Type 0} where
   -- ---- the advertisement
@@ -55,47 +100,31 @@ module _ {A : Type 0} where
   refs_declined : (old : ClientState A) (asked : LsRefsAsked) (reply : LsReply) (lines : List Packet) (fault : ClientFault A)
       → old.session.pending ≡ Some (Ls asked) → ls.Says old.session.format old.session.ends lines reply
       → IsUnaccepted old.session old.repo.graph.entries reply fault
-      → ((indexes : Indexes A) (index_fails : IndexFails) → IsDeclined indexes index_fails old.session (Ls asked) old.repo lines fault)
-      × (after_fault old.session fault ≡ over old.session)
+      → AreDeclinedRefs old.session old.repo lines fault × (after_fault old.session fault ≡ over old.session)
   refs_declined old asked reply lines client.NoOpenRequest waits says is = absurd (is (asked, waits))
-  refs_declined old asked reply lines (client.Message cause) waits says is = ((λ indexes fails. (reply, says, is.1)), refl)
-  refs_declined old asked reply lines (client.Index cause) waits says is = ((λ indexes fails. (reply, says, is.1)), refl)
-  refs_declined old asked reply lines client.TooManySpecs waits says is = ((λ indexes fails. (reply, says, is.1)), refl)
-  refs_declined old asked reply lines (client.StrangeAck id) waits says is = ((λ indexes fails. (reply, says, is.1)), refl)
-  refs_declined old asked reply lines client.TooManyWants waits says is = ((λ indexes fails. (reply, says, is.1)), refl)
-  refs_declined old asked reply lines (client.Repo cause) waits says is = ((λ indexes fails. (reply, says, is.1)), refl)
+  refs_declined old asked reply lines (client.Message cause) waits says is = ((reply, says, is.1), refl)
+  refs_declined old asked reply lines (client.Index cause) waits says is = ((reply, says, is.1), refl)
+  refs_declined old asked reply lines client.TooManySpecs waits says is = ((reply, says, is.1), refl)
+  refs_declined old asked reply lines (client.StrangeAck id) waits says is = ((reply, says, is.1), refl)
+  refs_declined old asked reply lines client.TooManyWants waits says is = ((reply, says, is.1), refl)
+  refs_declined old asked reply lines (client.Repo cause) waits says is = ((reply, says, is.1), refl)
 
   pub refs_rejected : (old new : ClientState A) (asked : LsRefsAsked) (reply : LsReply) (lines : List Packet) (fault : ClientFault A)
       → old.session.pending ≡ Some (Ls asked) → ls.Says old.session.format old.session.ends lines reply
       → SessionAcceptsRefs old.session old.repo.graph.entries reply new.session (Err fault)
       → new.repo ≡ old.repo → new.unborn ≡ old.unborn
-      → AcceptsRefs asked old lines new (Err fault)
+      → AcceptsRefs old lines new (Err fault)
   refs_rejected old new asked reply lines fault waits says answers repo unborn =
       let d = refs_declined old asked reply lines fault waits says answers.0 in
       record { declined = d.0; session = answers.1 ∙ d.1; repo = repo; unborn = unborn }
 
-  pub refs_accepted : (old new : ClientState A) (asked : LsRefsAsked) (reply : LsReply) (taken : LsTaken A) (lines : List Packet)
+  pub refs_accepted : (old new : ClientState A) (reply : LsReply) (taken : LsTaken A) (lines : List Packet)
       → ls.Says old.session.format old.session.ends lines reply
       → SessionAcceptsRefs old.session old.repo.graph.entries reply new.session (Ok taken)
       → new.repo ≡ old.repo → new.unborn ≡ taken.unborn
-      → AcceptsRefs asked old lines new (Ok tt)
-  refs_accepted old new asked reply taken lines says answers repo unborn =
+      → AcceptsRefs old lines new (Ok tt)
+  refs_accepted old new reply taken lines says answers repo unborn =
       record { reply = reply; says = says; taken = taken; takes = answers.1; unborn = unborn; stays = repo }
-
-  -- fetching or settling is not the end of the session
-  stage_goes : (wants : List (List ℕ)) → stage_for wants ≢ Over
-  stage_goes [] = λ e. absurd (cc e)
-  stage_goes (want ∷ wants) = λ e. absurd (cc e)
-
-  few_after_refs : (wants : List (List ℕ)) (rounds : ℕ) → messages_after (stage_for wants) None rounds ≤ 2 ^ 64 + 2
-  few_after_refs [] rounds = omega arith
-  few_after_refs (want ∷ wants) rounds = omega arith
-
-  awaited_refs : (stage : Stage) (asked : LsRefsAsked) (rounds : ℕ) → messages_after stage (Some (Ls asked)) rounds ≡ 2 ^ 64 + 2
-  awaited_refs Listing asked rounds = refl
-  awaited_refs Fetching asked rounds = refl
-  awaited_refs Settling asked rounds = refl
-  awaited_refs Over asked rounds = refl
 
   pub refs_ready : (old new : SessionState A) (g : List (Entry A)) (reply : LsReply) (taken : LsTaken A)
       → SessionAcceptsRefs old g reply new (Ok taken) → IsReady old new
@@ -148,20 +177,6 @@ module _ {A : Type 0} where
     objects_accepted old new asked reply lines taken says answers unborn =
         record { reply = reply; says = says; taken = taken; takes = answers; unborn = unborn }
 
-  taken_goes : (taken : Taken) → stage_after taken ≢ Over
-  taken_goes (Round common) = λ e. absurd (cc e)
-  taken_goes (PackTaken added) = λ e. absurd (cc e)
-
-  few_after_objects : (taken : Taken) (rounds : ℕ) → messages_after (stage_after taken) None rounds ≤ (2 ^ 64 + 1) - rounds
-  few_after_objects (Round common) rounds = omega arith
-  few_after_objects (PackTaken added) rounds = omega arith
-
-  awaited_objects : (stage : Stage) (asked : FetchAsked) (rounds : ℕ) → messages_after stage (Some (Fetches asked)) rounds ≡ (2 ^ 64 + 1) - rounds
-  awaited_objects Listing asked rounds = refl
-  awaited_objects Fetching asked rounds = refl
-  awaited_objects Settling asked rounds = refl
-  awaited_objects Over asked rounds = refl
-
   -- the messages that remain after the session accepted a fetch reply
   messages_left : (new : SessionState A) (stage : Stage) (rounds : ℕ) → new.pending ≡ None → new.stage ≡ stage → new.rounds ≡ rounds
       → messages_of new ≡ messages_after stage None rounds
@@ -179,12 +194,6 @@ module _ {A : Type 0} where
 
   -- ---- the next request
 
-  settles_if : (stage : Stage) → is_due stage None ≡ false → stage ≢ Over → stage ≡ Settling
-  settles_if Listing undue goes = absurd (cc undue)
-  settles_if Fetching undue goes = absurd (cc undue)
-  settles_if Settling undue goes = refl
-  settles_if Over undue goes = absurd (goes refl)
-
   -- a session without an open request that cannot make a request, and is not over, can settle
   pub settles_next : (s : SessionState A) → s.pending ≡ None → s.stage ≢ Over → is_due s.stage s.pending ≡ false → s.stage ≡ Settling
   settles_next s pending goes undue =
@@ -196,14 +205,6 @@ module _ {A : Type 0} where
   request_fault old new g client.NoOpenRequest due fails = absurd (cc (sym due ∙ fails.0))
   request_fault old new g (client.Repo (repo.Graph graph.Memory)) due fails = (refl, fails)
   request_fault old new g _ due fails = absurd fails
-
-  -- a session that can make its next request has no open request
-  due_none : (stage : Stage) (pending : Option Asked) → is_due stage pending ≡ true → pending ≡ None
-  due_none stage None due = refl
-  due_none Listing (Some asked) due = absurd (cc due)
-  due_none Fetching (Some asked) due = absurd (cc due)
-  due_none Settling (Some asked) due = absurd (cc due)
-  due_none Over (Some asked) due = absurd (cc due)
 
   -- fewer messages remain after a request
   pub request_fewer : (old new : SessionState A) (g : List (Entry A)) (asked : Asked) → new.rounds < 2 ^ 64 → Requests old g new (Ok asked)

@@ -67,22 +67,22 @@ takes_same : {A : Type 0} (indexes : Indexes A) (index_fails : IndexFails) (wait
     → Takes indexes index_fails waiting asked one lines now → Takes indexes index_fails waiting asked other lines now
 takes_same indexes index_fails waiting Empty one other now lines repo unborn takes = absurd takes
 takes_same indexes index_fails waiting (Ls asked) one other now lines repo unborn takes =
-    rw repo at takes (record {
-      reply = takes.reply;
-      says = takes.says;
-      taken = takes.taken;
-      takes = takes.takes;
-      unborn = takes.unborn;
-      stays = takes.stays;
-    })
+    let t = rw repo at takes in record {
+      reply = t.reply;
+      says = t.says;
+      taken = t.taken;
+      takes = t.takes;
+      unborn = t.unborn;
+      stays = t.stays;
+    }
 takes_same indexes index_fails waiting (Fetches asked) one other now lines repo unborn takes =
-    rw repo at takes (record {
-      reply = takes.reply;
-      says = takes.says;
-      taken = takes.taken;
-      takes = takes.takes;
-      unborn = takes.unborn ∙ unborn;
-    })
+    let t = rw repo at takes in record {
+      reply = t.reply;
+      says = t.says;
+      taken = t.taken;
+      takes = t.takes;
+      unborn = t.unborn ∙ unborn;
+    }
 
 -- ---- the object format stays the same
 
@@ -92,18 +92,18 @@ format_asked old (Ls asked) batch = refl
 format_asked old (Fetches asked) batch = refl
 
 format_waits : {A : Type 0} (g : List (Entry A)) (old waiting : SessionState A) (asked : Asked) → Requests old g waiting (Ok asked) → waiting.format ≡ old.format
-format_waits g old waiting asked made = ap (λ (s : SessionState A). s.format) made.1.2 ∙ format_asked old asked made.1.0
+format_waits {A = A} g old waiting asked made = ap (λ (s : SessionState A). s.format) made.1.2 ∙ format_asked old asked made.1.0
 
 format_head : {A : Type 0} (indexes : Indexes A) (index_fails : IndexFails) (old new : SessionState A) (one other : RepoState A) (reply : FetchReply) (taken : Taken)
     → TakesHead indexes index_fails old one reply new other taken → new.format ≡ old.format
-format_head indexes index_fails old new one other reply (Round common) takes = ap (λ (s : SessionState A). s.format) takes.1
-format_head indexes index_fails old new one other reply (PackTaken added) takes = ap (λ (s : SessionState A). s.format) takes.1
+format_head {A = A} indexes index_fails old new one other reply (Round common) takes = ap (λ (s : SessionState A). s.format) takes.1
+format_head {A = A} indexes index_fails old new one other reply (PackTaken added) takes = ap (λ (s : SessionState A). s.format) takes.1
 
 format_takes : {A : Type 0} (indexes : Indexes A) (index_fails : IndexFails) (waiting : SessionState A) (asked : Asked) (old now : ClientState A) (lines : List Packet)
     → Takes indexes index_fails waiting asked old lines now → now.session.format ≡ waiting.format
-format_takes indexes index_fails waiting Empty old now lines takes = absurd takes
-format_takes indexes index_fails waiting (Ls asked) old now lines takes = ap (λ (s : SessionState A). s.format) takes.takes.after
-format_takes indexes index_fails waiting (Fetches asked) old now lines takes =
+format_takes {A = A} indexes index_fails waiting Empty old now lines takes = absurd takes
+format_takes {A = A} indexes index_fails waiting (Ls asked) old now lines takes = ap (λ (s : SessionState A). s.format) takes.takes.after
+format_takes {A = A} indexes index_fails waiting (Fetches asked) old now lines takes =
     format_head indexes index_fails waiting now.session old.repo now.repo takes.reply takes.taken takes.takes.1
 
 -- ---- the first answer

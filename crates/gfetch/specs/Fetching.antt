@@ -100,12 +100,16 @@ module _ {A K : Type 0} (old new : ClientSide A K) (lines said : List Packet) (g
 
 -- ---- a reply
 
+-- the packets are a complete ls-refs reply, and the client rejects its refs
+abbrev pub AreDeclinedRefs : {A : Type 0} → SessionState A → RepoState A → List Packet → ClientFault A → Type 0
+AreDeclinedRefs waiting repo lines cause =
+    (reply : LsReply) × ls.Says waiting.format waiting.ends lines reply × IsRefsFault waiting repo.graph.entries reply cause
+
 module _ {A : Type 0} (indexes : Indexes A) (index_fails : IndexFails) where
   -- the packets are a complete reply to the request, and the client rejects its content
   abbrev pub IsDeclined : SessionState A → Asked → RepoState A → List Packet → ClientFault A → Type 0
   IsDeclined waiting Empty repo lines cause = ⊥
-  IsDeclined waiting (Ls asked) repo lines cause =
-      (reply : LsReply) × ls.Says waiting.format waiting.ends lines reply × IsRefsFault waiting repo.graph.entries reply cause
+  IsDeclined waiting (Ls asked) repo lines cause = AreDeclinedRefs waiting repo lines cause
   IsDeclined waiting (Fetches asked) repo lines cause =
       (reply : FetchReply) × fetch.Says (reading_for waiting asked) lines reply
       × IsReplyFault indexes index_fails asked.haves repo reply cause

@@ -1,6 +1,6 @@
 -- The dialogue of a client is a conversation of `gclient`: its messages are the advertisement and the replies of turns,
 -- and its answers are the requests of these turns.
-use Rattle.std.specs.Prelude.{◌≡◌, ◌×◌, ◌++◌, ℕ, Bool, List, [], Some}
+use Rattle.std.specs.Prelude.{◌≡◌, ◌++◌, ℕ, Bool, List, [], Some}
 use Rattle.std.specs.List.{flat_map}
 use Rattle.gname.specs.Ids.{Id}
 use Rattle.gname.specs.declared.formats.Format.{Format}

@@ -1,6 +1,6 @@
 //! The messages that a client receives: the advertisement, or the reply to a request.
 
-use crate::stub::AdvertReader;
+use ghello::AdvertReader;
 use glsreply::LsReplyReader;
 use gsession::ObjectsReader;
 use std::alloc::Allocator;

@@ -35,7 +35,6 @@ mod asking;
 mod heard;
 pub mod laws;
 mod side;
-mod stub;
 
 pub use crate::asking::{Asking, ClientReply};
 pub use crate::heard::Heard;

@@ -21,13 +21,12 @@ ghost use Rattle.gfetch.specs.steps.Accepting.{AcceptsAdvert, AcceptsObjects, Ac
 
 use crate::asking::ClientReply;
 use crate::heard::Heard;
-use crate::stub::AdvertReader;
 use gclientrepo::Repo;
 use gdialogue::{Answer, Side};
 use ggrammar::laws::grammars_are_exact;
 use ggrammar::{Message, MessageFault, Step, Why};
 use ggraph::KeepingIndexer;
-use ghello::Advert;
+use ghello::{Advert, AdvertReader};
 use glsreply::LsReplyReader;
 use gname::RefName;
 use grequest::Request;
@@ -148,7 +147,7 @@ impl<'k, A: Allocator + Copy, K> ClientSide<'k, A, K> {
         ensures accepts { (asked : LsRefsAsked) (lines : List Packet)
             → self.old.session.pending ≡ Some (Ls asked) → Holds reader lines
             → IsWhole (ls.judge self.old.session.format self.old.session.ends) lines
-            → AcceptsRefs asked (client_of self.old) lines (client_of self.new) result }
+            → AcceptsRefs (client_of self.old) lines (client_of self.new) result }
         ensures ready { IfOk result (λ done. IsReady self.old.session self.new.session) }
         ensures stays { KeepsRest self.old self.new }
         ensures fault { self.new.fault ≡ self.old.fault }
@@ -310,7 +309,10 @@ impl<'k, A: Allocator + Copy, K: KeepingIndexer<A>> Side<Heard<A, K::Feed>, Clie
 
     fn answer(&mut self, message: Heard<A, K::Feed>) -> Answer<ClientReply<A>> {
         match message {
-            Heard::Advert(reader) => self.answer_advert(&reader.finish()),
+            Heard::Advert(reader) => {
+                let advert = reader.finish();
+                self.answer_advert(&advert)
+            }
             Heard::Refs(reader) => self.answer_refs(reader),
             Heard::Objects(reader) => self.answer_objects(reader),
         }

@@ -9,14 +9,14 @@ returns-in-None-clause-accepts g c = λ asked lines waits held whole.
 
 pub returns-in-Ok-clause-accepts : goal.returns-in-Ok-clause-accepts
 returns-in-Ok-clause-accepts g c = λ asked lines waits held whole.
-    refs_accepted (client_of c.args.self.now) _ asked c.in-Some.reply c.in-Ok.taken lines
+    refs_accepted (client_of c.args.self.now) _ c.in-Some.reply c.in-Ok.taken lines
     (c.in-Some.ensures.read c.args.self.now.session.ends lines whole held) c.in-Ok.ensures refl refl
 
 pub returns-in-Ok-clause-ready : goal.returns-in-Ok-clause-ready
 returns-in-Ok-clause-ready g c =
     refs_ready c.args.self.now.session c.accept_refs.new.self c.args.self.now.repo.graph.entries c.in-Some.reply c.in-Ok.taken c.in-Ok.ensures
 
-pub returns-in-Err-clause-accepts : goal.returns-in-Err-clause-accepts
-returns-in-Err-clause-accepts g c = λ asked lines waits held whole.
+pub returns-clause-accepts : goal.returns-clause-accepts
+returns-clause-accepts g c = λ asked lines waits held whole.
     refs_rejected (client_of c.args.self.now) _ asked c.in-Some.reply lines c.in-Err.fault waits
     (c.in-Some.ensures.read c.args.self.now.session.ends lines whole held) c.in-Err.ensures refl refl

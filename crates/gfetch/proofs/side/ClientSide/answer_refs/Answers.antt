@@ -23,7 +23,7 @@ returns-in-Err-clause-answers g c = λ asked lines said goes waits held whole ma
     let index_fails = g.K.KeepingIndexer.index_fails in
     inr (reply_declined indexes index_fails
     c.args.self.now c.accept_refs.new.self c.fail.new.self (Ls asked) lines said goes c.in-Err.fault
-    (d.declined indexes index_fails)
+    d.declined
     (failed c.args.self.now c.accept_refs.new.self c.fail.new.self c.fail.result c.in-Err.fault said goes c.fail.ensures.silent may
     c.fail.ensures.fault c.fail.ensures.session c.fail.ensures.stays.repo c.fail.ensures.unborn d.session d.repo d.unborn))
 
