@@ -3,6 +3,7 @@ use Rattle.std.proofs.Common.{◌≡◌, ◌<◌, ◌≤◌, ◌+◌, ◌-◌, �
 use Rattle.std.proofs.lemmas.List.{nil_from_length}
 use Rattle.gname.specs.declared.formats.Format.{Format}
 use Rattle.gpkt.specs.Packets.{Bytes, Packet, Data, Delim, Flush, canonical, canonical_all, digits_of, line_feed}
+use Rattle.gpkt.proofs.Readings.{number_of-digits_of, number_of-four}
 use Rattle.ggrammar.specs.Capabilities.{max_capability}
 use Rattle.ggrammar.specs.Texts.{text_packet}
 use Rattle.grequest.specs.Asked.{Asked, Empty, Ls, Fetches, FetchAsked, LsRefsAsked}
@@ -34,22 +35,33 @@ ls_command = text_packet (codes "command=ls-refs")
 abbrev pub fetch_command : Packet
 fetch_command = text_packet (codes "command=fetch")
 
+-- lists that are appended one after the other
+to_right : (a b c d e : List Packet) → (((a ++ b) ++ c) ++ d) ++ e ≡ a ++ (b ++ (c ++ (d ++ e)))
+to_right a b c d e = simp append_assoc
+
 ls_parts : (format : Format) (asked : LsRefsAsked) → canonical_request format (Ls asked) ≡ ls_command ∷ rest_of format (Ls asked) part.Agent
 unfolding canonical_request
 ls_parts format asked =
-    ap (λ (l : List Packet). ls_command ∷ (agent_packets asked.agent ++ (format_packets format ++ Delim ∷ l)))
-    (append_assoc (flags_of (Ls asked)) (map prefix_packet asked.prefixes) (Flush ∷ []))
+    let agent = agent_packets asked.agent in
+    let named = format_packets format in
+    let flags = flags_of (Ls asked) in
+    let prefixes = map prefix_packet asked.prefixes in
+    ap (λ (l : List Packet). ls_command ∷ l)
+    (append_assoc agent named (Delim ∷ ((flags ++ prefixes) ++ Flush ∷ []))
+    ∙ ap (λ (l : List Packet). agent ++ (named ++ Delim ∷ l)) (append_assoc flags prefixes (Flush ∷ [])))
 
 fetch_parts : (format : Format) (asked : FetchAsked) → canonical_request format (Fetches asked) ≡ fetch_command ∷ rest_of format (Fetches asked) part.Agent
 unfolding canonical_request
 fetch_parts format asked =
+    let agent = agent_packets asked.agent in
+    let named = format_packets format in
     let flags = flags_of (Fetches asked) in
     let wants = map (id_packet (codes "want ")) asked.wants in
     let haves = map (id_packet (codes "have ")) asked.haves in
     let done = done_of (Fetches asked) in
-    ap (λ (l : List Packet). fetch_command ∷ (agent_packets asked.agent ++ (format_packets format ++ Delim ∷ l)))
-    (append_assoc flags (wants ++ (haves ++ done)) (Flush ∷ [])
-    ∙ ap (λ (l : List Packet). flags ++ l) (append_assoc wants (haves ++ done) (Flush ∷ []) ∙ ap (λ (l : List Packet). wants ++ l) (append_assoc haves done (Flush ∷ []))))
+    ap (λ (l : List Packet). fetch_command ∷ l)
+    (append_assoc agent named (Delim ∷ ((((flags ++ wants) ++ haves) ++ done) ++ Flush ∷ []))
+    ∙ ap (λ (l : List Packet). agent ++ (named ++ Delim ∷ l)) (to_right flags wants haves done (Flush ∷ [])))
 
 pub ls_command_said : (format : Format) (asked : LsRefsAsked) (out : Bytes) → out ≡ canonical_all (ls_command ∷ [])
     → SaysPart format (Ls asked) part.Command out (Some part.Agent)
@@ -73,17 +85,16 @@ agent_is_short (Some value) is = word_value_is_short value is
 
 -- ---- flags
 
-length_of_digits : (n : ℕ) → length (digits_of n) ≡ 4
-unfolding digits_of
-length_of_digits n = refl
-
 -- the packet of a flag is short
 pub flag_is_short : (word before out : Bytes) → length word ≤ 16 → out ≡ before ++ canonical (Data (word ++ line_feed ∷ []))
     → length out ≤ length before + 32
 flag_is_short word before out short is =
     let text = word ++ line_feed ∷ [] in
-    let digits = digits_of (length text + 4) in
-    omega (arith, short, ap (λ (l : Bytes). length l) is, length-append before (digits ++ text), length-append digits text, length-append word (line_feed ∷ []), length_of_digits (length text + 4))
+    let count : length text ≡ length word + 1 = length-append word (line_feed ∷ []) in
+    let size = length text + 4 in
+    let digits = digits_of size in
+    let four : length digits ≡ 4 = number_of-four digits size (number_of-digits_of size (omega (arith, count, short))) in
+    omega (arith, short, count, four, ap (λ (l : Bytes). length l) is, length-append before (digits ++ text), length-append digits text)
 
 -- four lists of packets that are queued one after the other
 pub four_said : (a b c d : List Packet) (none one two three four : Bytes) → none ≡ [] → one ≡ none ++ canonical_all a → two ≡ one ++ canonical_all b
@@ -123,7 +134,7 @@ pub want_said : (format : Format) (asked : FetchAsked) (at : ℕ) (id : List ℕ
 want_said format asked at id out less parts is = (
   id_packet (codes "want ") id ∷ [],
   is,
-  ap (λ (l : List (List ℕ)). map (id_packet (codes "want ")) l ++ haves_from (Fetches asked) 0 ++ done_of (Fetches asked) ++ Flush ∷ []) parts,
+  ap (λ (l : List (List ℕ)). map (id_packet (codes "want ")) l ++ (haves_from (Fetches asked) 0 ++ (done_of (Fetches asked) ++ Flush ∷ []))) parts,
   omega (arith, less),
 )
 
@@ -133,7 +144,7 @@ pub have_said : (format : Format) (asked : FetchAsked) (at : ℕ) (id : List ℕ
 have_said format asked at id out less parts is = (
   id_packet (codes "have ") id ∷ [],
   is,
-  ap (λ (l : List (List ℕ)). map (id_packet (codes "have ")) l ++ done_of (Fetches asked) ++ Flush ∷ []) parts,
+  ap (λ (l : List (List ℕ)). map (id_packet (codes "have ")) l ++ (done_of (Fetches asked) ++ Flush ∷ [])) parts,
   omega (arith, less),
 )
 
@@ -143,7 +154,7 @@ pub firsts_over : (format : Format) (asked : Asked) (at : ℕ) (out : Bytes) →
 firsts_over format asked at out empty over = (
   [],
   empty,
-  ap (λ (l : List Packet). l ++ haves_from asked 0 ++ done_of asked ++ Flush ∷ []) over,
+  ap (λ (l : List Packet). l ++ (haves_from asked 0 ++ (done_of asked ++ Flush ∷ []))) over,
   omega arith,
 )
 
@@ -152,6 +163,6 @@ pub haves_over : (format : Format) (asked : Asked) (at : ℕ) (out : Bytes) → 
 haves_over format asked at out empty over = (
   [],
   empty,
-  ap (λ (l : List Packet). l ++ done_of asked ++ Flush ∷ []) over,
+  ap (λ (l : List Packet). l ++ (done_of asked ++ Flush ∷ [])) over,
   omega arith,
 )

@@ -1,4 +1,5 @@
-use Rattle.std.proofs.Common.{inl, inr, refl}
+use Rattle.std.proofs.Common.{inl, inr, refl, subst, sym}
+use Rattle.ghello.specs.Adverts as advert
 use Rattle.gfetch.proofs.HeardLemmas.{advert_answered, objects_answered, objects_awaited, refs_answered}
 use Rattle.gfetch.proofs.SideLemmas.{objects_stay}
 use Rattle.gfetch.proofs.side.ClientSideSideHeardFeedClientReply.answer.Goals as goal
@@ -10,7 +11,7 @@ returns-in-Advert-clause-answers g c = λ lines said goes whole hears may.
     let new = c.answer_advert.new.self in record {
       answers = advert_answered k.indexes k.index_fails k.keeps k.fed old new lines said goes old.session.pending c.in-Advert.reader whole
           (rw c.in-Advert.is at hears)
-          (λ says begun. c.answer_advert.ensures.answers lines said goes says begun may);
+          (λ says begun. c.answer_advert.ensures.answers lines said goes (subst (λ a. advert.Says lines a) (sym c.finish-advert.ensures) says) begun may);
       indexer = objects_stay k.keeps old new c.answer_advert.ensures.stays;
       changed = inr c.answer_advert.ensures.stays.indexer.value;
     }
