@@ -86,11 +86,12 @@ agent_is_short (Some value) is = word_value_is_short value is
 -- ---- flags
 
 -- the packet of a flag is short
-pub flag_is_short : (word before out : Bytes) → length word ≤ 16 → out ≡ before ++ canonical (Data (word ++ line_feed ∷ []))
+pub flag_is_short : (word before out : Bytes) → length word ≤ 16 → out ≡ before ++ canonical (Data (word ++ [] ++ line_feed ∷ []))
     → length out ≤ length before + 32
 flag_is_short word before out short is =
-    let text = word ++ line_feed ∷ [] in
-    let count : length text ≡ length word + 1 = length-append word (line_feed ∷ []) in
+    let none : Bytes = [] in
+    let text = (word ++ none) ++ line_feed ∷ [] in
+    let count : length text ≡ length word + 1 = omega (arith, length-append (word ++ none) (line_feed ∷ []), length-append word none) in
     let size = length text + 4 in
     let digits = digits_of size in
     let four : length digits ≡ 4 = number_of-four digits size (number_of-digits_of size (omega (arith, count, short))) in
