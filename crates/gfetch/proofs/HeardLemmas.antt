@@ -1,5 +1,5 @@
 -- A message of the client, with one more packet.
-use Rattle.std.proofs.Common.{◌≡◌, ◌<◌, ◌^◌, ◌⊎◌, ◌∙◌, refl, ℕ, Bool, false, List, [], ◌∷◌, ◌++◌, length, Option, Some, None, Result, Ok, Err, sym, subst, ap}
+use Rattle.std.proofs.Common.{◌≡◌, ◌<◌, ◌^◌, ◌⊎◌, ◌∙◌, refl, Bool, false, List, [], ◌∷◌, ◌++◌, length, Option, Some, None, Result, Ok, Err, sym, subst}
 use Rattle.gname.specs.Ids.{Id}
 use Rattle.gpkt.specs.Packets.{Bytes, Packet}
 use Rattle.ggrammar.specs.Grammar.{IsOpen, IsWhole, Judge}

@@ -1,5 +1,5 @@
 -- Queuing the parts of a request.
-use Rattle.std.proofs.Common.{◌≡◌, ◌<◌, ◌≤◌, ◌+◌, ◌-◌, ◌∙◌, ℕ, Bool, List, [], ◌∷◌, ◌++◌, length, drop, map, IfSome, codes, Option, Some, None, refl, sym, ap, ap₂, subst, arith, append-nil, append_assoc, length-append, length-drop, add-one, drop-cons, get_or}
+use Rattle.std.proofs.Common.{◌≡◌, ◌<◌, ◌≤◌, ◌+◌, ◌∙◌, ℕ, List, [], ◌∷◌, ◌++◌, length, drop, map, IfSome, codes, Option, Some, None, refl, sym, ap, ap₂, subst, arith, append-nil, append_assoc, length-append, length-drop, add-one, drop-cons, get_or}
 use Rattle.std.proofs.lemmas.List.{nil_from_length}
 use Rattle.gname.specs.declared.formats.Format.{Format}
 use Rattle.gpkt.specs.Packets.{Bytes, Packet, Data, Delim, Flush, canonical, canonical_all, digits_of, line_feed}
@@ -10,8 +10,7 @@ use Rattle.grequest.specs.Asked.{Asked, Empty, Ls, Fetches, FetchAsked, LsRefsAs
 use Rattle.grequest.specs.RequestWriting.{agent_packets, canonical_request, format_packets, id_packet, prefix_packet}
 use Rattle.grequest.specs.WellFormed.{IsAgent}
 use Rattle.grequest.proofs.WrittenArguments.{word_value_is_short}
-use Rattle.gfetch.specs.Saying.{SaysPart, done_of, firsts_from, flags_of, haves_from, rest_of, steps_of}
-use Rattle.gfetch.specs.declared.asking.NextPart.{NextPart}
+use Rattle.gfetch.specs.Saying.{SaysPart, done_of, firsts_from, flags_of, haves_from, rest_of}
 use Rattle.gfetch.specs.declared.asking.NextPart.TheVariants as part
 
 -- one packet in an empty queue

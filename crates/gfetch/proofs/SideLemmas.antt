@@ -1,5 +1,5 @@
 -- The answers of a client to its messages.
-use Rattle.std.proofs.Common.{◌≡◌, ◌≢◌, ◌<◌, ◌≤◌, ◌+◌, ◌-◌, ◌^◌, ◌⊎◌, ◌∙◌, inl, inr, ℕ, Bool, true, false, List, [], ◌∷◌, Option, Some, None, Result, Ok, Err, refl, sym, ap, subst, arith}
+use Rattle.std.proofs.Common.{◌≡◌, ◌≢◌, ◌<◌, ◌≤◌, ◌+◌, ◌-◌, ◌^◌, ◌∙◌, ℕ, Bool, true, false, List, [], ◌∷◌, Option, Some, None, Result, Ok, Err, refl, sym, ap, subst, arith}
 use Rattle.gpkt.specs.Packets.{Packet}
 use Rattle.ggrammar.specs.Grammar.{IsWhole}
 use Rattle.ggrammar.specs.Capabilities.{Capability}
@@ -17,10 +17,10 @@ use Rattle.gclientrepo.specs.declared.fault.RepoFault.TheVariants as repo
 use Rattle.gfetchreply.specs.FetchReplies.{FetchReply, reply_of}
 use Rattle.gfetchreply.specs.FetchReplies as fetch
 use Rattle.grequest.specs.Asked.{Asked, Empty, Ls, Fetches, FetchAsked, LsRefsAsked}
-use Rattle.gsession.specs.Requesting.{MakesNext, Requests, is_due}
+use Rattle.gsession.specs.Requesting.{Requests, is_due}
 use Rattle.gsession.specs.Sessions.{SessionState, Hears, IsBegun, after_fault, no_memory, over, tells_unborn}
-use Rattle.gsession.specs.TakingRefs.{AcceptsRefs as SessionAcceptsRefs, AwaitsRefs, IsRefsFault, IsUnaccepted, stage_for}
-use Rattle.gsession.specs.TakingReplies.{AcceptsRead, Awaits, HasTaken, IsReplyFault, reading_for, stage_after}
+use Rattle.gsession.specs.TakingRefs.{AcceptsRefs as SessionAcceptsRefs, IsUnaccepted, stage_for}
+use Rattle.gsession.specs.TakingReplies.{AcceptsRead, HasTaken, IsReplyFault, reading_for, stage_after}
 use Rattle.gsession.specs.declared.stage.Stage.{Stage}
 use Rattle.gsession.specs.declared.stage.Stage.TheVariants.{Listing, Fetching, Settling, Over}
 use Rattle.gsession.specs.declared.fault.ClientFault.{ClientFault}
@@ -34,11 +34,11 @@ use Rattle.gdialogue.specs.declared.side.Answer.{Answer}
 use Rattle.gdialogue.specs.declared.side.Answer.TheVariants as answer
 use Rattle.gfetch.specs.Fetching.{AcceptsReply, AnswersAdvert, AreDeclinedRefs, DeclinesReply, Fails, GoesOn, IsDeclined, KeepsObjects, LacksMemory, MismatchesAdvert, client_of, messages_after, messages_of}
 use Rattle.gfetch.specs.Saying.{reply_rest}
-use Rattle.gfetch.specs.Turns.{ClientState, Takes, TakesObjects, TakesRefs}
+use Rattle.gfetch.specs.Turns.{ClientState, Takes}
 use Rattle.gfetch.specs.declared.asking.ClientReply.{ClientReply}
 use Rattle.gfetch.specs.declared.asking.ClientReply.TheVariants as reply
 use Rattle.gfetch.specs.declared.side.ClientSide.{ClientSide}
-use Rattle.gfetch.specs.steps.Accepting.{AcceptsAdvert, AcceptsObjects, AcceptsRefs, Declines, DeclinesRefs, IsReady, KeepsRest}
+use Rattle.gfetch.specs.steps.Accepting.{AcceptsAdvert, AcceptsObjects, AcceptsRefs, IsReady, KeepsRest}
 
 -- ---- the stages
 

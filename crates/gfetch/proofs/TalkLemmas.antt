@@ -1,10 +1,8 @@
 -- A dialogue of a client is a conversation of turns.
-use Rattle.std.proofs.Common.{◌≡◌, ◌∙◌, ◌⊎◌, ℕ, inl, inr, Bool, true, false, List, [], ◌∷◌, ◌++◌, Option, Some, None, Ok, refl, sym, ap, subst, append-nil, append_assoc}
-use Rattle.std.specs.List.{flat_map}
+use Rattle.std.proofs.Common.{◌≡◌, ◌∙◌, ◌⊎◌, ℕ, inl, inr, true, false, List, [], ◌∷◌, ◌++◌, Option, Some, None, Ok, refl, sym, ap, subst, append-nil, append_assoc}
 use Rattle.std.proofs.lemmas.Grind.{flat_map-append}
 use Rattle.gname.specs.declared.formats.Format.{Format}
 use Rattle.gpkt.specs.Packets.{Packet}
-use Rattle.ggrammar.specs.Grammar.{IsWhole}
 use Rattle.gobject.specs.declared.node.Entry.{Entry}
 use Rattle.gobject.specs.Packs.{Indexes, IndexFails}
 use Rattle.grequest.specs.Asked.{Asked, Empty, Ls, Fetches}
@@ -15,7 +13,6 @@ use Rattle.gname.specs.Names.{Name}
 use Rattle.ggrammar.specs.Capabilities.{Capability}
 use Rattle.gclientrepo.specs.Repos.{RepoState}
 use Rattle.gsession.specs.declared.fault.ClientFault.{ClientFault}
-use Rattle.gsession.specs.declared.stage.Stage.{Stage}
 use Rattle.gsession.specs.declared.taken.Taken.{Taken}
 use Rattle.gsession.specs.declared.taken.Taken.TheVariants.{Round, PackTaken}
 use Rattle.gfetchreply.specs.FetchReplies.{FetchReply}
@@ -23,11 +20,11 @@ use Rattle.gsession.specs.TakingReplies.{TakesHead}
 use Rattle.gsession.specs.Sessions.{SessionState, IsBegun, tells_unborn}
 use Rattle.gdialogue.specs.Dialogues.{Answered}
 use Rattle.gdialogue.specs.Dialogues as dialogue
-use Rattle.gfetch.specs.Fetching.{AcceptsReply, AnswersAdvert, AnswersAfter, AnswersMessage, AsksOn, DeclinesReply, GoesOn, IsFresh, KeepsObjects, MismatchesAdvert, OpensFresh, RefusesMessage, client_of, start_of_side}
+use Rattle.gfetch.specs.Fetching.{AcceptsReply, AnswersAdvert, AnswersAfter, AnswersMessage, AsksOn, GoesOn, IsFresh, KeepsObjects, MismatchesAdvert, OpensFresh, RefusesMessage, client_of, start_of_side}
 use Rattle.gfetch.specs.Heard.{session_brings, session_judge}
 use Rattle.gfetch.specs.Laws.{HasTalked, IsTalk, asked_packets, reply_packets}
 use Rattle.gfetch.specs.Laws as talk
-use Rattle.gfetch.specs.Starts.{Advertises, begin_session, hear_advert}
+use Rattle.gfetch.specs.Starts.{Advertises, hear_advert}
 use Rattle.gfetch.specs.Turns.{AreTurns, AsksNext, ClientState, IsTurn, Takes, Turn}
 use Rattle.gfetch.specs.declared.side.ClientSide.{ClientSide}
 use Rattle.gfetch.proofs.SideLemmas.{objects_then}

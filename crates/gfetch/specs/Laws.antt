@@ -1,18 +1,16 @@
 -- The dialogue of a client is a conversation of `gclient`: its messages are the advertisement and the replies of turns,
 -- and its answers are the requests of these turns.
-use Rattle.std.specs.Prelude.{◌≡◌, ◌++◌, ℕ, Bool, List, [], Some}
+use Rattle.std.specs.Prelude.{◌≡◌, ◌++◌, List, []}
 use Rattle.std.specs.List.{flat_map}
 use Rattle.gname.specs.Ids.{Id}
 use Rattle.gname.specs.declared.formats.Format.{Format}
 use Rattle.gpkt.specs.Packets.{Packet}
 use Rattle.ggrammar.specs.Capabilities.{Capability}
-use Rattle.ggrammar.specs.Grammar.{Judge}
-use Rattle.ggrammar.specs.declared.fault.MessageFault.{MessageFault}
 use Rattle.gobject.specs.Packs.{Indexes, IndexFails}
 use Rattle.grequest.specs.Asked.{Asked}
 use Rattle.grequest.specs.RequestWriting.{canonical_request}
 use Rattle.gdialogue.specs.Dialogues.{Answered}
-use Rattle.gfetch.specs.Fetching.{AnswersMessage, IsFresh, KeepsObjects, OpensFresh, RefusesMessage, client_of, start_of_side}
+use Rattle.gfetch.specs.Fetching.{AnswersMessage, IsFresh, KeepsObjects, OpensFresh, RefusesMessage, start_of_side}
 use Rattle.gfetch.specs.Heard.{session_brings, session_judge}
 use Rattle.gfetch.specs.Starts.{Advertises, hear_advert}
 use Rattle.gfetch.specs.Turns.{AreTurns, AsksNext, ClientState, Turn}

@@ -1,4 +1,4 @@
-use Rattle.std.proofs.Common.{◌≤◌, ◌<◌, inl, inr, sym, ◌∙◌, arith}
+use Rattle.std.proofs.Common.{inl, inr, sym, ◌∙◌, arith}
 use Rattle.gfetch.proofs.SideLemmas.{advert_goes, advert_messages, advert_mismatches, failed, rest_then}
 use Rattle.gfetch.proofs.side.ClientSide.answer_advert.Goals as goal
 

@@ -1,4 +1,4 @@
-use Rattle.std.proofs.Common.{◌≤◌, ◌<◌, inl, inr, sym, ◌∙◌, arith}
+use Rattle.std.proofs.Common.{inl, inr, sym, ◌∙◌, arith}
 use Rattle.grequest.specs.Asked.{Fetches}
 use Rattle.gfetch.proofs.SideLemmas.{failed, objects_stay, objects_then, reply_answered, reply_declined}
 use Rattle.gfetch.proofs.side.ClientSide.answer_objects.Goals as goal

@@ -1,4 +1,4 @@
-use Rattle.std.proofs.Common.{◌≤◌, ◌<◌, inl, inr, sym, ◌∙◌, arith}
+use Rattle.std.proofs.Common.{inl, inr, sym, ◌∙◌, arith}
 use Rattle.grequest.specs.Asked.{Ls}
 use Rattle.gfetch.proofs.SideLemmas.{failed, reply_answered, reply_declined, rest_then}
 use Rattle.gfetch.proofs.side.ClientSide.answer_refs.Goals as goal

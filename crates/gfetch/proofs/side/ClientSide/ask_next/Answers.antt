@@ -1,4 +1,4 @@
-use Rattle.std.proofs.Common.{◌≡◌, ◌∙◌, inl, inr, refl, sym, ap, arith}
+use Rattle.std.proofs.Common.{◌∙◌, inl, inr, refl, sym, ap, arith}
 use Rattle.gname.specs.declared.formats.Format.{Format}
 use Rattle.grequest.specs.Asked.{Empty}
 use Rattle.grequest.specs.RequestValues.{asked_by_request}
