@@ -34,7 +34,8 @@ use gsession::{ClientFault, ObjectsReader, Session};
 use std::alloc::Allocator;
 
 /// The client's end of a connection. The client receives the advertisement, and then the reply to
-/// each of its requests.
+/// each of its requests. The borrowed indexer reads the pack of a reply, and keeps the objects of an
+/// accepted pack.
 ///
 /// After the last reply, the client sends a lone flush packet, which ends the connection. If a
 /// message is refused or rejected, the client sends nothing more, and stores the fault.
