@@ -2,6 +2,7 @@
 -- (gitprotocol-v2(5), "Initial Client Request" and "Command Request"). The packets are those of `gclient`'s
 -- conversations: each message and its answer are parts of turns (`Turns`).
 use Rattle.std.specs.Prelude.{◌≡◌, ◌⊎◌, ℕ, ◌+◌, ◌-◌, ◌≤◌, ◌^◌, Bool, true, false, List, [], length, Option, Some, None, Err}
+use Rattle.gname.specs.Ids.{Id}
 use Rattle.gpkt.specs.Packets.{Packet}
 use Rattle.ggrammar.specs.Capabilities.{Capability}
 use Rattle.ggrammar.specs.declared.fault.MessageFault.{MessageFault}
@@ -15,10 +16,11 @@ use Rattle.gobject.specs.Packs.{Indexes, IndexFails}
 use Rattle.gclientrepo.specs.Repos.{RepoState}
 use Rattle.grequest.specs.Asked.{Asked, Empty, Ls, Fetches}
 use Rattle.grequest.specs.RequestWriting.{canonical_request}
+use Rattle.gsession.specs.Keeping.{KeepsOn}
 use Rattle.gsession.specs.Requesting.{Requests}
 use Rattle.gsession.specs.Sessions.{SessionState, IsBegun, max_specs, no_memory, over, tells_unborn}
 use Rattle.gsession.specs.TakingRefs.{IsRefsFault}
-use Rattle.gsession.specs.TakingReplies.{IsReplyFault, reading_for}
+use Rattle.gsession.specs.TakingReplies.{AwaitsObjects, IsReplyFault, reading_for}
 use Rattle.gsession.specs.declared.fault.ClientFault.{ClientFault}
 use Rattle.gsession.specs.declared.fault.ClientFault.TheVariants as client
 use Rattle.gsession.specs.declared.stage.Stage.{Stage}
@@ -98,12 +100,16 @@ module _ {A K : Type 0} (old new : ClientSide A K) (lines said : List Packet) (g
 
 -- ---- a reply
 
+-- the packets are a complete ls-refs reply, and the client rejects its refs
+abbrev pub AreDeclinedRefs : {A : Type 0} → SessionState A → RepoState A → List Packet → ClientFault A → Type 0
+AreDeclinedRefs waiting repo lines cause =
+    (reply : LsReply) × ls.Says waiting.format waiting.ends lines reply × IsRefsFault waiting repo.graph.entries reply cause
+
 module _ {A : Type 0} (indexes : Indexes A) (index_fails : IndexFails) where
   -- the packets are a complete reply to the request, and the client rejects its content
   abbrev pub IsDeclined : SessionState A → Asked → RepoState A → List Packet → ClientFault A → Type 0
   IsDeclined waiting Empty repo lines cause = ⊥
-  IsDeclined waiting (Ls asked) repo lines cause =
-      (reply : LsReply) × ls.Says waiting.format waiting.ends lines reply × IsRefsFault waiting repo.graph.entries reply cause
+  IsDeclined waiting (Ls asked) repo lines cause = AreDeclinedRefs waiting repo lines cause
   IsDeclined waiting (Fetches asked) repo lines cause =
       (reply : FetchReply) × fetch.Says (reading_for waiting asked) lines reply
       × IsReplyFault indexes index_fails asked.haves repo reply cause
@@ -123,26 +129,38 @@ module _ {A : Type 0} (indexes : Indexes A) (index_fails : IndexFails) where
 
 -- ---- any message
 
-module _ {A K : Type 0} (indexes : K → Indexes A) (index_fails : K → IndexFails) where
+-- the indexer is unchanged
+pub record KeepsIndexer {A K : Type 0} (old new : ClientSide A K) : Type 0 where
+  pub value : new.indexer.now ≡ old.indexer.now
+  pub in_place : new.indexer.ghost_name ≡ old.indexer.ghost_name
+
+-- the indexer still keeps all that it kept before, and it keeps each object that the graph gained
+pub record KeepsObjects {A K : Type 0} (keeps : K → Id → Type 0) (old new : ClientSide A K) : Type 0 where
+  pub keeps_on : KeepsOn (keeps old.indexer.now) (keeps new.indexer.now) old.repo.graph.entries new.repo.graph.entries
+  pub in_place : new.indexer.ghost_name ≡ old.indexer.ghost_name
+
+module _ {A K : Type 0} (indexes : Indexes A) (index_fails : IndexFails) (keeps : K → Id → Type 0) where
   -- the answer to a message, given the open request of the session
   abbrev pub AnswersAfter : Option Asked → ClientSide A K → ClientSide A K → List Packet → List Packet → Bool → Type 0
   AnswersAfter None old new lines said goes =
       IsBegun old.session → AnswersAdvert old new lines said goes ⊎ MismatchesAdvert old new lines said goes
   AnswersAfter (Some Empty) old new lines said goes = Unit {0}
   AnswersAfter (Some asked) old new lines said goes =
-      AcceptsReply (indexes old.indexer.now) (index_fails old.indexer.now) asked old new lines said goes
-      ⊎ DeclinesReply (indexes old.indexer.now) (index_fails old.indexer.now) asked old new lines said goes
+      AcceptsReply indexes index_fails asked old new lines said goes
+      ⊎ DeclinesReply indexes index_fails asked old new lines said goes
 
-  -- the packets are a message, and `said` is the answer to this message; the indexer stays the same
+  -- the packets are a message, and `said` is the answer to this message; only a reply to a request for objects changes
+  -- the indexer
   pub record AnswersMessage (old : ClientSide A K) (lines said : List Packet) (goes : Bool) (new : ClientSide A K)
       : Type 0 where
-    pub indexer : new.indexer.now ≡ old.indexer.now
     pub answers : AnswersAfter old.session.pending old new lines said goes
+    pub indexer : KeepsObjects keeps old new
+    pub changed : AwaitsObjects old.session ⊎ (new.indexer.now ≡ old.indexer.now)
 
 -- a message is malformed, or no more packets arrive before its end; the client sends nothing more
 pub record RefusesMessage {A K : Type 0} (old : ClientSide A K) (fault : MessageFault) (said : List Packet)
     (new : ClientSide A K) : Type 0 where
-  pub indexer : new.indexer.now ≡ old.indexer.now
+  pub indexer : KeepsIndexer old new
   pub fails : Fails old new (client.Message fault) said false
 
 -- ---- the beginning and the end

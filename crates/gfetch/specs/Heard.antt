@@ -9,9 +9,9 @@ use Rattle.glsreply.specs.LsReplies as ls
 use Rattle.glsreply.specs.steps.ReplyState.{Holds}
 use Rattle.gfetchreply.specs.FetchReplies as fetch
 use Rattle.gfetchreply.specs.FetchReplies.{brings_into}
-use Rattle.gfetchreply.specs.Views.{reading_in}
-use Rattle.gfetchreply.specs.steps.ReplyState.{HoldsReply, kept_in}
+use Rattle.gobject.specs.Packs.{IndexFails}
 use Rattle.grequest.specs.Asked.{Asked, Empty, Ls, Fetches}
+use Rattle.gsession.specs.Readers.{HoldsObjects}
 use Rattle.gsession.specs.Sessions.{SessionState}
 use Rattle.gsession.specs.TakingReplies.{reading_for}
 use Rattle.gfetch.specs.declared.heard.Heard.{Heard}
@@ -33,17 +33,16 @@ module _ {A : Type 0} (session : SessionState A) where
   brings_after (Some (Ls asked)) = ls.brings
   brings_after (Some (Fetches asked)) = brings_into false (reading_for session asked)
 
-  -- The message consists of these packets so far. A reply has the parameters of the session and of its open request,
-  -- and the sink of a fetch reply is one that `Uses` allows.
-  module _ {T : Type 0} (taken : T → Bytes → Type 0) (same : T → T → Type 0) (Uses : T → Type 0) where
-    abbrev pub HearsAfter : Option Asked → Heard A T → List Packet → Type 0
+  -- The message consists of these packets so far. A reply is read with the parameters of the session and of its open
+  -- request, and the indexer has received the data of the pack so far.
+  module _ {F : Type 0} (fed : F → Bytes → Type 0) (index_fails : IndexFails) where
+    abbrev pub HearsAfter : Option Asked → Heard A F → List Packet → Type 0
     HearsAfter None (heard.Advert reader) packets = IsKept packets reader.has_version reader.advert
     HearsAfter (Some Empty) (heard.Advert reader) packets = IsKept packets reader.has_version reader.advert
     HearsAfter (Some (Ls asked)) (heard.Refs reader) packets =
         (reader.format ≡ session.format) × (reader.ends ≡ session.ends) × Holds reader packets
     HearsAfter (Some (Fetches asked)) (heard.Objects reader) packets =
-        (reading_in reader.reading ≡ reading_for session asked) × Uses reader.sink
-        × HoldsReply taken same (reading_in reader.reading) (kept_in reader.sections) reader.sink packets
+        HoldsObjects fed index_fails (reading_for session asked) reader packets
     HearsAfter _ _ packets = ⊥
 
 -- the grammar of the session's next message

@@ -1,17 +1,16 @@
 -- The dialogue of a client is a conversation of `gclient`: its messages are the advertisement and the replies of turns,
 -- and its answers are the requests of these turns.
-use Rattle.std.specs.Prelude.{◌≡◌, ◌×◌, ◌++◌, ℕ, Bool, List, [], Some}
+use Rattle.std.specs.Prelude.{◌≡◌, ◌++◌, List, []}
 use Rattle.std.specs.List.{flat_map}
+use Rattle.gname.specs.Ids.{Id}
 use Rattle.gname.specs.declared.formats.Format.{Format}
 use Rattle.gpkt.specs.Packets.{Packet}
 use Rattle.ggrammar.specs.Capabilities.{Capability}
-use Rattle.ggrammar.specs.Grammar.{Judge}
-use Rattle.ggrammar.specs.declared.fault.MessageFault.{MessageFault}
 use Rattle.gobject.specs.Packs.{Indexes, IndexFails}
 use Rattle.grequest.specs.Asked.{Asked}
 use Rattle.grequest.specs.RequestWriting.{canonical_request}
 use Rattle.gdialogue.specs.Dialogues.{Answered}
-use Rattle.gfetch.specs.Fetching.{AnswersMessage, IsFresh, OpensFresh, RefusesMessage, client_of, start_of_side}
+use Rattle.gfetch.specs.Fetching.{AnswersMessage, IsFresh, KeepsObjects, OpensFresh, RefusesMessage, start_of_side}
 use Rattle.gfetch.specs.Heard.{session_brings, session_judge}
 use Rattle.gfetch.specs.Starts.{Advertises, hear_advert}
 use Rattle.gfetch.specs.Turns.{AreTurns, AsksNext, ClientState, Turn}
@@ -25,7 +24,7 @@ asked_packets format turns = flat_map (λ turn. canonical_request format turn.as
 abbrev pub reply_packets : List Turn → List Packet
 reply_packets turns = flat_map (λ turn. turn.reply) turns
 
-module _ {A K : Type 0} (indexes : K → Indexes A) (index_fails : K → IndexFails) where
+module _ {A K : Type 0} (indexes : Indexes A) (index_fails : IndexFails) (keeps : K → Id → Type 0) where
   -- The client has received the advertisement and the replies of the turns, and waits for the reply to another request.
   -- It sent exactly the requests of the turns and this request.
   pub record HasTalked (first : ClientSide A K) (heard said : List Packet) (now : ClientSide A K) : Type 0 where
@@ -34,8 +33,7 @@ module _ {A K : Type 0} (indexes : K → Indexes A) (index_fails : K → IndexFa
     pub advertises : Advertises first.repo.graph.format packets capabilities
     pub turns : List Turn
     pub last : ClientState A
-    pub each : AreTurns (indexes now.indexer.now) (index_fails now.indexer.now)
-        (hear_advert (start_of_side first) capabilities) turns last
+    pub each : AreTurns indexes index_fails (hear_advert (start_of_side first) capabilities) turns last
     pub all_heard : heard ≡ packets ++ reply_packets turns
     pub asked : Asked
     pub asks : AsksNext last asked now.session
@@ -43,7 +41,7 @@ module _ {A K : Type 0} (indexes : K → Indexes A) (index_fails : K → IndexFa
     pub format : now.session.format ≡ first.repo.graph.format
     pub repo : now.repo ≡ last.repo
     pub unborn : now.unborn ≡ last.unborn
-    pub indexer : now.indexer.now ≡ first.indexer.now
+    pub indexer : KeepsObjects keeps first now
 
   -- the client has received no message and sent no packet, or it has completed turns
   pub data IsTalk (first : ClientSide A K) : List Packet → List Packet → ClientSide A K → Type 0 where
@@ -55,5 +53,5 @@ module _ {A K : Type 0} (indexes : K → Indexes A) (index_fails : K → IndexFa
   abbrev pub DialoguesAreTurns : Type 0
   DialoguesAreTurns = (first now : ClientSide A K) (heard said : List Packet)
       → Answered (λ side. session_judge side.session) (λ side. session_brings side.session) OpensFresh
-      (AnswersMessage indexes index_fails) RefusesMessage first heard said now
+      (AnswersMessage indexes index_fails keeps) RefusesMessage first heard said now
       → IsTalk first heard said now

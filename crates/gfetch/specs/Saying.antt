@@ -49,17 +49,17 @@ done_of (Fetches asked) = flag_packets (codes "done") (fetch_has asked Done)
 
 module _ (format : Format) (asked : Asked) where
   abbrev pub from_flags : List Packet
-  from_flags = flags_of asked ++ firsts_from asked 0 ++ haves_from asked 0 ++ done_of asked ++ Flush ∷ []
+  from_flags = flags_of asked ++ (firsts_from asked 0 ++ (haves_from asked 0 ++ (done_of asked ++ Flush ∷ [])))
 
   -- the packets of the request, from this part to the end
   abbrev pub rest_of : NextPart → List Packet
   rest_of part.Command = canonical_request format asked
-  rest_of part.Agent = agent_packets (agent_of asked) ++ format_packets format ++ Delim ∷ from_flags
+  rest_of part.Agent = agent_packets (agent_of asked) ++ (format_packets format ++ Delim ∷ from_flags)
   rest_of part.Format = format_packets format ++ Delim ∷ from_flags
   rest_of part.Delim = Delim ∷ from_flags
   rest_of part.Flags = from_flags
-  rest_of (part.First at) = firsts_from asked at ++ haves_from asked 0 ++ done_of asked ++ Flush ∷ []
-  rest_of (part.Have at) = haves_from asked at ++ done_of asked ++ Flush ∷ []
+  rest_of (part.First at) = firsts_from asked at ++ (haves_from asked 0 ++ (done_of asked ++ Flush ∷ []))
+  rest_of (part.Have at) = haves_from asked at ++ (done_of asked ++ Flush ∷ [])
   rest_of part.Done = done_of asked ++ Flush ∷ []
   rest_of part.Flush = Flush ∷ []
 

@@ -1,5 +1,5 @@
--- A turn of a client's conversation: its next request, and the effect of the reply (gitprotocol-v2(5), "Command
--- Request").
+-- A turn of a client's conversation: the client's next request, and the effect of the reply (gitprotocol-v2(5),
+-- "Command Request").
 use Rattle.std.specs.Prelude.{◌≡◌, List, [], ◌∷◌, Option, Ok}
 use Rattle.gname.specs.Names.{Name}
 use Rattle.gpkt.specs.Packets.{Packet}

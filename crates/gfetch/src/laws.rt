@@ -3,11 +3,12 @@
 
 ghost use Rattle.gfetch.specs.Laws.{DialoguesAreTurns};
 
-use ggraph::Indexer;
+use ggraph::KeepingIndexer;
 use std::alloc::Allocator;
 
 /// Proves that the messages and answers of a client's dialogue are a conversation: the
-/// advertisement, the requests of turns, the replies of these turns, and another request.
-pub fn dialogues_are_turns<A: Allocator + Copy, K: Indexer<A>>()
-    ensures { DialoguesAreTurns K.indexes K.index_fails }
+/// advertisement, the requests of turns, the replies of these turns, and another request. The
+/// indexer keeps each object that the graph gained.
+pub fn dialogues_are_turns<A: Allocator + Copy, K: KeepingIndexer<A>>()
+    ensures { DialoguesAreTurns K.indexes K.index_fails K.keeps }
 {}

@@ -1,9 +1,10 @@
 //! The client's end of Git's fetch service, protocol version 2, as a value that does no I/O
 //! (gitprotocol-v2(5)).
 //!
-//! A [`ClientSide`] owns a repository and a session that has begun. It receives the advertisement,
-//! and then the reply to each of its requests ([`Heard`]). Its answer to a message is the next
-//! request, or a lone flush packet that ends the connection ([`ClientReply`]).
+//! A [`ClientSide`] owns a repository and a session that has begun, and borrows an indexer. It
+//! receives the advertisement, and then the reply to each of its requests ([`Heard`]). Its answer
+//! to a message is the next request, or a lone flush packet that ends the connection
+//! ([`ClientReply`]).
 //!
 //! # Contracts
 //!
@@ -14,6 +15,9 @@
 //!   answer to an accepted message is the next request in its canonical encoding, or a lone flush
 //!   packet. The client sends nothing more if it rejects a message, or if memory runs out
 //!   (`AnswersMessage` in `specs/Fetching.antt`).
+//! - The indexer keeps each object that the repository gains, and still keeps all that it kept
+//!   before (`KeepsObjects` in `specs/Fetching.antt`). Only a reply to a request for objects changes
+//!   the indexer.
 //! - The messages and answers of a dialogue are turns of a conversation as `gclient` defines it
 //!   (`DialoguesAreTurns` in `specs/Laws.antt`).
 //! - Each dialogue ends: each further request for objects is a round of the session, and a session

@@ -9,15 +9,13 @@ ghost use Rattle.ghello.specs.Adverts as adverts;
 ghost use Rattle.glsreply.specs.LsReplies as ls;
 ghost use Rattle.glsreply.specs.steps.ReplyState.{Holds};
 ghost use Rattle.gfetchreply.specs.FetchReplies as fetch;
-ghost use Rattle.gfetchreply.specs.Views.{reading_in};
-ghost use Rattle.gfetchreply.specs.steps.ReplyState.{HoldsReply, kept_in};
 ghost use Rattle.grequest.specs.Asked.{Fetches, FetchAsked, Ls, LsRefsAsked};
+ghost use Rattle.gsession.specs.Readers.{HoldsObjects};
 ghost use Rattle.gsession.specs.Sessions.{IsBegun};
-ghost use Rattle.gsession.specs.TakingReplies.{reading_for};
-ghost use Rattle.gsession.specs.steps.Calls.{MayHaveFed};
+ghost use Rattle.gsession.specs.TakingReplies.{Awaits, reading_for};
 ghost use Rattle.gsession.specs.declared.stage.Stage.TheVariants.{Over};
 ghost use Rattle.gdialogue.specs.Sides.{MayAnswer, SaysExactly};
-ghost use Rattle.gfetch.specs.Fetching.{AcceptsReply, AnswersAdvert, DeclinesReply, GoesOn, MismatchesAdvert, client_of, messages_of};
+ghost use Rattle.gfetch.specs.Fetching.{AcceptsReply, AnswersAdvert, DeclinesReply, GoesOn, KeepsObjects, MismatchesAdvert, client_of, messages_of};
 ghost use Rattle.gfetch.specs.Saying.{reply_rest};
 ghost use Rattle.gfetch.specs.steps.Accepting.{AcceptsAdvert, AcceptsObjects, AcceptsRefs, IsReady, KeepsRest};
 
@@ -25,20 +23,19 @@ use crate::asking::ClientReply;
 use crate::heard::Heard;
 use gclientrepo::Repo;
 use gdialogue::{Answer, Side};
-use gfetchreply::FetchReader;
 use ggrammar::laws::grammars_are_exact;
 use ggrammar::{Message, MessageFault, Step, Why};
-use ggraph::Indexer;
+use ggraph::KeepingIndexer;
 use ghello::{Advert, AdvertReader};
 use glsreply::LsReplyReader;
 use gname::RefName;
-use gpkt::Packet;
 use grequest::Request;
-use gsession::{ClientFault, PackFeed, Session};
+use gsession::{ClientFault, ObjectsReader, Session};
 use std::alloc::Allocator;
 
 /// The client's end of a connection. The client receives the advertisement, and then the reply to
-/// each of its requests.
+/// each of its requests. The borrowed indexer reads the pack of a reply, and keeps the objects of an
+/// accepted pack.
 ///
 /// After the last reply, the client sends a lone flush packet, which ends the connection. If a
 /// message is refused or rejected, the client sends nothing more, and stores the fault.
@@ -46,7 +43,7 @@ use std::alloc::Allocator;
 pub struct ClientSide<'k, A: Allocator + Copy, K> {
     repo: Repo<A>,
     session: Session<A>,
-    indexer: &'k K,
+    indexer: &'k mut K,
     // The ref that the server's unborn `HEAD` points at, if a refspec fetches `HEAD`.
     unborn: Option<RefName<A>>,
     fault: Option<ClientFault<A>>,
@@ -55,10 +52,11 @@ pub struct ClientSide<'k, A: Allocator + Copy, K> {
 impl<'k, A: Allocator + Copy, K> ClientSide<'k, A, K> {
     /// Returns a client side that has received no message. The session must have begun on this
     /// repository, and must not have received an advertisement.
-    pub fn new(repo: Repo<A>, session: Session<A>, indexer: &'k K) -> ClientSide<'k, A, K>
+    pub fn new(repo: Repo<A>, session: Session<A>, indexer: &'k mut K) -> ClientSide<'k, A, K>
         ensures repo { result.repo ≡ repo }
         ensures session { result.session ≡ session }
-        ensures indexer { result.indexer.now ≡ indexer.now }
+        ensures indexer { result.indexer.now ≡ indexer.old }
+        ensures in_place { result.indexer.ghost_name ≡ indexer.entry.ghost_name }
         ensures unborn { result.unborn ≡ None }
         ensures fault { result.fault ≡ None }
     {
@@ -92,26 +90,32 @@ impl<'k, A: Allocator + Copy, K> ClientSide<'k, A, K> {
         self.fault.as_ref()
     }
 
-    /// Consumes the side. Returns the repository, the session, the target of the server's unborn
-    /// `HEAD`, and the fault that ended the conversation.
+    /// Consumes the side. Returns the repository, the session, the indexer, the target of the
+    /// server's unborn `HEAD`, and the fault that ended the conversation.
     pub fn into_parts(
         self,
     ) -> (
         Repo<A>,
         Session<A>,
+        &'k mut K,
         Option<RefName<A>>,
         Option<ClientFault<A>>,
     )
-        ensures { result ≡ (self.repo, self.session, self.unborn, self.fault) }
+        ensures repo { result.0 ≡ self.entry.repo }
+        ensures session { result.1 ≡ self.entry.session }
+        ensures indexer { result.2.now ≡ self.entry.indexer.now }
+        ensures in_place { result.2.ghost_name ≡ self.entry.indexer.ghost_name }
+        ensures unborn { result.3 ≡ self.entry.unborn }
+        ensures fault { result.4 ≡ self.entry.fault }
     {
         let ClientSide {
             repo,
             session,
-            indexer: _,
+            indexer,
             unborn,
             fault,
         } = self;
-        (repo, session, unborn, fault)
+        (repo, session, indexer, unborn, fault)
     }
 
     // Stores the fault, and ends the conversation without a further packet.
@@ -119,7 +123,6 @@ impl<'k, A: Allocator + Copy, K> ClientSide<'k, A, K> {
         ensures fault { self.new.fault ≡ Some fault }
         ensures stays { KeepsRest self.old self.new }
         ensures session { self.new.session ≡ self.old.session }
-        ensures repo { self.new.repo ≡ self.old.repo }
         ensures unborn { self.new.unborn ≡ self.old.unborn }
         ensures silent { result ≡ Answer.Last ClientReply.Silence }
     {
@@ -131,7 +134,6 @@ impl<'k, A: Allocator + Copy, K> ClientSide<'k, A, K> {
     fn accept_advert(&mut self, advert: &Advert<A>) -> Result<(), ClientFault<A>>
         ensures accepts { AcceptsAdvert self.old.session advert.now self.new.session result }
         ensures stays { KeepsRest self.old self.new }
-        ensures repo { self.new.repo ≡ self.old.repo }
         ensures unborn { self.new.unborn ≡ self.old.unborn }
         ensures fault { self.new.fault ≡ self.old.fault }
     {
@@ -146,7 +148,7 @@ impl<'k, A: Allocator + Copy, K> ClientSide<'k, A, K> {
         ensures accepts { (asked : LsRefsAsked) (lines : List Packet)
             → self.old.session.pending ≡ Some (Ls asked) → Holds reader lines
             → IsWhole (ls.judge self.old.session.format self.old.session.ends) lines
-            → AcceptsRefs asked (client_of self.old) lines (client_of self.new) result }
+            → AcceptsRefs (client_of self.old) lines (client_of self.new) result }
         ensures ready { IfOk result (λ done. IsReady self.old.session self.new.session) }
         ensures stays { KeepsRest self.old self.new }
         ensures fault { self.new.fault ≡ self.old.fault }
@@ -165,29 +167,23 @@ impl<'k, A: Allocator + Copy, K> ClientSide<'k, A, K> {
     }
 }
 
-impl<'k, A: Allocator + Copy, K: Indexer<A>> ClientSide<'k, A, K> {
-    // Applies the reply to a fetch request.
-    fn accept_objects(
-        &mut self,
-        reader: FetchReader<PackFeed<'k, K, A>, A>,
-    ) -> Result<(), ClientFault<A>>
+impl<'k, A: Allocator + Copy, K: KeepingIndexer<A>> ClientSide<'k, A, K> {
+    // Applies the reply to a request for objects.
+    fn accept_objects(&mut self, reader: ObjectsReader<K::Feed, A>) -> Result<(), ClientFault<A>>
         ensures accepts { (asked : FetchAsked) (lines : List Packet)
-            → self.old.session.pending ≡ Some (Fetches asked)
-            → reading_in reader.reading ≡ reading_for self.old.session asked
-            → reader.sink.indexer.now ≡ self.old.indexer.now
-            → HoldsReply (λ feed bytes. MayHaveFed (K.fed feed.indexer.now)
-            (K.index_fails feed.indexer.now) feed.feed bytes)
-            (λ one other. one.indexer.now ≡ other.indexer.now) (reading_in reader.reading)
-            (kept_in reader.sections) reader.sink lines
+            → Awaits self.old.session asked
+            → HoldsObjects K.fed K.index_fails (reading_for self.old.session asked) reader lines
             → IsWhole (fetch.judge (reading_for self.old.session asked)) lines
-            → AcceptsObjects (K.indexes self.old.indexer.now) (K.index_fails self.old.indexer.now)
-            asked (client_of self.old) lines (client_of self.new) result }
+            → AcceptsObjects K.indexes K.index_fails asked (client_of self.old) lines
+            (client_of self.new) result }
         ensures ready { IfOk result (λ done. IsReady self.old.session self.new.session) }
-        ensures stays { KeepsRest self.old self.new }
+        ensures keeps { KeepsObjects K.keeps self.old self.new }
         ensures fault { self.new.fault ≡ self.old.fault }
     {
-        let (head, feed) = reader.finish();
-        match self.session.accept_objects(&mut self.repo, head, feed) {
+        match self
+            .session
+            .accept_objects(&mut self.repo, &mut *self.indexer, reader)
+        {
             Ok(_taken) => Ok(()),
             Err(fault) => Err(fault),
         }
@@ -216,9 +212,9 @@ impl<'k, A: Allocator + Copy, K: Indexer<A>> ClientSide<'k, A, K> {
             → self.old.session.pending ≡ Some (Ls asked) → Holds reader lines
             → IsWhole (ls.judge self.old.session.format self.old.session.ends) lines
             → MayAnswer (SaysExactly reply_rest) result said goes
-            → AcceptsReply (K.indexes self.old.indexer.now) (K.index_fails self.old.indexer.now)
+            → AcceptsReply K.indexes K.index_fails
             (Ls asked) self.old self.new lines said goes
-            ⊎ DeclinesReply (K.indexes self.old.indexer.now) (K.index_fails self.old.indexer.now)
+            ⊎ DeclinesReply K.indexes K.index_fails
             (Ls asked) self.old self.new lines said goes }
         ensures fewer { (reply : ClientReply A) → result ≡ Answer.GoesOn reply
             → messages_of self.new.session < messages_of self.old.session }
@@ -230,28 +226,19 @@ impl<'k, A: Allocator + Copy, K: Indexer<A>> ClientSide<'k, A, K> {
         }
     }
 
-    // Answers the reply to a fetch request.
-    fn answer_objects(
-        &mut self,
-        reader: FetchReader<PackFeed<'k, K, A>, A>,
-    ) -> Answer<ClientReply<A>>
+    // Answers the reply to a request for objects.
+    fn answer_objects(&mut self, reader: ObjectsReader<K::Feed, A>) -> Answer<ClientReply<A>>
         ensures answers { (asked : FetchAsked) (lines said : List Packet) (goes : Bool)
-            → self.old.session.pending ≡ Some (Fetches asked)
-            → reading_in reader.reading ≡ reading_for self.old.session asked
-            → reader.sink.indexer.now ≡ self.old.indexer.now
-            → HoldsReply (λ feed bytes. MayHaveFed (K.fed feed.indexer.now)
-            (K.index_fails feed.indexer.now) feed.feed bytes)
-            (λ one other. one.indexer.now ≡ other.indexer.now) (reading_in reader.reading)
-            (kept_in reader.sections) reader.sink lines
+            → Awaits self.old.session asked
+            → HoldsObjects K.fed K.index_fails (reading_for self.old.session asked) reader lines
             → IsWhole (fetch.judge (reading_for self.old.session asked)) lines
             → MayAnswer (SaysExactly reply_rest) result said goes
-            → AcceptsReply (K.indexes self.old.indexer.now) (K.index_fails self.old.indexer.now)
-            (Fetches asked) self.old self.new lines said goes
-            ⊎ DeclinesReply (K.indexes self.old.indexer.now) (K.index_fails self.old.indexer.now)
-            (Fetches asked) self.old self.new lines said goes }
+            → AcceptsReply K.indexes K.index_fails (Fetches asked) self.old self.new lines said goes
+            ⊎ DeclinesReply K.indexes K.index_fails (Fetches asked) self.old self.new lines said
+            goes }
         ensures fewer { (reply : ClientReply A) → result ≡ Answer.GoesOn reply
             → messages_of self.new.session < messages_of self.old.session }
-        ensures stays { KeepsRest self.old self.new }
+        ensures keeps { KeepsObjects K.keeps self.old self.new }
     {
         match self.accept_objects(reader) {
             Ok(()) => self.ask_next(),
@@ -283,9 +270,8 @@ impl<'k, A: Allocator + Copy, K: Indexer<A>> ClientSide<'k, A, K> {
     }
 }
 
-impl<'k, A: Allocator + Copy, K: Indexer<A>> Side<Heard<A, PackFeed<'k, K, A>>, ClientReply<A>>
+impl<'k, A: Allocator + Copy, K: KeepingIndexer<A>> Side<Heard<A, K::Feed>, ClientReply<A>>
     for ClientSide<'k, A, K> {
-    ghost use Rattle.gsession.specs.steps.Calls.{MayHaveFed};
     ghost use Rattle.gfetch.specs.Fetching.{AnswersMessage, OpensFresh, RefusesMessage, messages_of};
     ghost use Rattle.gfetch.specs.Heard.{HearsAfter, session_brings, session_judge};
 
@@ -293,45 +279,41 @@ impl<'k, A: Allocator + Copy, K: Indexer<A>> Side<Heard<A, PackFeed<'k, K, A>>, 
 
     ghost brings = { λ side. session_brings side.session };
 
-    ghost hears = { λ side message packets. HearsAfter side.session
-        (λ feed bytes. MayHaveFed (K.fed feed.indexer.now) (K.index_fails feed.indexer.now) feed.feed
-        bytes)
-        (λ one other. one.indexer.now ≡ other.indexer.now)
-        (λ feed. feed.indexer.now ≡ side.indexer.now) side.session.pending message packets };
+    ghost hears = { λ side message packets.
+        HearsAfter side.session K.fed K.index_fails side.session.pending message packets };
 
     ghost opens = { OpensFresh };
 
-    ghost answers = { AnswersMessage K.indexes K.index_fails };
+    ghost answers = { AnswersMessage K.indexes K.index_fails K.keeps };
 
     ghost refuses = { RefusesMessage };
 
     ghost messages = { λ side. messages_of side.session };
 
-    fn message(&self) -> Heard<A, PackFeed<'k, K, A>> {
+    fn message(&self) -> Heard<A, K::Feed> {
         if let Some(reader) = self.session.refs_reader() {
             return Heard::Refs(reader);
         }
-        match self.session.objects_reader(self.indexer) {
+        match self.session.objects_reader(&*self.indexer) {
             Some(reader) => Heard::Objects(reader),
             None => Heard::Advert(AdvertReader::new(self.repo.graph().allocator())),
         }
     }
 
-    fn hear(
-        &self,
-        message: &mut Heard<A, PackFeed<'k, K, A>>,
-        line: Packet<'_>,
-    ) -> Result<Step, Why> {
+    fn hear(&self, message: &mut Heard<A, K::Feed>, line: gpkt::Packet<'_>) -> Result<Step, Why> {
         match message {
             Heard::Advert(reader) => reader.accept_packet(line),
             Heard::Refs(reader) => reader.hear_packet(line),
-            Heard::Objects(reader) => reader.hear_packet(line),
+            Heard::Objects(reader) => reader.hear_packet(&*self.indexer, line),
         }
     }
 
-    fn answer(&mut self, message: Heard<A, PackFeed<'k, K, A>>) -> Answer<ClientReply<A>> {
+    fn answer(&mut self, message: Heard<A, K::Feed>) -> Answer<ClientReply<A>> {
         match message {
-            Heard::Advert(reader) => self.answer_advert(&reader.finish()),
+            Heard::Advert(reader) => {
+                let advert = reader.finish();
+                self.answer_advert(&advert)
+            }
             Heard::Refs(reader) => self.answer_refs(reader),
             Heard::Objects(reader) => self.answer_objects(reader),
         }

@@ -4,18 +4,19 @@ use Rattle.gpkt.specs.Packets.{Packet}
 use Rattle.ggrammar.specs.Capabilities.{Capability}
 use Rattle.ghello.specs.Offers.{check_fault}
 use Rattle.gobject.specs.Packs.{Indexes, IndexFails}
-use Rattle.grequest.specs.Asked.{FetchAsked, Fetches, Ls, LsRefsAsked}
+use Rattle.grequest.specs.Asked.{FetchAsked, Fetches}
 use Rattle.gsession.specs.Sessions.{SessionState, IsBegun, over, tells_unborn}
 use Rattle.gsession.specs.declared.fault.ClientFault.{ClientFault}
 use Rattle.gsession.specs.declared.fault.ClientFault.TheVariants as client
 use Rattle.gsession.specs.declared.stage.Stage.TheVariants.{Over}
-use Rattle.gfetch.specs.Fetching.{IsDeclined, messages_of}
+use Rattle.gfetch.specs.Fetching.{AreDeclinedRefs, IsDeclined, KeepsIndexer, messages_of}
 use Rattle.gfetch.specs.Turns.{ClientState, TakesObjects, TakesRefs}
 use Rattle.gfetch.specs.declared.side.ClientSide.{ClientSide}
 
--- the indexer stays the same
-abbrev pub KeepsRest : {A K : Type 0} → ClientSide A K → ClientSide A K → Type 0
-KeepsRest old new = new.indexer.now ≡ old.indexer.now
+-- the indexer and the repository are unchanged
+pub record KeepsRest {A K : Type 0} (old new : ClientSide A K) : Type 0 where
+  pub indexer : KeepsIndexer old new
+  pub repo : new.repo ≡ old.repo
 
 -- the session is ready for its next request or for its end, and not more messages remain than before
 pub record IsReady {A : Type 0} (old new : SessionState A) : Type 0 where
@@ -50,16 +51,15 @@ module _ {A : Type 0} (indexes : Indexes A) (index_fails : IndexFails) where
   AcceptsObjects asked old lines new (Err cause) = Declines asked old lines new cause
 
 -- the client rejects the refs of a complete reply; the fault ends the session
-pub record DeclinesRefs {A : Type 0} (asked : LsRefsAsked) (old : ClientState A) (lines : List Packet)
+pub record DeclinesRefs {A : Type 0} (old : ClientState A) (lines : List Packet)
     (new : ClientState A) (cause : ClientFault A) : Type 0 where
-  pub declined : (indexes : Indexes A) (index_fails : IndexFails)
-      → IsDeclined indexes index_fails old.session (Ls asked) old.repo lines cause
+  pub declined : AreDeclinedRefs old.session old.repo lines cause
   pub session : new.session ≡ over old.session
   pub repo : new.repo ≡ old.repo
   pub unborn : new.unborn ≡ old.unborn
 
 -- the result of applying a complete reply to an ls-refs request
-abbrev pub AcceptsRefs : {A : Type 0} → LsRefsAsked → ClientState A → List Packet → ClientState A
+abbrev pub AcceptsRefs : {A : Type 0} → ClientState A → List Packet → ClientState A
     → Result (Unit {0}) (ClientFault A) → Type 0
-AcceptsRefs asked old lines new (Ok done) = TakesRefs old.session old lines new
-AcceptsRefs asked old lines new (Err cause) = DeclinesRefs asked old lines new cause
+AcceptsRefs old lines new (Ok done) = TakesRefs old.session old lines new
+AcceptsRefs old lines new (Err cause) = DeclinesRefs old lines new cause

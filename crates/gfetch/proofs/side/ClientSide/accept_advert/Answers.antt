@@ -1,5 +1,5 @@
 use Rattle.gfetch.proofs.SideLemmas.{advert_heard}
-use Rattle.std.proofs.Common.{◌≡◌, None, sym, subst, Some, ◌∙◌, ap}
+use Rattle.std.proofs.Common.{◌≡◌, None, subst}
 use Rattle.ghello.specs.Offers.{check_fault}
 use Rattle.gfetch.proofs.side.ClientSide.accept_advert.Goals as goal
 
