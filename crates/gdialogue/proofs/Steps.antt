@@ -2,15 +2,14 @@
 use Rattle.std.proofs.Common.{◌≡◌, ℕ, ◌+◌, ◌<◌, ◌^◌, Bool, true, false, List, [], ◌∷◌, ◌++◌, length, Option, Some, None, Result, Ok, Err, refl, sym, ap, ◌∙◌, subst, append-nil, append_assoc}
 use Rattle.std.proofs.lemmas.List.{length_push}
 use Rattle.gpkt.specs.Packets.{Bytes, Packet}
-use Rattle.ggrammar.specs.Grammar.{Judge, LawsOf, Whole, IsOpen, IsWhole}
-use Rattle.ggrammar.specs.MessageReading.{IsReason, TakesPacket}
+use Rattle.ggrammar.specs.Grammar.{Judge, LawsOf, IsOpen, IsWhole}
 use Rattle.ggrammar.specs.declared.message.Step.{Step}
 use Rattle.ggrammar.specs.declared.message.Step.TheVariants as step
 use Rattle.ggrammar.specs.declared.fault.Why.{Why}
 use Rattle.ggrammar.specs.declared.fault.MessageFault.{MessageFault}
 use Rattle.gtalk.specs.Talks.{Talk, Says, talk_after, no_talk, stop_talk}
 use Rattle.gtalk.specs.declared.conversation.Stop.{Stop}
-use Rattle.gdialogue.specs.Sides.{LeadsTo, MayAnswer, SaysSome}
+use Rattle.gdialogue.specs.Sides.{HearsPacket, LeadsTo, MayAnswer, SaysSome}
 use Rattle.gdialogue.specs.declared.side.Said.{Said}
 use Rattle.gdialogue.specs.declared.side.Said.TheVariants as said
 use Rattle.gdialogue.specs.declared.side.Answer.{Answer}
@@ -22,19 +21,19 @@ use Rattle.gdialogue.specs.declared.dialogue.DialogueStage.TheVariants as stage
 
 module _ {S M R : Type 0} (judge : S → Judge) (brings : S → List Packet → Packet → Bool)
     (opens : S → List Packet → Bool → Type 0) (answers : S → List Packet → List Packet → Bool → S → Type 0)
-    (refuses : S → MessageFault → List Packet → S → Type 0) (judge_of : M → Judge) (brings_of : M → List Packet → Packet → Bool)
-    (message_holds left : M → List Packet → Type 0) (may : R → List Packet → Bool → Type 0) where
+    (refuses : S → MessageFault → List Packet → S → Type 0) (hears : S → M → List Packet → Type 0)
+    (may : R → List Packet → Bool → Type 0) where
   abbrev Hearing : S → M → ℕ → Talk → Type 0
-  Hearing = HoldsHearing judge brings opens answers refuses judge_of brings_of message_holds may
+  Hearing = HoldsHearing judge brings opens answers refuses hears may
 
   abbrev Saying : S → R → Talk → Type 0
-  Saying = HoldsSaying judge brings opens answers refuses judge_of brings_of message_holds may
+  Saying = HoldsSaying judge brings opens answers refuses hears may
 
   abbrev Ending : S → R → Talk → Type 0
-  Ending = HoldsEnding judge brings opens answers refuses judge_of brings_of message_holds may
+  Ending = HoldsEnding judge brings opens answers refuses hears may
 
   abbrev Stands : S → DialogueStage M R → Talk → Type 0
-  Stands = HoldsStage judge brings opens answers refuses judge_of brings_of message_holds may
+  Stands = HoldsStage judge brings opens answers refuses hears may
 
   abbrev SoFar : S → Bool → List Packet → Option Stop → List Packet → S → Type 0
   SoFar = IsSoFar judge brings opens answers refuses
@@ -42,37 +41,30 @@ module _ {S M R : Type 0} (judge : S → Judge) (brings : S → List Packet → 
   abbrev Ended : S → List Packet → Option Stop → List Packet → S → Type 0
   Ended = HasEnded judge brings opens answers refuses
 
-  pub begins : (side : S) (message : M) → message_holds message [] → judge_of message ≡ judge side → brings_of message ≡ brings side
+  pub begins : (side : S) (message : M) → hears side message []
       → LawsOf (judge side) → opens side [] true → Hearing side message 0 no_talk
-  begins side message held judged brought laws opened = record {
+  begins side message held laws opened = record {
     first = side;
     heard = [];
     answered = dialogue.Answered.opened [] opened;
     front = [];
     all = refl;
-    judged = judged;
-    brought = brought;
     goes = laws.nothing;
     held = held;
     count = refl;
     unstopped = refl;
   }
 
-  -- the contract of a message that receives a packet, for every list of earlier packets
-  abbrev Takes : M → M → Packet → Result Step Why → Type 0
-  Takes message new packet result = (front : List Packet) → IsOpen (judge_of message) front → message_holds message front
-      → TakesPacket (judge_of message) (brings_of message) message_holds left front packet new result
-
-  open_there : (side : S) (message : M) (frame : ℕ) (talk : Talk) (h : Hearing side message frame talk)
-      → IsOpen (judge_of message) h.front
-  open_there side message frame talk h = subst (λ j. IsOpen j h.front) (sym h.judged) h.goes
+  -- the contract of a side that adds a packet to a message, for every list of earlier packets
+  abbrev Takes : S → M → M → Packet → Result Step Why → Type 0
+  Takes side message new packet result = (front : List Packet) → IsOpen (judge side) front → hears side message front
+      → HearsPacket (judge side) (brings side) (hears side) front packet new result
 
   taken : (side : S) (message new : M) (frame : ℕ) (packet : Packet) (result other : Result Step Why) (talk : Talk)
-      → Takes message new packet result → result ≡ other → (h : Hearing side message frame talk)
-      → TakesPacket (judge_of message) (brings_of message) message_holds left h.front packet new other
+      → Takes side message new packet result → result ≡ other → (h : Hearing side message frame talk)
+      → HearsPacket (judge side) (brings side) (hears side) h.front packet new other
   taken side message new frame packet result other talk takes is h =
-      subst (TakesPacket (judge_of message) (brings_of message) message_holds left h.front packet new) is
-      (takes h.front (open_there side message frame talk h) h.held)
+      subst (HearsPacket (judge side) (brings side) (hears side) h.front packet new) is (takes h.front h.goes h.held)
 
   -- the received packets, with one more packet, end with the packets of the current message
   with_packet : (side : S) (message : M) (frame : ℕ) (packet : Packet) (talk : Talk) (h : Hearing side message frame talk)
@@ -81,43 +73,31 @@ module _ {S M R : Type 0} (judge : S → Judge) (brings : S → List Packet → 
       ap (λ l. l ++ packet ∷ []) h.all ∙ append_assoc h.heard h.front (packet ∷ [])
 
   pub goes_on_hearing : (side : S) (message new : M) (frame next : ℕ) (packet : Packet) (result : Result Step Why)
-      → ((j : Judge) → LawsOf j) → judge_of new ≡ judge_of message → brings_of new ≡ brings_of message
-      → Takes message new packet result → result ≡ Ok step.Open
-      → ((front : List Packet) → IsOpen (judge_of message) front → length front < 2 ^ 60)
+      → ((j : Judge) → LawsOf j) → Takes side message new packet result → result ≡ Ok step.Open
+      → ((front : List Packet) → IsOpen (judge side) front → length front < 2 ^ 60)
       → (frame < 2 ^ 60 → next ≡ frame + 1)
       → (talk : Talk) → Hearing side message frame talk → Hearing side new next (talk_after talk packet)
-  goes_on_hearing side message new frame next packet result laws judged brought takes is bounded counts talk h =
+  goes_on_hearing side message new frame next packet result laws takes is bounded counts talk h =
       let t = taken side message new frame packet result (Ok step.Open) talk takes is h in
-      let there = open_there side message frame talk h in
-      let few : frame < 2 ^ 60 = subst (λ n. n < 2 ^ 60) (sym h.count) (bounded h.front there) in
+      let few : frame < 2 ^ 60 = subst (λ n. n < 2 ^ 60) (sym h.count) (bounded h.front h.goes) in
       record {
         first = h.first;
         heard = h.heard;
         answered = h.answered;
         front = h.front ++ packet ∷ [];
         all = with_packet side message frame packet talk h;
-        judged = judged ∙ h.judged;
-        brought = brought ∙ h.brought;
-        goes = subst (λ j. IsOpen j (h.front ++ packet ∷ [])) h.judged ((laws (judge_of message)).goes_on h.front packet there t.0);
+        goes = (laws (judge side)).goes_on h.front packet h.goes t.0;
         held = t.1;
         count = counts few ∙ ap (λ n. n + 1) h.count ∙ sym (length_push h.front packet);
         unstopped = h.unstopped;
       }
 
   whole_message : (side : S) (message new : M) (frame : ℕ) (packet : Packet) (result : Result Step Why) (talk : Talk)
-      → Takes message new packet result → result ≡ Ok step.Whole → (h : Hearing side message frame talk)
-      → IsWhole (judge side) (h.front ++ packet ∷ []) × message_holds new (h.front ++ packet ∷ [])
+      → Takes side message new packet result → result ≡ Ok step.Whole → (h : Hearing side message frame talk)
+      → IsWhole (judge side) (h.front ++ packet ∷ []) × hears side new (h.front ++ packet ∷ [])
   whole_message side message new frame packet result talk takes is h =
-      let t = taken side message new frame packet result (Ok step.Whole) talk takes is h in (
-        record {
-          front = h.front;
-          last = packet;
-          parts = refl;
-          goes = h.goes;
-          ends = subst (λ j. j h.front packet ≡ Whole) h.judged t.0;
-        },
-        t.1,
-      )
+      let t = taken side message new frame packet result (Ok step.Whole) talk takes is h in
+      (record { front = h.front; last = packet; parts = refl; goes = h.goes; ends = t.0 }, t.1)
 
   -- if `opens` allows all packets that may complete this reply, a new dialogue may send the reply first
   pub opens_with : (side : S) (reply : R) → ((packets : List Packet) (goes : Bool) → may reply packets goes → opens side packets goes)
@@ -130,8 +110,8 @@ module _ {S M R : Type 0} (judge : S → Judge) (brings : S → List Packet → 
 
   -- the contract of a side that answers a message
   abbrev AnswersIt : S → M → Answer R → S → Type 0
-  AnswersIt side message result after = (lines packets : List Packet) (goes : Bool) → judge_of message ≡ judge side
-      → IsWhole (judge side) lines → message_holds message lines
+  AnswersIt side message result after = (lines packets : List Packet) (goes : Bool)
+      → IsWhole (judge side) lines → hears side message lines
       → MayAnswer may result packets goes → answers side lines packets goes after
 
   -- equal lists of packets and equal stop reasons describe the same ending of a dialogue
@@ -156,30 +136,30 @@ module _ {S M R : Type 0} (judge : S → Judge) (brings : S → List Packet → 
       (dialogue.HasEnded.last heard packets lines rest side after so_far whole says)
 
   pub answers_message : (side after : S) (message new : M) (frame : ℕ) (packet : Packet) (result : Result Step Why) (answered : Answer R) (reply : R)
-      → Takes message new packet result → judge_of new ≡ judge_of message → result ≡ Ok step.Whole → AnswersIt side new answered after → answered ≡ answer.GoesOn reply
+      → Takes side message new packet result → result ≡ Ok step.Whole → AnswersIt side new answered after → answered ≡ answer.GoesOn reply
       → (talk : Talk) → Hearing side message frame talk → Saying after reply (talk_after talk packet)
-  answers_message side after message new frame packet result answered reply takes stays is does same talk h =
+  answers_message side after message new frame packet result answered reply takes is does same talk h =
       let w = whole_message side message new frame packet result talk takes is h in
       let lines = h.front ++ packet ∷ [] in
       record {
         first = h.first;
         due = λ rest goes may_say.
             answered_so side after h.first h.heard lines talk.said rest (talk.heard ++ packet ∷ []) talk.stopped goes h.answered w.0
-            (does lines rest goes (stays ∙ h.judged) w.0 w.1 (subst (λ a. MayAnswer may a rest goes) (sym same) may_say))
+            (does lines rest goes w.0 w.1 (subst (λ a. MayAnswer may a rest goes) (sym same) may_say))
             (with_packet side message frame packet talk h) h.unstopped;
       }
 
   pub answers_last : (side after : S) (message new : M) (frame : ℕ) (packet : Packet) (result : Result Step Why) (answered : Answer R) (reply : R)
-      → Takes message new packet result → judge_of new ≡ judge_of message → result ≡ Ok step.Whole → AnswersIt side new answered after → answered ≡ answer.Last reply
+      → Takes side message new packet result → result ≡ Ok step.Whole → AnswersIt side new answered after → answered ≡ answer.Last reply
       → (talk : Talk) → Hearing side message frame talk → Ending after reply (talk_after talk packet)
-  answers_last side after message new frame packet result answered reply takes stays is does same talk h =
+  answers_last side after message new frame packet result answered reply takes is does same talk h =
       let w = whole_message side message new frame packet result talk takes is h in
       let lines = h.front ++ packet ∷ [] in
       record {
         first = h.first;
         due = λ rest goes may_say.
             answered_so side after h.first h.heard lines talk.said rest (talk.heard ++ packet ∷ []) talk.stopped false h.answered w.0
-            (does lines rest false (stays ∙ h.judged) w.0 w.1 (subst (λ a. MayAnswer may a rest false) (sym same) (refl, (goes, may_say))))
+            (does lines rest false w.0 w.1 (subst (λ a. MayAnswer may a rest false) (sym same) (refl, (goes, may_say))))
             (with_packet side message frame packet talk h) h.unstopped;
       }
 
@@ -199,18 +179,15 @@ module _ {S M R : Type 0} (judge : S → Judge) (brings : S → List Packet → 
       (subst (λ n. refuses side (record { frame = n; why = why }) rest after) h.count says))
 
   pub refuses_packet : (side after : S) (message new : M) (frame : ℕ) (packet : Packet) (result : Result Step Why) (why : Why) (reply : R)
-      → Takes message new packet result → result ≡ Err why → RefusesIt side (record { frame = frame; why = why }) reply after
+      → Takes side message new packet result → result ≡ Err why → RefusesIt side (record { frame = frame; why = why }) reply after
       → (talk : Talk) → Hearing side message frame talk → Ending after reply (talk_after talk packet)
   refuses_packet side after message new frame packet result why reply takes is says talk h =
       let t = taken side message new frame packet result (Err why) talk takes is h in
-      let reason : IsReason (judge side h.front packet) (brings side h.front packet) why =
-      subst (λ b. IsReason (judge side h.front packet) (b h.front packet) why) h.brought
-      (subst (λ j. IsReason (j h.front packet) (brings_of message h.front packet) why) h.judged t.0) in
       record {
         first = h.first;
         due = λ rest goes may_say.
             refuses_so side after message frame rest (h.front ++ packet ∷ []) (talk.heard ++ packet ∷ []) None talk.stopped why talk h (says rest goes may_say)
-            (dialogue.packet h.front packet why h.goes reason) (with_packet side message frame packet talk h) h.unstopped;
+            (dialogue.packet h.front packet why h.goes t.0) (with_packet side message frame packet talk h) h.unstopped;
       }
 
   pub refuses_stop : (side after : S) (message : M) (frame : ℕ) (stop : Stop) (reply : R)
@@ -263,9 +240,9 @@ module _ {S M R : Type 0} (judge : S → Judge) (brings : S → List Packet → 
 
   -- the reply is complete, and the next message is expected
   pub hears_next : (side : S) (message : M) (old new : R) (out : Bytes) (result : Said) → Led old new out result → result ≡ said.Whole
-      → message_holds message [] → judge_of message ≡ judge side → brings_of message ≡ brings side → LawsOf (judge side)
+      → hears side message [] → LawsOf (judge side)
       → (talk : Talk) → Saying side old talk → Says (Stands side (stage.Hears message 0)) talk out
-  hears_next side message old new out result says is held judged brought laws talk h =
+  hears_next side message old new out result says is held laws talk h =
       let so_far = h.due says.said true (led_to old new out result said.Whole says is) in
       record {
         more = says.said;
@@ -276,8 +253,6 @@ module _ {S M R : Type 0} (judge : S → Judge) (brings : S → List Packet → 
           answered = so_far.0;
           front = [];
           all = sym (append-nil talk.heard);
-          judged = judged;
-          brought = brought;
           goes = laws.nothing;
           held = held;
           count = refl;

@@ -75,8 +75,7 @@ module _ {S : Type 0} (judge : S → Judge) (brings : S → List Packet → Pack
   IsSoFar first true heard stop said side = Answered first heard said side × (stop ≡ None)
   IsSoFar first false heard stop said side = HasEnded first heard stop said side
 
-  module _ {M R : Type 0} (judge_of : M → Judge) (brings_of : M → List Packet → Packet → Bool)
-      (message_holds : M → List Packet → Type 0) (may : R → List Packet → Bool → Type 0) where
+  module _ {M R : Type 0} (hears : S → M → List Packet → Type 0) (may : R → List Packet → Bool → Type 0) where
     -- this end is receiving a message, and has answered all earlier messages
     pub record HoldsHearing (side : S) (message : M) (frame : ℕ) (talk : Talk) : Type 0 where
       pub first : S
@@ -84,10 +83,8 @@ module _ {S : Type 0} (judge : S → Judge) (brings : S → List Packet → Pack
       pub answered : Answered first heard talk.said side
       pub front : List Packet
       pub all : talk.heard ≡ heard ++ front
-      pub judged : judge_of message ≡ judge side
-      pub brought : brings_of message ≡ brings side
       pub goes : IsOpen (judge side) front
-      pub held : message_holds message front
+      pub held : hears side message front
       pub count : frame ≡ length front
       pub unstopped : talk.stopped ≡ None
 

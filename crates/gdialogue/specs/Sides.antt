@@ -1,10 +1,20 @@
--- The packets that one end of a dialogue sends.
-use Rattle.std.specs.Prelude.{◌≡◌, Bool, true, false, List, [], ◌++◌}
+-- The packets that one end of a dialogue receives and sends.
+use Rattle.std.specs.Prelude.{◌≡◌, Bool, true, false, List, [], ◌++◌, Result}
 use Rattle.gpkt.specs.Packets.{Bytes, Packet, canonical_all}
+use Rattle.ggrammar.specs.Grammar.{Judge}
+use Rattle.ggrammar.specs.MessageReading.{TakesPacket}
+use Rattle.ggrammar.specs.declared.fault.Why.{Why}
+use Rattle.ggrammar.specs.declared.message.Step.{Step}
 use Rattle.gdialogue.specs.declared.side.Answer.{Answer}
 use Rattle.gdialogue.specs.declared.side.Answer.TheVariants as answer
 use Rattle.gdialogue.specs.declared.side.Said.{Said}
 use Rattle.gdialogue.specs.declared.side.Said.TheVariants.{More, Whole, Last}
+
+-- the message accepts or rejects the packet according to the judge; after a rejection, nothing is known of the message
+abbrev pub HearsPacket : {M : Type 0} → Judge → (List Packet → Packet → Bool) → (M → List Packet → Type 0)
+    → List Packet → Packet → M → Result Step Why → Type 0
+HearsPacket judge brings hears front packet new result =
+    TakesPacket judge brings hears (λ message packets. Unit {0}) front packet new result
 
 -- a reply with known packets sends exactly the remaining packets, and then the dialogue continues
 abbrev pub SaysExactly : {R : Type 0} → (R → List Packet) → R → List Packet → Bool → Type 0

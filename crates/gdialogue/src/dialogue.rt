@@ -9,7 +9,7 @@ ghost use Rattle.gdialogue.specs.declared.dialogue.DialogueStage.TheVariants as 
 
 use crate::side::{Answer, Reply, Said, Side};
 use ggrammar::laws::grammars_are_exact;
-use ggrammar::{Message, MessageFault, Step, Why};
+use ggrammar::{MessageFault, Step, Why};
 use gpkt::PacketFault;
 use gtalk::{Conversation, Outgoing, Stop, Turn};
 use std::alloc::Allocator;
@@ -61,11 +61,11 @@ impl<S, M, R> Dialogue<S, M, R> {
     }
 }
 
-impl<S: Side<M, R>, M: Message + Drop, R: Reply + Drop> Dialogue<S, M, R> {
+impl<S: Side<M, R>, M: Drop, R: Reply + Drop> Dialogue<S, M, R> {
     /// Returns a dialogue in which the other end sends the first message.
     pub fn new(side: S) -> Dialogue<S, M, R>
         ensures holds { S.opens side [] true
-            → Holds S.judge S.brings S.opens S.answers S.refuses M.judge M.brings M.holds R.may result no_talk }
+            → Holds S.judge S.brings S.opens S.answers S.refuses S.hears R.may result no_talk }
         ensures side { result.side ≡ side }
     {
         // Laws that the proof uses.
@@ -80,7 +80,7 @@ impl<S: Side<M, R>, M: Message + Drop, R: Reply + Drop> Dialogue<S, M, R> {
     /// Returns a dialogue in which this end first sends `reply`.
     pub fn speak_first(side: S, reply: R) -> Dialogue<S, M, R>
         ensures holds { ((said : List Packet) (goes : Bool) → R.may reply said goes → S.opens side said goes)
-            → Holds S.judge S.brings S.opens S.answers S.refuses M.judge M.brings M.holds R.may result no_talk }
+            → Holds S.judge S.brings S.opens S.answers S.refuses S.hears R.may result no_talk }
         ensures side { result.side ≡ side }
     {
         Dialogue {
@@ -97,20 +97,20 @@ impl<S: Side<M, R>, M: Message + Drop, R: Reply + Drop> Dialogue<S, M, R> {
         line: gpkt::Packet<'_>,
     ) -> DialogueStage<M, R>
         ensures heard { (talk : Talk)
-            → HoldsHearing S.judge S.brings S.opens S.answers S.refuses M.judge M.brings M.holds R.may
+            → HoldsHearing S.judge S.brings S.opens S.answers S.refuses S.hears R.may
             self.old.side message frame talk
-            → HoldsStage S.judge S.brings S.opens S.answers S.refuses M.judge M.brings M.holds R.may
+            → HoldsStage S.judge S.brings S.opens S.answers S.refuses S.hears R.may
             self.new.side result (talk_after talk (packet_of line.entry)) }
         ensures nearer { (talk : Talk)
-            → HoldsHearing S.judge S.brings S.opens S.answers S.refuses M.judge M.brings M.holds R.may
+            → HoldsHearing S.judge S.brings S.opens S.answers S.refuses S.hears R.may
             self.old.side message frame talk
             → IsNearerStage R.calls (S.messages self.old.side) (stage.Hears message frame)
             (S.messages self.new.side) result }
     {
         // Laws that the proof uses.
-        M::laws();
+        S::laws();
         grammars_are_exact();
-        match message.accept_packet(line) {
+        match self.side.hear(&mut message, line) {
             Ok(Step::Open) => DialogueStage::Hears(message, frame.saturating_add(1)),
             Ok(Step::Whole) => match self.side.answer(message) {
                 Answer::GoesOn(reply) => DialogueStage::Says(reply),
@@ -123,9 +123,9 @@ impl<S: Side<M, R>, M: Message + Drop, R: Reply + Drop> Dialogue<S, M, R> {
     // Refuses an incomplete message because no more packets arrive.
     fn refuse(&mut self, message: M, frame: u64, why: Stop) -> DialogueStage<M, R>
         ensures stopped { (talk : Talk)
-            → HoldsHearing S.judge S.brings S.opens S.answers S.refuses M.judge M.brings M.holds R.may
+            → HoldsHearing S.judge S.brings S.opens S.answers S.refuses S.hears R.may
             self.old.side message frame talk
-            → HoldsStage S.judge S.brings S.opens S.answers S.refuses M.judge M.brings M.holds R.may
+            → HoldsStage S.judge S.brings S.opens S.answers S.refuses S.hears R.may
             self.new.side result (stop_talk talk why) }
         ensures nearer { IsNearerStage R.calls (S.messages self.old.side) (stage.Hears message frame)
             (S.messages self.new.side) result }
@@ -143,9 +143,9 @@ impl<S: Side<M, R>, M: Message + Drop, R: Reply + Drop> Dialogue<S, M, R> {
     ) -> DialogueStage<M, R>
         requires { out.old ≡ [] }
         ensures said { (talk : Talk)
-            → HoldsSaying S.judge S.brings S.opens S.answers S.refuses M.judge M.brings M.holds R.may
+            → HoldsSaying S.judge S.brings S.opens S.answers S.refuses S.hears R.may
             self.now.side reply talk
-            → Says (HoldsStage S.judge S.brings S.opens S.answers S.refuses M.judge M.brings M.holds R.may
+            → Says (HoldsStage S.judge S.brings S.opens S.answers S.refuses S.hears R.may
             self.now.side result) talk out.new }
         ensures nearer { IsNearerStage R.calls (S.messages self.now.side) (stage.Says reply)
             (S.messages self.now.side) result }
@@ -167,9 +167,9 @@ impl<S: Side<M, R>, M: Message + Drop, R: Reply + Drop> Dialogue<S, M, R> {
     ) -> DialogueStage<M, R>
         requires { out.old ≡ [] }
         ensures said { (talk : Talk)
-            → HoldsEnding S.judge S.brings S.opens S.answers S.refuses M.judge M.brings M.holds R.may
+            → HoldsEnding S.judge S.brings S.opens S.answers S.refuses S.hears R.may
             self.now.side reply talk
-            → Says (HoldsStage S.judge S.brings S.opens S.answers S.refuses M.judge M.brings M.holds R.may
+            → Says (HoldsStage S.judge S.brings S.opens S.answers S.refuses S.hears R.may
             self.now.side result) talk out.new }
         ensures nearer { IsNearerStage R.calls (S.messages self.now.side) (stage.Ends reply)
             (S.messages self.now.side) result }
@@ -181,10 +181,10 @@ impl<S: Side<M, R>, M: Message + Drop, R: Reply + Drop> Dialogue<S, M, R> {
     }
 }
 
-impl<S: Side<M, R>, M: Message + Drop, R: Reply + Drop> Conversation for Dialogue<S, M, R> {
+impl<S: Side<M, R>, M: Drop, R: Reply + Drop> Conversation for Dialogue<S, M, R> {
     ghost turn = { λ d. turn_of d.stage };
 
-    ghost holds = { Holds S.judge S.brings S.opens S.answers S.refuses M.judge M.brings M.holds R.may };
+    ghost holds = { Holds S.judge S.brings S.opens S.answers S.refuses S.hears R.may };
 
     ghost left = { λ d. left_of R.calls (S.messages d.side) d.stage };
 

@@ -1,11 +1,11 @@
 //! One end of a dialogue: the messages that it receives, and its answers.
 
-ghost use Rattle.std.specs.Prelude.{◌≡◌, ◌<◌, [], Bool, List, ℕ};
-ghost use Rattle.gpkt.specs.Packets.{Packet};
-ghost use Rattle.ggrammar.specs.Grammar.{Judge, IsWhole};
-ghost use Rattle.gdialogue.specs.Sides.{MayAnswer, SaysSome};
+ghost use Rattle.std.specs.Prelude.{◌≡◌, ◌<◌, ◌^◌, [], Bool, List, length, ℕ};
+ghost use Rattle.gpkt.specs.Packets.{Packet, packet_of};
+ghost use Rattle.ggrammar.specs.Grammar.{Judge, IsOpen, IsWhole};
+ghost use Rattle.gdialogue.specs.Sides.{HearsPacket, MayAnswer, SaysSome};
 
-use ggrammar::{Message, MessageFault};
+use ggrammar::{MessageFault, Step, Why};
 use gtalk::Outgoing;
 use std::alloc::Allocator;
 
@@ -52,8 +52,9 @@ pub enum Answer<R> {
     Last(R),
 }
 
-/// One end of a dialogue: the messages that it accepts, and its answers.
-pub trait Side<M: Message, R: Reply> {
+/// One end of a dialogue: the messages that it accepts, and its answers. A value of `M` is a message
+/// of which some packets may not have arrived yet.
+pub trait Side<M, R: Reply> {
     ghost use Rattle.ggrammar.specs.declared.fault.MessageFault.{MessageFault};
 
     // The grammar of the next message.
@@ -61,6 +62,10 @@ pub trait Side<M: Message, R: Reply> {
 
     // Whether a packet of the next message has contents that need memory.
     ghost brings: { Self → List Packet → Packet → Bool };
+
+    // Whether a message consists of exactly these packets so far, and belongs to this state of the
+    // side. For example, a side can require that the message has the side's parameters.
+    ghost hears: { Self → M → List Packet → Type 0 };
 
     // Whether the end may send these packets before the first message. The boolean states whether
     // the dialogue then continues. An end that sends nothing before the first message uses
@@ -80,14 +85,20 @@ pub trait Side<M: Message, R: Reply> {
 
     /// Returns the state of the next message, before any of its packets is received.
     fn message(&self) -> M
-        ensures holds { M.holds result [] }
-        ensures judge { M.judge result ≡ judge self.now }
-        ensures brings { M.brings result ≡ brings self.now };
+        ensures { hears self.now result [] };
+
+    /// Adds the next packet to the message. Fails if the grammar rejects the packet, or if memory
+    /// runs out for its contents.
+    fn hear(&self, message: &mut M, line: gpkt::Packet<'_>) -> Result<Step, Why>
+        ensures { (front : List Packet) → IsOpen (judge self.now) front
+            → hears self.now message.old front
+            → HearsPacket (judge self.now) (brings self.now) (hears self.now) front
+            (packet_of line.entry) message.new result };
 
     /// Returns the answer to a complete message. If the dialogue continues, `messages` decreases.
     fn answer(&mut self, message: M) -> Answer<R>
-        ensures answers { (lines said : List Packet) (goes : Bool) → M.judge message ≡ judge self.old
-            → IsWhole (judge self.old) lines → M.holds message lines → MayAnswer R.may result said goes
+        ensures answers { (lines said : List Packet) (goes : Bool) → IsWhole (judge self.old) lines
+            → hears self.old message lines → MayAnswer R.may result said goes
             → answers self.old lines said goes self.new }
         ensures fewer { (reply : R) → result ≡ Answer.GoesOn reply
             → messages self.new < messages self.old };
@@ -96,4 +107,11 @@ pub trait Side<M: Message, R: Reply> {
     fn refuse(&mut self, fault: MessageFault) -> R
         ensures { (said : List Packet) (goes : Bool) → R.may result said goes
             → refuses self.old fault said self.new };
+
+    /// Proves a law of the grammar for generic callers, and does nothing. A list of packets is open
+    /// if the next message continues after each packet of the list. Each open list has fewer than
+    /// 2^60 packets.
+    fn laws()
+        ensures { (side : Self) (front : List Packet) → IsOpen (judge side) front
+            → length front < 2 ^ 60 };
 }

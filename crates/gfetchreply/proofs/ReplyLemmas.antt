@@ -13,8 +13,8 @@ use Rattle.gfetchreply.specs.FetchReplies.{judge, Says, FetchReply, reply_of, ac
 use Rattle.gfetchreply.specs.FetchReplies.{data_of, is_ready, Acks, Ready, Pack, IsCanonical, canonical_reply}
 use Rattle.gfetchreply.specs.FetchHeads.{FetchHead, head_of, pack_of}
 use Rattle.gfetchreply.specs.steps.FetchHeads.{head_by, reply_with}
-use Rattle.gfetchreply.specs.steps.ReplyState.{Kept, data_there, Holds, Leaves}
-use Rattle.gfetchreply.specs.ReplyReading.{TakesReply, RefusesReply, ReadsReply}
+use Rattle.gfetchreply.specs.steps.ReplyState.{Kept, kept_of, data_there, Holds, HoldsReply, Leaves}
+use Rattle.gfetchreply.specs.ReplyReading.{HasHead, HasRead, TakesReply, RefusesReply, ReadsReply}
 use Rattle.gfetchreply.proofs.StateLemmas.{pack_push}
 use Rattle.gfetchreply.proofs.ReplyEndings.{open_keeps_limit}
 use Rattle.gfetchreply.proofs.ReplyManual.{said_pack}
@@ -81,6 +81,30 @@ module _ {S : Type 0} (taken : S → List ℕ → Type 0) (same : S → S → Ty
       let left : Leaves taken same had starts seat lent asked sink name packets =
       subst (λ r. Leaves taken same had starts seat lent r sink name packets) (before.kind ∙ sym from) before in
       record { packets = packets; refused = refused; short = open_keeps_limit asked packets refused.goes; pack = left.pack }
+
+-- the head of the reply that the packets encode, from the stored values
+pub has_head : (reading : Reading) (kept : Kept) (packets : List Packet) (head : FetchHead)
+    → IsWhole (judge reading) packets → kept ≡ kept_of reading.limits reading.format reading.direct packets → head ≡ head_by reading.direct kept.ready kept.acks.ids
+    → HasHead reading packets head
+has_head reading kept packets head whole counts is =
+    let says : Says reading packets (reply_of reading packets) = record { whole = whole; says = refl } in
+    record {
+      reply = reply_of reading packets;
+      says = says;
+      is_head =
+          is ∙ (ap (λ (k : Kept). head_by reading.direct k.ready k.acks.ids) counts ∙ head_is reading packets);
+      pack = sym (said_pack reading packets (reply_of reading packets) says);
+    }
+
+-- a sink that holds the packets of a reply has accepted the pack of the reply
+pub has_read : {S : Type 0} (taken : S → List ℕ → Type 0) (same : S → S → Type 0) (reading : Reading) (kept : Kept) (sink : S) (packets : List Packet) (head : FetchHead)
+    → HasHead reading packets head → HoldsReply taken same reading kept sink packets → HasRead taken reading packets head sink
+has_read taken same reading kept sink packets head has held = record {
+  reply = has.reply;
+  says = has.says;
+  is_head = has.is_head;
+  pack = subst (taken sink) has.pack (held.pack [] refl);
+}
 
 -- ---- a sink whose accepted bytes are known, which holds the pack
 

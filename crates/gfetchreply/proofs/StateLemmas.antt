@@ -16,7 +16,7 @@ use Rattle.gfetchreply.specs.FetchReplies.{Start, AfterNak, AfterReady, BeforePa
 use Rattle.gfetchreply.specs.FetchReplies.{Readiness, Packfile, is_readiness, is_ready, brings_into, judge, judge_at}
 use Rattle.gfetchreply.specs.steps.ReplyState.{id_list, Kept, kept_of, first_kept, state_kept, with_text, with_band}
 use Rattle.gfetchreply.specs.steps.ReplyState.{with_packet, data_there, brings_there, TakesOr, TakesMore, TakesBoth}
-use Rattle.gfetchreply.specs.steps.ReplyState.{Holds, Leaves}
+use Rattle.gfetchreply.specs.steps.ReplyState.{Holds, HoldsReply, Leaves}
 use Rattle.std.proofs.Math.Bool.{or-false, or-true}
 use Rattle.std.proofs.lemmas.List.Folds.{list_any-append}
 use Rattle.ggrammar.specs.Grammar.{Judge, Verdict}
@@ -410,3 +410,38 @@ pub as_packet : {M : Type 0} (judged : Judge) (brought : List Packet → Packet 
     → TakesPacket judged brought holds left front packet new result
 as_packet judged brought holds left front packet new (Ok step.Open) h = h
 as_packet judged brought holds left front packet new result h = h
+
+-- ---- a reader and the sink of its calls
+
+-- a packet that is accepted or refused for the stored values is accepted or refused for the packets so far
+pub accepts : {S : Type 0} (taken : S → List ℕ → Type 0) (same : S → S → Type 0) (refuses : Bool) (asked reading : Reading) (kept now : Kept) (old new : S) (front : List Packet)
+    (packet : Packet) (result : Result Step Why) → reading ≡ asked → HoldsReply taken same asked kept old front
+    → ((start : S) → same start old → same start new)
+    → TakesBoth taken
+    (judge_at (record asked { limits = kept.acks.limits; format = kept.acks.format }) (state_kept kept) packet)
+    (brings_there refuses kept.place packet)
+    (with_packet kept packet) now (data_there kept.place packet) old new result
+    → TakesOr (judge asked front packet) (brings_into refuses asked front packet) (HoldsReply taken same reading now new (front ++ packet ∷ [])) (Unit {0}) result
+accepts taken same refuses asked reading kept now old new front packet result is held onward h =
+    subst (λ (r : Reading). TakesOr (judge asked front packet) (brings_into refuses asked front packet) (HoldsReply taken same r now new (front ++ packet ∷ [])) (Unit {0}) result)
+    (sym is)
+    (takes_also refl refl (λ p. p) (λ q. tt) result
+    (takes_after taken same (λ bytes. bytes ≡ []) (λ start. ⊥) 0 asked refuses asked kept now old new 0 0 front packet result held refl onward h))
+
+-- another sink holds the same packets if it has accepted the same bytes
+pub held_by : {S T : Type 0} (taken : S → List ℕ → Type 0) (same : S → S → Type 0) (accepted : T → List ℕ → Type 0) (alike : T → T → Type 0) (reading : Reading) (kept : Kept) (sink : S) (other : T) (packets : List Packet)
+    → ((bytes : List ℕ) → taken sink bytes → accepted other bytes) → HoldsReply taken same reading kept sink packets → HoldsReply accepted alike reading kept other packets
+held_by taken same accepted alike reading kept sink other packets gives held = record {
+  kind = held.kind;
+  counts = held.counts;
+  pack = λ before had. gives _ (held.pack before had);
+  is_same = λ start no. absurd no;
+  in_place = held.in_place;
+}
+
+-- the state before the first packet
+pub begins_reply : {S : Type 0} (taken : S → List ℕ → Type 0) (same : S → S → Type 0) (reading : Reading) (kept : Kept) (sink : S)
+    → kept ≡ first_kept reading.limits reading.format reading.direct → taken sink [] → HoldsReply taken same reading kept sink []
+begins_reply taken same reading kept sink first none =
+    begins taken same (λ bytes. bytes ≡ []) (λ start. ⊥) 0 reading reading kept sink 0 refl first
+    (λ before is. subst (taken sink) (sym is) none) (λ start no. absurd no) refl

@@ -31,3 +31,17 @@ module _ {S : Type 0} (taken : S → Bytes → Type 0) where
   abbrev pub ReadsReply : Bool → Reading → Change → (Bytes → Type 0) → S → Result FetchHead MessageFault → Type 0
   ReadsReply refuses reading bytes had sink (Ok head) = TakesReply reading bytes had sink head
   ReadsReply refuses reading bytes had sink (Err fault) = RefusesReply refuses reading bytes had sink fault
+
+  -- the packets are a reply with this head, and the sink has accepted exactly the pack of the reply
+  pub record HasRead (reading : Reading) (packets : List Packet) (head : FetchHead) (sink : S) : Type 0 where
+    pub reply : FetchReply
+    pub says : Says reading packets reply
+    pub is_head : head ≡ head_of reply
+    pub pack : taken sink (pack_of reply)
+
+-- the packets are a reply with this head, and the data of the packets is the pack of the reply
+pub record HasHead (reading : Reading) (packets : List Packet) (head : FetchHead) : Type 0 where
+  pub reply : FetchReply
+  pub says : Says reading packets reply
+  pub is_head : head ≡ head_of reply
+  pub pack : data_of (band_payloads reading.direct packets) ≡ pack_of reply

@@ -19,6 +19,10 @@
 //!   vector can. [`read_fetch_reply_into`] has the same contract for SHA-1 ids and the default
 //!   limits. The functions [`read_fetch_reply_in`] and [`read_fetch_reply`] store the pack in
 //!   memory.
+//! - A [`FetchReader`] reads one reply packet by packet ([`FetchReader::hear_packet`]), with the
+//!   same grammar. Each call passes the data of its packet to the sink that it borrows. When the
+//!   reply is complete, [`FetchReader::finish`] returns the reply without its pack. The sink has
+//!   then accepted exactly the pack (`HasHead` in `specs/ReplyReading.antt`).
 //! - [`Acks`] has ids of one format. Their number is within the limit on haves of its
 //!   [`ggrammar::Limits`], which is 4,096 by default. With any limits, the number is at most
 //!   4,294,967,295. [`PackBytes`] has at most `gname::MAX_PACK` bytes, and a [`PackLimit`] is at
@@ -62,9 +66,11 @@
 //! defines ids.
 #![tactic(auto)]
 
+mod accepting;
 mod form;
 pub mod laws;
 mod limit;
+mod reader;
 mod reading;
 mod sections;
 mod sink;
@@ -72,6 +78,7 @@ mod value;
 mod write;
 
 pub use crate::limit::{MAX_STREAM, PackLimit, StreamLimit};
+pub use crate::reader::FetchReader;
 pub use crate::reading::{
     FetchReading, read_fetch_reply, read_fetch_reply_in, read_fetch_reply_into,
     read_fetch_reply_into_in,

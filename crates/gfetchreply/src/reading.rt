@@ -1,31 +1,27 @@
 //! Reading a fetch reply.
 
-ghost use Rattle.std.specs.Prelude.{◌≡◌, ◌≤◌, ◌&&◌, ℕ, List, length, nat_lt, IfOk, OnOk, Ok};
-ghost use Rattle.gpkt.specs.Packets.{Bytes, Data, packet_of};
-ghost use Rattle.gpkt.specs.Bands.{Data as BandData, band_form};
-ghost use Rattle.ggrammar.specs.PeerErrors.{peer_error, unless_error};
+ghost use Rattle.std.specs.Prelude.{◌≡◌, ◌≤◌, ℕ, List, length, IfOk, OnOk};
+ghost use Rattle.gpkt.specs.Packets.{Bytes, packet_of};
 ghost use Rattle.gpkt.specs.Change.{change_of};
 ghost use Rattle.gname.specs.declared.formats.Format.TheVariants.{Sha1};
 ghost use Rattle.ggrammar.specs.Kinds.{ReadsOrRefuses};
 ghost use Rattle.ggrammar.specs.Limits.{profile};
 ghost use Rattle.ggrammar.specs.MessageReading.{LeavesReader};
-ghost use Rattle.gfetchreply.specs.FetchReplies.{Says, band_brings, brings, data_in, judge, judge_at, judge_band, judge_payload, payload_brings};
+ghost use Rattle.gfetchreply.specs.FetchReplies.{Says, brings, judge, judge_at};
 ghost use Rattle.gfetchreply.specs.FetchHeads.{pack_of};
-ghost use Rattle.gfetchreply.specs.steps.ReplyState.{TakesBoth, brings_there, data_there, first_kept, kept_in, place_in, state_in, with_band, with_packet, with_payload};
+ghost use Rattle.gfetchreply.specs.steps.ReplyState.{TakesBoth, brings_there, data_there, first_kept, kept_in, place_in, state_in, with_packet};
 ghost use Rattle.gfetchreply.specs.ReplyReading.{ReadsReply};
 ghost use Rattle.gfetchreply.specs.Views.{AreAcksOf, IsHeadOf, IsReplyOf, head_result, reading_in, reply_in, reply_result, sha1_reading};
 ghost use Rattle.gfetchreply.specs.steps.Views.{head_after, reading_with};
 
-use crate::form::reply_form;
+use crate::accepting::accept_packet;
 use crate::limit::{PackLimit, StreamLimit};
-use crate::sections::{Point, Sections, late};
+use crate::reader::FetchReader;
 use crate::sink::PackSink;
 use crate::value::{FetchHead, FetchReply};
-use ggrammar::{
-    Ends, Limits, Message, MessageFault, PeerText, Step, Why, peer_error, read_message,
-};
+use ggrammar::{Ends, Limits, Message, MessageFault, Step, Why, read_message};
 use gname::Format;
-use gpkt::{Band, Packet, PacketReader, Source, band_of, text_of};
+use gpkt::{Packet, PacketReader, Source};
 use std::alloc::Allocator;
 use std::marker::{Brand, PhantomData};
 
@@ -78,12 +74,10 @@ impl<T> Lent<T> for Brand {
     ghost state_before = { λ _. ⊥ };
 }
 
-// A reply that is being read: the contents of its packets, and the sink that accepts the pack's
-// data.
+// A reply that is being read, and the sink that accepts the pack's data.
 #[derive(Drop)]
 struct ReplyReader<'s, T, A: Allocator + Copy, L> {
-    reading: FetchReading<StreamLimit>,
-    sections: Sections<A>,
+    reader: FetchReader<A>,
     sink: &'s mut T,
     lent: PhantomData<L>,
 }
@@ -97,113 +91,36 @@ impl<'s, T: PackSink, A: Allocator + Copy, L: Lent<T>> ReplyReader<'s, T, A, L> 
     ) -> ReplyReader<'s, T, A, L>
         ensures in_place { result.sink.ghost_name ≡ sink.entry.ghost_name }
         ensures sink { result.sink.now ≡ sink.old }
-        ensures reading { result.reading ≡ reading }
-        ensures kept { kept_in result.sections
+        ensures reading { result.reader.reading ≡ reading }
+        ensures kept { kept_in result.reader.sections
             ≡ first_kept reading.limits reading.format reading.direct }
     {
         ReplyReader {
-            reading,
-            sections: Sections::new(alloc, reading.limits, reading.format, reading.direct),
+            reader: FetchReader::new(alloc, reading),
             sink,
             lent: PhantomData,
         }
     }
 
     fn take_packet(&mut self, line: Packet<'_>) -> Result<Step, Why>
-        ensures reading { self.new.reading ≡ self.old.reading }
+        ensures reading { self.new.reader.reading ≡ self.old.reader.reading }
         ensures in_place { self.new.sink.ghost_name ≡ self.old.sink.ghost_name }
         ensures same { T.same self.old.sink.now self.new.sink.now }
         ensures takes { TakesBoth T.taken (judge_at
-            (reading_with self.old.reading self.old.sections) (state_in self.old.sections)
+            (reading_with self.old.reader.reading self.old.reader.sections) (state_in self.old.reader.sections)
             (packet_of line.entry))
-            (brings_there T.refuses (place_in self.old.sections.place) (packet_of line.entry))
-            (with_packet (kept_in self.old.sections) (packet_of line.entry))
-            (kept_in self.new.sections)
-            (data_there (place_in self.old.sections.place) (packet_of line.entry))
+            (brings_there T.refuses (place_in self.old.reader.sections.place) (packet_of line.entry))
+            (with_packet (kept_in self.old.reader.sections) (packet_of line.entry))
+            (kept_in self.new.reader.sections)
+            (data_there (place_in self.old.reader.sections.place) (packet_of line.entry))
             self.old.sink.now self.new.sink.now result }
     {
-        // Laws that the proof uses.
-        T::laws();
-        match line {
-            Packet::Data(payload) => self.take_payload(payload),
-            Packet::Flush => self.sections.take_flush(self.reading.ends),
-            Packet::Delim => self.sections.take_delim(),
-            Packet::ResponseEnd => self.sections.take_response_end(),
-        }
-    }
-
-    fn take_payload(&mut self, payload: &[u8]) -> Result<Step, Why>
-        ensures reading { self.new.reading ≡ self.old.reading }
-        ensures in_place { self.new.sink.ghost_name ≡ self.old.sink.ghost_name }
-        ensures same { T.same self.old.sink.now self.new.sink.now }
-        ensures takes { TakesBoth T.taken
-            (unless_error (peer_error payload.now)
-            (judge_payload (reading_with self.old.reading self.old.sections)
-            (place_in self.old.sections.place) (state_in self.old.sections) payload.now))
-            (payload_brings T.refuses (place_in self.old.sections.place) payload.now)
-            (with_payload (place_in self.old.sections.place) (kept_in self.old.sections)
-            payload.now) (kept_in self.new.sections)
-            (data_there (place_in self.old.sections.place) (Data payload.now)) self.old.sink.now
-            self.new.sink.now result }
-    {
-        // Laws that the proof uses.
-        T::laws();
-        if let Some(error) = peer_error(payload) {
-            return Err(Why::RemoteErr(PeerText::new(error)));
-        }
-        let form = reply_form(text_of(payload));
-        match self.sections.place {
-            Point::Start => self.sections.take_start(form),
-            Point::Acking => self.sections.take_acking(form),
-            Point::AfterNak | Point::AfterReady => Err(late(form)),
-            Point::BeforePack => self.sections.take_before_pack(form),
-            Point::InPack => self.take_band(payload),
-            Point::Over => Err(Why::UnexpectedFrame),
-        }
-    }
-
-    fn take_band(&mut self, payload: &[u8]) -> Result<Step, Why>
-        ensures reading { self.new.reading ≡ self.old.reading }
-        ensures in_place { self.new.sink.ghost_name ≡ self.old.sink.ghost_name }
-        ensures same { T.same self.old.sink.now self.new.sink.now }
-        ensures takes { TakesBoth T.taken (judge_band self.old.reading.limit
-            (state_in self.old.sections) (band_form payload.now))
-            (band_brings T.refuses (band_form payload.now))
-            (with_band (kept_in self.old.sections) (length (data_in (band_form payload.now))))
-            (kept_in self.new.sections)
-            (data_in (band_form payload.now)) self.old.sink.now self.new.sink.now result }
-    {
-        // Laws that the proof uses.
-        T::laws();
-        match band_of(payload) {
-            Ok(Band::Data(bytes)) => self.take_data(bytes),
-            Ok(Band::Progress(_)) => self.sections.take_progress(),
-            Ok(Band::Fatal(error)) => Err(Why::RemoteFatal(PeerText::new(error))),
-            Err(fault) => Err(Why::Band(fault)),
-        }
-    }
-
-    fn take_data(&mut self, bytes: &[u8]) -> Result<Step, Why>
-        ensures reading { self.new.reading ≡ self.old.reading }
-        ensures in_place { self.new.sink.ghost_name ≡ self.old.sink.ghost_name }
-        ensures same { T.same self.old.sink.now self.new.sink.now }
-        ensures takes { TakesBoth T.taken (judge_band self.old.reading.limit
-            (state_in self.old.sections) (Ok (BandData bytes.now)))
-            (T.refuses && nat_lt 0 (length bytes.now))
-            (with_band (kept_in self.old.sections) (length bytes.now)) (kept_in self.new.sections)
-            bytes.now self.old.sink.now self.new.sink.now result }
-    {
-        // Laws that the proof uses.
-        T::laws();
-        let total = match self.sections.with_room(self.reading.limit, bytes.len()) {
-            Some(total) => total,
-            None => return Err(Why::Limit),
-        };
-        if !bytes.is_empty() && !self.sink.piece(bytes) {
-            return Err(Why::Memory);
-        }
-        self.sections.count(total);
-        Ok(Step::Open)
+        accept_packet(
+            self.reader.reading,
+            &mut self.reader.sections,
+            &mut *self.sink,
+            line,
+        )
     }
 }
 
@@ -212,15 +129,15 @@ impl<T: PackSink, A: Allocator + Copy, L: Lent<T>> Message for ReplyReader<'_, T
     ghost use Rattle.gfetchreply.specs.steps.ReplyState.{Holds, Leaves, kept_in};
     ghost use Rattle.gfetchreply.specs.Views.{reading_in};
 
-    ghost judge = { λ reader. judge (reading_in reader.reading) };
+    ghost judge = { λ message. judge (reading_in message.reader.reading) };
 
-    ghost brings = { λ reader. brings_into T.refuses (reading_in reader.reading) };
+    ghost brings = { λ message. brings_into T.refuses (reading_in message.reader.reading) };
 
-    ghost holds = { λ reader packets. Holds T.taken T.same L.accepted_before L.state_before L.address L.reading (reading_in reader.reading)
-        (kept_in reader.sections) reader.sink.now reader.sink.ghost_name packets };
+    ghost holds = { λ message packets. Holds T.taken T.same L.accepted_before L.state_before L.address L.reading (reading_in message.reader.reading)
+        (kept_in message.reader.sections) message.sink.now message.sink.ghost_name packets };
 
-    ghost left = { λ reader packets. Leaves T.taken T.same L.accepted_before L.state_before L.address L.reading (reading_in reader.reading)
-        reader.sink.now reader.sink.ghost_name packets };
+    ghost left = { λ message packets. Leaves T.taken T.same L.accepted_before L.state_before L.address L.reading (reading_in message.reader.reading)
+        message.sink.now message.sink.ghost_name packets };
 
     fn laws() {}
 
@@ -295,11 +212,14 @@ pub fn read_fetch_reply_into_in<S: Source, T: PackSink, A: Allocator + Copy, B: 
     let mut reply = ReplyReader::<T, B, Brand>::new(alloc, reading, sink);
     let end = read_to_end::<S, T, A, B, Brand>(reader, &mut reply);
     let ReplyReader {
-        reading: _,
-        sections,
+        reader: read,
         sink: _lent,
         lent: _,
     } = reply;
+    let FetchReader {
+        reading: _,
+        sections,
+    } = read;
     match end {
         Ok(()) => Ok(sections.into_head(direct)),
         Err(fault) => Err(fault),
@@ -376,20 +296,20 @@ fn read_to_end<S: Source, T: PackSink, A: Allocator + Copy, B: Allocator + Copy,
     reader: &mut PacketReader<S, A>,
     reply: &mut ReplyReader<'_, T, B, L>,
 ) -> Result<(), MessageFault>
-    requires kept { kept_in reply.old.sections
-        ≡ first_kept reply.old.reading.limits reply.old.reading.format reply.old.reading.direct }
-    requires reading { reading_in reply.old.reading ≡ L.reading }
+    requires kept { kept_in reply.old.reader.sections
+        ≡ first_kept reply.old.reader.reading.limits reply.old.reader.reading.format reply.old.reader.reading.direct }
+    requires reading { reading_in reply.old.reader.reading ≡ L.reading }
     requires address { reply.old.sink.ghost_name ≡ L.address }
     requires accepted_before { (before : Bytes) → L.accepted_before before
         → T.taken reply.old.sink.now before }
     requires state_before { (start : T) → L.state_before start → T.same start reply.old.sink.now }
     ensures in_place { reply.new.sink.ghost_name ≡ reply.old.sink.ghost_name }
-    ensures read { ReadsReply T.taken T.refuses (reading_in reply.old.reading)
+    ensures read { ReadsReply T.taken T.refuses (reading_in reply.old.reader.reading)
         (change_of S.remaining reader.old.source reader.new.source)
         L.accepted_before reply.new.sink.now
-        (head_after reply.old.reading.direct reply.new.sections result) }
-    ensures format { OnOk result (AreAcksOf reply.old.reading.limits reply.old.reading.format
-        reply.new.sections.acks) }
+        (head_after reply.old.reader.reading.direct reply.new.reader.sections result) }
+    ensures format { OnOk result (AreAcksOf reply.old.reader.reading.limits reply.old.reader.reading.format
+        reply.new.reader.sections.acks) }
     ensures same { (start : T) → L.state_before start → T.same start reply.new.sink.now }
     ensures loans { S.loans reader.new.source ≡ S.loans reader.old.source }
     ensures reader { LeavesReader S.is_down reader.old reader.new result }

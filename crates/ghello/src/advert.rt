@@ -425,21 +425,30 @@ fn write_capabilities<A: Allocator + Copy, W: Sink>(
     Ok(())
 }
 
-// An advertisement that is being read.
+/// An advertisement that is being read.
 #[derive(Drop)]
-struct AdvertReader<A: Allocator + Copy> {
+pub struct AdvertReader<A: Allocator + Copy> {
     has_version: bool,
     advert: Advert<A>,
 }
 
 impl<A: Allocator + Copy> AdvertReader<A> {
-    fn new(alloc: A) -> AdvertReader<A>
+    /// Returns a reader that has not read any packet yet.
+    pub fn new(alloc: A) -> AdvertReader<A>
         ensures { IsKept [] result.has_version result.advert }
     {
         AdvertReader {
             has_version: false,
             advert: Advert::new(alloc),
         }
+    }
+
+    /// Returns the advertisement that the accepted packets encode.
+    pub fn finish(self) -> Advert<A>
+        ensures { result ≡ self.advert }
+    {
+        let AdvertReader { advert, .. } = self;
+        advert
     }
 
     #[tactic(auto, unfolding(crate::specs::Adverts::judge_at))]

@@ -52,7 +52,7 @@ mod advert;
 mod hello;
 pub mod laws;
 
-pub use crate::advert::{Advert, MAX_ADVERTISED, read_advert, write_advert};
+pub use crate::advert::{Advert, AdvertReader, MAX_ADVERTISED, read_advert, write_advert};
 pub use crate::hello::{
     Hello, HelloReader, MAX_HOST, MAX_PATH, is_host, is_path, read_hello, write_hello,
 };

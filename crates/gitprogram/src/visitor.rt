@@ -1,11 +1,14 @@
 //! The server's side of a connection, with the details for its log line.
 
-ghost use Rattle.std.specs.Prelude.{◌≡◌, ◌⊎◌, []};
+ghost use Rattle.std.specs.Prelude.{◌≡◌, ◌<◌, ◌^◌, ◌⊎◌, [], List, length};
+ghost use Rattle.gpkt.specs.Packets.{Packet};
+ghost use Rattle.ggrammar.specs.Grammar.{IsOpen};
+ghost use Rattle.gitprogram.specs.declared.visitor.Visitor.{Visitor};
 
 use crate::fault::Fault;
 use crate::notes::Notes;
 use gdialogue::{Answer, Side};
-use ggrammar::{Message, MessageFault, Why};
+use ggrammar::{MessageFault, Step, Why};
 use gparts::PartPacker;
 use gserver::{ServedRepository, ServerReply, Speech};
 use std::alloc::Global;
@@ -67,12 +70,13 @@ impl<'n, S> Visitor<'n, S> {
 impl<S, M, K> Side<M, ServerReply<Global, K, K::Parts>> for Visitor<'_, S>
 where
     S: Side<M, ServerReply<Global, K, K::Parts>>,
-    M: Message,
     K: ServedRepository<Global> + PartPacker<Global> + Drop,
 {
     ghost judge = { λ visitor. S.judge visitor.side };
 
     ghost brings = { λ visitor. S.brings visitor.side };
+
+    ghost hears = { λ visitor. S.hears visitor.side };
 
     ghost opens = { λ visitor. S.opens visitor.side };
 
@@ -85,6 +89,10 @@ where
 
     fn message(&self) -> M {
         self.side.message()
+    }
+
+    fn hear(&self, message: &mut M, line: gpkt::Packet<'_>) -> Result<Step, Why> {
+        self.side.hear(message, line)
     }
 
     fn answer(&mut self, message: M) -> Answer<ServerReply<Global, K, K::Parts>> {
@@ -103,5 +111,12 @@ where
         let reply = self.side.refuse(fault);
         self.take_notes();
         reply
+    }
+
+    fn laws()
+        ensures { (visitor : Visitor S) (front : List Packet) → IsOpen (S.judge visitor.side) front
+            → length front < 2 ^ 60 }
+    {
+        S::laws();
     }
 }

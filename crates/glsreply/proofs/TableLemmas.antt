@@ -2,7 +2,7 @@
 use Rattle.std.proofs.Common.{◌≡◌, ℕ, ◌<◌, ◌≤◌, Bool, true, false, cond, List, [], ◌∷◌, ◌++◌, length, map, ◌==◌, Option}
 use Rattle.std.proofs.Common.{Some, None, Result, Ok, Err, ◌⊎◌, inl, inr, refl, sym, ap, subst, ◌∙◌, append_assoc}
 use Rattle.std.proofs.Common.{arith, suc, ◌+◌, ◌^◌, length-append}
-use Rattle.std.specs.Prelude.{All, IfSome}
+use Rattle.std.specs.Prelude.{All, IfSome, MatchOption}
 use Rattle.std.proofs.lemmas.Bool.{ne_eqb, false≢true}
 use Rattle.std.proofs.lemmas.List.{length_push, length-map, map-append}
 use Rattle.std.proofs.lemmas.List.Elements.{All-cons, All-nil, All-append, All-head, All-tail}
@@ -16,7 +16,7 @@ use Rattle.ggrammar.specs.declared.ends.Ends.TheVariants.{Plain, Response}
 use Rattle.ggrammar.specs.declared.fault.Why.{Why}
 use Rattle.ggrammar.proofs.TextLemmas.{texts_of-data}
 use Rattle.glsreply.specs.RefTexts.{RefLine, line_of, FirstForm, UnbornForm, RefForm, first_form}
-use Rattle.glsreply.specs.LsReplies.{LsReply, Says, max_lines, is_over, ref_lines, judge_line, judge_first, judge_text}
+use Rattle.glsreply.specs.LsReplies.{IsRead, LsReply, Says, max_lines, is_over, ref_lines, judge_line, judge_first, judge_text}
 use Rattle.glsreply.specs.LsReplies.{judge_at, judge, unborn_in, unborn_of, unborn_packets, reply_of, brings}
 use Rattle.glsreply.proofs.LawLemmas.{data_goes, flush_goes, delim_stops, response_stops, data_part, goes_within}
 use Rattle.glsreply.proofs.LawLemmas.{over_after_flush}
@@ -305,6 +305,21 @@ module _ {A : Type 0} (format : Format) (ends : Ends) (start reader : LsReplyRea
       let taken = taken_so h in
       subst (IsLsReplyIn format) (sym (says_reply format ends reader taken.lines taken.read.whole taken.held))
       (reply_formed law format ends taken.lines taken.read.whole)
+
+-- a reader that accepted a complete list of packets returns its reply
+pub is_read : {A : Type 0} → TextsHaveOneReading → (format : Format) (ends : Ends) (reader : LsReplyReader A) (packets : List Packet) (result : Option LsReply)
+    → IsWhole (judge format ends) packets → Holds reader packets
+    → MatchOption result (¬ (IsLsReplyIn format (state_in reader).reply)) (λ reply. (reply ≡ (state_in reader).reply) × IsLsReplyIn format reply)
+    → IsRead format ends packets result
+is_read law format ends reader packets (Some reply) whole held h = record { whole = whole; says = h.0 ∙ says_reply format ends reader packets whole held }
+is_read law format ends reader packets None whole held h =
+    absurd (h (subst (IsLsReplyIn format) (sym (says_reply format ends reader packets whole held)) (reply_formed law format ends packets whole)))
+
+pub is_formed : {A : Type 0} (format : Format) (reader : LsReplyReader A) (result : Option LsReply)
+    → MatchOption result (¬ (IsLsReplyIn format (state_in reader).reply)) (λ reply. (reply ≡ (state_in reader).reply) × IsLsReplyIn format reply)
+    → IfSome result (IsLsReplyIn format)
+is_formed format reader (Some reply) h = h.1
+is_formed format reader None h = tt
 
 -- ---- the replies of the manual, and the replies whose texts the parser accepts
 

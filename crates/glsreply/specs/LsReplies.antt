@@ -102,6 +102,11 @@ pub record Says (format : Format) (ends : Ends) (packets : List Packet) (reply :
   pub whole : IsWhole (judge format ends) packets
   pub says : reply ≡ reply_of format packets
 
+-- the result of reading a complete list of packets
+abbrev pub IsRead : Format → Ends → List Packet → Option LsReply → Type 0
+IsRead format ends packets (Some reply) = Says format ends packets reply
+IsRead format ends packets None = ⊥
+
 -- ---- writing
 
 abbrev pub unborn_packets : Option Name → List Packet

@@ -56,6 +56,6 @@ mod reply;
 mod writer;
 
 pub use crate::lent::{LentLine, RefText};
-pub use crate::reader::{read_ls_reply, read_ls_reply_in};
+pub use crate::reader::{LsReplyReader, read_ls_reply, read_ls_reply_in};
 pub use crate::reply::{LsReply, MAX_LINES, RefLine};
 pub use crate::writer::{write_end, write_ls_reply, write_ref, write_unborn};

@@ -1,14 +1,16 @@
 //! Reading an ls-refs reply.
 
-ghost use Rattle.std.specs.Prelude.{◌≡◌, ◌<◌, true, false, [], IfOk, Ok};
+ghost use Rattle.std.specs.Prelude.{◌≡◌, ◌<◌, true, false, [], IfOk, IfSome, List, Ok};
 ghost use Rattle.gpkt.specs.Packets.{Data, Flush, ResponseEnd, packet_of, text};
+ghost use Rattle.gpkt.specs.Packets as packets;
 ghost use Rattle.gpkt.specs.Change.{change_of};
 ghost use Rattle.ggrammar.specs.Kinds.{ReadsOrRefuses};
-ghost use Rattle.ggrammar.specs.MessageReading.{LeavesReader, TakesAs};
-ghost use Rattle.glsreply.specs.LsReplies.{Says, judge, judge_at, judge_text, judge_line, max_lines, within_limit, brings};
+ghost use Rattle.ggrammar.specs.MessageReading.{LeavesReader, TakesAs, TakesPacket};
+ghost use Rattle.glsreply.specs.LsReplies.{IsRead, Says, judge, judge_at, judge_text, judge_line, max_lines, within_limit, brings};
 ghost use Rattle.glsreply.specs.RefTexts.{line_of};
 ghost use Rattle.glsreply.specs.steps.LineViews.{parts_view};
-ghost use Rattle.ggrammar.specs.Grammar.{Open};
+ghost use Rattle.ggrammar.specs.Grammar.{IsOpen, IsWhole, Open};
+ghost use Rattle.ggrammar.specs.declared.ends.Ends.{Ends};
 ghost use Rattle.glsreply.specs.steps.ReplyState.{Holds, KeepsKind, state_in, state_of, with_packet, with_text, with_line, with_unborn, with_flush};
 ghost use Rattle.glsreply.specs.WellFormed.{IsLsReplyIn, IsReplyValue};
 ghost use Rattle.gname.specs.declared.formats.Format.TheVariants as format;
@@ -68,9 +70,9 @@ pub fn read_ls_reply_in<S: Source, A: Allocator + Copy, B: Allocator + Copy>(
     }
 }
 
-/// A reply that is being read.
+/// An ls-refs reply that is being read.
 #[derive(Drop)]
-pub(crate) struct LsReplyReader<A: Allocator + Copy> {
+pub struct LsReplyReader<A: Allocator + Copy> {
     alloc: A,
     format: Format,
     ends: Ends,
@@ -84,7 +86,7 @@ pub(crate) struct LsReplyReader<A: Allocator + Copy> {
 
 impl<A: Allocator + Copy> LsReplyReader<A> {
     /// Returns a reader that has not read any packet yet.
-    pub(crate) fn new(alloc: A, format: Format, ends: Ends) -> LsReplyReader<A>
+    pub fn new(alloc: A, format: Format, ends: Ends) -> LsReplyReader<A>
         ensures format { result.format ≡ format }
         ensures ends { result.ends ≡ ends }
         ensures state { state_in result ≡ state_of format [] }
@@ -107,6 +109,30 @@ impl<A: Allocator + Copy> LsReplyReader<A> {
     {
         let LsReplyReader { unborn, lines, .. } = self;
         LsReply::of_parts(unborn, lines)
+    }
+
+    /// Returns the reply that the accepted packets encode. Returns `None` if that reply has too many
+    /// lines, or an id of another format, which never happens after a complete reply.
+    pub fn into_reply(self, format: Format) -> Option<LsReply<A>>
+        ensures read { (ends : Ends) (lines : List packets.Packet) → IsWhole (judge format ends) lines
+            → Holds self lines → IsRead format ends lines result }
+        ensures formed { IfSome result (IsLsReplyIn format) }
+    {
+        // Laws that the proof uses.
+        texts_have_one_reading();
+        let LsReplyReader { unborn, lines, .. } = self;
+        LsReply::checked(format, unborn, lines)
+    }
+
+    /// Accepts the next packet, as [`Message::accept_packet`] does.
+    pub fn hear_packet(&mut self, line: Packet<'_>) -> Result<Step, Why>
+        ensures kept { KeepsKind self.old self.new }
+        ensures takes { (front : List packets.Packet)
+            → IsOpen (judge self.old.format self.old.ends) front → Holds self.old front
+            → TakesPacket (judge self.old.format self.old.ends) brings Holds
+            (λ reply packets. Unit {0}) front (packet_of line.entry) self.new result }
+    {
+        self.take_packet(line)
     }
 
     #[tactic(auto, unfolding(crate::specs::LsReplies::judge_at))]
@@ -282,7 +308,7 @@ impl<A: Allocator + Copy> Message for LsReplyReader<A> {
     ghost left = { λ _ _. Unit {0} };
 
     fn accept_packet(&mut self, line: Packet<'_>) -> Result<Step, Why> {
-        self.take_packet(line)
+        self.hear_packet(line)
     }
 
     fn laws() {

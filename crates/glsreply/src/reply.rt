@@ -1,17 +1,19 @@
 //! An ls-refs reply as an owned value.
 
-ghost use Rattle.std.specs.Prelude.{◌≡◌, [], length, IfErr, None};
+ghost use Rattle.std.specs.Prelude.{◌≡◌, ◌↔◌, ◌+◌, [], All, length, IfErr, IfSome, IsTrue, MatchOption, None};
 ghost use Rattle.std.specs.List.{slice_get};
 ghost use Rattle.std.specs.Option.{option_copied};
 ghost use Rattle.ggrammar.specs.declared.fault.Why.TheVariants.{Limit};
+ghost use Rattle.gname.specs.Names.{IsRefName};
 ghost use Rattle.glsreply.specs.LentViews.{lent_view};
+ghost use Rattle.glsreply.specs.LsReplies.{max_lines, unborn_packets};
 ghost use Rattle.glsreply.specs.steps.WellFormed.{Adds};
-ghost use Rattle.glsreply.specs.WellFormed.{IsReplyValue, Pushes, SetsUnborn, has_one_format, has_room, last_frame, line_count};
+ghost use Rattle.glsreply.specs.WellFormed.{IsLsReplyIn, IsRefLine, IsReplyValue, Pushes, SetsUnborn, has_one_format, has_room, last_frame, line_count};
 
 use crate::lent::LentLine;
 use ggrammar::{Ends, MessageFault, Why};
 use gname::laws::ids_have_one_format;
-use gname::{Oid, RefName};
+use gname::{Format, Oid, RefName};
 use std::alloc::Allocator;
 use std::marker::Model;
 
@@ -90,6 +92,27 @@ impl<A: Allocator + Copy> LsReply<A> {
         ensures { result ≡ record { unborn = unborn; lines = lines.items } }
     {
         LsReply { unborn, lines }
+    }
+
+    // Returns the reply with this target of an unborn `HEAD`, and with these lines. Returns `None` if
+    // the reply has too many lines, or an id of another format.
+    pub(crate) fn checked(
+        format: Format,
+        unborn: Option<RefName<A>>,
+        lines: Vec<RefLine<A>, A>,
+    ) -> Option<LsReply<A>>
+        ensures { MatchOption result
+            (¬ (IsLsReplyIn format (record { unborn = unborn; lines = lines.items })))
+            (λ reply. (reply ≡ record { unborn = unborn; lines = lines.items })
+            × IsLsReplyIn format reply) }
+    {
+        if lines.len() > most_lines(&unborn) {
+            return None;
+        }
+        if !are_ref_lines(format, lines.as_slice()) {
+            return None;
+        }
+        Some(LsReply::of_parts(unborn, lines))
     }
 
     /// Sets or replaces the target of an unborn `HEAD`. Fails with `Limit` and changes nothing if
@@ -184,6 +207,43 @@ impl<A: Allocator + Copy> LsReply<A> {
         ensures { option_copied result ≡ self.now.unborn }
     {
         self.unborn.as_ref()
+    }
+}
+
+// Returns the maximum number of lines of a reply with this target of an unborn `HEAD`.
+fn most_lines<A: Allocator + Copy>(unborn: &Option<RefName<A>>) -> usize
+    ensures count { result + length (unborn_packets unborn.now) ≡ max_lines }
+    ensures name { IfSome unborn.now IsRefName }
+{
+    match unborn {
+        Some(target) => {
+            // Laws that the proof uses.
+            target.laws();
+            MAX_LINES - 1
+        }
+        None => MAX_LINES,
+    }
+}
+
+// Returns whether all ids of the lines have this format.
+fn are_ref_lines<A: Allocator + Copy>(format: Format, lines: &[RefLine<A>]) -> bool
+    ensures { IsTrue result ↔ All (IsRefLine format) lines.now }
+{
+    lines.iter().all(|line| is_ref_line(format, line))
+}
+
+// Returns whether both ids of the line have this format.
+fn is_ref_line<A: Allocator + Copy>(format: Format, line: &RefLine<A>) -> bool
+    ensures { IsTrue result ↔ IsRefLine format line.now }
+{
+    // Laws that the proof uses.
+    line.lend().laws();
+    if line.id.format() != format {
+        return false;
+    }
+    match &line.peeled {
+        Some(id) => id.format() == format,
+        None => true,
     }
 }
 

@@ -1,5 +1,5 @@
 -- A server's answers to messages.
-use Rattle.std.proofs.Common.{◌≡◌, [], ◌∷◌, codes, is_some, ◌<◌, ◌+◌, ◌⊎◌, inl, inr, min, ℕ, Bool, true, false, List, Option, Some, None, Result, Ok, Err, IfOk, IsSome, MatchResult, OnOk, refl, sym, ap, ◌∙◌, subst, arith}
+use Rattle.std.proofs.Common.{◌≡◌, [], ◌∷◌, codes, is_some, length, ◌<◌, ◌^◌, ◌+◌, ◌⊎◌, inl, inr, min, ℕ, Bool, true, false, List, Option, Some, None, Result, Ok, Err, IfOk, IsSome, MatchResult, OnOk, refl, sym, ap, ◌∙◌, subst, arith}
 use Rattle.std.proofs.lemmas.Bool.{ltb-true}
 use Rattle.gobject.specs.Packs.{PackFails, Packs}
 use Rattle.gparts.specs.Parts.{Gives}
@@ -8,13 +8,15 @@ use Rattle.ggrammar.specs.declared.ends.Ends.{Ends}
 use Rattle.gpkt.specs.Packets.{Data, Flush}
 use Rattle.gname.specs.declared.formats.Format.{Format}
 use Rattle.gname.specs.declared.formats.Format.TheVariants.{Sha1, Sha256}
-use Rattle.ggrammar.specs.Grammar.{IsWhole, Judge, Refused, Whole}
+use Rattle.ggrammar.specs.Grammar.{IsOpen, IsWhole, Judge, LawsOf, Refused, Whole}
 use Rattle.ggrammar.specs.declared.fault.Why.TheVariants as why
 use Rattle.ggrammar.specs.declared.limits.Limits.{Limits}
 use Rattle.ghello.specs.Hello.{Hello}
 use Rattle.ghello.specs.Hello as hello
 use Rattle.ghello.specs.steps.HelloReading.{hello_in}
 use Rattle.ghello.proofs.HelloLemmas.{never_open, packet_says, whole_list}
+use Rattle.ghello.proofs.HelloLemmas as hello_lemmas
+use Rattle.grequest.proofs.WholeRequests as whole_requests
 use Rattle.grequest.specs.Asked.{Asked, FetchAsked, LsRefsAsked}
 use Rattle.grequest.specs.Arguments.{command_form}
 use Rattle.ggrammar.specs.PeerErrors.{after_word}
@@ -131,6 +133,14 @@ module _ {A R P : Type 0} (server_of : R → Server A) (gives : R → P → Give
       sends = subst (λ g. SaysFetch (server_of says.found) (packs_of says.packer) (fails_of says.packer) asked ends goes_on said g)
           (fetch_is_last (server_of says.found) (packs_of says.packer) (fails_of says.packer) asked ends goes_on said goes off says.sends) says.sends;
     }
+
+-- ---- the length of an open list of packets
+
+pub open_is_short : {A R : Type 0} (server_of : R → Server A) → ((j : Judge) → LawsOf j) → (limits : Limits) (repo : Option R) (front : List Packet)
+    → IsOpen (side_judge limits server_of repo) front → length front < 2 ^ 60
+open_is_short server_of laws limits None front goes = hello_lemmas.open_is_short front goes
+open_is_short server_of laws limits (Some repo) front goes =
+    whole_requests.open_is_short laws limits (server_of repo).graph.format front goes
 
 -- ---- the answers to messages
 

@@ -21,6 +21,8 @@ use Rattle.ganswer.specs.declared.fault.ServeFault.TheVariants as serve
 use Rattle.gdialogue.specs.Sides.{SaysNothing}
 use Rattle.gserver.specs.ErrTexts.{text_packets}
 use Rattle.gserver.specs.Fetching.{SaysFetch}
+use Rattle.gserver.specs.Heard.{brings_of, holds_of, judge_of}
+use Rattle.gserver.specs.declared.heard.Heard.{Heard}
 use Rattle.gserver.specs.Listings.{SaysLsAnswer}
 use Rattle.gserver.specs.declared.side.ServerSide.{ServerSide}
 
@@ -191,3 +193,10 @@ pub record RefusesMessage {A H R : Type 0} (says : H → ServeFault → Bytes �
 abbrev pub side_brings : {R : Type 0} → Option R → List Packet → Packet → Bool
 side_brings None = hello.brings
 side_brings (Some repo) = request.brings
+
+-- the message has the grammar of the side's next message, and consists of exactly these packets so far
+pub record HearsMessage {A H R : Type 0} (server_of : R → Server A) (side : ServerSide A H R) (message : Heard A)
+    (packets : List Packet) : Type 0 where
+  pub judged : judge_of message ≡ side_judge side.limits server_of side.repo
+  pub brought : brings_of message ≡ side_brings side.repo
+  pub held : holds_of message packets

@@ -24,7 +24,8 @@ use crate::reply::ServerReply;
 use crate::speech::Speech;
 use ganswer::ServeFault;
 use gdialogue::{Answer, Side};
-use ggrammar::{Ends, Limits, MessageFault, Why};
+use ggrammar::laws::grammars_are_exact;
+use ggrammar::{Ends, Limits, Message, MessageFault, Step, Why};
 use ghello::{Hello, HelloReader};
 use gparts::PartPacker;
 use grequest::{FetchRequest, LsRefsRequest, Request, RequestReader};
@@ -333,11 +334,13 @@ where
     H: Host<A, R>,
     R: ServedRepository<A> + PartPacker<A> + Drop,
 {
-    ghost use Rattle.gserver.specs.Serving.{AnswersMessage, OpensFresh, RefusesMessage, messages_of, side_brings, side_judge};
+    ghost use Rattle.gserver.specs.Serving.{AnswersMessage, HearsMessage, OpensFresh, RefusesMessage, messages_of, side_brings, side_judge};
 
     ghost judge = { λ side. side_judge side.limits R.server side.repo };
 
     ghost brings = { λ side. side_brings side.repo };
+
+    ghost hears = { HearsMessage R.server };
 
     ghost opens = { OpensFresh };
 
@@ -359,6 +362,10 @@ where
         }
     }
 
+    fn hear(&self, message: &mut Heard<A>, line: gpkt::Packet<'_>) -> Result<Step, Why> {
+        message.accept_packet(line)
+    }
+
     fn answer(&mut self, message: Heard<A>) -> Answer<ServerReply<A, R, R::Parts>> {
         match message {
             Heard::Hello(reader) => self.answer_hello(reader.finish()),
@@ -369,5 +376,10 @@ where
     fn refuse(&mut self, fault: MessageFault) -> ServerReply<A, R, R::Parts> {
         let words = words::<A, H, R>(self.host, &mut self.fault, ServeFault::Request(fault));
         ServerReply::Speech(Speech::refusal_of(words))
+    }
+
+    fn laws() {
+        // Laws that the proof uses.
+        grammars_are_exact();
     }
 }

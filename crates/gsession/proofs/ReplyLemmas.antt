@@ -1,5 +1,5 @@
 -- Accepting or rejecting a reply, step by step.
-use Rattle.std.proofs.Common.{◌≡◌, ◌≤◌, ℕ, Bool, List, ◌++◌, length, All, Contains, Option, None, Result, Ok, Err, inr}
+use Rattle.std.proofs.Common.{◌≡◌, ◌≤◌, ℕ, Bool, true, false, not, List, ◌++◌, length, All, Contains, Option, Some, None, Result, Ok, Err, inr}
 use Rattle.std.proofs.Common.{MatchResult, refl, sym, ap, subst, true≢false, arith, ◌∙◌}
 use Rattle.std.specs.Option.{option_map}
 use Rattle.std.proofs.lemmas.Cmp.{nat_list_eq_equiv}
@@ -8,13 +8,24 @@ use Rattle.std.proofs.lemmas.Map.Made.{length-le_from_is_member}
 use Rattle.gname.specs.Ids.{IsIdOf}
 use Rattle.gpkt.specs.Change.{Change}
 use Rattle.gpkt.specs.PacketReading.{Reader}
-use Rattle.ggrammar.specs.MessageReading.{LeavesReader}
+use Rattle.ggrammar.specs.Grammar.{IsOpen, IsWhole, Open, Whole}
+use Rattle.ggrammar.specs.MessageReading.{IsReason, LeavesReader, TakesPacket}
+use Rattle.ggrammar.specs.declared.fault.Why.{Why}
+use Rattle.ggrammar.specs.declared.message.Step.{Step}
+use Rattle.ggrammar.specs.declared.message.Step.TheVariants as step
 use Rattle.glsreply.specs.LsReplies.{LsReply}
 use Rattle.gobject.specs.declared.node.Entry.{Entry}
 use Rattle.gdag.proofs.IdLists.{any_from_contains, contains_from_any}
-use Rattle.gfetchreply.specs.FetchReplies.{FetchReply, Acks, Ready, Pack}
+use Rattle.gpkt.specs.Packets.{Packet}
+use Rattle.gfetchreply.specs.FetchReplies.{Reading, FetchReply, Acks, Ready, Pack, Says, ack_texts, band_payloads, brings_into, judge, reply_by, reply_of}
 use Rattle.gfetchreply.specs.FetchHeads.{FetchHead, acknowledged_by, head_of, pack_of}
 use Rattle.gfetchreply.specs.FetchHeads as head
+use Rattle.gfetchreply.specs.ReplyReading.{HasHead, HasRead}
+use Rattle.gfetchreply.specs.Views.{reading_in}
+use Rattle.gfetchreply.specs.declared.reader.FetchReader.{FetchReader}
+use Rattle.gfetchreply.specs.steps.ReplyState.{HoldsReply, kept_in, kept_of}
+use Rattle.gfetchreply.proofs.ReplyLemmas.{has_read}
+use Rattle.gfetchreply.proofs.StateLemmas.{held_by}
 use Rattle.gobject.specs.Packs.{Indexes, IndexFails}
 use Rattle.gdag.specs.Graphs.{History}
 use Rattle.gdag.specs.Laws.{DistinctAreOnce}
@@ -26,13 +37,15 @@ use Rattle.gdag.specs.declared.fault.GraphFault.TheVariants as graph
 use Rattle.grefs.specs.RefLists.{RefList}
 use Rattle.gclientrepo.specs.declared.fault.RepoFault.TheVariants as repo
 use Rattle.gclientrepo.specs.Repos.{RepoState}
-use Rattle.grequest.specs.Asked.{FetchAsked}
+use Rattle.grequest.specs.Asked.{FetchAsked, Fetches, is_direct}
 use Rattle.grequest.specs.RequestValues.{asked_by_request}
 use Rattle.grequest.specs.declared.request.Request.{Request}
-use Rattle.gsession.specs.Sessions.{SessionState, AreCommons, IsOpenFetch, LeavesReplies}
-use Rattle.gsession.specs.steps.Calls.{AnswersLs, AnswersRead, AnswersRefs, AnswersReply, IsAcksFault, IsStrangeAck}
-use Rattle.gsession.specs.TakingRefs.{AwaitsRefs, IsLsFault, IsRefsFault, ReadsRefs}
-use Rattle.gsession.specs.TakingReplies.{Awaits, HasPack, IsFirstStrange, IsReplyFault, IsTakeFault, ReadsFetch}
+use Rattle.gsession.specs.Sessions.{SessionState, AreCommons, IsOpenFetch, LeavesReplies, after_fault}
+use Rattle.gsession.specs.steps.Calls.{AnswersLs, AnswersRead, AnswersRefs, AnswersReply, FitsHead, IsAcksFault, IsStrangeAck, MayHaveFed}
+use Rattle.gsession.specs.Readers.{HoldsObjects}
+use Rattle.gsession.specs.declared.reader.ObjectsReader.{ObjectsReader}
+use Rattle.gsession.specs.TakingRefs.{AcceptsRefs, AwaitsRefs, IsLsFault, IsUnaccepted, IsRefsFault, ReadsRefs}
+use Rattle.gsession.specs.TakingReplies.{AcceptsRead, Awaits, HasPack, IsFirstStrange, IsReplyFault, IsTakeFault, ReadsFetch}
 use Rattle.gsession.specs.TakingReplies.{RefusesPack, TakesHead, after_acks, reading_for}
 use Rattle.gsession.specs.declared.fault.ClientFault.{ClientFault}
 use Rattle.gsession.specs.declared.fault.ClientFault.TheVariants.{Index, Message, NoOpenRequest, Repo, StrangeAck, TooManyWants}
@@ -70,6 +83,21 @@ are_commons s asked acks list law opened named is =
       few = omega (arith, few, opened.few);
       once = (law (s.commons ++ acks)).once;
     })
+
+-- ---- replies that fit their request
+
+-- a reply with only acknowledgments answers a request that is not direct
+acks_not_direct : (reading : Reading) (packets : List Packet) (ids : List (List ℕ)) (direct : Bool)
+    → reading.direct ≡ direct → Acks ids ≡ reply_of reading packets → direct ≡ false
+acks_not_direct reading packets ids false is e = refl
+acks_not_direct reading packets ids true is e =
+    let p : Acks ids ≡ reply_by (record reading { direct = true }) (ack_texts reading.direct packets) (band_payloads reading.direct packets) =
+    subst (λ (b : Bool). Acks ids ≡ reply_by (record reading { direct = b }) (ack_texts reading.direct packets) (band_payloads reading.direct packets)) is e in
+    absurd (cc p)
+
+pub fits_acks : (direct given : Bool) → direct ≡ given → not direct ≡ true → given ≡ false
+fits_acks false given is goes = sym is
+fits_acks true given is goes = absurd (cc goes)
 
 module _ {A : Type 0} where
   -- ---- the ls-refs reply
@@ -231,3 +259,114 @@ module _ {A : Type 0} where
     read_leaves is_down was now haves old repo_old reply new repo_new (Err (Message fault)) leaves answers =
         absurd answers.0
     read_leaves is_down was now haves old repo_old reply new repo_new (Err _) leaves answers = leaves
+
+    -- a rejected reply that the session did not read itself
+    pub unaccepted_reply : (haves : List (List ℕ)) (old mid new : SessionState A) (repo_old repo_new : RepoState A)
+        (reply : FetchReply) (fault given : ClientFault A)
+        → AnswersRead indexes index_fails haves old repo_old reply mid repo_new (Err fault)
+        → given ≡ fault → new ≡ after_fault mid fault
+        → AcceptsRead indexes index_fails haves old repo_old reply new repo_new (Err given)
+    unaccepted_reply haves old mid new repo_old repo_new reply fault given answers same is =
+        subst (λ (f : ClientFault A). AcceptsRead indexes index_fails haves old repo_old reply new repo_new (Err f)) (sym same)
+        (answers.0, is ∙ ap (λ (s : SessionState A). after_fault s fault) answers.1, answers.2)
+
+  refs_unaccepted : (s : SessionState A) (g : List (Entry A)) (reply : LsReply) (fault : ClientFault A)
+      → AwaitsRefs s → IsRefsFault s g reply fault → IsUnaccepted s g reply fault
+  refs_unaccepted s g reply (Message fault) waits is = (waits, is)
+  refs_unaccepted s g reply TooManyWants waits is = (waits, is)
+  refs_unaccepted s g reply (Repo fault) waits is = (waits, is)
+  refs_unaccepted s g reply _ waits is = absurd is
+
+  pub unaccepted : (old mid new : SessionState A) (g : List (Entry A)) (reply : LsReply) (fault given : ClientFault A)
+      → AwaitsRefs old → AnswersRefs old g reply mid (Err fault) → given ≡ fault → new ≡ after_fault mid fault
+      → AcceptsRefs old g reply new (Err given)
+  unaccepted old mid new g reply fault given waits answers same is =
+      subst (λ (f : ClientFault A). AcceptsRefs old g reply new (Err f)) (sym same)
+      (refs_unaccepted old g reply fault waits answers.0, is ∙ ap (λ (s : SessionState A). after_fault s fault) answers.1)
+
+  -- ---- replies that fit their request
+
+  pub head_fits : (s : SessionState A) (asked : FetchAsked) (packets : List Packet) (reply : FetchReply)
+      → Says (reading_for s asked) packets reply → FitsHead asked (head_of reply)
+  head_fits s asked packets (Acks ids) says =
+      acks_not_direct (reading_for s asked) packets ids (is_direct asked) refl says.says
+  head_fits s asked packets (Ready ids pack) says = tt
+  head_fits s asked packets (Pack pack) says = tt
+
+  same_asked : (s : SessionState A) (one other : FetchAsked) → Awaits s one → Awaits s other → one ≡ other
+  same_asked s one other waits also =
+      let same : Some (Fetches one) ≡ Some (Fetches other) = sym waits ∙ also in cc
+
+  pub acks_fit : (s : SessionState A) (one other : FetchAsked) (direct : Bool) → direct ≡ is_direct one → Awaits s one → Awaits s other
+      → is_direct other ≡ false → not direct ≡ true
+  acks_fit s one other direct is waits also fits =
+      ap not (is ∙ ap is_direct (same_asked s one other waits also) ∙ fits)
+
+-- ---- the reader of a fetch reply
+
+-- packets that encode a reply encode no other reply
+said_once : (reading : Reading) (packets : List Packet) (one other : FetchReply) → Says reading packets one → Says reading packets other → one ≡ other
+said_once reading packets one other says also = says.says ∙ sym also.says
+
+module _ {F : Type 0} (taken : F → List ℕ → Type 0) (reading : Reading) (packets : List Packet) (found : FetchHead) (feed : F) (reply : FetchReply)
+    (read : HasRead taken reading packets found feed) (says : Says reading packets reply) where
+  -- the reply of the reader is the reply that the packets encode, and the indexer read its pack
+  pub same_head : found ≡ head_of reply
+  same_head = read.is_head ∙ ap head_of (said_once reading packets read.reply reply read.says says)
+
+  pub same_pack : taken feed (pack_of reply)
+  same_pack = subst (λ (r : FetchReply). taken feed (pack_of r)) (said_once reading packets read.reply reply read.says says) read.pack
+
+-- the head of the reply that the packets encode, and the state of the indexer, which read the pack of the reply
+pub reads_objects : {A F : Type 0} (fed : F → List ℕ → Type 0) (index_fails : IndexFails) (reading : Reading) (reader : ObjectsReader F A) (packets : List Packet) (found : FetchHead)
+    → IsWhole (judge reading) packets → HoldsObjects fed index_fails reading reader packets
+    → ((lines : List Packet) → IsWhole (judge (reading_in reader.reply.reading)) lines
+    → kept_in reader.reply.sections ≡ kept_of reader.reply.reading.limits reader.reply.reading.format reader.reply.reading.direct lines
+    → HasHead (reading_in reader.reply.reading) lines found)
+    → HasRead (MayHaveFed fed index_fails) reading packets found reader.feed
+reads_objects fed index_fails reading reader packets found whole holds finished =
+    let own = reading_in reader.reply.reading in
+    subst (λ (r : Reading). HasRead (MayHaveFed fed index_fails) r packets found reader.feed) holds.0
+    (has_read (MayHaveFed fed index_fails) (λ one other. Unit {0}) own (kept_in reader.reply.sections) reader.feed packets found
+    (finished packets (subst (λ (r : Reading). IsWhole (judge r) packets) (sym holds.0) whole) holds.1.counts) holds.1)
+
+module _ {A F S : Type 0} (fed : F → List ℕ → Type 0) (index_fails : IndexFails) (taken : S → List ℕ → Type 0) (same : S → S → Type 0) (reading : Reading) (old new : ObjectsReader F A)
+    (sink next : S) (front : List Packet) (packet : Packet)
+    (gives : (bytes : List ℕ) → MayHaveFed fed index_fails old.feed bytes → taken sink bytes)
+    (back : (bytes : List ℕ) → taken next bytes → MayHaveFed fed index_fails new.feed bytes)
+    (still : new.reply.reading ≡ old.reply.reading)
+    (holds : HoldsObjects fed index_fails reading old front) where
+  -- the reader of a reply accepts or rejects the packet, with a sink that has received the same bytes
+  abbrev Heard : Result Step Why → Type 0
+  Heard result =
+      TakesPacket (judge (reading_in old.reply.reading)) (brings_into false (reading_in old.reply.reading))
+      (λ (reader : FetchReader A) packets. HoldsReply taken same (reading_in reader.reading) (kept_in reader.sections) next packets)
+      (λ reader packets. Unit {0}) front packet new.reply result
+
+  holds_after : (packets : List Packet)
+      → HoldsReply taken same (reading_in new.reply.reading) (kept_in new.reply.sections) next packets
+      → HoldsObjects fed index_fails reading new packets
+  holds_after packets held = (
+    ap reading_in still ∙ holds.0,
+    held_by taken same (MayHaveFed fed index_fails) (λ one other. Unit {0}) _ _ next new.feed packets back held,
+  )
+
+  takes_after : (result : Result Step Why) → Heard result
+      → TakesPacket (judge reading) (brings_into false reading) (HoldsObjects fed index_fails reading)
+      (λ reader packets. Unit {0}) front packet new result
+  takes_after (Ok step.Open) h =
+      (subst (λ (r : Reading). judge r front packet ≡ Open) holds.0 h.0, holds_after _ h.1)
+  takes_after (Ok step.Whole) h =
+      (subst (λ (r : Reading). judge r front packet ≡ Whole) holds.0 h.0, holds_after _ h.1)
+  takes_after (Err why) h =
+      (subst (λ (r : Reading). IsReason (judge r front packet) (brings_into false r front packet) why) holds.0 h.0, tt)
+
+  pub takes_objects : (result : Result Step Why)
+      → (IsOpen (judge (reading_in old.reply.reading)) front
+      → HoldsReply taken same (reading_in old.reply.reading) (kept_in old.reply.sections) sink front → Heard result)
+      → IsOpen (judge reading) front
+      → TakesPacket (judge reading) (brings_into false reading) (HoldsObjects fed index_fails reading)
+      (λ reader packets. Unit {0}) front packet new result
+  takes_objects result takes opened =
+      takes_after result (takes (subst (λ (r : Reading). IsOpen (judge r) front) (sym holds.0) opened)
+      (held_by (MayHaveFed fed index_fails) (λ one other. Unit {0}) taken same _ _ old.feed sink front gives holds.1))

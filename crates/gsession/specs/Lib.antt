@@ -4,6 +4,7 @@ pub mod Requesting
 pub mod Offering
 pub mod TakingRefs
 pub mod TakingReplies
+pub mod Readers
 pub mod SettlingRefs
 pub mod Calls
 pub mod Keeping

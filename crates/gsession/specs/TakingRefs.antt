@@ -98,3 +98,16 @@ abbrev pub TakesLs : {A : Type 0} → SessionState A → List (Entry A) → Chan
 TakesLs old g change new (Ok taken) =
     AwaitsRefs old × ((reply : LsReply) × ReadsRefs old change reply × TakesLines old g reply new taken)
 TakesLs old g change new (Err fault) = IsLsFault old g change fault × (new ≡ after_fault old fault)
+
+-- ---- a complete reply that the session did not read itself
+
+-- a reason to reject a complete ls-refs reply: no ls-refs reply is awaited, or the refs of the reply are rejected
+abbrev pub IsUnaccepted : {A : Type 0} → SessionState A → List (Entry A) → LsReply → ClientFault A → Type 0
+IsUnaccepted s g reply NoOpenRequest = ¬ (AwaitsRefs s)
+IsUnaccepted s g reply fault = AwaitsRefs s × IsRefsFault s g reply fault
+
+-- the result of applying a complete ls-refs reply: the session accepts the refs, or fails
+abbrev pub AcceptsRefs : {A : Type 0} → SessionState A → List (Entry A) → LsReply → SessionState A
+    → Result (LsTaken A) (ClientFault A) → Type 0
+AcceptsRefs old g reply new (Ok taken) = AwaitsRefs old × TakesLines old g reply new taken
+AcceptsRefs old g reply new (Err fault) = IsUnaccepted old g reply fault × (new ≡ after_fault old fault)

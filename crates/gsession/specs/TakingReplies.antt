@@ -96,6 +96,14 @@ module _ {A : Type 0} (indexes : Indexes A) (index_fails : IndexFails) where
   TakesRead haves old repo_old reply new repo_new taken =
       All (Contains haves) (acknowledged_by reply) × TakesHead old repo_old reply new repo_new taken
 
+  -- the result of applying a complete fetch reply that the session did not read itself: the session accepts the reply,
+  -- or a fault ends the session and leaves the repository unchanged
+  abbrev pub AcceptsRead : List Id → SessionState A → RepoState A → FetchReply → SessionState A → RepoState A
+      → Result Taken (ClientFault A) → Type 0
+  AcceptsRead haves old repo_old reply new repo_new (Ok taken) = TakesRead haves old repo_old reply new repo_new taken
+  AcceptsRead haves old repo_old reply new repo_new (Err fault) =
+      IsReplyFault haves repo_old reply fault × (new ≡ after_fault old fault) × (repo_new ≡ repo_old)
+
 -- ---- reading a reply
 
 -- the parameters for reading the reply to a request
@@ -120,6 +128,18 @@ Awaits s asked = s.pending ≡ Some (Fetches asked)
 -- the open request is a request for objects
 abbrev pub AwaitsObjects : {A : Type 0} → SessionState A → Type 0
 AwaitsObjects s = (asked : FetchAsked) × Awaits s asked
+
+-- the stage of a session after an accepted fetch reply
+abbrev pub stage_after : Taken → Stage
+stage_after (Round common) = Fetching
+stage_after (PackTaken added) = Settling
+
+-- the session accepted the reply to a request for objects, and no request is open
+pub record HasTaken {A : Type 0} (old new : SessionState A) (taken : Taken) : Type 0 where
+  pub waits : AwaitsObjects old
+  pub pending : new.pending ≡ None
+  pub stage : new.stage ≡ stage_after taken
+  pub rounds : new.rounds ≡ old.rounds
 
 module _ {A : Type 0} (indexes : Indexes A) (index_fails : IndexFails) where
   -- the session reads a complete reply to the open request, and rejects its content

@@ -31,6 +31,17 @@ impl<'k, K: KeepingIndexer<A>, A: Allocator + Copy> PackFeed<'k, K, A> {
         }
     }
 
+    /// Returns a sink that passes the rest of a pack to the indexer.
+    pub(crate) fn resume(indexer: &'k K, feed: Result<K::Feed, IndexFault>) -> PackFeed<'k, K, A>
+        ensures { result.feed ≡ feed }
+    {
+        PackFeed {
+            indexer,
+            feed,
+            memory: PhantomData,
+        }
+    }
+
     /// Returns the state of the indexer after the last piece. Fails with the indexer's first fault.
     pub(crate) fn into_feed(self) -> Result<K::Feed, IndexFault>
         ensures { result ≡ self.entry.feed }

@@ -42,6 +42,11 @@
 //! - [`Session::take_reply_into`] does the same with an indexer that has a store. The store keeps
 //!   each object that the graph gains, for any bytes of the reply. The store still keeps all that it
 //!   kept before.
+//! - [`Session::refs_reader`] and [`Session::objects_reader`] return readers of the reply that the
+//!   session waits for. Such a reader reads the reply packet by packet. [`Session::accept_refs`] and
+//!   [`Session::accept_objects`] apply the complete reply. The session then changes as after
+//!   `take_ls` and `take_reply_into`. [`Session::refuse`] ends the session if the reply is
+//!   malformed.
 //! - [`Session::settle`] updates the local refs like `Repo::settle`, once a pack has arrived or if
 //!   there are no wants.
 //! - [`Session::is_due`] returns whether the session can make a request now.
@@ -111,6 +116,7 @@ mod fault;
 mod feed;
 pub mod laws;
 mod options;
+mod reader;
 mod requests;
 mod session;
 mod stage;
@@ -118,5 +124,6 @@ mod taken;
 
 pub use crate::fault::ClientFault;
 pub use crate::options::{FetchPlan, PackOptions};
+pub use crate::reader::ObjectsReader;
 pub use crate::session::{MAX_SPECS, Session};
 pub use crate::taken::{LsTaken, Settled, Taken};

@@ -16,7 +16,7 @@ use crate::stage::Stage;
 use crate::taken::Settled;
 use gclientrepo::{Asks, Repo};
 use gfetchreply::{PackLimit, StreamLimit};
-use ggrammar::Ends;
+use ggrammar::{Ends, MessageFault};
 use ggraph::distinct_ids;
 use ggraph::graph_laws::{distinct_are_once, positions_are_nodes};
 use ghello::Advert;
@@ -210,6 +210,22 @@ impl<A: Allocator + Copy> Session<A> {
         ensures { IsSession self.now }
     {
         let _ = &self.rounds;
+    }
+
+    /// Returns the object format of the session's ids.
+    pub fn format(&self) -> Format
+        ensures { result ≡ self.now.format }
+    {
+        self.format
+    }
+
+    /// Ends the session because the awaited message is malformed. Returns the fault.
+    pub fn refuse(&mut self, fault: MessageFault) -> ClientFault<A>
+        ensures fault { result ≡ ClientFault.Message fault }
+        ensures session { self.new ≡ over self.old }
+    {
+        self.end();
+        ClientFault::Message(fault)
     }
 
     // Returns the allocator of the session's lists.

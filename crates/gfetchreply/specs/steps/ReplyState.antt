@@ -171,3 +171,10 @@ module _ {S : Type 0} (taken : S → Bytes → Type 0) (same : S → S → Type 
     pub pack : (before : Bytes) → had before → taken sink (before ++ data_of (band_payloads reading.direct packets))
     pub is_same : (start : S) → starts start → same start sink
     pub in_place : name ≡ seat
+
+module _ {S : Type 0} (taken : S → Bytes → Type 0) (same : S → S → Type 0) where
+  -- the state after these packets, which one sink accepted: the stored values, and the sink, which has accepted the
+  -- pack's data and nothing else
+  abbrev pub HoldsReply : Reading → Kept → S → List Packet → Type 0
+  HoldsReply reading kept sink packets =
+      Holds taken same (λ bytes. bytes ≡ []) (λ start. ⊥) 0 reading reading kept sink 0 packets

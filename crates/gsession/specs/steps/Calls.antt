@@ -23,7 +23,7 @@ use Rattle.grequest.specs.Asked.{FetchAsked, is_direct, max_haves}
 use Rattle.gsession.specs.Asking.{AreNamed, asked_of, asks_by_all, with_asks}
 use Rattle.gsession.specs.Sessions.{SessionState}
 use Rattle.gsession.specs.TakingRefs.{IsLsFault, IsRefsFault, TakesLines, TakesLs}
-use Rattle.gsession.specs.TakingReplies.{IsFirstStrange, IsReplyFault, IsTakeFault, TakesRead, TakesReply}
+use Rattle.gsession.specs.TakingReplies.{Awaits, IsFirstStrange, IsReplyFault, IsTakeFault, TakesRead, TakesReply}
 use Rattle.gsession.specs.declared.fault.ClientFault.{ClientFault}
 use Rattle.gsession.specs.declared.fault.ClientFault.TheVariants.{StrangeAck, Repo}
 use Rattle.gsession.specs.declared.taken.LsTaken.{LsTaken}
@@ -90,6 +90,10 @@ IsAcksFault haves acks _ = ⊥
 abbrev pub FitsHead : FetchAsked → FetchHead → Type 0
 FitsHead asked (head.Acks ids) = is_direct asked ≡ false
 FitsHead asked _ = Unit {0}
+
+-- the reply fits the open request for objects
+abbrev pub FitsOpen : {A : Type 0} → SessionState A → FetchHead → Type 0
+FitsOpen s head = (asked : FetchAsked) × Awaits s asked × FitsHead asked head
 
 module _ {A : Type 0} (indexes : Indexes A) (index_fails : IndexFails) where
   -- the result of accepting or rejecting a complete fetch reply; a fault does not yet end the session

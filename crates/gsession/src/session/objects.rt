@@ -1,14 +1,15 @@
 //! Reading fetch replies.
 
-ghost use Rattle.std.specs.Prelude.{◌≡◌, ◌++◌, false, All, Contains, IfOk, MatchOption, MatchResult, OnOk, length};
+ghost use Rattle.std.specs.Prelude.{◌≡◌, ◌++◌, [], false, All, Contains, IfOk, IsTrue, List, MatchOption, MatchResult, OnOk, length};
 ghost use Rattle.gname.specs.Ids.{Id};
 ghost use Rattle.gpkt.specs.Change.{change_of};
-ghost use Rattle.gpkt.specs.Packets.{Bytes};
+ghost use Rattle.gpkt.specs.Packets.{Bytes, Packet};
 ghost use Rattle.gsession.specs.steps.Calls.{MayHaveFed};
 
 use crate::acks::{first_strange, with_acks};
 use crate::fault::ClientFault;
 use crate::feed::PackFeed;
+use crate::reader::ObjectsReader;
 use crate::session::{Session, set_pending};
 use crate::stage::Stage;
 use crate::taken::Taken;
@@ -22,7 +23,7 @@ use grequest::Request;
 use std::alloc::Allocator;
 
 impl<A: Allocator + Copy> Session<A> {
-    ghost use Rattle.gfetchreply.specs.FetchReplies.{FetchReply};
+    ghost use Rattle.gfetchreply.specs.FetchReplies.{FetchReply, Says};
     ghost use Rattle.gfetchreply.specs.FetchHeads.{acknowledged_by, head_of, pack_of};
     ghost use Rattle.gfetchreply.specs.Views.{head_in, reading_in};
     ghost use Rattle.gdag.specs.Levels.{distinct_of};
@@ -30,8 +31,9 @@ impl<A: Allocator + Copy> Session<A> {
     ghost use Rattle.grequest.specs.Asked.{FetchAsked, is_direct};
     ghost use Rattle.gsession.specs.Keeping.{KeepsOn};
     ghost use Rattle.gsession.specs.Sessions.{AreCommons, LeavesReplies};
-    ghost use Rattle.gsession.specs.steps.Calls.{AnswersRead, AnswersReply, FitsHead, IsAcksFault, IsStrangeAck, MayHaveFed};
-    ghost use Rattle.gsession.specs.TakingReplies.{Awaits, AwaitsObjects, HasPack, TakesReply, after_acks, reading_for};
+    ghost use Rattle.gsession.specs.steps.Calls.{AnswersRead, AnswersReply, FitsOpen, IsAcksFault, IsStrangeAck, MayHaveFed};
+    ghost use Rattle.gsession.specs.Readers.{HoldsObjects};
+    ghost use Rattle.gsession.specs.TakingReplies.{AcceptsRead, Awaits, AwaitsObjects, HasPack, HasTaken, TakesReply, after_acks, reading_for};
 
     /// Reads the reply to a request for objects, and nothing after it. Passes the pack to the
     /// indexer while the pack arrives. After the end of the reply, checks that each acknowledged id
@@ -110,6 +112,73 @@ impl<A: Allocator + Copy> Session<A> {
         }
     }
 
+    /// Returns a reader of the reply to the open request for objects, or `None` if no request for
+    /// objects is open. The reader passes the pack to this indexer. [`Session::accept_objects`]
+    /// applies the complete reply.
+    pub fn objects_reader<K: KeepingIndexer<A>>(
+        &self,
+        indexer: &K,
+    ) -> Option<ObjectsReader<K::Feed, A>>
+        ensures { MatchOption result
+            (¬ (AwaitsObjects self.now))
+            (λ reader. (asked : FetchAsked) × Awaits self.now asked
+            × HoldsObjects K.fed K.index_fails (reading_for self.now asked) reader []) }
+    {
+        match self.reply_reading() {
+            Some(reading) => Some(ObjectsReader::start(self.allocator(), reading, indexer)),
+            None => None,
+        }
+    }
+
+    /// Applies a complete reply to the open request for objects, as [`Session::take_reply_into`]
+    /// does after it read the reply.
+    ///
+    /// Fails with `NoOpenRequest` if no request for objects is open, or if the reply has no pack
+    /// although the request requires one. Any other fault ends the session. A fault leaves the
+    /// repository unchanged. Fails with `StrangeAck` if an acknowledged id is not a have. Otherwise
+    /// fails with `Index` if the indexer rejected the pack. Otherwise fails with `Repo` if the graph
+    /// rejects the objects, or if out of memory.
+    pub fn accept_objects<K: KeepingIndexer<A>>(
+        &mut self,
+        repo: &mut Repo<A>,
+        indexer: &mut K,
+        reader: ObjectsReader<K::Feed, A>,
+    ) -> Result<Taken, ClientFault<A>>
+        ensures accepts { (asked : FetchAsked) (lines : List Packet) (reply : FetchReply)
+            → Awaits self.old asked
+            → HoldsObjects K.fed K.index_fails (reading_for self.old asked) reader lines
+            → Says (reading_for self.old asked) lines reply
+            → AcceptsRead K.indexes K.index_fails asked.haves self.old repo.old reply self.new
+            repo.new result }
+        ensures goes { IfOk result (HasTaken self.old self.new) }
+        ensures keeps { KeepsOn (K.keeps indexer.old) (K.keeps indexer.new)
+            repo.old.graph.entries repo.new.graph.entries }
+    {
+        let ObjectsReader { reply, feed } = reader;
+        let head = reply.finish();
+        if !self.fits_open(&head) {
+            return Err(ClientFault::NoOpenRequest);
+        }
+        match self.take_head(repo, head, indexer, feed) {
+            Ok(done) => Ok(done),
+            Err(fault) => Err(self.end_with_fault(fault)),
+        }
+    }
+
+    // Returns whether this may be the head of a reply to the open request for objects.
+    fn fits_open(&self, head: &FetchHead<A>) -> bool
+        ensures fits { IsTrue result → FitsOpen self.now (head_in head.now) }
+        ensures all { FitsOpen self.now (head_in head.now) → IsTrue result }
+    {
+        match self.reply_reading() {
+            Some(reading) => match head {
+                FetchHead::Acks(_) => !reading.direct,
+                FetchHead::Ready(_) | FetchHead::Pack => true,
+            },
+            None => false,
+        }
+    }
+
     // Returns the parameters for reading the reply to the open request, or `None` if no request for
     // objects is open.
     fn reply_reading(&self) -> Option<FetchReading<StreamLimit>>
@@ -138,7 +207,8 @@ impl<A: Allocator + Copy> Session<A> {
         indexer: &mut K,
         feed: Result<K::Feed, IndexFault>,
     ) -> Result<Taken, ClientFault<A>>
-        requires { (asked : FetchAsked) × Awaits self.old asked × FitsHead asked (head_in head) }
+        requires { FitsOpen self.old (head_in head) }
+        ensures goes { IfOk result (HasTaken self.old self.new) }
         ensures answers { (asked : FetchAsked) (reply : FetchReply) → Awaits self.old asked
             → head_in head ≡ head_of reply
             → MayHaveFed K.fed K.index_fails feed (pack_of reply)
@@ -157,7 +227,8 @@ impl<A: Allocator + Copy> Session<A> {
     // Updates the session after a reply with only acknowledgments.
     fn take_acks(&mut self, acks: &[Oid]) -> Result<Taken, ClientFault<A>>
         requires { (asked : FetchAsked) × Awaits self.old asked × (is_direct asked ≡ false) }
-        ensures { (asked : FetchAsked) → Awaits self.old asked → MatchResult result
+        ensures goes { IfOk result (HasTaken self.old self.new) }
+        ensures answers { (asked : FetchAsked) → Awaits self.old asked → MatchResult result
             (λ taken. All (Contains asked.haves) acks.now
             × (self.new ≡ after_acks self.old Stage.Fetching acks.now)
             × (taken ≡ Taken.Round (length self.new.commons)))
@@ -182,6 +253,7 @@ impl<A: Allocator + Copy> Session<A> {
         feed: Result<K::Feed, IndexFault>,
     ) -> Result<Taken, ClientFault<A>>
         requires { AwaitsObjects self.old }
+        ensures goes { IfOk result (HasTaken self.old self.new) }
         ensures answers { (asked : FetchAsked) (reply : FetchReply) → Awaits self.old asked
             → acknowledged_by reply ≡ acks.now
             → HasPack reply

@@ -1,6 +1,6 @@
 //! Reading ls-refs replies.
 
-ghost use Rattle.std.specs.Prelude.{◌≡◌, ◌≤◌, List, All, MatchBool, MatchResult, IfOk, None, length};
+ghost use Rattle.std.specs.Prelude.{◌≡◌, ◌≤◌, [], List, All, MatchBool, MatchOption, MatchResult, IfOk, None, length};
 ghost use Rattle.gobject.specs.declared.node.Entry.{Entry};
 ghost use Rattle.gpkt.specs.Change.{change_of};
 ghost use Rattle.gsession.specs.Asking.{AreNamed, asks_by_all};
@@ -13,7 +13,7 @@ use crate::stage::Stage;
 use crate::taken::LsTaken;
 use gclientrepo::{Asks, Repo};
 use ggrammar::{MessageFault, Why};
-use glsreply::{LsReply, read_ls_reply_in};
+use glsreply::{LsReply, LsReplyReader, read_ls_reply_in};
 use gname::Oid;
 use gpkt::{PacketReader, Source};
 use grequest::{Request, max_wants};
@@ -25,7 +25,8 @@ impl<A: Allocator + Copy> Session<A> {
     ghost use Rattle.grequest.specs.Asked.{max_wants};
     ghost use Rattle.gsession.specs.Sessions.{LeavesReplies};
     ghost use Rattle.gsession.specs.steps.Calls.{AnswersLs, AnswersRefs, FindsAsks};
-    ghost use Rattle.gsession.specs.TakingRefs.{AwaitsRefs, IsRefsFault, TakesLines, TakesLs, with_refs};
+    ghost use Rattle.glsreply.specs.steps.ReplyState.{Holds};
+    ghost use Rattle.gsession.specs.TakingRefs.{AcceptsRefs, AwaitsRefs, IsRefsFault, TakesLines, TakesLs, with_refs};
 
     /// Reads the ls-refs reply, and nothing after it. Stores the requested updates and the wants,
     /// and returns the target of an unborn `HEAD`. For each ref that matches a refspec, the session
@@ -72,6 +73,44 @@ impl<A: Allocator + Copy> Session<A> {
         match read_ls_reply_in(reader, self.format, self.ends, self.allocator()) {
             Ok(reply) => self.take_refs(repo, &reply),
             Err(fault) => Err(ClientFault::Message(fault)),
+        }
+    }
+
+    /// Returns a reader of the reply to the open request for refs, or `None` if no request for refs
+    /// is open. [`Session::accept_refs`] applies the complete reply.
+    pub fn refs_reader(&self) -> Option<LsReplyReader<A>>
+        ensures { MatchOption result
+            (¬ (AwaitsRefs self.now))
+            (λ reader. AwaitsRefs self.now × (reader.format ≡ self.now.format)
+            × (reader.ends ≡ self.now.ends) × Holds reader []) }
+    {
+        if self.awaits_refs() {
+            Some(LsReplyReader::new(self.allocator(), self.format, self.ends))
+        } else {
+            None
+        }
+    }
+
+    /// Applies a complete ls-refs reply, as [`Session::take_ls`] does after it read the reply.
+    ///
+    /// Fails with `NoOpenRequest` if no request for refs is open, and changes nothing. Any other
+    /// fault ends the session. Fails with `Message` if the name of a local ref would be invalid.
+    /// Otherwise fails with `TooManyWants` for more wants than the limits of the session allow, or
+    /// with `Repo` if out of memory.
+    pub fn accept_refs(
+        &mut self,
+        repo: &Repo<A>,
+        reply: &LsReply<A>,
+    ) -> Result<LsTaken<A>, ClientFault<A>>
+        requires { IsLsReplyIn self.old.format reply.now }
+        ensures { AcceptsRefs self.old repo.now.graph.entries reply.now self.new result }
+    {
+        if !self.awaits_refs() {
+            return Err(ClientFault::NoOpenRequest);
+        }
+        match self.take_refs(repo, reply) {
+            Ok(taken) => Ok(taken),
+            Err(fault) => Err(self.end_with_fault(fault)),
         }
     }
 

@@ -4,7 +4,7 @@ use Rattle.gdialogue.proofs.dialogue.Dialogue.refuse.Goals as goal
 
 pub returns-clause-stopped : goal.returns-clause-stopped
 returns-clause-stopped g c = λ talk h.
-    refuses_stop g.S.Side.judge g.S.Side.brings g.S.Side.opens g.S.Side.answers g.S.Side.refuses g.M.Message.judge g.M.Message.brings g.M.Message.holds g.M.Message.left g.R.Reply.may
+    refuses_stop g.S.Side.judge g.S.Side.brings g.S.Side.opens g.S.Side.answers g.S.Side.refuses g.S.Side.hears g.R.Reply.may
     c.args.self.now.side c.refuse.new.self c.args.message c.args.frame c.args.why c.refuse.result
     (λ said goes may. subst (λ w. g.S.Side.refuses c.args.self.now.side (record { frame = c.args.frame; why = w }) said c.refuse.new.self)
     c.reason_of-why.ensures (c.refuse.ensures said goes may))

@@ -3,5 +3,5 @@ use Rattle.gdialogue.proofs.dialogue.Dialogue.speak_first.Goals as goal
 
 pub returns-clause-holds : goal.returns-clause-holds
 returns-clause-holds g c =
-    opens_with g.S.Side.judge g.S.Side.brings g.S.Side.opens g.S.Side.answers g.S.Side.refuses g.M.Message.judge g.M.Message.brings g.M.Message.holds g.M.Message.left g.R.Reply.may
+    opens_with g.S.Side.judge g.S.Side.brings g.S.Side.opens g.S.Side.answers g.S.Side.refuses g.S.Side.hears g.R.Reply.may
     c.args.side c.args.reply

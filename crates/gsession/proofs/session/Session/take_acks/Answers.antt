@@ -1,5 +1,7 @@
 use Rattle.std.proofs.Common.{◌≡◌, ◌++◌, ◌∙◌, List, ℕ, None, length, ap, sym, subst, refl, arith}
+use Rattle.std.specs.Option.{option_map}
 use Rattle.std.proofs.lemmas.Result.{err_from_is_err_and}
+use Rattle.grequest.specs.RequestValues.{asked_by_request}
 use Rattle.gdag.specs.Levels.{distinct_of}
 use Rattle.gsession.specs.Sessions.{AreCommons, SessionState}
 use Rattle.gsession.specs.steps.Fields.{session_of}
@@ -10,21 +12,21 @@ use Rattle.gsession.proofs.ReplyLemmas.{acked, strange_acks}
 use Rattle.gsession.proofs.SessionLemmas.{acks_taken, waits}
 use Rattle.gsession.proofs.session.Session.take_acks.Goals as goal
 
-pub returns-in_err-check_acks : goal.returns-in_err-check_acks
-returns-in_err-check_acks g c = λ asked waits.
+pub returns-in_err-check_acks-clause-answers : goal.returns-in_err-check_acks-clause-answers
+returns-in_err-check_acks-clause-answers g c = λ asked waits.
     let p = err_from_is_err_and c.from_residual.result c.from_residual.ensures.1 in
     rw (p.1, p.2) (
       strange_acks asked.haves c.args.acks.now _ (c.in_err-check_acks.ensures.checks asked waits),
       refl,
     )
 
-pub returns-in_err-joined : goal.returns-in_err-joined
-returns-in_err-joined g c = λ asked waits.
+pub returns-in_err-joined-clause-answers : goal.returns-in_err-joined-clause-answers
+returns-in_err-joined-clause-answers g c = λ asked waits.
     let p = err_from_is_err_and c.from_residual-in_err-joined.result c.from_residual-in_err-joined.ensures.1 in
     rw (p.1, p.2) (c.in_ok-check_acks.ensures.checks asked waits, refl)
 
-pub returns : goal.returns
-returns g c = λ asked waits.
+pub returns-clause-answers : goal.returns-clause-answers
+returns-clause-answers g c = λ asked waits.
     let commons = c.in_ok-joined.joined.items in
     let is = c.in_ok-joined.ensures ∙ ap (λ (l : List (List ℕ)). distinct_of (l ++ c.args.acks.now))
     (c.as_slice.ensures.value ∙ ap (λ (s : SessionState g.row.A.Denot). s.commons) c.self.view_is) in
@@ -49,3 +51,19 @@ invariant_of-self g c =
     (subst (λ (s : SessionState g.row.A.Denot). AreCommons s.options.limits s.format commons) back
     (subst (λ (l : List (List ℕ)). AreCommons c.args.self.now.options.limits c.args.self.now.format l) (sym is)
     c.in_ok-check_acks.ensures.commons))) tt tt
+
+pub returns-in_err-check_acks-clause-goes : goal.returns-in_err-check_acks-clause-goes
+returns-in_err-check_acks-clause-goes g c =
+    let p = err_from_is_err_and c.from_residual.result c.from_residual.ensures.1 in rw p.1 tt
+
+pub returns-in_err-joined-clause-goes : goal.returns-in_err-joined-clause-goes
+returns-in_err-joined-clause-goes g c =
+    let p = err_from_is_err_and c.from_residual-in_err-joined.result c.from_residual-in_err-joined.ensures.1 in rw p.1 tt
+
+pub returns-clause-goes : goal.returns-clause-goes
+returns-clause-goes g c = record {
+  waits = (c.requires.0, c.requires.1);
+  pending = ap (option_map asked_by_request) c.set_pending.ensures;
+  stage = refl;
+  rounds = ap (λ (s : SessionState g.row.A.Denot). s.rounds) c.self.view_is;
+}

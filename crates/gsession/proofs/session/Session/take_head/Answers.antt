@@ -11,7 +11,7 @@ returns-in-Acks-clause-answers g c = λ asked reply waits same fed.
     ∙ ap Acks (sym c.ids.ensures.ids) in
     acks_answer g.K.KeepingIndexer.indexes g.K.KeepingIndexer.index_fails
     asked.haves c.ids.result.now
-    c.args.self.now c.args.repo.now reply c.take_acks.new.self c.take_acks.result is (c.take_acks.ensures asked waits)
+    c.args.self.now c.args.repo.now reply c.take_acks.new.self c.take_acks.result is (c.take_acks.ensures.answers asked waits)
 
 pub returns-in-Acks-clause-keeps : goal.returns-in-Acks-clause-keeps
 returns-in-Acks-clause-keeps g c = keeps_none (g.K.KeepingIndexer.keeps c.args.indexer.now) c.args.repo.now.graph.entries

@@ -1,5 +1,7 @@
 use Rattle.std.proofs.Common.{ℕ, List, ◌++◌, All, Contains, None, refl, sym, ap, subst, ◌∙◌}
+use Rattle.std.specs.Option.{option_map}
 use Rattle.std.proofs.lemmas.Result.{err_from_is_err_and}
+use Rattle.grequest.specs.RequestValues.{asked_by_request}
 use Rattle.gdag.specs.Levels.{distinct_of}
 use Rattle.gfetchreply.specs.FetchHeads.{pack_of}
 use Rattle.gsession.specs.Sessions.{AreCommons, SessionState}
@@ -108,3 +110,27 @@ pub returns-clause-keeps : goal.returns-clause-keeps
 returns-clause-keeps g c =
     keeps_more (g.K.KeepingIndexer.keeps c.args.indexer.now) (g.K.KeepingIndexer.keeps c.finish.new.indexer) c.args.repo.now.graph.entries c.in_ok-entries.entries.items c.insert_all.new.self.graph.entries c.in_ok-entries.ensures.stays
     c.in_ok-entries.ensures.kept c.in_ok-added.ensures.only
+
+pub returns-in_err-check_acks-clause-goes : goal.returns-in_err-check_acks-clause-goes
+returns-in_err-check_acks-clause-goes g c =
+    let p = err_from_is_err_and c.from_residual.result c.from_residual.ensures.1 in rw p.1 tt
+
+pub returns-in_err-entries-clause-goes : goal.returns-in_err-entries-clause-goes
+returns-in_err-entries-clause-goes g c =
+    let p = err_from_is_err_and c.from_residual-in_err-entries.result c.from_residual-in_err-entries.ensures.1 in rw p.1 tt
+
+pub returns-in_err-commons-clause-goes : goal.returns-in_err-commons-clause-goes
+returns-in_err-commons-clause-goes g c =
+    let p = err_from_is_err_and c.from_residual-in_err-commons.result c.from_residual-in_err-commons.ensures.1 in rw p.1 tt
+
+pub returns-in_err-added-clause-goes : goal.returns-in_err-added-clause-goes
+returns-in_err-added-clause-goes g c =
+    let p = err_from_is_err_and c.from_residual-in_err-added.result c.from_residual-in_err-added.ensures.1 in rw p.1 tt
+
+pub returns-clause-goes : goal.returns-clause-goes
+returns-clause-goes g c = record {
+  waits = c.requires;
+  pending = ap (option_map asked_by_request) c.set_pending.ensures;
+  stage = refl;
+  rounds = ap (λ (s : SessionState g.row.A.Denot). s.rounds) c.self.view_is;
+}

@@ -1,0 +1,4 @@
+pub mod SideLemmas
+pub mod HeardLemmas
+pub mod TalkLemmas
+pub mod SayingLemmas
