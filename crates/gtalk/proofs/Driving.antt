@@ -319,7 +319,7 @@ module _ {C A D : Type 0} (holds : C → Talk → Type 0) (turn : C → Turn) (c
         subst (λ (r : Bytes). (z : Holds {A = A} holds new r (said ++ (h.drives.said ++ k.sends.said))) × (canonical_all z.talk.earlier ≡ said ++ h.drives.said)) (append-nil (heard ++ h.drives.more))
         (subst (λ (s : Bytes). (z : Holds {A = A} holds new ((heard ++ h.drives.more) ++ []) s) × (canonical_all z.talk.earlier ≡ said ++ h.drives.said)) (append_assoc said h.drives.said k.sends.said)
         (n.0, ap (λ (t : Talk). canonical_all t.earlier) n.1.1 ∙ ap canonical_all (m.1 start speaks) ∙ m.0.said ∙ ap (λ (p : Bytes). (said ++ h.drives.said) ++ p) all_sent ∙ append-nil (said ++ h.drives.said)));
-    clean = λ clean. k.sends.goes.clean (h.drives.goes.clean clean);
+    clean = λ clean on. k.sends.partial ∙ h.drives.goes.clean clean (λ listens. cc (speaks, listens)) (sym k.sends.stopped ∙ on);
     passed = passed_so passed h;
     some = k.counts;
   }
@@ -354,7 +354,7 @@ module _ {C A D : Type 0} (holds : C → Talk → Type 0) (turn : C → Turn) (c
   -- ---- the parts of a turn
 
   pub said_nothing : (c : Connection C A) (begun : D) → Said (Ok false) c c begun begun
-  said_nothing c begun = record { sends = record { said = []; sent = Appends-nil (contents begun); goes = no_goes holds turn SaysOn c nothing_said }; counts = (refl, refl) }
+  said_nothing c begun = record { sends = record { said = []; sent = Appends-nil (contents begun); goes = no_goes holds turn SaysOn c nothing_said; partial = refl; stopped = refl }; counts = (refl, refl) }
 
   pub said_more : (passed sent : Bool) (old mid new : Connection C A) (begun sink after : D) → Said (Ok passed) old mid begun sink → Said (Ok sent) mid new sink after
       → Said (Ok (if passed then true else sent)) old new begun after
@@ -383,14 +383,14 @@ module _ {C A D : Type 0} (holds : C → Talk → Type 0) (turn : C → Turn) (c
   }
 
   -- a call that queued packets, and then sent the pending bytes
-  pub said_pending : (result : Result Bool TalkFault) (old mid new : Connection C A) (begun after : D) → Goes {A = A} turn holds SaysOn old mid [] []
+  pub said_pending : (result : Result Bool TalkFault) (old mid new : Connection C A) (begun after : D) → Goes {A = A} turn holds SaysOn old mid [] [] → mid.incoming.bytes ≡ old.incoming.bytes → mid.stopped ≡ old.stopped
       → (k : SendsPending {A = A} turn holds mid new (record { old = contents begun; new = contents after }))
       → CountsSent result k.sends.said (pending_of new) (after ≡ begun)
       → Said result old new begun after
   unfolding more_sent
-  said_pending result old mid new begun after goes k counts = record {
+  said_pending result old mid new begun after goes partial stopped k counts = record {
     sends = more_sent holds turn old mid new (contents begun) (contents begun) (contents after)
-        (record { said = []; sent = Appends-nil (contents begun); goes = goes }) k.sends;
+        (record { said = []; sent = Appends-nil (contents begun); goes = goes; partial = partial; stopped = stopped }) k.sends;
     counts = counts;
   }
 

@@ -338,7 +338,7 @@ module _ {C A : Type 0} (holds : C → Talk → Type 0) where
     }
 
     pub nothing_sent : (c : Connection C A) (written : Option Bytes) → SendsSaid {A = A} turn holds c c (record { old = written; new = written })
-    nothing_sent c written = record { said = []; sent = Appends-nil written; goes = no_goes SaysOn c nothing_said }
+    nothing_sent c written = record { said = []; sent = Appends-nil written; goes = no_goes SaysOn c nothing_said; partial = refl; stopped = refl }
 
     unfoldable pub more_sent : (old mid new : Connection C A) (first between last : Option Bytes)
         → SendsSaid {A = A} turn holds old mid (record { old = first; new = between })
@@ -348,6 +348,8 @@ module _ {C A : Type 0} (holds : C → Talk → Type 0) where
       said = h.said ++ k.said;
       sent = Appends-trans first between last h.said k.said h.sent k.sent;
       goes = two_goes SaysOn SaysOn SaysOn old mid new [] [] h.said k.said says_then h.goes k.goes;
+      partial = k.partial ∙ h.partial;
+      stopped = k.stopped ∙ h.stopped;
     }
 
     -- a connection that listens receives packets, so a turn that speaks next begins anew
@@ -397,14 +399,14 @@ module _ {C A : Type 0} (holds : C → Talk → Type 0) where
     pub none_sent : (c : Connection C A) (written last : Option Bytes) → Keeps written last
         → SendsSaid {A = A} turn holds c c (record { old = written; new = last })
     none_sent c written last keeps =
-        record { said = []; sent = Appends-kept written written last [] (Appends-nil written) keeps; goes = no_goes SaysOn c nothing_said }
+        record { said = []; sent = Appends-kept written written last [] (Appends-nil written) keeps; goes = no_goes SaysOn c nothing_said; partial = refl; stopped = refl }
 
     -- a call that leaves the contents of the sink unchanged preserves `SendsSaid`
     unfoldable pub kept_sent : (old new : Connection C A) (first between last : Option Bytes)
         → SendsSaid {A = A} turn holds old new (record { old = first; new = between }) → Keeps between last
         → SendsSaid {A = A} turn holds old new (record { old = first; new = last })
     kept_sent old new first between last h keeps =
-        record { said = h.said; sent = Appends-kept first between last h.said h.sent keeps; goes = h.goes }
+        record { said = h.said; sent = Appends-kept first between last h.said h.sent keeps; goes = h.goes; partial = h.partial; stopped = h.stopped }
 
     pub nothing_heard : (c : Connection C A) (read : Option Bytes) → HearsRead {A = A} turn holds c c (record { old = read; new = read })
     nothing_heard c read = record { more = []; received = Consumes-nil read; goes = no_goes (HearsOn c c) c (λ t. inl (refl, refl)) }

@@ -152,6 +152,8 @@ module _ {C A : Type 0} where
     pub said : Bytes
     pub sent : Appends written.old written.new said
     pub goes : Goes turn holds SaysOn old new [] said
+    pub partial : new.incoming.bytes ≡ old.incoming.bytes
+    pub stopped : new.stopped ≡ old.stopped
 
   -- the connection receives all bytes that are read, and all bytes that it sends are written
   pub record Drives (turn : C → Turn) (holds : C → Talk → Type 0) (Leads : Talk → Talk → Type 0)
@@ -186,7 +188,7 @@ module _ {C A : Type 0} where
     pub talks : (heard said : Bytes) (h : Holds holds old heard said) → IsTurnStart h.talk
         → (k : Holds holds new (heard ++ more) (said ++ (earlier ++ last)))
         × (canonical_all k.talk.earlier ≡ said ++ earlier)
-    pub clean : IsClean turn old → IsClean turn new
+    pub clean : IsClean turn old → new.stopped ≡ None → new.incoming.bytes ≡ []
     pub passed : ((earlier ≡ []) × KeepsPassed passed_on) ⊎ ((0 < length earlier) × PassesBytes earlier written passed_on)
     pub some : 0 < length (last ++ drop new.sent (bytes_in new.outgoing))
 

@@ -191,6 +191,7 @@ impl<C: Conversation, A: Allocator + Copy> Connection<C, A> {
         ensures goes { Goes C.turn C.holds SaysOn self.old self.new [] [] }
         ensures same { OnErr result (conversation_of self.new ≡ conversation_of self.old) }
         ensures pending { OnErr result (pending_of self.new ≡ []) }
+        ensures partial { partial_of self.new ≡ partial_of self.old }
         ensures stopped { has_stopped self.new ≡ has_stopped self.old }
         ensures advances { OnOk result (Advances C.holds C.turn C.left self.old self.new) }
     {
@@ -229,6 +230,7 @@ impl<C: Conversation, A: Allocator + Copy> Connection<C, A> {
         ensures goes { Goes C.turn C.holds SaysOn self.old self.new []
             (take count (pending_of self.old)) }
         ensures pending { pending_of self.new ≡ drop count (pending_of self.old) }
+        ensures partial { partial_of self.new ≡ partial_of self.old }
         ensures conversation { conversation_of self.new ≡ conversation_of self.old }
         ensures stopped { has_stopped self.new ≡ has_stopped self.old }
     {
