@@ -1,2 +1,3 @@
 -- Definitions for private functions and proofs.
 pub mod Accepting
+pub mod Ending

@@ -1,0 +1,120 @@
+//! A fetch over a blocking source and a blocking sink.
+
+ghost use Rattle.std.specs.Prelude.{◌≡◌, None};
+ghost use Rattle.gpkt.specs.Sending.{input_of, output_of};
+ghost use Rattle.gsession.specs.Keeping.{KeepsOn};
+ghost use Rattle.gsession.specs.declared.stage.Stage.TheVariants.{Settling};
+ghost use Rattle.gfetch.specs.Conversations.{FetchesOver};
+ghost use Rattle.gfetch.specs.Fetching.{IsFresh, KeepsObjects, start_of_side};
+ghost use Rattle.gfetch.specs.Starts.{start_for};
+ghost use Rattle.gfetch.specs.steps.Ending.{EndsTalk, SettlesFetch};
+
+use crate::fault::FetchFault;
+use crate::fetched::Fetched;
+use crate::side::ClientSide;
+use gclientrepo::Repo;
+use gdialogue::run_dialogue;
+use ggrammar::laws::grammars_are_exact;
+use ggraph::{Graph, KeepingIndexer, Refs};
+use gname::RefName;
+use gpkt::{Sink, Source};
+use gsession::{FetchPlan, Session};
+use gtalk::{Room, TalkFault};
+use std::alloc::Allocator;
+use std::mem;
+
+/// Fetches those refs of a server that match the refspecs (gitprotocol-v2(5)). Reads the server's
+/// advertisement, requests the list of refs, and requests the wanted objects until the server sends
+/// a pack. Ends the conversation with a lone flush packet, and then updates the local refs. Flushes
+/// each request, and reads nothing after the last reply. The plan contains the refspecs, the limit
+/// on the size of a pack, and the options for packs. The indexer keeps each object that the
+/// repository gains, whatever the server sends.
+///
+/// Fails with `TooManySpecs` for more than 16 refspecs. Fails with `Repo` or `NoBuffer` if out of
+/// memory at the start, and then reads nothing. Later, the first fault ends the conversation. Fails
+/// with `Message` if the advertisement or a reply is malformed, or if the client does not support
+/// the server (`UnknownCommand`, `Format`). Fails with `Message` (`BadName`) if the name of a local
+/// ref would be invalid. Fails with `TooManyWants` if there are more wants than a request may have.
+/// Fails with `StrangeAck`, `Index` or `Repo` if the client rejects the content of a reply. Fails
+/// with `WriteFailed` if the sink fails. The sink has then received a prefix of the requests. Fails
+/// with `Repo` if the refs can't be updated (`NotConnected`, `Refs`), or if out of memory.
+pub fn fetch_over_with<S: Source, W: Sink, A: Allocator + Copy, K: KeepingIndexer<A>>(
+    repo: &mut Repo<A>,
+    source: &mut S,
+    sink: &mut W,
+    indexer: &mut K,
+    plan: &FetchPlan<'_, A>,
+) -> Result<Fetched<A>, FetchFault<A>>
+    ensures fetches { FetchesOver K.indexes K.index_fails
+        (start_for repo.old plan.now.specs.now plan.now.limit plan.now.ends plan.now.options)
+        (input_of S.remaining S.is_down source.old source.new)
+        (output_of W.contents W.passed_on W.is_down sink.old sink.new) repo.new result }
+    ensures keeps { KeepsOn (K.keeps indexer.old) (K.keeps indexer.new) repo.old.graph.entries
+        repo.new.graph.entries }
+    ensures source_loans { S.loans source.new ≡ S.loans source.old }
+    ensures sink_loans { W.loans sink.new ≡ W.loans sink.old }
+{
+    let alloc = repo.graph().allocator();
+    let session = Session::begin_with(alloc, repo, plan)?;
+    let room = match Room::new(alloc) {
+        Ok(room) => room,
+        Err(_) => return Err(FetchFault::NoBuffer),
+    };
+    let empty = match Repo::new(Graph::new(alloc), Refs::new(alloc)) {
+        Ok(empty) => empty,
+        Err(_) => return Err(FetchFault::NoBuffer),
+    };
+    let side = ClientSide::new(mem::replace(repo, empty), session, indexer);
+    let (driven, side) = talk(side, room, source, sink);
+    let (owned, session, _indexer, unborn, fault) = side.into_parts();
+    *repo = owned;
+    match driven {
+        Err(_) => Err(FetchFault::WriteFailed),
+        Ok(_) => match fault {
+            Some(fault) => Err(FetchFault::Client(fault)),
+            None => settle(repo, session, unborn),
+        },
+    }
+}
+
+// Runs the dialogue of a side that has received no message. Returns the side, and whether a packet
+// was sent.
+fn talk<'k, S: Source, W: Sink, A: Allocator + Copy, K: KeepingIndexer<A>>(
+    side: ClientSide<'k, A, K>,
+    room: Room<A>,
+    source: &mut S,
+    sink: &mut W,
+) -> (Result<bool, TalkFault>, ClientSide<'k, A, K>)
+    requires { IsFresh side }
+    ensures ends { EndsTalk K.indexes K.index_fails (start_of_side side)
+        (input_of S.remaining S.is_down source.old source.new)
+        (output_of W.contents W.passed_on W.is_down sink.old sink.new) result.1 result.0 }
+    ensures keeps { KeepsObjects K.keeps side result.1 }
+    ensures source_loans { S.loans source.new ≡ S.loans source.old }
+    ensures sink_loans { W.loans sink.new ≡ W.loans sink.old }
+{
+    // Laws that the proof uses.
+    grammars_are_exact();
+    ghello::laws::endings();
+    glsreply::laws::endings();
+    gfetchreply::laws::endings();
+    run_dialogue(side, room, source, sink)
+}
+
+// Updates the local refs after the conversation.
+fn settle<A: Allocator + Copy>(
+    repo: &mut Repo<A>,
+    mut session: Session<A>,
+    unborn: Option<RefName<A>>,
+) -> Result<Fetched<A>, FetchFault<A>>
+    requires { session.stage ≡ Settling }
+    ensures { SettlesFetch session repo.old unborn repo.new result }
+{
+    let requests = session.rounds();
+    let settled = session.settle(repo)?;
+    Ok(Fetched {
+        settled,
+        requests,
+        unborn,
+    })
+}
