@@ -6,7 +6,7 @@
 //! to a message is the next request, or a lone flush packet that ends the connection
 //! ([`ClientReply`]).
 //!
-//! # Contracts
+//! # Proved
 //!
 //! - The next message is the advertisement before the first request, and then the reply to the open
 //!   request (`specs/Heard.antt`). A reply is read with the parameters of the session and of the
