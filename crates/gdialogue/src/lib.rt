@@ -10,8 +10,8 @@
 //! - Messages and answers alternate. Each message that is not refused is complete according to the
 //!   grammar of the side's current state, and the side answers it in that state. Apart from packets
 //!   before the first message, the side sends only answers (`Answered` in `specs/Dialogues.antt`).
-//! - The message that is being received consists of exactly its packets so far, and belongs to the
-//!   side's current state (`hears` in [`Side`], `HoldsHearing` in `specs/Dialogues.antt`).
+//! - The message that is being received is related to its packets so far and to the side's current
+//!   state, as `hears` of [`Side`] states (`HoldsHearing` in `specs/Dialogues.antt`).
 //! - A dialogue ends with a last answer, with a reply that ends the dialogue early, or with a
 //!   refused message (`HasEnded`). A message is refused at the first packet that its grammar
 //!   rejects, with the position of the packet and the reason. A message is also refused if memory

@@ -1,6 +1,6 @@
 -- A client's end of a dialogue: it receives the advertisement and the reply to each request, and sends its next request
--- (gitprotocol-v2(5), "Initial Client Request" and "Command Request"). The packets are those of `gclient`'s
--- conversations: each message and its answer are parts of turns (`Turns`).
+-- (gitprotocol-v2(5), "Capability Advertisement" and "Command Request"). Each message and its answer are parts of turns
+-- (`Turns`).
 use Rattle.std.specs.Prelude.{◌≡◌, ◌⊎◌, ℕ, ◌+◌, ◌-◌, ◌≤◌, ◌^◌, Bool, true, false, List, [], length, Option, Some, None, Err}
 use Rattle.gname.specs.Ids.{Id}
 use Rattle.gpkt.specs.Packets.{Packet}
@@ -140,7 +140,7 @@ pub record KeepsObjects {A K : Type 0} (keeps : K → Id → Type 0) (old new : 
   pub in_place : new.indexer.ghost_name ≡ old.indexer.ghost_name
 
 module _ {A K : Type 0} (indexes : Indexes A) (index_fails : IndexFails) (keeps : K → Id → Type 0) where
-  -- the answer to a message, given the open request of the session
+  -- the answer to a message, given the open request of the session; an open request is never empty
   abbrev pub AnswersAfter : Option Asked → ClientSide A K → ClientSide A K → List Packet → List Packet → Bool → Type 0
   AnswersAfter None old new lines said goes =
       IsBegun old.session → AnswersAdvert old new lines said goes ⊎ MismatchesAdvert old new lines said goes
@@ -157,7 +157,8 @@ module _ {A K : Type 0} (indexes : Indexes A) (index_fails : IndexFails) (keeps 
     pub indexer : KeepsObjects keeps old new
     pub changed : AwaitsObjects old.session ⊎ (new.indexer.now ≡ old.indexer.now)
 
--- a message is malformed, or no more packets arrive before its end; the client sends nothing more
+-- a message is refused: its grammar rejects a packet, memory runs out, or no more packets arrive before its end; the
+-- client sends nothing more
 pub record RefusesMessage {A K : Type 0} (old : ClientSide A K) (fault : MessageFault) (said : List Packet)
     (new : ClientSide A K) : Type 0 where
   pub indexer : KeepsIndexer old new

@@ -1,5 +1,5 @@
--- The dialogue of a client is a conversation of `gclient`: its messages are the advertisement and the replies of turns,
--- and its answers are the requests of these turns.
+-- While a client's dialogue continues, it is a conversation of turns: its messages are the advertisement and the replies
+-- of the turns, and its answers are the requests of the turns and another request.
 use Rattle.std.specs.Prelude.{◌≡◌, ◌++◌, List, []}
 use Rattle.std.specs.List.{flat_map}
 use Rattle.gname.specs.Ids.{Id}
@@ -44,13 +44,13 @@ module _ {A K : Type 0} (indexes : Indexes A) (index_fails : IndexFails) (keeps 
     pub fault : now.fault ≡ first.fault
     pub indexer : KeepsObjects keeps first now
 
-  -- the client has received no message and sent no packet, or it has completed turns
+  -- the client has received no message and sent no packet, or it waits for the reply to a request
   pub data IsTalk (first : ClientSide A K) : List Packet → List Packet → ClientSide A K → Type 0 where
     begun : IsFresh first → IsTalk first [] [] first
     talked : (heard said : List Packet) (now : ClientSide A K) → IsFresh first → HasTalked first heard said now
         → IsTalk first heard said now
 
-  -- a client's dialogue so far is a conversation of turns
+  -- the dialogue of a client, as long as it continues, is a conversation of turns
   abbrev pub DialoguesAreTurns : Type 0
   DialoguesAreTurns = (first now : ClientSide A K) (heard said : List Packet)
       → Answered (λ side. session_judge side.session) (λ side. session_brings side.session) OpensFresh

@@ -1,5 +1,4 @@
--- The beginning of a client's conversation, up to the advertisement (gitprotocol-v2(5), "Initial Client Request" and
--- "Capability Advertisement").
+-- The beginning of a client's conversation, up to the advertisement (gitprotocol-v2(5), "Capability Advertisement").
 use Rattle.std.specs.Prelude.{◌≡◌, ℕ, List, None}
 use Rattle.gname.specs.declared.formats.Format.{Format}
 use Rattle.gpkt.specs.Packets.{Packet}

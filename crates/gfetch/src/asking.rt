@@ -32,9 +32,9 @@ pub(crate) enum NextPart {
     Delim,
     /// The flags, without `done`.
     Flags,
-    /// The prefix or the want at this position, or the haves after the last one.
+    /// The prefix or the want at this position, or nothing after the last one.
     First(usize),
-    /// The have at this position, or `done` after the last have.
+    /// The have at this position, or nothing after the last one.
     Have(usize),
     /// The flag `done`, if it is set.
     Done,

@@ -6,9 +6,9 @@ ghost use Rattle.gfetch.specs.Laws.{DialoguesAreTurns};
 use ggraph::KeepingIndexer;
 use std::alloc::Allocator;
 
-/// Proves that the messages and answers of a client's dialogue are a conversation: the
-/// advertisement, the requests of turns, the replies of these turns, and another request. The
-/// indexer keeps each object that the graph gained.
+/// Proves that a client's dialogue is a conversation of turns, as long as it continues. The client
+/// received the advertisement and the replies of the turns. It sent the requests of the turns, and
+/// another request. The indexer keeps each object that the graph gained.
 pub fn dialogues_are_turns<A: Allocator + Copy, K: KeepingIndexer<A>>()
     ensures { DialoguesAreTurns K.indexes K.index_fails K.keeps }
 {}

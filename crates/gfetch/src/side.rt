@@ -1,4 +1,4 @@
-//! The client's end of a dialogue (gitprotocol-v2(5), "Initial Client Request" and "Command
+//! The client's end of a dialogue (gitprotocol-v2(5), "Capability Advertisement" and "Command
 //! Request").
 
 ghost use Rattle.std.specs.Prelude.{◌≡◌, ◌≢◌, ◌<◌, ◌⊎◌, Bool, IfOk, List, None, Some};
@@ -83,7 +83,7 @@ impl<'k, A: Allocator + Copy, K> ClientSide<'k, A, K> {
         &self.session
     }
 
-    /// Returns the fault that ended the conversation, or `None`.
+    /// Returns the fault that ended the dialogue, or `None`.
     pub fn fault(&self) -> Option<&ClientFault<A>>
         ensures { option_copied result ≡ self.now.fault }
     {
@@ -91,7 +91,7 @@ impl<'k, A: Allocator + Copy, K> ClientSide<'k, A, K> {
     }
 
     /// Consumes the side. Returns the repository, the session, the indexer, the target of the
-    /// server's unborn `HEAD`, and the fault that ended the conversation.
+    /// server's unborn `HEAD`, and the fault that ended the dialogue.
     pub fn into_parts(
         self,
     ) -> (
@@ -118,7 +118,7 @@ impl<'k, A: Allocator + Copy, K> ClientSide<'k, A, K> {
         (repo, session, indexer, unborn, fault)
     }
 
-    // Stores the fault, and ends the conversation without a further packet.
+    // Stores the fault, and ends the dialogue without a further packet.
     fn fail(&mut self, fault: ClientFault<A>) -> Answer<ClientReply<A>>
         ensures fault { self.new.fault ≡ Some fault }
         ensures stays { KeepsRest self.old self.new }

@@ -21,8 +21,8 @@
 //!   memory.
 //! - A [`FetchReader`] reads one reply packet by packet ([`FetchReader::hear_packet`]), with the
 //!   same grammar. Each call passes the data of its packet to the sink that it borrows. When the
-//!   reply is complete, [`FetchReader::finish`] returns the reply without its pack. The sink has
-//!   then accepted exactly the pack (`HasHead` in `specs/ReplyReading.antt`).
+//!   reply is complete, [`FetchReader::finish`] returns the reply without its pack. If all calls
+//!   borrowed one sink, the sink has then accepted exactly the pack (`HoldsReply`, `HasHead`).
 //! - [`Acks`] has ids of one format. Their number is within the limit on haves of its
 //!   [`ggrammar::Limits`], which is 4,096 by default. With any limits, the number is at most
 //!   4,294,967,295. [`PackBytes`] has at most `gname::MAX_PACK` bytes, and a [`PackLimit`] is at

@@ -1,3 +1,3 @@
--- Definitions that only private functions and proofs use.
+-- Definitions for readers of single packets, private functions and proofs.
 pub mod AdvertReading
 pub mod HelloReading

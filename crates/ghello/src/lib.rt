@@ -15,6 +15,7 @@
 //!   with `Memory` only at a packet whose text they store. After a message was read, the packet
 //!   reader is ready for the next message. After a refusal, the packet reader is unusable if and
 //!   only if the fault is a fault of the packet reader.
+//! - An [`AdvertReader`] reads one advertisement packet by packet, with the same grammar.
 //! - [`write_hello`] and [`write_advert`] write the canonical packets of the value, or a prefix of
 //!   them if the sink fails. A reader of the written packets returns the same value.
 //! - `specs/Offers.antt` specifies how a client checks a server's capabilities.

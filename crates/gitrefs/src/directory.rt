@@ -4,12 +4,13 @@ use crate::fault::{Cause, RefFault};
 use crate::git_file::{GitFile, sync_directory};
 use crate::locked::LockedFile;
 use crate::packed_text::{packed_refs_text, peeled_refs_text};
-use crate::path::{FilePath, is_absent};
+use crate::path::{FilePath, is_absent, path_below};
 use crate::texts::{branch_text, ref_text};
+use crate::update::names_of;
 use gname::RefName;
 use grefs::{Head, Refs, Target};
-use std::alloc::{Allocator, Global};
-use std::fs::{File, Files};
+use std::alloc::{AllocError, Allocator, Global};
+use std::fs::{File, Files, ReadDir};
 use std::io::ErrorKind;
 use std::path::Path;
 use std::{fs, io};
@@ -128,11 +129,7 @@ impl<'r, R: Files, A: Allocator + Copy> GitDirectory<'r, R, A> {
     // Creates the directory and its parents. Fails with `Exists` if the directory exists and is not
     // empty.
     fn create_directory(&self) -> Result<Origin, RefFault<A>> {
-        if let Some(parent) = Path::new(self.path).parent() {
-            if let Err(error) = fs::create_dir_all(self.files, parent) {
-                return Err(RefFault::system(self.alloc, parent.as_str(), error));
-            }
-        }
+        self.create_parents()?;
         match fs::create_dir(self.files, self.path) {
             Ok(()) => Ok(Origin::Made),
             Err(error) if error.kind() == ErrorKind::AlreadyExists => {
@@ -143,6 +140,17 @@ impl<'r, R: Files, A: Allocator + Copy> GitDirectory<'r, R, A> {
                 }
             }
             Err(error) => Err(RefFault::system(self.alloc, self.path, error)),
+        }
+    }
+
+    // Creates the parents of the directory.
+    fn create_parents(&self) -> Result<(), RefFault<A>> {
+        let Some(parent) = Path::new(self.path).parent() else {
+            return Ok(());
+        };
+        match fs::create_dir_all(self.files, parent) {
+            Ok(()) => Ok(()),
+            Err(error) => Err(RefFault::system(self.alloc, parent.as_str(), error)),
         }
     }
 
@@ -169,18 +177,35 @@ impl<'r, R: Files, A: Allocator + Copy> GitDirectory<'r, R, A> {
 
     // Returns whether the path names an empty directory.
     fn is_empty(&self) -> bool {
-        match fs::read_dir(&(self.files, &self.alloc), self.path) {
+        match self.list(self.path) {
             Ok(mut entries) => entries.next().is_none(),
             Err(_) => false,
         }
     }
 
-    // Removes the contents of a new repository.
-    fn clear(&self) -> Result<(), RefFault<A>> {
+    // Opens the directory with this path, to read its entries.
+    pub(crate) fn list(&self, path: &str) -> io::Result<ReadDir<(&R, &A), &A>> {
+        fs::read_dir(&(self.files, &self.alloc), path)
+    }
+
+    // Removes the contents of a new repository. Fails only if out of memory.
+    fn clear(&self) -> Result<(), AllocError> {
         for name in FILES {
-            let path = self.path_below(name)?;
-            let _ = fs::remove_file(self.files, path.as_str());
+            self.remove_file(name)?;
         }
+        self.remove_directories()
+    }
+
+    // Removes a file in the directory, as far as the system permits. Fails only if out of memory.
+    fn remove_file(&self, name: &str) -> Result<(), AllocError> {
+        let path = self.path_below(name)?;
+        let _ = fs::remove_file(self.files, path.as_str());
+        Ok(())
+    }
+
+    // Removes the directories of a new repository, as far as the system permits. Fails only if out
+    // of memory.
+    fn remove_directories(&self) -> Result<(), AllocError> {
         for name in REMOVED_DIRECTORIES {
             let path = self.path_below(name)?;
             let _ = self.files.remove_dir_all(self.alloc, path.as_str());
@@ -188,25 +213,33 @@ impl<'r, R: Files, A: Allocator + Copy> GitDirectory<'r, R, A> {
         Ok(())
     }
 
-    // Returns the path of a file in the directory.
-    fn path_below(&self, name: &str) -> Result<String<A>, RefFault<A>> {
-        let mut path = String::from_str(self.alloc, self.path)?;
-        path.push_str("/")?;
-        path.push_str(name)?;
-        Ok(path)
+    // Returns the path of a file in the directory. Fails only if out of memory.
+    fn path_below(&self, name: &str) -> Result<String<A>, AllocError> {
+        path_below(self.alloc, self.path, name)
     }
 
     // Fills the directory of a new repository. HEAD is written last, since a directory without HEAD
     // is not a repository.
     fn fill(&self, config: &[u8], branch: &Target<A>) -> Result<(), RefFault<A>> {
+        self.make_directories()?;
+        self.write_config(config)?;
+        self.write_branch(branch)?;
+        self.sync_name(self.path)
+    }
+
+    // Syncs the name of the first directory, and creates the other directories.
+    fn make_directories(&self) -> Result<(), RefFault<A>> {
         self.sync_name(self.path_below(OBJECTS)?.as_str())?;
         for name in DIRECTORIES {
             self.make_directory(name)?;
         }
+        Ok(())
+    }
+
+    // Writes the configuration file.
+    fn write_config(&self, config: &[u8]) -> Result<(), RefFault<A>> {
         let path = FilePath::of_config(self.alloc, self.path)?;
-        self.lock(path)?.replace(config)?;
-        self.write_head(&branch_text(self.alloc, branch)?)?;
-        self.sync_name(self.path)
+        self.lock(path)?.replace(config)
     }
 
     fn make_directory(&self, name: &str) -> Result<(), RefFault<A>> {
@@ -235,14 +268,25 @@ impl<'r, R: Files, A: Allocator + Copy> GitDirectory<'r, R, A> {
         match head {
             Head::None => Ok(()),
             Head::Id(id) => self.write_head(&ref_text(self.alloc, id)?),
-            Head::Symref(branch) => self.write_head(&branch_text(self.alloc, branch)?),
+            Head::Symref(branch) => self.write_branch(branch),
         }
     }
 
+    // Makes HEAD point at a branch.
+    fn write_branch(&self, branch: &Target<A>) -> Result<(), RefFault<A>> {
+        let text = branch_text(self.alloc, branch)?;
+        self.write_head(&text)
+    }
+
     fn write_head(&self, text: &Vec<u8, A>) -> Result<(), RefFault<A>> {
-        let head = RefName::head(self.alloc)?;
-        let path = self.path_of(&head)?;
+        let path = self.path_of_head()?;
         self.lock(path)?.replace(text.as_slice())
+    }
+
+    // Returns the path of HEAD.
+    fn path_of_head(&self) -> Result<FilePath<A>, RefFault<A>> {
+        let head = RefName::head(self.alloc)?;
+        self.path_of(&head)
     }
 
     /// Checks that the names of these refs do not conflict. [`GitDirectory::write_packed_refs`]
@@ -252,10 +296,7 @@ impl<'r, R: Files, A: Allocator + Copy> GitDirectory<'r, R, A> {
     /// Fails with `Conflict` if one ref name and a slash are the start of another ref name. Fails
     /// with `Memory` if out of memory.
     pub fn check_refs(&self, refs: &Refs<A>) -> Result<(), RefFault<A>> {
-        let mut names = Vec::new(self.alloc);
-        for pair in refs.as_slice() {
-            names.push(&pair.0)?;
-        }
+        let names = names_of(self.alloc, refs)?;
         self.check_apart(names.as_slice())
     }
 
@@ -288,7 +329,7 @@ impl<'r, R: Files, A: Allocator + Copy> GitDirectory<'r, R, A> {
 
     // Checks that `HEAD` exists, as in every Git directory. Fails with `Missing` if not.
     pub(crate) fn check_repository(&self) -> Result<(), RefFault<A>> {
-        let path = self.path_of(&RefName::head(self.alloc)?)?;
+        let path = self.path_of_head()?;
         match self.files.symlink_metadata(path.as_str()) {
             Ok(_) => Ok(()),
             Err(error) if error.kind() == ErrorKind::NotFound => {
@@ -306,6 +347,14 @@ impl<'r, R: Files, A: Allocator + Copy> GitDirectory<'r, R, A> {
         }
     }
 
+    // Returns the fault with this cause for HEAD.
+    pub(crate) fn head_fault(&self, cause: Cause) -> RefFault<A> {
+        match self.path_of_head() {
+            Ok(path) => RefFault::at(self.alloc, path.as_str(), cause),
+            Err(fault) => fault,
+        }
+    }
+
     // Locks and reads a file of the Git directory.
     pub(crate) fn lock(&self, path: FilePath<A>) -> Result<LockedFile<'r, R, A>, RefFault<A>> {
         let file = GitFile::new(self.alloc, self.files, path)?;
@@ -318,12 +367,20 @@ impl<'r, R: Files, A: Allocator + Copy> GitDirectory<'r, R, A> {
         if is_special(self.files, path.as_str()) {
             return Err(RefFault::at(self.alloc, path.as_str(), Cause::Malformed));
         }
+        match File::open(self.files, path.as_str()) {
+            Ok(file) => self.read_open(path, file),
+            Err(error) if is_absent(error.kind()) => Ok(None),
+            Err(error) => Err(RefFault::system(self.alloc, path.as_str(), error)),
+        }
+    }
+
+    // Returns the text of an open file.
+    fn read_open(
+        &self,
+        path: &FilePath<A>,
+        mut file: R::File,
+    ) -> Result<Option<Vec<u8, A>>, RefFault<A>> {
         let mut text = Vec::new(self.alloc);
-        let mut file = match File::open(self.files, path.as_str()) {
-            Ok(file) => file,
-            Err(error) if is_absent(error.kind()) => return Ok(None),
-            Err(error) => return Err(RefFault::system(self.alloc, path.as_str(), error)),
-        };
         // `copy` is quicker than `read_to_end`, which first fills the text with zeros.
         match io::copy(&mut file, &mut text) {
             Ok(_) => Ok(Some(text)),

@@ -66,10 +66,24 @@ impl<A: Allocator + Copy> FilePath<A> {
 fn join<A: Allocator + Copy>(alloc: A, git_dir: &str, name: &str) -> Result<FilePath<A>, AllocError>
     ensures { IfOk result (λ path. PathIsBelow git_dir.now path name.now) }
 {
-    let mut text = String::from_str(alloc, git_dir)?;
+    match path_below(alloc, git_dir, name) {
+        Ok(text) => Ok(FilePath { text }),
+        Err(fault) => Err(fault),
+    }
+}
+
+/// Returns the directory, a slash and the name. Fails only if out of memory.
+pub(crate) fn path_below<A: Allocator + Copy>(
+    alloc: A,
+    directory: &str,
+    name: &str,
+) -> Result<String<A>, AllocError>
+    ensures { IfOk result (λ path. PathIsBelow directory.now (string_bytes path) name.now) }
+{
+    let mut text = String::from_str(alloc, directory)?;
     text.push_str("/")?;
     text.push_str(name)?;
-    Ok(FilePath { text })
+    Ok(text)
 }
 
 /// Returns whether an error of this kind means that a path does not exist. A path also does not

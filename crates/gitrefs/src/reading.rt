@@ -4,15 +4,15 @@ use crate::directory::GitDirectory;
 use crate::fault::{Cause, RefFault, TextFault};
 use crate::loose::{LooseRef, name_of, parse_loose_ref};
 use crate::packed::{PackedRef, parse_packed_refs};
-use crate::path::{FilePath, is_absent};
+use crate::path::{FilePath, is_absent, path_below};
 use crate::peels::{Peel, is_fully_peeled, peel_of};
 use crate::values::{NamedValue, ResolvedRefs, Values, head_of, refs_of, unless_null};
 use gname::RefName;
 use grefs::{Head, Refs, RefsFault};
 use std::alloc::{AllocError, Allocator, Global};
-use std::fs::{DirEntry, Files, Metadata};
+use std::fs::{DirEntry, Files, Metadata, ReadDir};
+use std::io;
 use std::io::ErrorKind;
-use std::{fs, io};
 
 // The directory that contains all loose refs.
 const REFS: &str = "refs";
@@ -89,14 +89,23 @@ impl<R: Files, A: Allocator + Copy> GitDirectory<'_, R, A> {
     // Resolves the refs below `refs/` and HEAD from the unresolved values of all refs.
     fn resolve(&self, values: Values<A>) -> Result<PeeledRefs<A>, RefFault<A>> {
         let head = head_of(self.alloc, &values)?;
-        let ResolvedRefs { refs, peels } = match refs_of(self.alloc, values) {
-            Ok(refs) => refs,
-            Err(RefsFault::Memory) => return Err(RefFault::Memory),
-            Err(RefsFault::Refs) => return Err(RefFault::at(self.alloc, self.path, Cause::Refs)),
-        };
+        match refs_of(self.alloc, values) {
+            Ok(resolved) => self.with_head(resolved, head),
+            Err(RefsFault::Memory) => Err(RefFault::Memory),
+            Err(RefsFault::Refs) => Err(RefFault::at(self.alloc, self.path, Cause::Refs)),
+        }
+    }
+
+    // Returns the resolved refs with HEAD. Fails with `Malformed` if `head` is `None`.
+    fn with_head(
+        &self,
+        resolved: ResolvedRefs<A>,
+        head: Option<Head<A>>,
+    ) -> Result<PeeledRefs<A>, RefFault<A>> {
+        let ResolvedRefs { refs, peels } = resolved;
         match head {
             Some(head) => Ok(PeeledRefs { refs, head, peels }),
-            None => Err(self.fault_of(&RefName::head(self.alloc)?, Cause::Malformed)),
+            None => Err(self.head_fault(Cause::Malformed)),
         }
     }
 
@@ -119,41 +128,54 @@ impl<R: Files, A: Allocator + Copy> GitDirectory<'_, R, A> {
 
     // Reads HEAD and the refs below `refs/`, sorted by name, without resolving symbolic refs.
     fn read_values(&self) -> Result<Values<A>, RefFault<A>> {
-        let mut values = self.read_loose_values()?;
-        add_packed(&mut values, self.packed_refs()?)?;
-        Ok(values)
-    }
-
-    // Reads HEAD and the loose refs below `refs/`, without resolving symbolic refs.
-    fn read_loose_values(&self) -> Result<Values<A>, RefFault<A>> {
         let mut walk = Walk {
             directories: Vec::new(self.alloc),
             values: Values::new(self.alloc),
         };
-        let head = RefName::head(self.alloc)?;
-        if let RefEntry::Ref(value) = self.look(&head)? {
-            push_loose(&mut walk.values, head, value)?;
+        match self.read_all(&mut walk) {
+            Ok(()) => Ok(walk.values),
+            Err(fault) => Err(fault),
         }
-        self.read_loose(&mut walk)?;
-        Ok(walk.values)
+    }
+
+    // Reads HEAD and the refs below `refs/` into an empty `Walk`, and sorts them by name.
+    fn read_all(&self, walk: &mut Walk<A>) -> Result<(), RefFault<A>> {
+        self.read_head(walk)?;
+        self.read_loose(walk)?;
+        match add_packed(&mut walk.values, self.packed_refs()?) {
+            Ok(()) => Ok(()),
+            Err(_) => Err(RefFault::Memory),
+        }
+    }
+
+    // Reads HEAD, without resolving it.
+    fn read_head(&self, walk: &mut Walk<A>) -> Result<(), RefFault<A>> {
+        let head = RefName::head(self.alloc)?;
+        match self.look(&head)? {
+            RefEntry::Ref(value) => Ok(push_loose(&mut walk.values, head, value)?),
+            _ => Ok(()),
+        }
     }
 
     /// Reads the file `packed-refs`. Returns no refs if the file does not exist.
     pub(crate) fn packed_refs(&self) -> Result<PackedRefs<A>, RefFault<A>> {
         let path = FilePath::of_packed_refs(self.alloc, self.path)?;
-        let Some(text) = self.read(&path)? else {
-            return Ok(PackedRefs {
+        match self.read(&path)? {
+            Some(text) => self.packed_refs_of(path.as_str(), text.as_slice()),
+            None => Ok(PackedRefs {
                 refs: Vec::new(self.alloc),
                 are_peeled: false,
-            });
-        };
-        let are_peeled = is_fully_peeled(text.as_slice());
-        match parse_packed_refs(self.alloc, text.as_slice()) {
+            }),
+        }
+    }
+
+    // Parses the text of `packed-refs`, which was read from the file at this path.
+    fn packed_refs_of(&self, path: &str, text: &[u8]) -> Result<PackedRefs<A>, RefFault<A>> {
+        let are_peeled = is_fully_peeled(text);
+        match parse_packed_refs(self.alloc, text) {
             Ok(refs) => Ok(PackedRefs { refs, are_peeled }),
             Err(TextFault::Memory) => Err(RefFault::Memory),
-            Err(TextFault::Malformed) => {
-                Err(RefFault::at(self.alloc, path.as_str(), Cause::Malformed))
-            }
+            Err(TextFault::Malformed) => Err(RefFault::at(self.alloc, path, Cause::Malformed)),
         }
     }
 
@@ -169,54 +191,73 @@ impl<R: Files, A: Allocator + Copy> GitDirectory<'_, R, A> {
         Ok(())
     }
 
-    // Reads the files of a directory. A file whose name is not UTF-8 is ignored. A directory that
-    // another process has removed is ignored. A subdirectory that another process has replaced by a
-    // file is also ignored.
+    // Reads the files of a directory. A directory that another process has removed is ignored. A
+    // subdirectory that another process has replaced by a file is also ignored.
     fn read_directory(&self, directory: &str, walk: &mut Walk<A>) -> Result<(), RefFault<A>> {
-        let mut path = String::from_str(self.alloc, self.path)?;
-        path.push_str("/")?;
-        path.push_str(directory)?;
-        let entries = match fs::read_dir(&(self.files, &self.alloc), path.as_str()) {
-            Ok(entries) => entries,
-            Err(error) if error.kind() == ErrorKind::NotFound => return Ok(()),
-            Err(error) if is_absent(error.kind()) && directory != REFS => return Ok(()),
-            Err(error) => return Err(RefFault::system(self.alloc, path.as_str(), error)),
-        };
+        let path = path_below(self.alloc, self.path, directory)?;
+        match self.list(path.as_str()) {
+            Ok(entries) => self.read_entries(path.as_str(), directory, entries, walk),
+            Err(error) if error.kind() == ErrorKind::NotFound => Ok(()),
+            Err(error) if is_absent(error.kind()) && directory != REFS => Ok(()),
+            Err(error) => Err(RefFault::system(self.alloc, path.as_str(), error)),
+        }
+    }
+
+    // Reads the entries of the directory with this path.
+    fn read_entries(
+        &self,
+        path: &str,
+        directory: &str,
+        entries: ReadDir<(&R, &A), &A>,
+        walk: &mut Walk<A>,
+    ) -> Result<(), RefFault<A>> {
         for entry in entries {
-            match entry {
-                Ok(entry) => self.read_entry(directory, entry.file_name(), walk)?,
-                Err(error) if error.kind() == ErrorKind::InvalidFilename => {}
-                Err(error) => return Err(RefFault::system(self.alloc, path.as_str(), error)),
-            }
+            self.read_listed(path, directory, entry, walk)?;
         }
         Ok(())
     }
 
-    // Reads one entry of a directory. A subdirectory is read later, and a dangling symbolic link is
-    // ignored.
+    // Reads an entry of the directory with this path, as the system lists it. An entry whose name
+    // is not UTF-8 is ignored.
+    fn read_listed(
+        &self,
+        path: &str,
+        directory: &str,
+        entry: io::Result<DirEntry<(&R, &A), &A>>,
+        walk: &mut Walk<A>,
+    ) -> Result<(), RefFault<A>> {
+        match entry {
+            Ok(entry) => self.read_entry(directory, entry.file_name(), walk),
+            Err(error) if error.kind() == ErrorKind::InvalidFilename => Ok(()),
+            Err(error) => Err(RefFault::system(self.alloc, path, error)),
+        }
+    }
+
+    // Reads the file with this name in a directory. A subdirectory is read later.
     fn read_entry(
         &self,
         directory: &str,
         file: &str,
         walk: &mut Walk<A>,
     ) -> Result<(), RefFault<A>> {
-        let mut text = String::from_str(self.alloc, directory)?;
-        text.push_str("/")?;
-        text.push_str(file)?;
+        let text = path_below(self.alloc, directory, file)?;
         let Some(name) = self.ref_name(text.as_bytes())? else {
             return Ok(());
         };
-        let path = self.path_of(&name)?;
-        if let None = self.metadata_of(&path, self.files.metadata(path.as_str()))? {
-            return Ok(());
+        let entry = self.look_through(&name)?;
+        match add_entry(walk, text, name, entry) {
+            Ok(()) => Ok(()),
+            Err(_) => Err(RefFault::Memory),
         }
-        match self.look(&name)? {
-            RefEntry::Empty => Ok(()),
-            RefEntry::Directory => Ok(walk.directories.push(text)?),
-            RefEntry::Ref(value) => {
-                push_loose(&mut walk.values, name, value)?;
-                Ok(())
-            }
+    }
+
+    // Looks up the path of a ref, as `look` does. A dangling symbolic link counts as a path that
+    // does not exist.
+    fn look_through(&self, name: &RefName<A>) -> Result<RefEntry<A>, RefFault<A>> {
+        let path = self.path_of(name)?;
+        match self.metadata_of(&path, self.files.metadata(path.as_str()))? {
+            Some(_) => self.look_at(&path),
+            None => Ok(RefEntry::Empty),
         }
     }
 
@@ -232,18 +273,25 @@ impl<R: Files, A: Allocator + Copy> GitDirectory<'_, R, A> {
     // versions of Git wrote symbolic refs as links. Any other link is followed.
     fn look(&self, name: &RefName<A>) -> Result<RefEntry<A>, RefFault<A>> {
         let path = self.path_of(name)?;
-        let Some(metadata) = self.metadata_of(&path, self.files.symlink_metadata(path.as_str()))?
-        else {
-            return Ok(RefEntry::Empty);
-        };
-        if !metadata.is_symlink() {
-            return self.look_at(&path, &metadata);
+        self.look_at(&path)
+    }
+
+    // Looks up a path, as `look` does.
+    fn look_at(&self, path: &FilePath<A>) -> Result<RefEntry<A>, RefFault<A>> {
+        match self.metadata_of(path, self.files.symlink_metadata(path.as_str()))? {
+            Some(metadata) if metadata.is_symlink() => self.look_at_link(path),
+            Some(metadata) => self.look_at_file(path, &metadata),
+            None => Ok(RefEntry::Empty),
         }
-        if let Some(target) = self.link_target(&path)? {
+    }
+
+    // Looks up the path of a symbolic link.
+    fn look_at_link(&self, path: &FilePath<A>) -> Result<RefEntry<A>, RefFault<A>> {
+        if let Some(target) = self.link_target(path)? {
             return Ok(RefEntry::Ref(Some(LooseRef::Symref(target))));
         }
-        match self.metadata_of(&path, self.files.metadata(path.as_str()))? {
-            Some(metadata) => self.look_at(&path, &metadata),
+        match self.metadata_of(path, self.files.metadata(path.as_str()))? {
+            Some(metadata) => self.look_at_file(path, &metadata),
             None => Ok(RefEntry::Ref(None)),
         }
     }
@@ -275,17 +323,26 @@ impl<R: Files, A: Allocator + Copy> GitDirectory<'_, R, A> {
 
     // Returns `Directory` if this is the metadata of a directory, and otherwise reads the ref file
     // at the path. The path must not be a symbolic link to a ref name.
-    fn look_at(&self, path: &FilePath<A>, metadata: &Metadata) -> Result<RefEntry<A>, RefFault<A>> {
+    fn look_at_file(
+        &self,
+        path: &FilePath<A>,
+        metadata: &Metadata,
+    ) -> Result<RefEntry<A>, RefFault<A>> {
         if metadata.is_dir() {
             return Ok(RefEntry::Directory);
         }
         if !metadata.is_file() {
             return Ok(RefEntry::Ref(None));
         }
-        let Some(text) = self.read(path)? else {
-            return Ok(RefEntry::Empty);
-        };
-        match parse_loose_ref(self.alloc, text.as_slice()) {
+        match self.read(path)? {
+            Some(text) => self.entry_of(text.as_slice()),
+            None => Ok(RefEntry::Empty),
+        }
+    }
+
+    // Returns the entry of a ref file with this text.
+    fn entry_of(&self, text: &[u8]) -> Result<RefEntry<A>, RefFault<A>> {
+        match parse_loose_ref(self.alloc, text) {
             Ok(value) => Ok(RefEntry::Ref(unless_null(value))),
             Err(TextFault::Malformed) => Ok(RefEntry::Ref(None)),
             Err(TextFault::Memory) => Err(RefFault::Memory),
@@ -311,6 +368,20 @@ fn push_loose<A: Allocator + Copy>(
 ) -> Result<(), AllocError> {
     let peel = None;
     values.push(NamedValue { name, value, peel })
+}
+
+// Adds what is at the path of a ref: a directory to read, or a loose ref. `text` is the path.
+fn add_entry<A: Allocator + Copy>(
+    walk: &mut Walk<A>,
+    text: String<A>,
+    name: RefName<A>,
+    entry: RefEntry<A>,
+) -> Result<(), AllocError> {
+    match entry {
+        RefEntry::Empty => Ok(()),
+        RefEntry::Directory => Ok(walk.directories.push(text)?),
+        RefEntry::Ref(value) => push_loose(&mut walk.values, name, value),
+    }
 }
 
 // Adds the refs of `packed-refs`, and sorts all refs. Loose refs with the same names take

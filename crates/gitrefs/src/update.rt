@@ -3,11 +3,11 @@
 use crate::conflicts::first_conflict;
 use crate::directory::GitDirectory;
 use crate::fault::{Cause, RefFault, TextFault};
-use crate::locked::LockedFile;
+use crate::locked::{LockedFile, PreparedFile};
 use crate::loose::{LooseRef, parse_loose_ref};
 use gname::{Format, Oid, RefName};
 use grefs::{MAX_REFS, Refs, RefsFault};
-use std::alloc::{Allocator, Global};
+use std::alloc::{AllocError, Allocator, Global};
 use std::fs::Files;
 
 /// An update of a ref (git-update-ref(1)).
@@ -22,7 +22,7 @@ pub struct RefUpdate<A: Allocator + Copy = Global> {
     pub new: Oid,
 }
 
-impl<R: Files, A: Allocator + Copy> GitDirectory<'_, R, A> {
+impl<'r, R: Files, A: Allocator + Copy> GitDirectory<'r, R, A> {
     /// Updates refs (git-update-ref(1)). First, all refs are locked and compared with their
     /// expected old ids. If all ids match, all ref files are replaced. If a ref has no file, its
     /// old id is the id in `packed-refs`. Reflogs are not changed.
@@ -37,15 +37,50 @@ impl<R: Files, A: Allocator + Copy> GitDirectory<'_, R, A> {
     pub fn update_refs(&self, updates: &[RefUpdate<A>]) -> Result<(), RefFault<A>> {
         self.check_updates(updates)?;
         let mut locked = Vec::new(self.alloc);
-        for update in updates {
-            let path = self.path_of(&update.name)?;
-            locked.push(self.lock(path)?)?;
+        match self.lock_all(updates, &mut locked) {
+            Ok(()) => self.move_all(locked, updates),
+            Err(fault) => Err(fault),
         }
+    }
+
+    // Locks the ref files into an empty `Vec`, and checks that all refs have their expected old
+    // ids.
+    fn lock_all(
+        &self,
+        updates: &[RefUpdate<A>],
+        locked: &mut Vec<LockedFile<'r, R, A>, A>,
+    ) -> Result<(), RefFault<A>> {
+        for update in updates {
+            self.lock_ref(&update.name, locked)?;
+        }
+        self.check_all_unmoved(locked.as_slice(), updates)
+    }
+
+    // Locks the file of a ref, and appends the locked file.
+    fn lock_ref(
+        &self,
+        name: &RefName<A>,
+        locked: &mut Vec<LockedFile<'r, R, A>, A>,
+    ) -> Result<(), RefFault<A>> {
+        let path = self.path_of(name)?;
+        let file = self.lock(path)?;
+        match locked.push(file) {
+            Ok(()) => Ok(()),
+            Err(_) => Err(RefFault::Memory),
+        }
+    }
+
+    // Checks that the refs of the locked files have the expected old ids.
+    fn check_all_unmoved(
+        &self,
+        locked: &[LockedFile<'_, R, A>],
+        updates: &[RefUpdate<A>],
+    ) -> Result<(), RefFault<A>> {
         let packed = self.packed_ids()?;
         for (file, update) in locked.iter().zip(updates) {
             self.check_unmoved(file, &packed, update)?;
         }
-        self.move_all(locked, updates)
+        Ok(())
     }
 
     /// Checks the names, new ids and number of refs before an update. [`GitDirectory::update_refs`]
@@ -66,17 +101,42 @@ impl<R: Files, A: Allocator + Copy> GitDirectory<'_, R, A> {
     // full disk is noticed before any ref is changed.
     fn move_all(
         &self,
-        locked: Vec<LockedFile<'_, R, A>, A>,
+        locked: Vec<LockedFile<'r, R, A>, A>,
         updates: &[RefUpdate<A>],
     ) -> Result<(), RefFault<A>> {
         let mut prepared = Vec::new(self.alloc);
-        for (file, update) in locked.into_iter().zip(updates) {
-            prepared.push(file.prepare(self.alloc, &update.new)?)?;
+        match self.prepare_all(locked, updates, &mut prepared) {
+            Ok(()) => commit_all(prepared),
+            Err(fault) => Err(fault),
         }
-        for file in prepared {
-            file.commit()?;
+    }
+
+    // Writes the new ids to the lockfiles, syncs the lockfiles, and appends the prepared files.
+    fn prepare_all(
+        &self,
+        locked: Vec<LockedFile<'r, R, A>, A>,
+        updates: &[RefUpdate<A>],
+        prepared: &mut Vec<PreparedFile<'r, R, A>, A>,
+    ) -> Result<(), RefFault<A>> {
+        for (file, update) in locked.into_iter().zip(updates) {
+            self.prepare_one(file, &update.new, prepared)?;
         }
         Ok(())
+    }
+
+    // Writes the new id of a ref to its lockfile, syncs the lockfile, and appends the prepared
+    // file.
+    fn prepare_one(
+        &self,
+        file: LockedFile<'r, R, A>,
+        new: &Oid,
+        prepared: &mut Vec<PreparedFile<'r, R, A>, A>,
+    ) -> Result<(), RefFault<A>> {
+        let file = file.prepare(self.alloc, new)?;
+        match prepared.push(file) {
+            Ok(()) => Ok(()),
+            Err(_) => Err(RefFault::Memory),
+        }
     }
 
     // Checks that all new ids are SHA-1 ids.
@@ -105,14 +165,7 @@ impl<R: Files, A: Allocator + Copy> GitDirectory<'_, R, A> {
 
     // Checks that, after the updates, no ref name would be a directory in another ref name.
     fn check_conflicts(&self, refs: &Refs<A>, updates: &[RefUpdate<A>]) -> Result<(), RefFault<A>> {
-        let mut names = Vec::new(self.alloc);
-        for pair in refs.as_slice() {
-            names.push(&pair.0)?;
-        }
-        for update in updates {
-            names.push(&update.name)?;
-        }
-        names.sort_unstable_by(|one, other| (*one).cmp(*other));
+        let names = all_names(self.alloc, refs, updates)?;
         self.check_apart(names.as_slice())
     }
 
@@ -179,4 +232,40 @@ impl<R: Files, A: Allocator + Copy> GitDirectory<'_, R, A> {
             LooseRef::Symref(_) => Err(RefFault::at(self.alloc, file.path(), Cause::Symbolic)),
         }
     }
+}
+
+// Replaces the files with their lockfiles, one after the other.
+fn commit_all<R: Files, A: Allocator + Copy>(
+    prepared: Vec<PreparedFile<'_, R, A>, A>,
+) -> Result<(), RefFault<A>> {
+    for file in prepared {
+        file.commit()?;
+    }
+    Ok(())
+}
+
+/// Returns the names of these refs, sorted. Fails only if out of memory.
+pub(crate) fn names_of<'n, A: Allocator + Copy>(
+    alloc: A,
+    refs: &'n Refs<A>,
+) -> Result<Vec<&'n RefName<A>, A>, AllocError> {
+    let mut names = Vec::new(alloc);
+    for pair in refs.as_slice() {
+        names.push(&pair.0)?;
+    }
+    Ok(names)
+}
+
+// Returns the names of the refs and of the updates, sorted. A name in both occurs twice.
+fn all_names<'n, A: Allocator + Copy>(
+    alloc: A,
+    refs: &'n Refs<A>,
+    updates: &'n [RefUpdate<A>],
+) -> Result<Vec<&'n RefName<A>, A>, AllocError> {
+    let mut names = names_of(alloc, refs)?;
+    for update in updates {
+        names.push(&update.name)?;
+    }
+    names.sort_unstable_by(|one, other| (*one).cmp(*other));
+    Ok(names)
 }

@@ -130,17 +130,41 @@ pub(crate) fn refs_of<A: Allocator + Copy>(
     values: Values<A>,
 ) -> Result<ResolvedRefs<A>, RefsFault> {
     let targets = values.targets(alloc)?;
-    let mut refs = Refs::new(alloc);
-    let mut peels = Vec::with_capacity(alloc, targets.len())?;
-    for (value, target) in zip(values.values, targets) {
-        if let Some((id, peel)) = target {
-            refs.set(value.name, id)?;
-            if let Err(_) = peels.push(peel) {
-                return Err(RefsFault::Memory);
-            }
-        }
+    let peels = Vec::with_capacity(alloc, targets.len())?;
+    let refs = Refs::new(alloc);
+    let mut resolved = ResolvedRefs { refs, peels };
+    match add_all(&mut resolved, values, targets) {
+        Ok(()) => Ok(resolved),
+        Err(fault) => Err(fault),
     }
-    Ok(ResolvedRefs { refs, peels })
+}
+
+// Adds the refs that resolve to an id. `targets` are the results of `Values::targets`.
+fn add_all<A: Allocator + Copy>(
+    resolved: &mut ResolvedRefs<A>,
+    values: Values<A>,
+    targets: Vec<Option<(Oid, Option<Peel>)>, A>,
+) -> Result<(), RefsFault> {
+    for (value, target) in zip(values.values, targets) {
+        add_ref(resolved, value.name, target)?;
+    }
+    Ok(())
+}
+
+// Adds a ref, or nothing if the ref does not resolve to an id.
+fn add_ref<A: Allocator + Copy>(
+    resolved: &mut ResolvedRefs<A>,
+    name: RefName<A>,
+    target: Option<(Oid, Option<Peel>)>,
+) -> Result<(), RefsFault> {
+    let Some((id, peel)) = target else {
+        return Ok(());
+    };
+    resolved.refs.set(name, id)?;
+    match resolved.peels.push(peel) {
+        Ok(()) => Ok(()),
+        Err(_) => Err(RefsFault::Memory),
+    }
 }
 
 /// Returns HEAD with the last ref name in its chain of symbolic refs, or with the id of a detached

@@ -5,10 +5,6 @@ pub mod PutLemmas
 pub mod RefLemmas
 pub mod PartLemmas
 pub mod LinkLemmas
-pub mod LookupLemmas
 pub mod LawLemmas
 pub mod TreeLawLemmas
 pub mod CheckLemmas
-pub mod WalkLemmas
-pub mod SentLemmas
-pub mod HeldLemmas

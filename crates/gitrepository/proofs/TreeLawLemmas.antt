@@ -18,11 +18,11 @@ use Rattle.gcomplete.specs.Linked.{IsLinked}
 use Rattle.gcomplete.specs.Naming.{IsNameOf}
 use Rattle.gcomplete.specs.Stores.{Store}
 use Rattle.gitpack.specs.declared.indexing.IndexedEntry.{IndexedEntry}
-use Rattle.gitrepository.specs.Gathering.{Fates, decided_at}
+use Rattle.gitwalk.specs.Gathering.{Fates, decided_at}
 use Rattle.gitrepository.specs.Laws.{HasAllButTrees, ReadIsComplete, tree_at, trees_of}
 use Rattle.gitrepository.specs.Received.{AreLinked, IsInReceived, IsLinkedEntry, Leads}
-use Rattle.gitrepository.specs.StoredTrees.{AreTreesRead, IsLocated, IsLookedUp, IsTreeRead, LeadsToKnown, linked_kind}
-use Rattle.gitrepository.specs.declared.fates.Decided.{Decided}
+use Rattle.gitwalk.specs.StoredTrees.{AreTreesRead, IsLocated, IsLookedUp, IsTreeRead, LeadsToKnown, linked_kind}
+use Rattle.gitwalk.specs.declared.fates.Decided.{Decided}
 use Rattle.gitrepository.proofs.LawLemmas.{kept_complete}
 use Rattle.gitrepository.proofs.LinkLemmas.{linked_weaker}
 

@@ -1,33 +1,17 @@
 -- The graph entries of objects (gitglossary(7), "commit object", "tag object").
-use Rattle.std.specs.Prelude.{◌≡◌, ◌⊎◌, ⊤, ℕ, List, [], ◌∷◌, Contains, Option, Some, map, slice_get}
+use Rattle.std.specs.Prelude.{◌≡◌, ◌⊎◌, ⊤, ℕ, List, Contains, Option, Some, map, slice_get}
 use Rattle.std.specs.Option.{option_map}
 use Rattle.gitcommitgraph.specs.Files.{Commit}
 use Rattle.gname.specs.Ids.{Id}
-use Rattle.gitobject.specs.Links.{IsCommit, IsTag}
+use Rattle.gitobject.specs.Links.{IsTag}
 use Rattle.gitobject.specs.Naming.{id_of}
 use Rattle.gitobject.specs.declared.types.ObjectType.{ObjectType}
 use Rattle.gitobject.specs.declared.types.ObjectType.TheVariants as types
 use Rattle.gdag.specs.Graphs.{Holds}
 use Rattle.gobject.specs.Objects.{node_of}
 use Rattle.gobject.specs.declared.node.Kind.TheVariants as kinds
-use Rattle.gobject.specs.declared.node.Node.{Node}
 use Rattle.gobject.specs.declared.node.Entry.{Entry}
-
--- the graph node of a tree or blob, which counts as a commit without parents
-abbrev pub leaf : {A : Type 0} → Node A
-leaf = node_of kinds.Commit []
-
--- the graph node of an object: a commit's node has the parents in order, a tag's node has the target, and the node of a
--- tree or blob has no parents
-abbrev pub IsNodeOf : {A : Type 0} → ObjectType → List ℕ → Node A → Type 0
-IsNodeOf types.Commit body node =
-    (tree : Id) × (parents : List Id) × IsCommit body tree parents
-    × (node ≡ node_of kinds.Commit parents)
-IsNodeOf types.Tag body node =
-    (target : Id) × (kind : ObjectType) × IsTag body target kind
-    × (node ≡ node_of kinds.Tag (target ∷ []))
-IsNodeOf types.Tree body node = node ≡ leaf
-IsNodeOf types.Blob body node = node ≡ leaf
+use Rattle.gitwalk.specs.Entries.{IsNodeOf, leaf}
 
 -- the entry describes an object: its id is the id of the object, and its node is the node of the object
 pub record IsOfObject {A : Type 0} (entry : Entry A) : Type 0 where
@@ -53,13 +37,6 @@ pub record IsOfCommit {A : Type 0} (commits : List Commit) (entry : Entry A) : T
 -- the entry describes an object, or a commit of the commit-graph
 abbrev pub IsKnown : {A : Type 0} → List Commit → Entry A → Type 0
 IsKnown commits entry = IsOfObject entry ⊎ IsOfCommit commits entry
-
-abbrev pub id_of_entry : {A : Type 0} → Entry A → Id
-id_of_entry entry = entry.id
-
--- the ids of the entries
-abbrev pub ids_of : {A : Type 0} → List (Entry A) → List Id
-ids_of entries = map id_of_entry entries
 
 -- objects of this type are leaves of a graph: trees and blobs
 abbrev pub IsLeafType : ObjectType → Type 0

@@ -1,13 +1,11 @@
 pub mod Entries
 pub mod Packs
 pub mod Repositories
-pub mod StoredTrees
 pub mod Installing
 pub mod MemoryFolders
 pub mod Parts
 pub mod Received
 pub mod Keeping
 pub mod Checking
-pub mod Gathering
 pub mod steps
 pub mod Laws

@@ -7,7 +7,7 @@ use Rattle.gobject.specs.declared.node.Entry.{Entry}
 use Rattle.gitpack.specs.Packs.{IsEntry, IsFramed, pack_header, with_trailer}
 use Rattle.gitpack.specs.declared.entry.EntryForm.{EntryForm}
 use Rattle.gitrepository.specs.Entries.{IsRead}
-use Rattle.gitrepository.specs.Gathering.{Fates, IsGathered, sent_count}
+use Rattle.gitwalk.specs.Gathering.{Fates, IsGathered, sent_count}
 
 -- the bytes of a pack entry: a header and a stream
 pub record IsEntryText (text : List ℕ) : Type 0 where

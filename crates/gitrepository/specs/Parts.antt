@@ -4,7 +4,7 @@ use Rattle.gcomplete.specs.Naming.{IsNameOf}
 use Rattle.sha1.specs.Sha1.{Holds}
 use Rattle.gitpack.specs.Packs.{with_trailer}
 use Rattle.gobject.specs.declared.node.Entry.{Entry}
-use Rattle.gitrepository.specs.Gathering.{Fates, IsGathered, sent_count}
+use Rattle.gitwalk.specs.Gathering.{Fates, IsGathered, sent_count}
 use Rattle.gitrepository.specs.Packs.{HasPut}
 use Rattle.gitrepository.specs.declared.outgoing.Outgoing.{Outgoing}
 

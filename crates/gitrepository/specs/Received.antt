@@ -1,5 +1,5 @@
 -- The objects of a received pack (git-index-pack(1), "--strict"; git-fsck(1)).
-use Rattle.std.specs.Prelude.{◌≡◌, ◌⊎◌, ⊤, List, All, Contains}
+use Rattle.std.specs.Prelude.{◌⊎◌, ⊤, List, All, Contains}
 use Rattle.gname.specs.Ids.{Id}
 use Rattle.gobject.specs.declared.node.Entry.{Entry}
 use Rattle.gcomplete.specs.Linked.{IsLinked}
@@ -8,13 +8,7 @@ use Rattle.gitobject.specs.declared.links.Link.{Link}
 use Rattle.gitobject.specs.declared.types.ObjectType.{ObjectType}
 use Rattle.gitpack.specs.Indexes.{object_id}
 use Rattle.gitpack.specs.declared.indexing.IndexedEntry.{IndexedEntry}
-
--- the pack has an object with the id and the type of the link
-pub record IsInPack (objects : List IndexedEntry) (link : Link) : Type 0 where
-  pub object : IndexedEntry
-  pub among : Contains objects object
-  pub id : object_id object ≡ link.id
-  pub kind : object.kind ≡ link.kind
+use Rattle.gitwalk.specs.Received.{IsInPack}
 
 -- The link leads to an object of the pack, or to a prerequisite. A prerequisite is the id and the type of an object
 -- that must be elsewhere.

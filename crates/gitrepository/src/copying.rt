@@ -1,12 +1,11 @@
 //! The entries of an outgoing pack. The streams of stored pack entries are copied unchanged if
 //! possible.
 
-use crate::fates::{Fate, Fates};
 use crate::fault::RepositoryFault;
-use crate::path_hash::PathHash;
 use crate::window::{Delta, Window};
 use gitobjects::{Found, ObjectFiles, ObjectReader, ObjectStore, RawEntry, StoreFault};
 use gitpack::EntryForm;
+use gitwalk::{Fate, Fates, PathHash};
 use gname::Oid;
 use gzlib::Deflater;
 use std::alloc::{AllocError, Allocator};

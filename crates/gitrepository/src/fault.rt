@@ -5,6 +5,7 @@ use gitobject::ObjectFault;
 use gitobjects::{Cause, FileFault, StoreFault};
 use gitpack::{PackFileFault, SpoolFault};
 use gitrefs::RefFault;
+use gitwalk::WalkFault;
 use gname::{MAX_ID_TEXT, OUT_OF_MEMORY_TEXT, Oid, RefName};
 use std::alloc::{AllocError, AllocFailed, Allocator};
 use std::error::Error;
@@ -337,6 +338,20 @@ impl<A: Allocator + Copy> From<StoreFault<A>> for RepositoryFault<A> {
         match fault {
             StoreFault::Memory => RepositoryFault::Memory,
             _ => RepositoryFault::Store(fault),
+        }
+    }
+}
+
+impl<A: Allocator + Copy> From<WalkFault<A>> for RepositoryFault<A> {
+    fn from(fault: WalkFault<A>) -> RepositoryFault<A> {
+        match fault {
+            WalkFault::Memory => RepositoryFault::Memory,
+            WalkFault::Store(fault) => RepositoryFault::from(fault),
+            WalkFault::Malformed { id } => {
+                RepositoryFault::object_fault(&id, ObjectCause::Malformed)
+            }
+            WalkFault::Type { id } => RepositoryFault::object_fault(&id, ObjectCause::Type),
+            WalkFault::Count => RepositoryFault::Count,
         }
     }
 }

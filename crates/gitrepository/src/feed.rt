@@ -4,17 +4,17 @@ ghost use Rattle.std.specs.Prelude.{◌≡◌, ◌++◌, [], All, IfOk, OnOk};
 ghost use Rattle.gcomplete.specs.Naming.{IsNameOf};
 ghost use Rattle.gitrepository.specs.Packs.{IsChecksumOf, IsIndexed};
 ghost use Rattle.gitrepository.specs.Received.{AreLinked, IsEntryInReceived};
-ghost use Rattle.gitrepository.specs.StoredTrees.{AreTreesRead, IsLocated};
+ghost use Rattle.gitwalk.specs.StoredTrees.{AreTreesRead, IsLocated};
 
 use crate::arrival::{Arrival, Inspector};
 use crate::fault::RepositoryFault;
 use crate::limits::PACK_LIMITS;
-use crate::prerequisites::check_trees;
 use crate::tips::Tips;
 use ggraph::Entry;
 use gitobject::Link;
 use gitobjects::{ObjectFiles, ObjectReader};
 use gitpack::{IncomingPack, IndexedPack, PackFileFault, Spool, SpoolFault};
+use gitwalk::check_trees;
 use std::alloc::Allocator;
 use std::marker::Model;
 

@@ -27,16 +27,8 @@
 //! - If [`check_refs`] succeeds, a closed store has an object for the id of each ref and of a
 //!   detached HEAD. So each of these ids is complete: the store has everything that it reaches,
 //!   with trees and blobs. The returned numbers count the refs, and the objects of this store.
-//! - Each id to send is chosen once. The listed commits and tags are sent, and their parents are
-//!   sent or left out. Each tree or blob that a sent commit or tree names is sent or left out. Only
-//!   what a listed object leads to is sent. Only what a left-out parent leads to is left out. Here
-//!   commits lead to their trees, and trees to the trees and blobs that they name. The objects that
-//!   the packer reads for this choice have the ids by which they were read.
-//! - Suppose the packer reads the objects of a closed store, which the listed entries describe.
-//!   Then each link of a sent object leads to a sent object, or to an object that a left-out parent
-//!   reaches ([`laws::gathered_is_sent`]). If this store has each object under its own id, the
-//!   objects that are read for this choice are those of the store. The exception is another object
-//!   with the same id as an object of the store ([`laws::gathered_is_held`]).
+//! - The ids to send are those that `gitwalk::gather` chooses for the listed commits and tags. The
+//!   objects that the packer reads for this choice have the ids by which they were read.
 //! - A sent pack consists of a header, as many entries as there are objects to send, and the SHA-1
 //!   of all preceding bytes. Each entry of a sent pack has a well-formed header. The pack has at
 //!   most `gparts::MAX_PARTS` bytes. The concatenation of the returned parts is the pack. If the
@@ -77,14 +69,9 @@
 //!
 //! # What the proofs rely on
 //!
-//! No contract can describe the contents of a system file. So the proofs about received packs do
-//! not say which objects the store has. They also rely on the file system, which must return the
-//! pack as it was written.
-//!
-//! The walk that chooses the objects to send is proved for every store. The contract of
-//! [`StorePacker`] says that each object that the walk reads has the id by which it is read. It
-//! does not say that the Git directory has these objects. The walk reads commits, tags and trees,
-//! and only locates the blobs that trees name.
+//! No contract can describe the contents of a system file. So the proofs do not say which objects
+//! the Git directory has. The proofs about received packs also rely on the file system, which must
+//! return the pack as it was written.
 //!
 //! # Differences from Git
 //!
@@ -94,8 +81,6 @@
 //! - The packer packs a list of commits and tags. If a parent of a listed commit is not in the
 //!   list, the packer assumes that the client has the parent. It also assumes that the client has
 //!   everything that the tree of the parent reaches.
-//! - The packer computes and checks the ids of the commits, tags and trees that it reads to choose
-//!   the objects to send. Each of them is hashed once. Git does not check these ids.
 //! - New deltas are made only for objects that are not copied: loose objects, stored deltas whose
 //!   base is not sent, and objects with broken entries. Only these objects are bases of new deltas.
 //!   Git also makes new deltas for objects that are stored whole in a pack.
@@ -119,11 +104,8 @@
 //! No contract rules out any of the following:
 //!
 //! - The packer may send one object's entry in place of another's, or an entry twice. The contracts
-//!   cover only the ids of the objects to send, and the number of entries. An object that a tree
-//!   names as a tree or blob may have another type.
-//! - The packer may send trees and blobs that the client has, if a listed commit reaches them too.
-//!   It may compare the wrong objects to make deltas, because no contract covers path hashes.
-//! - The other object in [`laws::gathered_is_held`] need not be an object that the packer read.
+//!   cover only the ids of the objects to send, and the number of entries.
+//! - The packer may compare the wrong objects to make deltas.
 //! - The header of a sent entry may state a wrong type or size, or a wrong offset of its base. The
 //!   base may have another type.
 //! - The stream of a sent entry may be arbitrary bytes, and a delta may name a base that is not
@@ -185,24 +167,22 @@
 //!
 //! # Dependencies
 //!
-//! `gparts` defines packers that return parts, and `ggraph` and `gdag` define graphs. `gobject`
-//! defines the objects of a graph, and `grefs` defines refs. `gitobjects` reads objects,
-//! `gitcommitgraph` reads commit-graphs, `gitrefs` reads refs, and `gitconfig` reads settings.
-//! `gitpack` reads and writes packs, `gitobject` parses links, and `gcomplete` defines closed
-//! stores. `gzlib` deflates, `gname` defines ids, `indexmap` defines maps by id, and `sha1`
-//! computes the trailer of a pack.
+//! `gitwalk` chooses the objects to send, and checks stored trees. `gparts` defines packers that
+//! return parts, and `ggraph` and `gdag` define graphs. `gobject` defines the objects of a graph,
+//! and `grefs` defines refs. `gitobjects` reads objects, `gitcommitgraph` reads commit-graphs,
+//! `gitrefs` reads refs, and `gitconfig` reads settings. `gitpack` reads and writes packs,
+//! `gitobject` parses links, and `gcomplete` defines closed stores. `gzlib` deflates, `gname`
+//! defines ids, and `sha1` computes the trailer of a pack.
 #![tactic(auto)]
 
 mod arrival;
 mod checking;
 mod commit_graph;
 mod copying;
-mod fates;
 mod fault;
 mod feed;
 mod folder;
 mod form;
-mod gather;
 mod history;
 mod indexer;
 mod install;
@@ -220,8 +200,6 @@ mod opening;
 mod outgoing;
 mod packer;
 mod parts;
-mod path_hash;
-mod prerequisites;
 mod ref_tips;
 mod source;
 mod spools;

@@ -16,6 +16,7 @@ use crate::needs::{Needs, ReadObject};
 use gitobject::{Link, ObjectType};
 use gitobjects::{ObjectFiles, ObjectReader};
 use gitpack::{IndexedEntry, PackFileFault};
+use gitwalk::find_entry;
 use gname::Oid;
 use std::alloc::Allocator;
 
@@ -136,7 +137,7 @@ fn check_need<S: TypeStore<A>, A: Allocator + Copy>(
     ensures keeps { KeepsLinks prerequisites.old.items prerequisites.new.items }
     ensures stored { All S.has prerequisites.old.items → All S.has prerequisites.new.items }
 {
-    match find(pack, &need.id) {
+    match find_entry(pack, &need.id) {
         Some(entry) => expect(entry.kind, &need),
         None => check_stored(store, need, prerequisites),
     }
@@ -183,16 +184,5 @@ fn expect<A: Allocator + Copy>(kind: ObjectType, need: &Link) -> Result<(), Repo
         Ok(())
     } else {
         Err(RepositoryFault::object_fault(&need.id, ObjectCause::Type))
-    }
-}
-
-/// Returns an object of the pack with this id, or `None` if there is none. The objects of the pack
-/// are sorted by id.
-pub(crate) fn find(pack: &[IndexedEntry], id: &Oid) -> Option<IndexedEntry>
-    ensures { IfSome result (λ e. Contains pack.now e × (object_id e ≡ id.now)) }
-{
-    match pack.binary_search_by(|entry| entry.entry.id.cmp(id)) {
-        Ok(place) => Some(pack[place]),
-        Err(_) => None,
     }
 }

@@ -3,7 +3,8 @@
 ghost use Rattle.std.specs.Prelude.{◌≡◌, IfOk};
 ghost use Rattle.gitobject.specs.Naming.{id_of};
 ghost use Rattle.gitobject.specs.declared.types.ObjectType.TheVariants as types;
-ghost use Rattle.gitrepository.specs.Entries.{IsNodeOf, IsOfObject, leaf};
+ghost use Rattle.gitwalk.specs.Entries.{IsNodeOf, leaf};
+ghost use Rattle.gitrepository.specs.Entries.{IsOfObject};
 
 use ggraph::{Entry, Kind, Node, Parents};
 use gitobject::{ObjectFault, ObjectType, commit_links, tag_link};

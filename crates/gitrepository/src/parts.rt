@@ -6,11 +6,11 @@ ghost use Rattle.gitrepository.specs.Parts.{GoesOn, IsBegun, IsGivenWhole, IsGoi
 
 use crate::copying::{Copying, PackCounts};
 use crate::fault::RepositoryFault;
-use crate::gather::gather;
 use crate::outgoing::Outgoing;
 use ggraph::Entry;
 use gitobjects::{ObjectFiles, ObjectReader};
 use gitpack::PackFileFault;
+use gitwalk::gather;
 use std::alloc::Allocator;
 
 /// A pack of some commits and tags with their trees and blobs, returned in parts. Only one entry at

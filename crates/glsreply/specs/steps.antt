@@ -1,4 +1,4 @@
--- Definitions that only private functions and proofs use.
+-- Definitions for readers of single packets, private functions and proofs.
 pub mod LineViews
 pub mod ReplyState
 pub mod WellFormed

@@ -9,6 +9,9 @@
 //!   refuse any other input at the first packet that does not fit, with the fault that the grammar
 //!   gives (`judge` in `specs/LsReplies.antt`). Both functions check a line from left to right, and
 //!   report out of memory only at a line that the grammar accepts.
+//! - An [`LsReplyReader`] reads one reply packet by packet ([`LsReplyReader::hear_packet`]), with the
+//!   same grammar. When the reply is complete, [`LsReplyReader::into_reply`] returns the value that
+//!   the packets encode.
 //! - Every reply that was read can be written. The reply has ids of the requested format, valid ref
 //!   names, and at most 65,537 lines.
 //! - All ids of an [`LsReply`] have the same format, and an [`LsReply`] has at most 65,537 lines. A

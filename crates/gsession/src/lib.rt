@@ -44,9 +44,9 @@
 //!   kept before.
 //! - [`Session::refs_reader`] and [`Session::objects_reader`] return readers of the reply that the
 //!   session waits for. Such a reader reads the reply packet by packet. [`Session::accept_refs`] and
-//!   [`Session::accept_objects`] apply the complete reply. The session then changes as after
-//!   `take_ls` and `take_reply_into`. [`Session::refuse`] ends the session if the reply is
-//!   malformed.
+//!   [`Session::accept_objects`] apply the complete reply to the open request. The session then
+//!   changes as after `take_ls` and `take_reply_into`. [`Session::refuse`] ends the session, for
+//!   example if the reply is malformed.
 //! - [`Session::settle`] updates the local refs like `Repo::settle`, once a pack has arrived or if
 //!   there are no wants.
 //! - [`Session::is_due`] returns whether the session can make a request now.
@@ -57,7 +57,7 @@
 //!   default limits.
 //! - A call that does not fit the stage of the session fails, reads nothing and changes nothing.
 //!   Every other fault ends the session, and leaves objects and refs unchanged. After the end of a
-//!   session, every call fails.
+//!   session, each call that requests, reads or settles fails.
 //! - After a complete reply, the reader can read the next message. After a malformed reply, the
 //!   reader stays at the position where the reading stopped.
 //! - The bytes of a fetch reply, and the result of reading the reply, determine the next state of
@@ -88,6 +88,10 @@
 //!   because an insertion can't be undone.
 //! - An unconnected id, or a ref that can't be set, if [`Session::settle`] has to walk the graph
 //!   (`Repo::settle`).
+//!
+//! No contract covers [`Session::accept_refs`] and [`Session::accept_objects`] if the session does
+//! not wait for such a reply, or if the reply does not fit the request. The [`laws`] do not cover
+//! these two calls and [`Session::refuse`].
 //!
 //! No contract rules out that a session stores a complete pack before it passes the pack to the
 //! indexer. No contract rules out that the session starts the indexer more often than necessary, or

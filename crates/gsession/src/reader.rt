@@ -55,7 +55,7 @@ impl<F: Drop, A: Allocator + Copy> ObjectsReader<F, A> {
             (HoldsObjects K.fed K.index_fails reading) (λ reader packets. Unit {0}) front
             (packet_of line.entry) self.new result }
     {
-        // A placeholder stands for the state of the indexer while the sink owns it.
+        // A placeholder replaces the state of the indexer while the sink owns it.
         let feed = mem::replace(&mut self.feed, Err(IndexFault::Memory));
         let mut sink = PackFeed::resume(indexer, feed);
         let heard = self.reply.hear_packet(&mut sink, line);

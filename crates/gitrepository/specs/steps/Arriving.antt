@@ -11,7 +11,8 @@ use Rattle.gitobject.specs.declared.types.ObjectType.{ObjectType}
 use Rattle.gitpack.specs.Indexes.{object_id}
 use Rattle.gitpack.specs.declared.indexing.IndexedEntry.{IndexedEntry}
 use Rattle.gitobject.specs.Trees.{link_of}
-use Rattle.gitrepository.specs.Received.{IsInPack, Leads}
+use Rattle.gitwalk.specs.Received.{IsInPack}
+use Rattle.gitrepository.specs.Received.{Leads}
 use Rattle.gitrepository.specs.declared.needs.ReadObject.{ReadObject}
 
 -- the id of the link is recorded, with the type of the link

@@ -1,5 +1,5 @@
 use Rattle.std.proofs.Common.{refl, [], ◌≤◌, length, subst, arith}
-use Rattle.gitrepository.specs.Gathering.{sent_count}
+use Rattle.gitwalk.specs.Gathering.{sent_count}
 use Rattle.gitrepository.proofs.packer.StorePackerPartPacker.begin.Goals as goal
 
 pub returns-in-Ok : goal.returns-in-Ok

@@ -1,9 +1,0 @@
-use Rattle.std.proofs.Common.{◌≡◌, [], All, take}
-use Rattle.gitrepository.specs.steps.Walking.{HasDecidedParents, HasNoReceived, IsOpen, StaysDecided}
-use Rattle.gitrepository.proofs.gather.Walk.leave_out_parents.Given as goal
-
-abbrev pub invariant-loop-entry : goal.invariant-loop-entry
-invariant-loop-entry g l =
-    (l.self.received ≡ l.fn.self.received) × (l.fn.self.trees.items ≡ [] → l.self.trees.items ≡ []) × StaysDecided l.fn.self.fates l.self.fates
-    × (IsOpen g.S.WalkedStore.has l.entries l.fn.self → IsOpen g.S.WalkedStore.has l.entries l.self)
-    × (HasNoReceived l.fn.self → All (HasDecidedParents l.self.fates) (take l.entry-index l.entries))

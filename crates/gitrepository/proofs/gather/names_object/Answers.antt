@@ -1,5 +1,0 @@
-use Rattle.std.proofs.Common.{sym, arith}
-use Rattle.gitrepository.proofs.gather.names_object.Goals as goal
-
-pub returns : goal.returns
-returns c = record { name = sym c.requires; bytes = λ i. omega (arith, c.type_inv.body i); sized = omega arith }

@@ -1,5 +1,0 @@
-use Rattle.gitrepository.proofs.HeldLemmas.{gathered_held}
-use Rattle.gitrepository.proofs.laws.gathered_is_held.Goals as goal
-
-pub returns : goal.returns
-returns g c = gathered_held g.row.A.Denot

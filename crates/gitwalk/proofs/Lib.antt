@@ -1,0 +1,4 @@
+pub mod WalkLemmas
+pub mod LookupLemmas
+pub mod SentLemmas
+pub mod HeldLemmas
