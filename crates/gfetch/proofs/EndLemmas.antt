@@ -26,7 +26,7 @@ use Rattle.gfetchreply.specs.FetchReplies.{Reading}
 use Rattle.gobject.specs.declared.node.Entry.{Entry}
 use Rattle.gobject.specs.Packs.{Indexes, IndexFails}
 use Rattle.gclientrepo.specs.Repos.{RepoState}
-use Rattle.gclientrepo.specs.declared.fault.RepoFault.TheVariants as repo
+use Rattle.gclientrepo.specs.declared.fault.RepoFault.TheVariants as repo_fault
 use Rattle.grequest.specs.Asked.{Asked, Empty, Ls, Fetches}
 use Rattle.grequest.specs.RequestWriting.{agent_packets, canonical_request, command_packet, fetch_argument_packets, format_packets, ls_argument_packets}
 use Rattle.gsession.specs.Requesting.{Requests}
@@ -69,44 +69,55 @@ bytes_of_requests format (turn ∷ turns) =
     canonical_joins (canonical_request format turn.asked) (asked_packets format turns)
     ∙ ap (λ (b : Bytes). request_bytes format turn.asked ++ b) (bytes_of_requests format turns)
 
-delim_some : (first : Packet) (front back : List Packet) → 0 < length (canonical_all (first ∷ (front ++ Delim ∷ back)))
-delim_some first front back =
-    subst (λ (b : Bytes). 0 < length (canonical first ++ b)) (sym (canonical_joins front (Delim ∷ back)))
-    (omega (arith, length-append (canonical first) (canonical_all front ++ canonical_all (Delim ∷ back)), length-append (canonical_all front) (canonical_all (Delim ∷ back)), length-append (canonical Delim) (canonical_all back)))
-
--- a request has at least one byte
-some_request : (format : Format) (asked : Asked) → 0 < length (request_bytes format asked)
-unfolding canonical_request
-some_request format Empty = omega arith
-some_request format (Ls asked) = delim_some _ (agent_packets asked.agent ++ format_packets format) (ls_argument_packets asked ++ Flush ∷ [])
-some_request format (Fetches asked) = delim_some _ (agent_packets asked.agent ++ format_packets format) (fetch_argument_packets asked ++ Flush ∷ [])
-
 longer : (a b : Bytes) → 0 < length b → 0 < length (a ++ b)
 longer a b some = omega (arith, some, length-append a b)
 
 longer_first : (a b : Bytes) → 0 < length a → 0 < length (a ++ b)
 longer_first a b some = omega (arith, some, length-append a b)
 
+four_bytes : (bytes : Bytes) → length bytes ≡ 4 → 0 < length bytes
+four_bytes bytes four = omega (arith, four)
+
+delim_some : (first : Packet) (front back : List Packet) → 0 < length (canonical_all (first ∷ (front ++ Delim ∷ back)))
+delim_some first front back =
+    longer (canonical first) (canonical_all (front ++ Delim ∷ back))
+    (subst (λ (b : Bytes). 0 < length b) (sym (canonical_joins front (Delim ∷ back)))
+    (longer (canonical_all front) (canonical_all (Delim ∷ back)) (longer_first (canonical Delim) (canonical_all back) (four_bytes (canonical Delim) refl))))
+
+some_of : (packets : List Packet) (first : Packet) (front back : List Packet) → packets ≡ first ∷ (front ++ Delim ∷ back) → 0 < length (canonical_all packets)
+some_of packets first front back is = subst (λ (l : List Packet). 0 < length (canonical_all l)) (sym is) (delim_some first front back)
+
+-- a request has at least one byte
+some_request : (format : Format) (asked : Asked) → 0 < length (request_bytes format asked)
+unfolding canonical_request
+some_request format Empty = four_bytes (canonical_all (Flush ∷ [])) refl
+some_request format (Ls asked) =
+    some_of (canonical_request format (Ls asked)) _ (agent_packets asked.agent ++ format_packets format) (ls_argument_packets asked ++ Flush ∷ []) refl
+some_request format (Fetches asked) =
+    some_of (canonical_request format (Fetches asked)) _ (agent_packets asked.agent ++ format_packets format) (fetch_argument_packets asked ++ Flush ∷ []) refl
+
 -- ---- the bytes written
 
 not_empty : {P : Type 0} (bytes : Bytes) → 0 < length bytes → bytes ≡ [] → P
 not_empty bytes some none = absurd (let n = ap length none in omega (arith, some, n))
 
+passes_by : (output : Output) (Untouched : Type 0) (sent : Bool) (bytes : Bytes) → 0 < length bytes → HasSent sent bytes output.written output.passed_on output.is_down Untouched
+    → Appends output.written.old output.written.new bytes → Passes output bytes
+passes_by output Untouched true bytes some h wrote = record { written = wrote; passed_on = h.1; up = h.2 }
+passes_by output Untouched false bytes some h wrote = not_empty bytes some h.0
+
+unwritten_by : (output : Output) (Untouched : Type 0) → (Untouched → IsUnwritten output) → (sent : Bool) → HasSent sent [] output.written output.passed_on output.is_down Untouched
+    → IsUnwritten output
+unwritten_by output Untouched untouched true h = not_empty [] h.0 refl
+unwritten_by output Untouched untouched false h = untouched h.1
+
 module _ (output : Output) (Untouched : Type 0) (untouched : Untouched → IsUnwritten output) (sent : Bool) where
   passes_all : (bytes : Bytes) → 0 < length bytes → HasSent sent bytes output.written output.passed_on output.is_down Untouched
       → Appends output.written.old output.written.new bytes → Passes output bytes
-  passes_all bytes some flushed wrote =
-      elim sent as (λ s. HasSent s bytes output.written output.passed_on output.is_down Untouched → Passes output bytes) [
-        | true ↦ λ h. record { written = wrote; passed_on = h.1; up = h.2 }
-        | false ↦ λ h. not_empty bytes some h.0
-      ] flushed
+  passes_all bytes some flushed wrote = passes_by output Untouched sent bytes some flushed wrote
 
   unwritten : HasSent sent [] output.written output.passed_on output.is_down Untouched → IsUnwritten output
-  unwritten flushed =
-      elim sent as (λ s. HasSent s [] output.written output.passed_on output.is_down Untouched → IsUnwritten output) [
-        | true ↦ λ h. absurd (omega (arith, h.0))
-        | false ↦ λ h. untouched h.1
-      ] flushed
+  unwritten flushed = unwritten_by output Untouched untouched sent flushed
 
   has_asked : (format : Format) (turns : List Turn) → HasSent sent (requests_bytes format turns) output.written output.passed_on output.is_down Untouched
       → Appends output.written.old output.written.new (requests_bytes format turns) → HasAsked format output turns
@@ -120,7 +131,7 @@ fails_to_ask : (output : Output) (format : Format) (turns : List Turn) (due fron
     → ((requests_bytes format turns ≡ []) × KeepsPassed output.passed_on) ⊎ ((0 < length (requests_bytes format turns)) × PassesBytes (requests_bytes format turns) output.written output.passed_on)
     → output.is_down ≡ true → FailsToAsk format output turns due
 fails_to_ask output format [] due front back parts wrote (inl (none, keeps)) down = (record { front = front; rest = back; parts = parts; written = wrote; down = down }, keeps)
-fails_to_ask output format [] due front back parts wrote (inr (some, passed)) down = absurd (omega (arith, some))
+fails_to_ask output format [] due front back parts wrote (inr (some, passed)) down = not_empty [] some refl
 fails_to_ask output format (turn ∷ turns) due front back parts wrote (inl (none, keeps)) down =
     not_empty (requests_bytes format (turn ∷ turns)) (longer_first (request_bytes format turn.asked) (requests_bytes format turns) (some_request format turn.asked)) none
 fails_to_ask output format (turn ∷ turns) due front back parts wrote (inr (some, passed)) down =
@@ -172,7 +183,7 @@ module _ {A : Type 0} (indexes : Indexes A) (index_fails : IndexFails) (g : List
       ((asked, pending, (is.0, record { lines = lines; read = record { whole = whole; bytes = read }; says = is.1 }, is.2)), up)
   untaken_declined (Fetches asked) down lines (client.Index fault) made pending read whole is up =
       ((asked, pending, (is.0, record { lines = lines; read = record { whole = whole; bytes = read }; says = is.1 }, is.2)), up)
-  untaken_declined (Fetches asked) down lines (client.Repo (repo.Graph fault)) made pending read whole is up =
+  untaken_declined (Fetches asked) down lines (client.Repo (repo_fault.Graph fault)) made pending read whole is up =
       ((asked, pending, (is.0, record { lines = lines; read = record { whole = whole; bytes = read }; says = is.1 }, is.2)), up)
   untaken_declined (Fetches asked) down lines other made pending read whole is up = absurd is.2
 
@@ -198,15 +209,15 @@ module _ {A K : Type 0} (indexes : Indexes A) (index_fails : IndexFails) (keeps 
       (AnswersMessage indexes index_fails keeps) RefusesMessage first
 
   -- the client has completed turns, and is in the state `last`
-  record HasCompleted (heard said : List Packet) (last : ClientState A) : Type 0 where
-    packets : List Packet
-    capabilities : List Capability
-    advertises : Advertises OwnFormat packets capabilities
-    turns : List Turn
-    each : AreTurns indexes index_fails (hear_advert OwnStart capabilities) turns last
-    all_heard : heard ≡ packets ++ reply_packets turns
-    all_said : said ≡ asked_packets OwnFormat turns
-    own : last.session.format ≡ OwnFormat
+  pub record HasCompleted (heard said : List Packet) (last : ClientState A) : Type 0 where
+    pub packets : List Packet
+    pub capabilities : List Capability
+    pub advertises : Advertises OwnFormat packets capabilities
+    pub turns : List Turn
+    pub each : AreTurns indexes index_fails (hear_advert OwnStart capabilities) turns last
+    pub all_heard : heard ≡ packets ++ reply_packets turns
+    pub all_said : said ≡ asked_packets OwnFormat turns
+    pub own : last.session.format ≡ OwnFormat
 
   completed_advert : IsFresh first → (lines : List Packet) (capabilities : List Capability) → Advertises first.session.format lines capabilities
       → HasCompleted lines [] (hear_advert OwnStart capabilities)
@@ -245,7 +256,7 @@ module _ {A K : Type 0} (indexes : Indexes A) (index_fails : IndexFails) (keeps 
         own = format_takes indexes index_fails mid.session h.asked (client_of mid) a.now lines a.takes ∙ h.format;
       }
 
-  data Outcome (now : ClientSide A K) (heard : List Packet) (stopped : Option Stop) (earlier reply : List Packet) (goes : Bool) : Type 0 where
+  pub data Outcome (now : ClientSide A K) (heard : List Packet) (stopped : Option Stop) (earlier reply : List Packet) (goes : Bool) : Type 0 where
     -- the client accepted the message
     next : (last : ClientState A) → HasCompleted heard earlier last → stopped ≡ None → GoesOn last first.fault now reply goes
         → Outcome now heard stopped earlier reply goes
@@ -397,14 +408,14 @@ module _ {A K : Type 0} (indexes : Indexes A) (index_fails : IndexFails) (keeps 
 
       -- a packet of a message was unreadable or rejected
       refused_ends : (front lines : List Packet) (stopped : Option Stop) (mid now : ClientSide A K) (cause : MessageFault) (goes : Bool)
-          → IsTalk indexes index_fails keeps first front earlier mid → Receives (front ++ lines) stopped input.read input.is_down
+          → (said : List Packet) → earlier ≡ said → IsTalk indexes index_fails keeps first front said mid → Receives (front ++ lines) stopped input.read input.is_down
           → IsRefused (session_judge mid.session) (session_brings mid.session) lines stopped cause → Fails mid now (client.Message cause) reply goes
           → FailsSo now.repo (fetch_fault.Client (client.Message cause))
-      refused_ends front lines stopped mid now cause goes (talk.IsTalk.begun begun) r is fails =
+      refused_ends front lines stopped mid now cause goes said same (talk.IsTalk.begun begun) r is fails =
           let advert_refused = subst (λ (p : Option Asked). IsRefused (judge_after first.session p) (brings_after first.session p) lines stopped cause) (pending_is indexes index_fails keeps first fresh) is in
           let a = refuses_at advert.judge advert.brings (endings.laws advert.judge) endings.advert input.read r.more r.partial lines stopped cause input.is_down r.consumed r.spelt r.leaves advert_refused in
-          cannot_hear cause fresh.few (inl (record { front = a.front; refused = a.refused; source = a.source })) (none_sent refl fails.all) fails.repo
-      refused_ends front lines stopped mid now cause goes (talk.IsTalk.talked so_far so_said there begun h) r is fails =
+          cannot_hear cause fresh.few (inl (record { front = a.front; refused = a.refused; source = a.source })) (none_sent same fails.all) fails.repo
+      refused_ends front lines stopped mid now cause goes said same (talk.IsTalk.talked so_far so_said there begun h) r is fails =
           let g = h.last.repo.graph.entries in
           let opened = waits g h.last.session there.session h.asked h.asks in
           let reply_refused = subst (λ (p : Option Asked). IsRefused (judge_after there.session p) (brings_after there.session p) lines stopped cause) opened is in
@@ -413,7 +424,7 @@ module _ {A K : Type 0} (indexes : Indexes A) (index_fails : IndexFails) (keeps 
           let a = refuses_at (judge_after there.session (Some h.asked)) (brings_after there.session (Some h.asked)) (endings.laws _) (endings_after endings there.session (Some h.asked))
           (record { old = between; new = input.read.new }) rest partial lines stopped cause input.is_down consumed spelt leaves reply_refused in
           (untaken_refused indexes index_fails g h.last.session there.session h.last.repo (record { old = between; new = input.read.new }) h.asked input.is_down cause h.asks opened a, a.source))
-          (open_sent h.turns h.asked h.all_said fails.all) fails
+          (open_sent h.turns h.asked (same ∙ h.all_said) fails.all) fails
 
       -- the content of a complete reply was rejected
       declined_ends : (front lines : List Packet) (mid now : ClientSide A K) (cause : ClientFault A) (goes : Bool)
@@ -464,12 +475,12 @@ module _ {A K : Type 0} (indexes : Indexes A) (index_fails : IndexFails) (keeps 
           subst (EndsAs indexes index_fails OwnStart input output now) (sym lacks.fault)
           (cannot_ask done.turns last now.session (converses_left heard earlier stopped last done none r) lacks.fails (turns_sent done.turns done.all_said lacks.all) lacks.repo)
 
-      pub ends_as : (heard : List Packet) (stopped : Option Stop) (now : ClientSide A K) → Outcome now heard stopped earlier reply false → Receives heard stopped input.read input.is_down
+      ends_as : (heard : List Packet) (stopped : Option Stop) (now : ClientSide A K) → Outcome now heard stopped earlier reply false → Receives heard stopped input.read input.is_down
           → EndsAs indexes index_fails OwnStart input output now now.fault
       ends_as heard stopped now (next last done none goes) r = next_ends heard stopped now last done none goes r
-      ends_as heard stopped now (refused mid front lines cause talked is why fails) r =
+      ends_as heard stopped now (refused mid front lines cause so_far is why fails) r =
           subst (EndsAs indexes index_fails OwnStart input output now) (sym fails.fault)
-          (refused_ends front lines stopped mid now cause false talked (subst (λ (l : List Packet). Receives l stopped input.read input.is_down) is r) why fails)
+          (refused_ends front lines stopped mid now cause false earlier refl so_far (subst (λ (l : List Packet). Receives l stopped input.read input.is_down) is r) why fails)
       ends_as heard stopped now (mismatched m nothing none) r =
           subst (EndsAs indexes index_fails OwnStart input output now) (sym m.fails.fault) (mismatched_ends heard stopped now false m nothing none r)
       ends_as heard stopped now (declined mid front lines cause h is none whole why fails) r =
@@ -483,7 +494,7 @@ module _ {A K : Type 0} (indexes : Indexes A) (index_fails : IndexFails) (keeps 
         (wrote : Appends output.written.old output.written.new (canonical_all earlier ++ front))
         (passed : ((canonical_all earlier ≡ []) × KeepsPassed output.passed_on) ⊎ ((0 < length (canonical_all earlier)) × PassesBytes (canonical_all earlier) output.written output.passed_on))
         (down : output.is_down ≡ true) where
-      unsent : (last : ClientState A) → (done : HasCompleted heard earlier last) → stopped ≡ None → (asked : Asked) → IsDue last asked
+      unsent : (last : ClientState A) → (done : HasCompleted heard earlier last) → stopped ≡ None → (asked : Asked) → IsDue indexes index_fails OwnStart last asked
           → reply ≡ canonical_request last.session.format asked → now.repo ≡ last.repo → FailsSo now.repo fetch_fault.WriteFailed
       unsent last done none asked is_due is same =
           let bytes = ap canonical_all done.all_said ∙ bytes_of_requests OwnFormat done.turns in
@@ -499,9 +510,9 @@ module _ {A K : Type 0} (indexes : Indexes A) (index_fails : IndexFails) (keeps 
       unsent_next last done none (inr (inl ends)) = unsent last done none Empty (ending ends.settles_next) ends.all (ap (λ (c : ClientState A). c.repo) ends.same)
       unsent_next last done none (inr (inr lacks)) = absurd (some lacks.all)
 
-      pub ends_broken : Outcome now heard stopped earlier reply goes → FailsSo now.repo fetch_fault.WriteFailed
+      ends_broken : Outcome now heard stopped earlier reply goes → FailsSo now.repo fetch_fault.WriteFailed
       ends_broken (next last done none on) = unsent_next last done none on
-      ends_broken (refused mid so_far lines cause talked is why fails) = absurd (some fails.all)
+      ends_broken (refused mid front_packets lines cause told is why fails) = absurd (some fails.all)
       ends_broken (mismatched m nothing none) = absurd (some m.fails.all)
       ends_broken (declined mid so_far lines cause h is none whole why fails) = absurd (some fails.all)
 

@@ -1,24 +1,28 @@
 -- A fetch: the beginning of its dialogue, and the update of the refs after it.
-use Rattle.std.proofs.Common.{◌≡◌, ◌∙◌, ℕ, ◌≤◌, List, length, Option, Some, None, Result, Ok, Err, IsErrAnd, refl, sym, ap, subst}
+use Rattle.std.proofs.Common.{◌≡◌, ◌∙◌, ℕ, ◌+◌, ◌≤◌, List, length, Option, Some, None, Result, Ok, Err, IsErrAnd, refl, sym, ap, subst}
 use Rattle.gname.specs.Names.{Name}
 use Rattle.ggrammar.specs.declared.ends.Ends.{Ends}
 use Rattle.gpkt.specs.Sending.{Input, Output}
 use Rattle.gobject.specs.Packs.{Indexes, IndexFails}
 use Rattle.gdag.specs.Graphs.{History}
+use Rattle.gdag.specs.Laws.{DistinctAreOnce}
+use Rattle.gdag.specs.Walks.{CountsReached}
 use Rattle.grefs.specs.Refspecs.{Refspec}
 use Rattle.gclientrepo.proofs.Refusals.{refusals_change_nothing}
-use Rattle.gclientrepo.specs.Repos.{RepoState}
-use Rattle.gsession.specs.Sessions.{SessionState, max_specs}
+use Rattle.gclientrepo.specs.Repos.{IsConnectedRepo, RepoState}
+use Rattle.gsession.specs.Sessions.{IsSession, SessionState, max_specs, tips_of}
+use Rattle.gsession.specs.Bounds.{BeganStays, RoundsAreFew}
 use Rattle.gsession.specs.declared.fault.ClientFault.{ClientFault}
 use Rattle.gsession.specs.declared.fault.ClientFault.TheVariants as client
 use Rattle.gsession.specs.declared.options.PackOptions.{PackOptions}
 use Rattle.gfetch.specs.Conversations.{FetchesOver, cannot_settle}
 use Rattle.gfetch.specs.Fetching.{IsFresh, client_of, start_of_side}
-use Rattle.gfetch.specs.Starts.{Start, begin_session, start_for}
+use Rattle.gfetch.specs.Starts.{Start, begin_session, hear_advert, start_for}
 use Rattle.gfetch.specs.declared.fault.FetchFault.{FetchFault}
 use Rattle.gfetch.specs.declared.fault.FetchFault.TheVariants as fetch
 use Rattle.gfetch.specs.declared.fetched.Fetched.{Fetched}
 use Rattle.gfetch.specs.declared.side.ClientSide.{ClientSide}
+use Rattle.gfetch.proofs.KeptLemmas.{begins_on, kept_still, turns_began, turns_kept}
 use Rattle.gfetch.specs.steps.Ending.{HasClosed, SettlesFetch}
 
 -- a result that is an error with this value
@@ -63,6 +67,18 @@ module _ {A K : Type 0} (indexes : Indexes A) (index_fails : IndexFails) (start 
   settled_over new (Err (fetch.Client (client.Repo cause))) h =
       cannot_settle closed.talk (client_of now) cause closed.converses closed.settles_next closed.passed h
   settled_over new (Err other) h = absurd h
+
+-- the number of requests for objects is bounded by the number of ids that the refs reached
+pub closed_bound : {A K : Type 0} (indexes : Indexes A) (index_fails : IndexFails) (start : Start A) (input : Input) (output : Output) (now : ClientSide A K)
+    → HasClosed indexes index_fails start input output now → DistinctAreOnce → BeganStays A → RoundsAreFew A → IsConnectedRepo start.repo → IsSession now.session
+    → (held parents : ℕ) → CountsReached start.repo.graph.entries (tips_of start.repo) held parents → now.session.rounds ≤ held + 1
+closed_bound {A = A} indexes index_fails start input output now closed once stays few whole is held parents counts =
+    let first = hear_advert start closed.converses.capabilities in
+    let g = start.repo.graph.entries in
+    let each = closed.converses.each in
+    let began = turns_began indexes index_fails stays g first closed.talk (client_of now) (kept_still first).grows (begins_on once start.repo first.session whole refl refl) each in
+    let tips : now.session.tips ≡ tips_of start.repo = (turns_kept indexes index_fails first closed.talk (client_of now) each).tips in
+    few g now.session held parents is began (subst (λ (ids : List (List ℕ)). CountsReached g ids held parents) (sym tips) counts)
 
 -- updating the refs leaves the graph unchanged
 pub settled_graph : {A : Type 0} (session : SessionState A) (old : RepoState A) (unborn : Option Name) (new : RepoState A) (result : Result (Fetched A) (FetchFault A))

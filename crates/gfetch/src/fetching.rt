@@ -1,8 +1,13 @@
 //! A fetch over a blocking source and a blocking sink.
 
-ghost use Rattle.std.specs.Prelude.{◌≡◌, None};
+ghost use Rattle.std.specs.Prelude.{◌≡◌, ◌+◌, ◌≤◌, ℕ, IfOk, OnErr, OnOk};
 ghost use Rattle.gpkt.specs.Sending.{input_of, output_of};
+ghost use Rattle.gdag.specs.Reach.{Grows};
+ghost use Rattle.gdag.specs.Walks.{CountsReached};
+ghost use Rattle.gclientrepo.specs.Repos.{IsConnectedRepo};
+ghost use Rattle.gclientrepo.specs.Settling.{Settles};
 ghost use Rattle.gsession.specs.Keeping.{KeepsOn};
+ghost use Rattle.gsession.specs.Sessions.{IsSession, tips_of};
 ghost use Rattle.gsession.specs.declared.stage.Stage.TheVariants.{Settling};
 ghost use Rattle.gfetch.specs.Conversations.{FetchesOver};
 ghost use Rattle.gfetch.specs.Fetching.{IsFresh, KeepsObjects, start_of_side};
@@ -15,9 +20,11 @@ use crate::side::ClientSide;
 use gclientrepo::Repo;
 use gdialogue::run_dialogue;
 use ggrammar::laws::grammars_are_exact;
+use ggraph::graph_laws::distinct_are_once;
 use ggraph::{Graph, KeepingIndexer, Refs};
 use gname::RefName;
 use gpkt::{Sink, Source};
+use gsession::laws::{began_stays, rounds_are_few};
 use gsession::{FetchPlan, Session};
 use gtalk::{Room, TalkFault};
 use std::alloc::Allocator;
@@ -37,7 +44,8 @@ use std::mem;
 /// ref would be invalid. Fails with `TooManyWants` if there are more wants than a request may have.
 /// Fails with `StrangeAck`, `Index` or `Repo` if the client rejects the content of a reply. Fails
 /// with `WriteFailed` if the sink fails. The sink has then received a prefix of the requests. Fails
-/// with `Repo` if the refs can't be updated (`NotConnected`, `Refs`), or if out of memory.
+/// with `Repo` if the refs can't be updated (`NotConnected`, `Refs`), or if out of memory. After
+/// every fault the refs are unchanged, and the graph has lost no objects.
 pub fn fetch_over_with<S: Source, W: Sink, A: Allocator + Copy, K: KeepingIndexer<A>>(
     repo: &mut Repo<A>,
     source: &mut S,
@@ -49,11 +57,50 @@ pub fn fetch_over_with<S: Source, W: Sink, A: Allocator + Copy, K: KeepingIndexe
         (start_for repo.old plan.now.specs.now plan.now.limit plan.now.ends plan.now.options)
         (input_of S.remaining S.is_down source.old source.new)
         (output_of W.contents W.passed_on W.is_down sink.old sink.new) repo.new result }
+    ensures settled { IfOk result (λ fetched. Settles repo.new.graph.entries repo.old.refs
+        fetched.settled.asks fetched.settled.updates.items repo.new.refs) }
+    ensures refs { OnErr result (repo.new.refs ≡ repo.old.refs) }
+    ensures grows { Grows repo.old.graph.entries repo.new.graph.entries }
+    ensures connected_refs { IsConnectedRepo repo.new }
+    ensures bound { IfOk result (λ fetched. (held parents : ℕ)
+        → CountsReached repo.old.graph.entries (tips_of repo.old) held parents
+        → fetched.requests ≤ held + 1) }
     ensures keeps { KeepsOn (K.keeps indexer.old) (K.keeps indexer.new) repo.old.graph.entries
         repo.new.graph.entries }
     ensures source_loans { S.loans source.new ≡ S.loans source.old }
     ensures sink_loans { W.loans sink.new ≡ W.loans sink.old }
 {
+    let fetched = fetch_to(repo, source, sink, indexer, plan);
+    // Laws that the proof uses.
+    repo.laws();
+    fetched
+}
+
+// Fetches as `fetch_over_with` does.
+fn fetch_to<S: Source, W: Sink, A: Allocator + Copy, K: KeepingIndexer<A>>(
+    repo: &mut Repo<A>,
+    source: &mut S,
+    sink: &mut W,
+    indexer: &mut K,
+    plan: &FetchPlan<'_, A>,
+) -> Result<Fetched<A>, FetchFault<A>>
+    ensures fetches { FetchesOver K.indexes K.index_fails
+        (start_for repo.old plan.now.specs.now plan.now.limit plan.now.ends plan.now.options)
+        (input_of S.remaining S.is_down source.old source.new)
+        (output_of W.contents W.passed_on W.is_down sink.old sink.new) repo.new result }
+    ensures bound { IfOk result (λ fetched. (held parents : ℕ)
+        → CountsReached repo.old.graph.entries (tips_of repo.old) held parents
+        → fetched.requests ≤ held + 1) }
+    ensures keeps { KeepsOn (K.keeps indexer.old) (K.keeps indexer.new) repo.old.graph.entries
+        repo.new.graph.entries }
+    ensures source_loans { S.loans source.new ≡ S.loans source.old }
+    ensures sink_loans { W.loans sink.new ≡ W.loans sink.old }
+{
+    // Laws that the proof uses.
+    distinct_are_once();
+    began_stays::<A>();
+    rounds_are_few::<A>();
+    repo.laws();
     let alloc = repo.graph().allocator();
     let session = Session::begin_with(alloc, repo, plan)?;
     let room = match Room::new(alloc) {
@@ -86,10 +133,10 @@ fn talk<'k, S: Source, W: Sink, A: Allocator + Copy, K: KeepingIndexer<A>>(
     sink: &mut W,
 ) -> (Result<bool, TalkFault>, ClientSide<'k, A, K>)
     requires { IsFresh side }
-    ensures ends { EndsTalk K.indexes K.index_fails (start_of_side side)
+    ensures ends { EndsTalk K.indexes K.index_fails (start_of_side side.entry)
         (input_of S.remaining S.is_down source.old source.new)
         (output_of W.contents W.passed_on W.is_down sink.old sink.new) result.1 result.0 }
-    ensures keeps { KeepsObjects K.keeps side result.1 }
+    ensures keeps { KeepsObjects K.keeps side.entry result.1 }
     ensures source_loans { S.loans source.new ≡ S.loans source.old }
     ensures sink_loans { W.loans sink.new ≡ W.loans sink.old }
 {
@@ -108,7 +155,8 @@ fn settle<A: Allocator + Copy>(
     unborn: Option<RefName<A>>,
 ) -> Result<Fetched<A>, FetchFault<A>>
     requires { session.stage ≡ Settling }
-    ensures { SettlesFetch session repo.old unborn repo.new result }
+    ensures settles { SettlesFetch session repo.old unborn repo.new result }
+    ensures well { OnOk result (IsSession session) }
 {
     let requests = session.rounds();
     let settled = session.settle(repo)?;
