@@ -1,7 +1,5 @@
 pub mod Turns
 pub mod Starts
-pub mod Faults
-pub mod Conversations
 pub mod Heard
 pub mod Saying
 pub mod Fetching

@@ -1,3 +1,2 @@
 -- Definitions for private functions and proofs.
 pub mod Accepting
-pub mod Ending

@@ -45,16 +45,10 @@
 #![tactic(auto)]
 
 mod asking;
-mod fault;
-mod fetched;
-mod fetching;
 mod heard;
 pub mod laws;
 mod side;
 
 pub use crate::asking::{Asking, ClientReply};
-pub use crate::fault::FetchFault;
-pub use crate::fetched::Fetched;
-pub use crate::fetching::fetch_over_with;
 pub use crate::heard::Heard;
 pub use crate::side::ClientSide;
