@@ -122,8 +122,8 @@ fn read_counts<P: OpenPack, A: Allocator + Copy>(
     }
 }
 
-// Returns the counts of a fan-out table, or `None` if a count is lower than the previous count or
-// a file of `file_size` bytes is too small for this many objects.
+// Returns the counts of a fan-out table. Returns `None` if a count is lower than the previous count,
+// or if a file of `file_size` bytes is too small for this many objects.
 fn counts_of<A: Allocator + Copy>(
     alloc: A,
     table: &[u8],
