@@ -42,7 +42,7 @@ open_is_short session (Some (Ls asked)) front goes = ls_proofs.is_bounded sessio
 open_is_short session (Some (Fetches asked)) front goes = fetch_proofs.open_is_short (reading_for session asked) front goes
 
 -- a message accepts a packet as its reader does
-takes_into : {M N : Type 0} (judge : Judge) (brings : List Packet → Packet → Bool) (holds left : M → List Packet → Type 0) (hears : N → List Packet → Type 0)
+pub takes_into : {M N : Type 0} (judge : Judge) (brings : List Packet → Packet → Bool) (holds left : M → List Packet → Type 0) (hears : N → List Packet → Type 0)
     (front : List Packet) (packet : Packet) (new : M) (now : N) (result : Result Step Why) → TakesPacket judge brings holds left front packet new result
     → (holds new (front ++ packet ∷ []) → hears now (front ++ packet ∷ [])) → HearsPacket judge brings hears front packet now result
 takes_into judge brings holds left hears front packet new now (Ok step.Open) h into = (h.0, into h.1)

@@ -29,7 +29,7 @@ use Rattle.gfetch.specs.Turns.{AreTurns, AsksNext, ClientState, IsTurn, Takes, T
 use Rattle.gfetch.specs.declared.side.ClientSide.{ClientSide}
 use Rattle.gfetch.proofs.SideLemmas.{objects_then}
 
-not_both : {P : Type 0} → true ≡ false → P
+pub not_both : {P : Type 0} → true ≡ false → P
 not_both e = absurd (cc e)
 
 -- an answer after which the dialogue continues is a request
@@ -46,11 +46,11 @@ module _ {A : Type 0} (g : List (Entry A)) (old waiting : SessionState A) where
   waits_for (Fetches asked) batch = refl
 
   -- the open request is the request that the session made
-  waits : (asked : Asked) → Requests old g waiting (Ok asked) → waiting.pending ≡ Some asked
+  pub waits : (asked : Asked) → Requests old g waiting (Ok asked) → waiting.pending ≡ Some asked
   waits asked made = ap (λ (s : SessionState A). s.pending) made.1.2 ∙ waits_for asked made.1.0
 
 -- turns followed by one more turn
-turn_more : {A : Type 0} (indexes : Indexes A) (index_fails : IndexFails) (first mid last : ClientState A) (turns : List Turn) (turn : Turn)
+pub turn_more : {A : Type 0} (indexes : Indexes A) (index_fails : IndexFails) (first mid last : ClientState A) (turns : List Turn) (turn : Turn)
     → AreTurns indexes index_fails first turns mid → IsTurn indexes index_fails mid turn last
     → AreTurns indexes index_fails first (turns ++ turn ∷ []) last
 turn_more indexes index_fails first mid last [] turn are is =
@@ -59,7 +59,7 @@ turn_more indexes index_fails first mid last (one ∷ turns) turn are is =
     (are.0, are.1, turn_more indexes index_fails are.0 mid last turns turn are.2 is)
 
 -- accepting a reply depends only on the repository and on the target of an unborn HEAD
-takes_same : {A : Type 0} (indexes : Indexes A) (index_fails : IndexFails) (waiting : SessionState A) (asked : Asked) (one other now : ClientState A) (lines : List Packet)
+pub takes_same : {A : Type 0} (indexes : Indexes A) (index_fails : IndexFails) (waiting : SessionState A) (asked : Asked) (one other now : ClientState A) (lines : List Packet)
     → one.repo ≡ other.repo → one.unborn ≡ other.unborn
     → Takes indexes index_fails waiting asked one lines now → Takes indexes index_fails waiting asked other lines now
 takes_same indexes index_fails waiting Empty one other now lines repo unborn takes = absurd takes
@@ -88,7 +88,7 @@ format_asked old Empty batch = refl
 format_asked old (Ls asked) batch = refl
 format_asked old (Fetches asked) batch = refl
 
-format_waits : {A : Type 0} (g : List (Entry A)) (old waiting : SessionState A) (asked : Asked) → Requests old g waiting (Ok asked) → waiting.format ≡ old.format
+pub format_waits : {A : Type 0} (g : List (Entry A)) (old waiting : SessionState A) (asked : Asked) → Requests old g waiting (Ok asked) → waiting.format ≡ old.format
 format_waits {A = A} g old waiting asked made = ap (λ (s : SessionState A). s.format) made.1.2 ∙ format_asked old asked made.1.0
 
 format_head : {A : Type 0} (indexes : Indexes A) (index_fails : IndexFails) (old new : SessionState A) (one other : RepoState A) (reply : FetchReply) (taken : Taken)
@@ -96,7 +96,7 @@ format_head : {A : Type 0} (indexes : Indexes A) (index_fails : IndexFails) (old
 format_head {A = A} indexes index_fails old new one other reply (Round common) takes = ap (λ (s : SessionState A). s.format) takes.1
 format_head {A = A} indexes index_fails old new one other reply (PackTaken added) takes = ap (λ (s : SessionState A). s.format) takes.1
 
-format_takes : {A : Type 0} (indexes : Indexes A) (index_fails : IndexFails) (waiting : SessionState A) (asked : Asked) (old now : ClientState A) (lines : List Packet)
+pub format_takes : {A : Type 0} (indexes : Indexes A) (index_fails : IndexFails) (waiting : SessionState A) (asked : Asked) (old now : ClientState A) (lines : List Packet)
     → Takes indexes index_fails waiting asked old lines now → now.session.format ≡ waiting.format
 format_takes {A = A} indexes index_fails waiting Empty old now lines takes = absurd takes
 format_takes {A = A} indexes index_fails waiting (Ls asked) old now lines takes = ap (λ (s : SessionState A). s.format) takes.takes.after
@@ -107,20 +107,20 @@ format_takes {A = A} indexes index_fails waiting (Fetches asked) old now lines t
 
 module _ {A K : Type 0} (indexes : Indexes A) (index_fails : IndexFails) (keeps : K → Id → Type 0) (first : ClientSide A K) where
   module _ (fresh : IsFresh first) where
-    heard_is : (capabilities : List Capability)
+    pub heard_is : (capabilities : List Capability)
         → record (client_of first) { session = record first.session { offers_unborn = tells_unborn capabilities } }
         ≡ hear_advert (start_of_side first) capabilities
     heard_is capabilities =
         ap (λ (s : SessionState A). record (client_of first) { session = record s { offers_unborn = tells_unborn capabilities } }) fresh.begun
         ∙ ap (λ (u : Option Name). record (hear_advert (start_of_side first) capabilities) { unborn = u }) fresh.unborn
 
-    format_is : first.session.format ≡ first.repo.graph.format
+    pub format_is : first.session.format ≡ first.repo.graph.format
     format_is = ap (λ (s : SessionState A). s.format) fresh.begun
 
-    pending_is : first.session.pending ≡ None
+    pub pending_is : first.session.pending ≡ None
     pending_is = ap (λ (s : SessionState A). s.pending) fresh.begun
 
-    begun_is : IsBegun first.session
+    pub begun_is : IsBegun first.session
     begun_is = (ap (λ (s : SessionState A). s.stage) fresh.begun, pending_is)
 
     after_advert : (lines reply : List Packet) (now : ClientSide A K) → KeepsObjects keeps first now
@@ -142,6 +142,7 @@ module _ {A K : Type 0} (indexes : Indexes A) (index_fails : IndexFails) (keeps 
           format = format_waits first.repo.graph.entries client.session now.session asks.asked asks.asks ∙ format_is;
           repo = asks.repo;
           unborn = asks.unborn ∙ fresh.unborn;
+          fault = asks.fault;
           indexer = same;
         }
 
@@ -159,7 +160,7 @@ module _ {A K : Type 0} (indexes : Indexes A) (index_fails : IndexFails) (keeps 
 
   -- ---- a further answer
 
-  accepted : (asked : Asked) (g : List (Entry A)) (last : SessionState A) (mid now : ClientSide A K) (lines reply : List Packet)
+  pub accepted : (asked : Asked) (g : List (Entry A)) (last : SessionState A) (mid now : ClientSide A K) (lines reply : List Packet)
       → Requests last g mid.session (Ok asked)
       → AnswersAfter indexes index_fails keeps (Some asked) mid now lines reply true
       → AcceptsReply indexes index_fails asked mid now lines reply true
@@ -206,6 +207,7 @@ module _ {A K : Type 0} (indexes : Indexes A) (index_fails : IndexFails) (keeps 
         format = format_waits a.now.repo.graph.entries a.now.session now.session asks.asked asks.asks ∙ kept;
         repo = asks.repo;
         unborn = asks.unborn;
+        fault = asks.fault ∙ h.fault;
         indexer = objects_then keeps first mid now h.indexer answers.indexer;
       }
 

@@ -41,6 +41,7 @@ module _ {A K : Type 0} (indexes : Indexes A) (index_fails : IndexFails) (keeps 
     pub format : now.session.format ≡ first.repo.graph.format
     pub repo : now.repo ≡ last.repo
     pub unborn : now.unborn ≡ last.unborn
+    pub fault : now.fault ≡ first.fault
     pub indexer : KeepsObjects keeps first now
 
   -- the client has received no message and sent no packet, or it waits for the reply to a request

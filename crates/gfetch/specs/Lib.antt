@@ -1,7 +1,10 @@
 pub mod Turns
 pub mod Starts
+pub mod Faults
+pub mod Conversations
 pub mod Heard
 pub mod Saying
 pub mod Fetching
 pub mod Laws
+pub mod Listings
 pub mod steps

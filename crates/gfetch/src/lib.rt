@@ -1,18 +1,36 @@
 //! The client's end of Git's fetch service, protocol version 2, as a value that does no I/O
 //! (gitprotocol-v2(5)).
 //!
+//! [`fetch_over_with`] runs this value, a [`ClientSide`], over a blocking source and a blocking
+//! sink. [`list_over`] only lists the refs of a server.
+//!
 //! A [`ClientSide`] owns a repository and a session that has begun, and borrows an indexer. It
 //! receives the advertisement, and then the reply to each of its requests ([`Heard`]). Its answer
 //! to a message is the next request, or a lone flush packet that ends the connection
 //! ([`ClientReply`]).
 //!
-//! The caller sends the first line of a `git://` connection. A [`ClientSide`] never changes the
-//! local refs. At the end, the caller takes its parts, and calls `Session::settle`.
+//! The caller sends the first line of a `git://` connection. The dialogue of a [`ClientSide`] never
+//! changes the local refs. At the end, the caller takes the parts of the side, and calls
+//! `Session::settle`.
 //!
 //! # Proved
 //!
-//! These contracts apply to a side that has received no message, and whose session has just begun on
-//! its repository (`IsFresh` in `specs/Fetching.antt`).
+//! [`fetch_over_with`] holds a complete conversation, and then updates the local refs
+//! (`specs/Conversations.antt`, `Turns.antt`):
+//!
+//! - The bytes alone determine the advertisement and the replies, however the bytes are split into
+//!   pieces. The client reads nothing after the last reply.
+//! - The client flushes each request before it reads the reply. At the end, it flushes a lone flush
+//!   packet. If the sink fails, all earlier requests were flushed.
+//! - The first fault ends the conversation. After every fault, the refs are unchanged. The graph only
+//!   gains objects, and the indexer keeps each object that the graph gains.
+//! - A completed conversation has at most N + 1 requests for objects, if the local refs reached N ids
+//!   at the start.
+//!
+//! [`list_over`] holds a conversation that only requests refs (`specs/Listings.antt`).
+//!
+//! The other contracts apply to a side that has received no message, and whose session has just
+//! begun on its repository (`IsFresh` in `specs/Fetching.antt`).
 //!
 //! - The next message is the advertisement before the first request, and then the reply to the open
 //!   request (`specs/Heard.antt`). A reply is read with the parameters of the session and of the
@@ -30,8 +48,8 @@
 //!
 //! # What the contracts do not rule out
 //!
-//! - No law covers the end of a dialogue, or bounds the number of its requests. The contracts above
-//!   cover each single answer.
+//! - No law covers the end of the dialogue of a [`ClientSide`], or bounds the number of its
+//!   requests. Only the contract of [`fetch_over_with`] does.
 //! - Any message or request may fail with out of memory although memory is available.
 //! - The indexer may keep further objects, for example those of a rejected pack.
 //! - No contract bounds the time of an answer. Each request for objects starts a new walk at the
@@ -45,10 +63,18 @@
 #![tactic(auto)]
 
 mod asking;
+mod fault;
+mod fetched;
+mod fetching;
 mod heard;
 pub mod laws;
+mod listing;
 mod side;
 
 pub use crate::asking::{Asking, ClientReply};
+pub use crate::fault::FetchFault;
+pub use crate::fetched::Fetched;
+pub use crate::fetching::fetch_over_with;
 pub use crate::heard::Heard;
+pub use crate::listing::list_over;
 pub use crate::side::ClientSide;

@@ -11,15 +11,18 @@ ghost use Rattle.glsreply.specs.steps.ReplyState.{Holds};
 ghost use Rattle.gfetchreply.specs.FetchReplies as fetch;
 ghost use Rattle.grequest.specs.Asked.{Fetches, FetchAsked, Ls, LsRefsAsked};
 ghost use Rattle.gsession.specs.Readers.{HoldsObjects};
-ghost use Rattle.gsession.specs.Sessions.{IsBegun};
+ghost use Rattle.gsession.specs.Sessions.{IsBegun, IsSession};
 ghost use Rattle.gsession.specs.TakingReplies.{Awaits, reading_for};
-ghost use Rattle.gsession.specs.declared.stage.Stage.TheVariants.{Over};
+ghost use Rattle.gsession.specs.declared.stage.Stage.TheVariants.{Over, Settling};
 ghost use Rattle.gdialogue.specs.Sides.{MayAnswer, SaysExactly};
-ghost use Rattle.gfetch.specs.Fetching.{AcceptsReply, AnswersAdvert, DeclinesReply, GoesOn, KeepsObjects, MismatchesAdvert, client_of, messages_of};
+ghost use Rattle.gfetch.specs.Fetching.{AcceptsReply, AnswersAdvert, DeclinesReply, GoesOn, KeepsIndexer, KeepsObjects, MismatchesAdvert, client_of, messages_of};
 ghost use Rattle.gfetch.specs.Saying.{reply_rest};
 ghost use Rattle.gfetch.specs.steps.Accepting.{AcceptsAdvert, AcceptsObjects, AcceptsRefs, IsReady, KeepsRest};
+ghost use Rattle.gfetch.specs.steps.Ending.{SettlesFetch};
 
 use crate::asking::ClientReply;
+use crate::fault::FetchFault;
+use crate::fetched::Fetched;
 use crate::heard::Heard;
 use gclientrepo::Repo;
 use gdialogue::{Answer, Side};
@@ -32,6 +35,7 @@ use gname::RefName;
 use grequest::Request;
 use gsession::{ClientFault, ObjectsReader, Session};
 use std::alloc::Allocator;
+use std::mem;
 
 /// The client's end of a connection. The client receives the advertisement, and then the reply to
 /// each of its requests. The borrowed indexer reads the pack of a reply, and keeps the objects of an
@@ -116,6 +120,57 @@ impl<'k, A: Allocator + Copy, K> ClientSide<'k, A, K> {
             fault,
         } = self;
         (repo, session, indexer, unborn, fault)
+    }
+
+    /// Exchanges the repository of the side with another repository.
+    pub(crate) fn swap_repo(&mut self, repo: &mut Repo<A>)
+        ensures repo { repo.new ≡ self.old.repo }
+        ensures indexer { KeepsIndexer self.old self.new }
+    {
+        mem::swap(&mut self.repo, repo);
+    }
+
+    /// Consumes the side, and returns only the indexer.
+    pub(crate) fn into_indexer(self) -> &'k mut K
+        ensures value { result.now ≡ self.entry.indexer.now }
+        ensures in_place { result.ghost_name ≡ self.entry.indexer.ghost_name }
+    {
+        let ClientSide {
+            repo: _repo,
+            session: _session,
+            indexer,
+            unborn: _unborn,
+            fault: _fault,
+        } = self;
+        indexer
+    }
+
+    /// Removes the fault that ended the dialogue, and returns it.
+    pub(crate) fn take_fault(&mut self) -> Option<ClientFault<A>>
+        ensures fault { result ≡ self.old.fault }
+        ensures stays { KeepsRest self.old self.new }
+        ensures session { self.new.session ≡ self.old.session }
+        ensures unborn { self.new.unborn ≡ self.old.unborn }
+    {
+        mem::replace(&mut self.fault, None)
+    }
+
+    /// Updates the local refs after the conversation. Fails if the session can't update the refs.
+    pub(crate) fn settle(&mut self) -> Result<Fetched<A>, FetchFault<A>>
+        ensures settles { self.old.session.stage ≡ Settling
+            → SettlesFetch self.old.session self.old.repo self.old.unborn self.new.repo result }
+        ensures well { IsSession self.old.session }
+        ensures indexer { KeepsIndexer self.old self.new }
+        ensures graph { self.new.repo.graph.entries ≡ self.old.repo.graph.entries }
+    {
+        let requests = self.session.rounds();
+        let settled = self.session.settle(&mut self.repo)?;
+        let unborn = mem::replace(&mut self.unborn, None);
+        Ok(Fetched {
+            settled,
+            requests,
+            unborn,
+        })
     }
 
     // Stores the fault, and ends the dialogue without a further packet.

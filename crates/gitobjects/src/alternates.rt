@@ -50,59 +50,98 @@ pub(crate) fn object_folders<F: ObjectFiles, A: Allocator + Copy>(
     own: &str,
 ) -> Result<Vec<Folder<A>, A>, StoreFault<A>> {
     let mut folders = Vec::new(alloc);
-    let path = own_folder(files, alloc, own)?;
-    folders.push(Folder::new(alloc, path, 0)?)?;
+    add_own_folder(files, alloc, &mut folders, own)?;
     for place in 0..MAX_FOLDERS {
-        let Some(folder) = folders.get(place) else {
+        if place >= folders.len() {
             break;
-        };
-        let (path, depth) = (String::from_str(alloc, folder.path.as_str())?, folder.depth);
-        if depth <= MAX_DEPTH {
-            add_alternates(files, alloc, &mut folders, path.as_str(), depth + 1)?;
         }
+        add_alternates(files, alloc, &mut folders, place)?;
     }
     Ok(folders)
 }
 
-// Returns the path of the repository's own folder, which must exist.
-fn own_folder<F: ObjectFiles, A: Allocator + Copy>(
+// Adds the repository's own folder, which must exist.
+fn add_own_folder<F: ObjectFiles, A: Allocator + Copy>(
     files: &F,
     alloc: A,
+    folders: &mut Vec<Folder<A>, A>,
     own: &str,
-) -> Result<String<A>, StoreFault<A>> {
+) -> Result<(), StoreFault<A>> {
     match files.canonical(alloc, own) {
-        Ok(Some(path)) => Ok(path),
+        Ok(Some(path)) => Ok(push_folder(alloc, folders, path, 0)?),
         Ok(None) => Err(fault_at(alloc, own, Cause::Open(ErrorKind::NotFound))),
         Err(cause) => Err(fault_at(alloc, own, cause)),
     }
 }
 
-// Adds the alternates of a folder. `depth` is the depth of these alternates.
+fn push_folder<A: Allocator + Copy>(
+    alloc: A,
+    folders: &mut Vec<Folder<A>, A>,
+    path: String<A>,
+    depth: usize,
+) -> Result<(), AllocError> {
+    let folder = Folder::new(alloc, path, depth)?;
+    folders.push(folder)?;
+    Ok(())
+}
+
+// Adds the alternates of the folder with this number, unless they are too deep.
 fn add_alternates<F: ObjectFiles, A: Allocator + Copy>(
+    files: &F,
+    alloc: A,
+    folders: &mut Vec<Folder<A>, A>,
+    number: usize,
+) -> Result<(), StoreFault<A>> {
+    let Some(folder) = folders.get(number) else {
+        return Ok(());
+    };
+    let depth = folder.depth;
+    if depth > MAX_DEPTH {
+        return Ok(());
+    }
+    let path = String::from_str(alloc, folder.path.as_str())?;
+    add_all(files, alloc, folders, path.as_str(), depth + 1)
+}
+
+// Adds the alternates of the folder with this path. `depth` is the depth of these alternates.
+fn add_all<F: ObjectFiles, A: Allocator + Copy>(
     files: &F,
     alloc: A,
     folders: &mut Vec<Folder<A>, A>,
     folder: &str,
     depth: usize,
 ) -> Result<(), StoreFault<A>> {
-    let path = join(alloc, folder, "info/alternates")?;
-    let text = match files.read(alloc, path.as_str(), MAX_ALTERNATES) {
-        Ok(Some(text)) => text,
-        Ok(None) => return Ok(()),
-        Err(cause) => return Err(fault_at(alloc, path.as_str(), cause)),
-    };
-    let names = match folder_names(alloc, text.as_slice()) {
-        Ok(names) => names,
-        Err(cause) => return Err(fault_at(alloc, path.as_str(), cause)),
-    };
+    let names = alternate_names(files, alloc, folder)?;
     for name in &names {
-        let alternate = path_of(alloc, folder, name.as_str())?;
-        match add_folder(files, alloc, folders, alternate.as_str(), depth) {
-            Ok(()) => {}
-            Err(cause) => return Err(fault_at(alloc, alternate.as_str(), cause)),
-        }
+        let path = path_of(alloc, folder, name.as_str())?;
+        add_alternate(files, alloc, folders, path.as_str(), depth)?;
     }
     Ok(())
+}
+
+// Returns the paths in the alternates file of a folder, or no paths if there is no such file.
+fn alternate_names<F: ObjectFiles, A: Allocator + Copy>(
+    files: &F,
+    alloc: A,
+    folder: &str,
+) -> Result<Vec<String<A>, A>, StoreFault<A>> {
+    let path = join(alloc, folder, "info/alternates")?;
+    match read_names(files, alloc, path.as_str()) {
+        Ok(names) => Ok(names),
+        Err(cause) => Err(fault_at(alloc, path.as_str(), cause)),
+    }
+}
+
+// Returns the paths in an alternates file, or no paths if there is no such file.
+fn read_names<F: ObjectFiles, A: Allocator + Copy>(
+    files: &F,
+    alloc: A,
+    path: &str,
+) -> Result<Vec<String<A>, A>, Cause> {
+    match files.read(alloc, path, MAX_ALTERNATES)? {
+        Some(text) => folder_names(alloc, text.as_slice()),
+        None => Ok(Vec::new(alloc)),
+    }
 }
 
 // Returns the paths that an alternates file lists, in order.
@@ -154,7 +193,21 @@ fn path_of<A: Allocator + Copy>(
     }
 }
 
-// Adds the folder with this path, if the folder exists and was not added before.
+// Adds the folder with this path, if the folder exists and was not added before. A fault names the
+// path.
+fn add_alternate<F: ObjectFiles, A: Allocator + Copy>(
+    files: &F,
+    alloc: A,
+    folders: &mut Vec<Folder<A>, A>,
+    path: &str,
+    depth: usize,
+) -> Result<(), StoreFault<A>> {
+    match add_folder(files, alloc, folders, path, depth) {
+        Ok(()) => Ok(()),
+        Err(cause) => Err(fault_at(alloc, path, cause)),
+    }
+}
+
 fn add_folder<F: ObjectFiles, A: Allocator + Copy>(
     files: &F,
     alloc: A,
@@ -162,16 +215,26 @@ fn add_folder<F: ObjectFiles, A: Allocator + Copy>(
     path: &str,
     depth: usize,
 ) -> Result<(), Cause> {
-    let Some(path) = files.canonical(alloc, path)? else {
-        return Ok(());
-    };
+    match files.canonical(alloc, path)? {
+        Some(path) => add_new(alloc, folders, path, depth),
+        None => Ok(()),
+    }
+}
+
+// Adds the folder with this canonical path, if the folder was not added before.
+fn add_new<A: Allocator + Copy>(
+    alloc: A,
+    folders: &mut Vec<Folder<A>, A>,
+    path: String<A>,
+    depth: usize,
+) -> Result<(), Cause> {
     if is_known(folders.as_slice(), path.as_str()) {
         return Ok(());
     }
     if folders.len() >= MAX_FOLDERS {
         return Err(Cause::Folders);
     }
-    folders.push(Folder::new(alloc, path, depth)?)?;
+    push_folder(alloc, folders, path, depth)?;
     Ok(())
 }
 

@@ -92,32 +92,43 @@ pub(crate) fn open_index<F: ObjectFiles, A: Allocator + Copy>(
     let Some((mut file, file_size)) = files.open_pack(path)? else {
         return Ok(None);
     };
+    match read_counts(&mut file, alloc, file_size)? {
+        Some(counts) => Ok(Some(IndexFile {
+            alloc,
+            file,
+            len: counts.last().copied().unwrap_or(0),
+            counts,
+            held: Places { low: 0, high: 0 },
+            buffer: Vec::new(alloc),
+        })),
+        None => Ok(None),
+    }
+}
+
+// Returns the counts in the fan-out table of an index of `file_size` bytes, or `None` if the file is
+// not an index of version 2.
+fn read_counts<P: OpenPack, A: Allocator + Copy>(
+    file: &mut P,
+    alloc: A,
+    file_size: usize,
+) -> Result<Option<Vec<usize, A>>, Cause> {
     if file_size < TABLE_END + CHECKSUMS {
         return Ok(None);
     }
     let front = file.read_at(alloc, 0, TABLE_END)?;
-    let Some(table) = front.as_slice().strip_prefix(SIGNATURE) else {
-        return Ok(None);
-    };
-    let Some(counts) = counts_of(alloc, table)? else {
-        return Ok(None);
-    };
-    let len = counts.last().copied().unwrap_or(0);
-    if !is_large_enough(file_size, len) {
-        return Ok(None);
+    match front.as_slice().strip_prefix(SIGNATURE) {
+        Some(table) => counts_of(alloc, table, file_size),
+        None => Ok(None),
     }
-    Ok(Some(IndexFile {
-        alloc,
-        file,
-        counts,
-        len,
-        held: Places { low: 0, high: 0 },
-        buffer: Vec::new(alloc),
-    }))
 }
 
-// Returns the counts of a fan-out table, or `None` if a count is lower than the previous count.
-fn counts_of<A: Allocator + Copy>(alloc: A, table: &[u8]) -> Result<Option<Vec<usize, A>>, Cause> {
+// Returns the counts of a fan-out table. Returns `None` if a count is lower than the previous count,
+// or if a file of `file_size` bytes is too small for this many objects.
+fn counts_of<A: Allocator + Copy>(
+    alloc: A,
+    table: &[u8],
+    file_size: usize,
+) -> Result<Option<Vec<usize, A>>, Cause> {
     let mut counts = Vec::with_capacity(alloc, COUNTS)?;
     let mut last = 0;
     for word in table.chunks_exact(WORD) {
@@ -128,7 +139,11 @@ fn counts_of<A: Allocator + Copy>(alloc: A, table: &[u8]) -> Result<Option<Vec<u
         counts.push(count)?;
         last = count;
     }
-    Ok(Some(counts))
+    if is_large_enough(file_size, last) {
+        Ok(Some(counts))
+    } else {
+        Ok(None)
+    }
 }
 
 // Returns whether a file of this size can hold the tables of `objects` objects.

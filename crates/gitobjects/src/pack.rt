@@ -44,11 +44,8 @@ pub(crate) fn open_pack<F: ObjectFiles, A: Allocator + Copy>(
     folder: &str,
     stem: &str,
 ) -> Result<Option<PackFile<A>>, StoreFault<A>> {
-    let index_path = pack_path(alloc, folder, stem, ".idx")?;
-    let index = match read_index(files, alloc, index_path.as_str()) {
-        Ok(Some(index)) => index,
-        Ok(None) => return Ok(None),
-        Err(cause) => return Err(fault_at(alloc, index_path.as_str(), cause)),
+    let Some(index) = index_of(files, alloc, folder, stem)? else {
+        return Ok(None);
     };
     let path = pack_path(alloc, folder, stem, ".pack")?;
     match open_entries(files, alloc, window, path.as_str(), &index) {
@@ -59,6 +56,21 @@ pub(crate) fn open_pack<F: ObjectFiles, A: Allocator + Copy>(
             number,
         })),
         Ok(None) => Ok(None),
+        Err(cause) => Err(fault_at(alloc, path.as_str(), cause)),
+    }
+}
+
+// Returns the index of the pack with this name, or `None` if the index is missing. A fault names the
+// index.
+fn index_of<F: ObjectFiles, A: Allocator + Copy>(
+    files: &F,
+    alloc: A,
+    folder: &str,
+    stem: &str,
+) -> Result<Option<PackIndex<A>>, StoreFault<A>> {
+    let path = pack_path(alloc, folder, stem, ".idx")?;
+    match read_index(files, alloc, path.as_str()) {
+        Ok(index) => Ok(index),
         Err(cause) => Err(fault_at(alloc, path.as_str(), cause)),
     }
 }
@@ -89,14 +101,24 @@ fn open_entries<F: ObjectFiles, A: Allocator + Copy>(
     let Some((mut file, length)) = files.open_pack(path)? else {
         return Ok(None);
     };
+    let order = read_order(&mut file, alloc, length, index)?;
+    let number = window.add(file, length)?;
+    Ok(Some((number, order)))
+}
+
+// Checks that a pack of `length` bytes matches its index, and returns its entries in pack order.
+fn read_order<P: OpenPack, A: Allocator + Copy>(
+    file: &mut P,
+    alloc: A,
+    length: usize,
+    index: &PackIndex<A>,
+) -> Result<EntryOrder<A>, Cause> {
     let Some(end) = length.checked_sub(TRAILER) else {
         return Err(Cause::Pack);
     };
-    check_header(&mut file, alloc, index)?;
-    check_trailer(&mut file, alloc, end, index)?;
-    let order = EntryOrder::new(alloc, index, end)?;
-    let number = window.add(file, length)?;
-    Ok(Some((number, order)))
+    check_header(file, alloc, index)?;
+    check_trailer(file, alloc, end, index)?;
+    EntryOrder::new(alloc, index, end)
 }
 
 // Checks that the header of the pack has version 2 and the object count of the index. Fails with

@@ -43,15 +43,7 @@ impl<'f, F: ObjectFiles, A: Allocator + Copy> QuickReader<'f, F, A> {
     ) -> Result<QuickReader<'f, F, A>, StoreFault<A>> {
         let own = join(alloc, git_dir, "objects")?;
         let folders = object_folders(files, alloc, own.as_str())?;
-        let mut packs = Vec::new(alloc);
-        for folder in &folders {
-            let _listed = or_unknown(add_packs(
-                files,
-                alloc,
-                folder.pack_folder.as_str(),
-                &mut packs,
-            ))?;
-        }
+        let packs = packs_in(files, alloc, folders.as_slice())?;
         let inflater = Box::new(alloc, Inflater::new())?;
         Ok(QuickReader {
             files,
@@ -155,6 +147,21 @@ impl<'f, F: ObjectFiles, A: Allocator + Copy> QuickReader<'f, F, A> {
         }
         Ok(None)
     }
+}
+
+// Opens the packs of these folders. Unusable packs, and the packs of a folder that cannot be listed,
+// are left out.
+fn packs_in<F: ObjectFiles, A: Allocator + Copy>(
+    files: &F,
+    alloc: A,
+    folders: &[Folder<A>],
+) -> Result<Vec<QuickPack<F::Pack, A>, A>, AllocError> {
+    let mut packs = Vec::new(alloc);
+    for folder in folders {
+        let folder = folder.pack_folder.as_str();
+        let _listed = or_unknown(add_packs(files, alloc, folder, &mut packs))?;
+    }
+    Ok(packs)
 }
 
 fn add_packs<F: ObjectFiles, A: Allocator + Copy>(

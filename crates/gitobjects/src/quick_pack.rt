@@ -74,21 +74,40 @@ fn open_index_and_pack<F: ObjectFiles, A: Allocator + Copy>(
     folder: &str,
     stem: &str,
 ) -> Result<Option<QuickPack<F::Pack, A>>, Cause> {
-    let index_path = pack_path(alloc, folder, stem, ".idx")?;
-    let Some(index) = open_index(files, alloc, index_path.as_str())? else {
+    let Some(index) = index_of(files, alloc, folder, stem)? else {
         return Ok(None);
     };
+    match pack_of(files, alloc, folder, stem)? {
+        Some((file, length)) => Ok(Some(QuickPack {
+            alloc,
+            index,
+            file,
+            end: length.saturating_sub(TRAILER),
+        })),
+        None => Ok(None),
+    }
+}
+
+// Opens the index of the pack with this name.
+fn index_of<F: ObjectFiles, A: Allocator + Copy>(
+    files: &F,
+    alloc: A,
+    folder: &str,
+    stem: &str,
+) -> Result<Option<IndexFile<F::Pack, A>>, Cause> {
+    let path = pack_path(alloc, folder, stem, ".idx")?;
+    open_index(files, alloc, path.as_str())
+}
+
+// Opens the pack with this name, and returns the open pack and its length.
+fn pack_of<F: ObjectFiles, A: Allocator + Copy>(
+    files: &F,
+    alloc: A,
+    folder: &str,
+    stem: &str,
+) -> Result<Option<(F::Pack, usize)>, Cause> {
     let path = pack_path(alloc, folder, stem, ".pack")?;
-    let Some((file, length)) = files.open_pack(path.as_str())? else {
-        return Ok(None);
-    };
-    let end = length.saturating_sub(TRAILER);
-    Ok(Some(QuickPack {
-        alloc,
-        index,
-        file,
-        end,
-    }))
+    files.open_pack(path.as_str())
 }
 
 impl<P: OpenPack + Drop, A: Allocator + Copy> QuickPack<P, A> {
@@ -136,6 +155,21 @@ impl<P: OpenPack + Drop, A: Allocator + Copy> QuickPack<P, A> {
         inflater: &mut Inflater,
     ) -> Result<Option<Object<A>>, Cause> {
         let mut deltas = Vec::new(self.alloc);
+        match self.base_of(id, inflater, &mut deltas)? {
+            Some(base) => apply_all(self.alloc, base, deltas),
+            None => Ok(None),
+        }
+    }
+
+    // Returns the whole object that ends the delta chain of an object, and adds the deltas to
+    // `deltas`, with the requested object first. Returns `None` if an entry is missing, too large or
+    // broken.
+    fn base_of(
+        &mut self,
+        id: &Oid,
+        inflater: &mut Inflater,
+        deltas: &mut Vec<Vec<u8, A>, A>,
+    ) -> Result<Option<Object<A>>, Cause> {
         let mut next = self.start_of(id)?;
         for _entry in 0..MAX_CHAIN {
             let Some(start) = next else {
@@ -146,7 +180,10 @@ impl<P: OpenPack + Drop, A: Allocator + Copy> QuickPack<P, A> {
             };
             match self.local_form(start, entry.form)? {
                 Some(LocalForm::Whole(kind)) => {
-                    return apply_all(self.alloc, kind, entry.text, deltas);
+                    return Ok(Some(Object {
+                        kind,
+                        body: entry.text,
+                    }));
                 }
                 Some(LocalForm::Delta(base)) => {
                     deltas.push(entry.text)?;
@@ -224,12 +261,11 @@ fn inflate_front<A: Allocator + Copy>(
 // resulting object, or `None` if a delta cannot be applied to its base.
 fn apply_all<A: Allocator + Copy>(
     alloc: A,
-    kind: ObjectType,
-    base: Vec<u8, A>,
+    base: Object<A>,
     deltas: Vec<Vec<u8, A>, A>,
 ) -> Result<Option<Object<A>>, Cause> {
     let mut deltas = deltas;
-    let mut body = base;
+    let Object { kind, mut body } = base;
     while let Some(delta) = deltas.pop() {
         match apply_delta(alloc, body.as_slice(), delta.as_slice(), MAX_TEXT)? {
             Some(made) => body = made,
