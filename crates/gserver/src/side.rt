@@ -313,9 +313,9 @@ fn refusal_of<A: Allocator + Copy, R: ServedRepository<A> + PartPacker<A>>(
     Answer::Last(ServerReply::Speech(Speech::refusal_of(text)))
 }
 
-// Returns an answer with the reply in `Ok`, or an answer with an error packet if `answered` is
-// `Err`.
-fn answer_of<A: Allocator + Copy, R: ServedRepository<A> + PartPacker<A>>(
+/// Returns an answer with the reply in `Ok`, or an answer with an error packet if `answered` is
+/// `Err`.
+pub(crate) fn answer_of<A: Allocator + Copy, R: ServedRepository<A> + PartPacker<A>>(
     answered: Result<ServerReply<A, R, R::Parts>, ErrText>,
     goes_on: bool,
 ) -> Answer<ServerReply<A, R, R::Parts>>
