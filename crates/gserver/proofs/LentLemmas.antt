@@ -1,5 +1,5 @@
 -- The answers of a server with a borrowed packer.
-use Rattle.std.proofs.Common.{◌≡◌, ◌≢◌, ◌+◌, ◌-◌, ◌<◌, ◌≤◌, ℕ, Bool, true, false, List, [], ◌∷◌, ◌++◌, codes, length, map, drop, take, Option, Some, None, Ok, inl, inr, refl, sym, ap, ◌∙◌, subst, arith, append-nil, length-drop}
+use Rattle.std.proofs.Common.{◌≡◌, ◌≢◌, ◌+◌, ◌-◌, ◌<◌, ◌≤◌, ℕ, Bool, true, false, List, [], ◌∷◌, ◌++◌, codes, length, map, drop, take, Option, Some, None, Result, Ok, Err, inl, inr, refl, sym, ap, ◌∙◌, subst, arith, append-nil, length-drop}
 use Rattle.std.specs.Prelude.{nat_lt}
 use Rattle.std.proofs.lemmas.Bool.{ltb-true}
 use Rattle.std.proofs.lemmas.List.{nil_from_length, take_all}
@@ -13,21 +13,25 @@ use Rattle.gparts.specs.Parts.{Begins, GivesPart}
 use Rattle.gparts.specs.steps.Whole.{TakesSome}
 use Rattle.gpkt.specs.Packets.{Bytes, Packet, Delim, Flush}
 use Rattle.ggrammar.specs.Endings.{ends_with}
-use Rattle.ggrammar.specs.Grammar.{IsWhole}
+use Rattle.ggrammar.specs.Grammar.{IsWhole, Judge, Open, Whole}
 use Rattle.ggrammar.specs.Limits.{profile}
+use Rattle.ggrammar.specs.MessageReading.{IsReason, TakesPacket}
+use Rattle.ggrammar.specs.declared.fault.Why.{Why}
+use Rattle.ggrammar.specs.declared.message.Step.{Step}
+use Rattle.ggrammar.specs.declared.message.Step.TheVariants as step
 use Rattle.ggrammar.specs.Texts.{text_packet}
 use Rattle.ggrammar.specs.declared.ends.Ends.{Ends}
 use Rattle.grequest.specs.Asked.{Asked, Empty}
 use Rattle.grequest.specs.RequestLines.{asked_by_lines}
-use Rattle.grequest.specs.Requests.{Says, judge}
-use Rattle.grequest.specs.steps.RequestState.{RequestSoFar}
+use Rattle.grequest.specs.Requests.{Says, brings, judge}
+use Rattle.grequest.specs.steps.RequestState.{HoldsPackets, LeavesNothing, RequestSoFar}
 use Rattle.gfetchreply.specs.FetchReplies.{FetchReply, Acks, Pack, Ready, ack_packet, canonical_reply as fetch_packets, data_packet, heading_packet, nak_if_none, pieces, ready_packet}
 use Rattle.ganswer.specs.Answers.{Answers, Reply}
 use Rattle.ganswer.specs.OnePack.{OnePack, has_failed, packing_of_fault, packing_of_fetch}
 use Rattle.ganswer.specs.Servers.{Server}
 use Rattle.ganswer.specs.declared.fault.ServeFault.{ServeFault}
 use Rattle.ganswer.specs.declared.one_pack.Packing.TheVariants.{Unasked}
-use Rattle.gdialogue.specs.Sides.{MayAnswer}
+use Rattle.gdialogue.specs.Sides.{HearsPacket, MayAnswer}
 use Rattle.gdialogue.specs.declared.side.Answer.{Answer}
 use Rattle.gdialogue.specs.declared.side.Answer.TheVariants as answer
 use Rattle.gserver.specs.ErrTexts.{max_text, text_packets}
@@ -41,7 +45,7 @@ use Rattle.gserver.specs.declared.lent_side.Closing.TheVariants as closes
 use Rattle.gserver.specs.declared.lent_side.LentSide.{LentSide}
 use Rattle.gserver.specs.declared.reply.ServerReply.{ServerReply}
 use Rattle.gserver.specs.steps.Answering.{AnswersOf}
-use Rattle.gserver.specs.steps.Lending.{AnswersLent, AsksPacker, ClosesAs, CountsReply, IsReady, KeepsParts, gives_lent, gives_of, parts_of, server_of}
+use Rattle.gserver.specs.steps.Lending.{AnswersLent, AsksPacker, ClosesAs, CountsReply, HearsRequest, IsReady, KeepsParts, gives_lent, gives_of, judge_lent, parts_of, server_of}
 use Rattle.gserver.proofs.FetchLemmas.{acks_list, pack_list, ready_list, section}
 use Rattle.gserver.proofs.SideLemmas.{judged_format, went_on}
 
@@ -184,6 +188,18 @@ says_request format message lines asked judged whole is = record {
   whole = whole;
   asks = is ∙ ap (λ (f : Format). asked_by_lines f lines) (judged_format message.limits profile message.format format judged);
 }
+
+-- a message of the side, with one more packet
+module _ {A K : Type 0} (side : LentSide A K) (old new : RequestSoFar) (front : List Packet) (packet : Packet) where
+  pub hears_request : (result : Result Step Why) → HearsRequest side old front → judge new.limits new.format ≡ judge old.limits old.format
+      → TakesPacket (judge old.limits old.format) brings HoldsPackets LeavesNothing front packet new result
+      → HearsPacket (judge_lent side) brings (HearsRequest side) front packet new result
+  hears_request (Ok step.Open) hears judged takes =
+      (subst (λ (j : Judge). j front packet ≡ Open) hears.judged takes.0, record { judged = judged ∙ hears.judged; held = takes.1 })
+  hears_request (Ok step.Whole) hears judged takes =
+      (subst (λ (j : Judge). j front packet ≡ Whole) hears.judged takes.0, record { judged = judged ∙ hears.judged; held = takes.1 })
+  hears_request (Err why) hears judged takes =
+      (subst (λ (j : Judge). IsReason (j front packet) (brings front packet) why) hears.judged takes.0, tt)
 
 module _ {A K : Type 0} (packs : K → Packs A) (fails : K → PackFails A) (old : LentSide A K) (asked : Asked) (lines said : List Packet) (goes : Bool)
     (says : Says profile old.server.now.graph.format lines asked) where

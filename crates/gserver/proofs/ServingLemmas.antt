@@ -23,6 +23,7 @@ use Rattle.ganswer.specs.Answers.{Answers, Fetch, Ls as LsAnswered, Nothing, Rep
 use Rattle.ganswer.specs.OnePack.{OnePack, has_failed}
 use Rattle.ganswer.specs.Servers.{Server}
 use Rattle.ganswer.specs.declared.one_pack.Packing.TheVariants.{Unasked}
+use Rattle.ganswer.proofs.LsLemmas.{answer_parts}
 use Rattle.gtalk.specs.Connections.{PassesBytes}
 use Rattle.gtalk.specs.declared.fault.TalkFault.{TalkFault}
 use Rattle.gtalk.specs.declared.fault.TalkFault.TheVariants.{Io, Memory}
@@ -70,9 +71,15 @@ flush_some front back =
 some_of : (packets same : List Packet) → same ≡ packets → 0 < length (canonical_all same) → 0 < length (canonical_all packets)
 some_of packets same is some = subst (λ (l : List Packet). 0 < length (canonical_all l)) is some
 
+more_some : (front back : List Packet) → 0 < length (canonical_all back) → 0 < length (canonical_all (front ++ back))
+more_some front back some =
+    subst (λ (b : Bytes). 0 < length b) (sym (canonical_joins front back)) (longer (canonical_all front) (canonical_all back) some)
+
 ls_some : (ends : Ends) (reply : LsReply) → 0 < length (canonical_all (ls_packets ends reply))
-unfolding ls_packets
-ls_some ends reply = flush_some (unborn_packets reply.unborn ++ map ref_packet reply.lines) (ends_with ends)
+ls_some ends reply =
+    some_of (ls_packets ends reply) (unborn_packets reply.unborn ++ (map ref_packet reply.lines ++ Flush ∷ ends_with ends))
+    (sym (answer_parts ends reply reply.unborn refl))
+    (more_some (unborn_packets reply.unborn) (map ref_packet reply.lines ++ Flush ∷ ends_with ends) (flush_some (map ref_packet reply.lines) (ends_with ends)))
 
 fetch_some : (ends : Ends) (reply : FetchReply) → 0 < length (canonical_all (fetch_packets ends reply))
 fetch_some ends (Acks ids) =

@@ -13,6 +13,7 @@ ghost use Rattle.ganswer.specs.LsAnswers.{LsAnswer};
 ghost use Rattle.ganswer.specs.OnePack.{packing_of_fault};
 ghost use Rattle.ganswer.specs.declared.one_pack.Packing.TheVariants.{Unasked};
 ghost use Rattle.gdialogue.specs.Sides.{MayAnswer};
+ghost use Rattle.gserver.specs.Listings.{SaysLsAnswer};
 ghost use Rattle.gserver.specs.Refusals.{err_packets};
 ghost use Rattle.gserver.specs.Replying.{may_of};
 ghost use Rattle.gserver.specs.Saying.{SaysRest};
@@ -131,9 +132,10 @@ impl<'s, 'p, 'k, A: Allocator + Copy, K> LentSide<'s, 'p, 'k, A, K> {
             → self.new.most - self.new.requests < self.old.most - self.old.requests }
         ensures counts { CountsReply self.old self.new }
     {
+        let (server, ends) = (self.server, self.ends);
         let goes_on = self.count();
-        let listing = Listing::new(Lent::new(self.server), asked, self.ends, goes_on);
-        answer_of::<A, Lent<'s, A>>(Ok(ServerReply::Listing(listing)), goes_on)
+        let reply = list_reply(server, asked, ends, goes_on);
+        answer_of::<A, Lent<'s, A>>(Ok(reply), goes_on)
     }
 
     // Sends the reply to a fetch request.
@@ -146,8 +148,9 @@ impl<'s, 'p, 'k, A: Allocator + Copy, K> LentSide<'s, 'p, 'k, A, K> {
             → self.new.most - self.new.requests < self.old.most - self.old.requests }
         ensures counts { CountsReply self.old self.new }
     {
+        let (server, ends) = (self.server, self.ends);
         let goes_on = self.count();
-        let speech = speak_reply(self.server, reply, self.ends, goes_on);
+        let speech = speak_reply(server, reply, ends, goes_on);
         answer_of::<A, Lent<'s, A>>(Ok(ServerReply::Speech(speech)), goes_on)
     }
 
@@ -177,6 +180,7 @@ impl<'s, 'p, 'k, A: Allocator + Copy, K> LentSide<'s, 'p, 'k, A, K> {
 
 impl<'s, 'p, 'k, A: Allocator + Copy, K: Packer<A>> LentSide<'s, 'p, 'k, A, K> {
     // Returns the answer to a fetch request. After a pack, prepares the packer for the next answer.
+    #[tactic(auto, using(crate::proofs::LentLemmas::never_failed))]
     fn fetch(&mut self, asked: &FetchRequest<A>) -> Result<FetchReply<A>, ServeFault>
         ensures answers { self.old.packer.now.answered ≡ Unasked → MatchResult result
             (λ reply. FetchAnswer self.old.server.now (MayPack (K.packs self.old.packer.now.packer))
@@ -198,6 +202,19 @@ impl<'s, 'p, 'k, A: Allocator + Copy, K: Packer<A>> LentSide<'s, 'p, 'k, A, K> {
     }
 }
 
+// Returns the reply to an ls-refs request, sent line by line.
+fn list_reply<'s, A: Allocator + Copy>(
+    server: &'s Server<A>,
+    asked: LsRefsRequest<A>,
+    ends: Ends,
+    goes_on: bool,
+) -> ServerReply<A, Lent<'s, A>, usize>
+    ensures { (said : List Packet) (goes : Bool) → may_of server_of gives_lent result said goes
+        → SaysLsAnswer server.now asked.asked ends goes_on said goes }
+{
+    ServerReply::Listing(Listing::new(Lent::new(server), asked, ends, goes_on))
+}
+
 // Returns a fetch reply that is sent packet by packet.
 fn speak_reply<'s, A: Allocator + Copy>(
     server: &'s Server<A>,
@@ -209,17 +226,30 @@ fn speak_reply<'s, A: Allocator + Copy>(
         → SaysRest gives_lent result.ends result.goes_on result.rest said goes
         → (said ≡ fetch_packets ends (reply_in reply)) × (goes ≡ goes_on) }
 {
-    let rest = match reply {
-        FetchReply::Acks(acks) => Rest::AckHeading(acks, None),
-        FetchReply::Ready(acks, pack) => {
-            Rest::AckHeading(acks, Some((Lent::with_pack(server, pack), 0)))
+    match reply {
+        FetchReply::Acks(acks) => {
+            Speech {
+                rest: Rest::AckHeading(acks, None),
+                ends,
+                goes_on,
+            }
         }
-        FetchReply::Pack(pack) => Rest::PackHeading(Lent::with_pack(server, pack), 0),
-    };
-    Speech {
-        rest,
-        ends,
-        goes_on,
+        FetchReply::Ready(acks, pack) => {
+            let lent = Lent::with_pack(server, pack);
+            Speech {
+                rest: Rest::AckHeading(acks, Some((lent, 0))),
+                ends,
+                goes_on,
+            }
+        }
+        FetchReply::Pack(pack) => {
+            let lent = Lent::with_pack(server, pack);
+            Speech {
+                rest: Rest::PackHeading(lent, 0),
+                ends,
+                goes_on,
+            }
+        }
     }
 }
 

@@ -85,8 +85,8 @@
 
 mod advertising;
 mod cursor;
-mod err_text;
 mod error_line;
+mod error_text;
 mod fetching;
 mod filling;
 mod git_transport;
@@ -104,7 +104,7 @@ mod serving;
 mod side;
 mod speech;
 
-pub use crate::err_text::ErrText;
+pub use crate::error_text::ErrText;
 pub use crate::fetching::speak_fetch;
 pub use crate::git_transport::{Export, GitEnd, hear, serve_git};
 pub use crate::greeting::Greeting;

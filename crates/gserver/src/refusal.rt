@@ -5,7 +5,7 @@ ghost use Rattle.ganswer.specs.Faults.{serve_fault_row};
 ghost use Rattle.gserver.specs.Refusals.{detail_of, err_text, max_err_text};
 ghost use Rattle.gserver.specs.steps.Connections.{max_detail, max_phrase};
 
-use crate::err_text::ErrText;
+use crate::error_text::ErrText;
 use arrayvec::ArrayVec;
 use ganswer::ServeFault;
 use ggrammar::compose::{add, add_id};

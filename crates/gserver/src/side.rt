@@ -14,7 +14,7 @@ ghost use Rattle.gserver.specs.Replying.{may_of};
 ghost use Rattle.gserver.specs.Serving.{AnswersAsked, AnswersHello, CannotAnswer, CannotGreet, CannotSend, Greets, IsFresh, LacksMemory, Refuses, SendsFrom, Stays, count_request, goes_on_after, max_requests, messages_of};
 ghost use Rattle.gserver.specs.steps.Answering.{AnswersOf, IsRefusal};
 
-use crate::err_text::ErrText;
+use crate::error_text::ErrText;
 use crate::fetching::speak_fetch;
 use crate::greeting::Greeting;
 use crate::heard::Heard;
