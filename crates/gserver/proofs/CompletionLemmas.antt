@@ -78,7 +78,7 @@ first_completes front may (packets, goes, says) = (front ++ packets, goes, recor
 end_completes : (ends : Ends) (goes_on : Bool) → Completes (SaysEnd ends goes_on)
 end_completes ends goes_on = (Flush ∷ ends_with ends, goes_on, (refl, refl))
 
-module _ {A R P : Type 0} (gives : R → P → Gives) (some : (packer : R) (parts : P) → (bytes : Bytes) × gives packer parts bytes None)
+module _ {R P : Type 0} (gives : R → P → Gives) (some : (packer : R) (parts : P) → (bytes : Bytes) × gives packer parts bytes None)
     (ends : Ends) (goes_on : Bool) where
   pack_completes : (packer : R) (parts : P) → Completes (SaysRestOfPack ends goes_on (gives packer parts))
   pack_completes packer parts =
@@ -108,7 +108,7 @@ module _ {A R P : Type 0} (gives : R → P → Gives) (some : (packer : R) (part
   after_acks (Some pack) =
       first_completes (ready_packet ∷ Delim ∷ []) (SaysSection ends goes_on (gives pack.0 pack.1)) (section_completes pack.0 pack.1)
 
-  rest_completes : (left : Rest A R P) → Completes (SaysRest {A = A} gives ends goes_on left)
+  rest_completes : {A : Type 0} (left : Rest A R P) → Completes (SaysRest gives ends goes_on left)
   rest_completes rest.Nothing = ([], false, (refl, refl))
   rest_completes (rest.Refusal text) = (text_packets text, false, (refl, refl))
   rest_completes (rest.AckHeading acks pack) =
@@ -129,5 +129,5 @@ pub reply_completes : {A : Type 0} (left : ServerReply A (Lent A) ℕ) → Compl
 reply_completes (reply.Greeting greeting) = greeting_completes greeting.next greeting.advert
 reply_completes (reply.Listing listing) =
     listing_completes (server_of listing.repo) listing.asked.asked listing.ends listing.goes_on listing.next
-reply_completes {A = A} (reply.Speech speech) =
-    rest_completes {A = A} gives_lent (λ lent given. (drop given lent.pack, (refl, refl))) speech.ends speech.goes_on speech.rest
+reply_completes (reply.Speech speech) =
+    rest_completes gives_lent (λ lent given. (drop given lent.pack, (refl, refl))) speech.ends speech.goes_on speech.rest

@@ -397,19 +397,19 @@ module _ {A K : Type 0} (packs : K → Packs A) (fails : K → PackFails A) (ser
       ∙ ap (λ (p : OnePack K). record { server = server; packer = p.packer; ends = first.ends; most = first.most }) is_packer
       ∙ ap (λ (e : Ends). record { server = server; packer = packer.packer; ends = e; most = first.most }) is_ends
 
-  pub serves_one : (input : Input) (output : Output) (result : Result Bool TalkFault) (closing : Option Closing) (ended : ExchangeEnd) → first.most ≡ 1
-      → EndsTalk packs fails first input output now result → closing ≡ now.closing → ended ≡ exchange_end result closing
-      → ServesOne server (packs packer.packer) (fails packer.packer) ends input output ended
-  serves_one input output result closing ended one h is_closing is_end =
+  pub serves_one : (input : Input) (output : Output) (result : Result Bool TalkFault) (closing : Option Closing) (how : ExchangeEnd) → first.most ≡ 1
+      → EndsTalk packs fails first input output now result → closing ≡ now.closing → how ≡ exchange_end result closing
+      → ServesOne server (packs packer.packer) (fails packer.packer) ends input output how
+  serves_one input output result closing how one h is_closing is_end =
       inl (subst (λ (e : ExchangeEnd). Exchanges server (packs packer.packer) (fails packer.packer) ends input output e)
       (sym (is_end ∙ ap (exchange_end result) is_closing))
       (subst (λ (p : Parts A K). Exchanges p.server (packs p.packer) (fails p.packer) p.ends input output (exchange_end result now.closing)) own_parts
       (exchange_served packs fails first now input output result one h)))
 
-  pub reports_one : (input : Input) (output : Output) (result : Result Bool TalkFault) (closing : Option Closing) (ended : ExchangeEnd)
-      → EndsTalk packs fails first input output now result → closing ≡ now.closing → ended ≡ exchange_end result closing
-      → ReportsPacking ended now.packer.now.answered
-  reports_one input output result closing ended h is_closing is_end =
+  pub reports_one : (input : Input) (output : Output) (result : Result Bool TalkFault) (closing : Option Closing) (how : ExchangeEnd)
+      → EndsTalk packs fails first input output now result → closing ≡ now.closing → how ≡ exchange_end result closing
+      → ReportsPacking how now.packer.now.answered
+  reports_one input output result closing how h is_closing is_end =
       subst (λ (e : ExchangeEnd). ReportsPacking e now.packer.now.answered) (sym (is_end ∙ ap (exchange_end result) is_closing))
       (exchange_packing packs fails first now input output result h)
 
@@ -417,25 +417,25 @@ module _ {A K : Type 0} (packs : K → Packs A) (fails : K → PackFails A) (ser
       → now.packer.now.packer ≡ packer.packer
   keeps_packer input output result h = same_packer packs fails first now input output result h ∙ ap (λ (p : OnePack K). p.packer) is_packer
 
-  pub reports_last : (input : Input) (output : Output) (result : Result Bool TalkFault) (closing : Option Closing) (ended : End)
-      → EndsTalk packs fails first input output now result → closing ≡ now.closing → ended ≡ connection_end result closing
-      → ReportsLastPacking ended now.packer.now.answered
-  reports_last input output result closing ended h is_closing is_end =
+  pub reports_last : (input : Input) (output : Output) (result : Result Bool TalkFault) (closing : Option Closing) (how : End)
+      → EndsTalk packs fails first input output now result → closing ≡ now.closing → how ≡ connection_end result closing
+      → ReportsLastPacking how now.packer.now.answered
+  reports_last input output result closing how h is_closing is_end =
       subst (λ (e : End). ReportsLastPacking e now.packer.now.answered) (sym (is_end ∙ ap (connection_end result) is_closing))
       (connection_packing packs fails first now input output result h)
 
   module _ {W : Type 0} (contents passed_on : W → Option Bytes) (is_down : W → Bool) (a b c : W) where
-    pub serves_rest : (input : Input) (result : Result Bool TalkFault) (closing : Option Closing) (earlier replies requests : ℕ) (ended : End) → first.most ≡ max_requests
+    pub serves_rest : (input : Input) (result : Result Bool TalkFault) (closing : Option Closing) (earlier replies requests : ℕ) (how : End) → first.most ≡ max_requests
         → Passes (output_of contents passed_on is_down a b) (canonical_all (advert_packets server.graph.format))
         → EndsTalk packs fails first input (output_of contents passed_on is_down b c) now result
-        → closing ≡ now.closing → ended ≡ connection_end result closing
+        → closing ≡ now.closing → how ≡ connection_end result closing
         → earlier ≡ now.earlier → replies ≡ now.requests → requests ≡ flushed_replies result earlier replies
-        → Serves server (packs packer.packer) (fails packer.packer) ends input (output_of contents passed_on is_down a c) requests ended
-    serves_rest input result closing earlier replies requests ended most opening h is_closing is_end is_earlier is_replies is_requests =
+        → Serves server (packs packer.packer) (fails packer.packer) ends input (output_of contents passed_on is_down a c) requests how
+    serves_rest input result closing earlier replies requests how most opening h is_closing is_end is_earlier is_replies is_requests =
         let output = output_of contents passed_on is_down a c in
         let count : requests ≡ flushed_replies result now.earlier now.requests =
         is_requests ∙ ap (λ (n : ℕ). flushed_replies result n replies) is_earlier ∙ ap (flushed_replies result now.earlier) is_replies in
-        subst (λ (n : ℕ). Serves server (packs packer.packer) (fails packer.packer) ends input output n ended) (sym count)
+        subst (λ (n : ℕ). Serves server (packs packer.packer) (fails packer.packer) ends input output n how) (sym count)
         (subst (λ (e : End). Serves server (packs packer.packer) (fails packer.packer) ends input output (flushed_replies result now.earlier now.requests) e)
         (sym (is_end ∙ ap (connection_end result) is_closing))
         (subst (λ (p : Parts A K). Serves p.server (packs p.packer) (fails p.packer) p.ends input output (flushed_replies result now.earlier now.requests) (connection_end result now.closing))

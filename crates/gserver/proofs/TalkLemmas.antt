@@ -62,7 +62,7 @@ reads_end (Some all) None more read none end = absurd read
 reads_end (Some all) (Some rest) more read none end = (read ∙ ap (λ (b : Bytes). b ++ rest) none ∙ end, end)
 
 -- the fault of an incomplete message reports the end of the input only if the input has ended
-ended_by : (why : Stop) → reason_of why ≡ why.Ended → why ≡ stop.Ended
+ended_by : (stopped : Stop) → reason_of stopped ≡ why.Ended → stopped ≡ stop.Ended
 ended_by stop.Ended is = refl
 ended_by (stop.Refused fault) is = absurd (cc is)
 ended_by stop.Failed is = absurd (cc is)
@@ -116,11 +116,11 @@ split_turns read more partial (turn ∷ turns) heard lines is consumed spelt =
 
 -- ---- one more turn
 
-requests_more : (turns : List Turn) (turn : Turn) → requests_of (turns ++ turn ∷ []) ≡ requests_of turns ++ turn.request
+pub requests_more : (turns : List Turn) (turn : Turn) → requests_of (turns ++ turn ∷ []) ≡ requests_of turns ++ turn.request
 requests_more turns turn =
     flat_map-append (λ (t : Turn). t.request) turns (turn ∷ []) ∙ ap (λ (l : List Packet). requests_of turns ++ l) (append-nil turn.request)
 
-replies_more : {A K : Type 0} (parts : Parts A K) (turns : List Turn) (turn : Turn)
+pub replies_more : {A K : Type 0} (parts : Parts A K) (turns : List Turn) (turn : Turn)
     → replies_of parts (turns ++ turn ∷ []) ≡ replies_of parts turns ++ reply_packets parts.ends turn.answer
 replies_more parts turns turn =
     flat_map-append (λ (t : Turn). reply_packets parts.ends t.answer) turns (turn ∷ [])
