@@ -1,5 +1,5 @@
 -- Accepting or rejecting a reply, step by step.
-use Rattle.std.proofs.Common.{◌≡◌, ◌≤◌, ℕ, Bool, true, false, not, List, ◌++◌, length, All, Contains, Option, Some, None, Result, Ok, Err, inr}
+use Rattle.std.proofs.Common.{◌≡◌, ◌≤◌, ℕ, Bool, true, false, not, List, ◌++◌, length, All, Contains, Option, Some, None, Result, Ok, Err, IfErr, inr}
 use Rattle.std.proofs.Common.{MatchResult, refl, sym, ap, subst, true≢false, arith, ◌∙◌}
 use Rattle.std.specs.Option.{option_map}
 use Rattle.std.proofs.lemmas.Cmp.{nat_list_eq_equiv}
@@ -57,6 +57,11 @@ use Rattle.gsession.specs.declared.taken.Taken.TheVariants.{Round, PackTaken}
 use Rattle.gsession.proofs.CommonLemmas.{all_distinct, all_of_members}
 
 -- ---- replies and their acknowledgments
+
+-- what holds without a fault also holds with one
+pub any_err : {X E P : Type 0} (r : Result X E) → P → IfErr r (λ _. P)
+any_err (Ok _) p = tt
+any_err (Err _) p = p
 
 pub acks_reply : (reply : FetchReply) (ids : List (List ℕ)) → head.Acks ids ≡ head_of reply → reply ≡ Acks ids
 acks_reply (Acks also) ids same = cc

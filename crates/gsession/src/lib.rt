@@ -89,9 +89,10 @@
 //! - An unconnected id, or a ref that can't be set, if [`Session::settle`] has to walk the graph
 //!   (`Repo::settle`).
 //!
-//! No contract covers [`Session::accept_refs`] and [`Session::accept_objects`] if the session does
-//! not wait for such a reply, or if the reply does not fit the request. The [`laws`] do not cover
-//! these two calls and [`Session::refuse`].
+//! No contract determines the result of [`Session::accept_objects`] for a reader of another
+//! session, or for a reader that has not read a complete reply. A fault then still leaves the
+//! repository unchanged. The [`laws`] do not cover [`Session::accept_refs`],
+//! [`Session::accept_objects`] and [`Session::refuse`].
 //!
 //! No contract rules out that a session stores a complete pack before it passes the pack to the
 //! indexer. No contract rules out that the session starts the indexer more often than necessary, or

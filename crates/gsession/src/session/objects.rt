@@ -1,6 +1,6 @@
 //! Reading fetch replies.
 
-ghost use Rattle.std.specs.Prelude.{◌≡◌, ◌++◌, [], false, All, Contains, IfOk, IsTrue, List, MatchOption, MatchResult, OnOk, length};
+ghost use Rattle.std.specs.Prelude.{◌≡◌, ◌++◌, [], false, All, Contains, Err, IfErr, IfOk, IsTrue, List, MatchOption, MatchResult, OnOk, length};
 ghost use Rattle.gname.specs.Ids.{Id};
 ghost use Rattle.gpkt.specs.Change.{change_of};
 ghost use Rattle.gpkt.specs.Packets.{Bytes, Packet};
@@ -150,6 +150,10 @@ impl<A: Allocator + Copy> Session<A> {
             → Says (reading_for self.old asked) lines reply
             → AcceptsRead K.indexes K.index_fails asked.haves self.old repo.old reply self.new
             repo.new result }
+        ensures closed { ¬ (AwaitsObjects self.old)
+            → (result ≡ Err ClientFault.NoOpenRequest) × (self.new ≡ self.old) }
+        ensures errs { IfErr result (λ _. repo.new ≡ repo.old) }
+        ensures grows { Grows repo.old.graph.entries repo.new.graph.entries }
         ensures goes { IfOk result (HasTaken self.old self.new) }
         ensures keeps { KeepsOn (K.keeps indexer.old) (K.keeps indexer.new)
             repo.old.graph.entries repo.new.graph.entries }
@@ -209,6 +213,8 @@ impl<A: Allocator + Copy> Session<A> {
     ) -> Result<Taken, ClientFault<A>>
         requires { FitsOpen self.old (head_in head) }
         ensures goes { IfOk result (HasTaken self.old self.new) }
+        ensures errs { IfErr result (λ _. repo.new ≡ repo.old) }
+        ensures grows { Grows repo.old.graph.entries repo.new.graph.entries }
         ensures answers { (asked : FetchAsked) (reply : FetchReply) → Awaits self.old asked
             → head_in head ≡ head_of reply
             → MayHaveFed K.fed K.index_fails feed (pack_of reply)
@@ -254,6 +260,8 @@ impl<A: Allocator + Copy> Session<A> {
     ) -> Result<Taken, ClientFault<A>>
         requires { AwaitsObjects self.old }
         ensures goes { IfOk result (HasTaken self.old self.new) }
+        ensures errs { IfErr result (λ _. repo.new ≡ repo.old) }
+        ensures grows { Grows repo.old.graph.entries repo.new.graph.entries }
         ensures answers { (asked : FetchAsked) (reply : FetchReply) → Awaits self.old asked
             → acknowledged_by reply ≡ acks.now
             → HasPack reply

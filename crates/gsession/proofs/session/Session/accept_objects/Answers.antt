@@ -1,5 +1,6 @@
-use Rattle.std.proofs.Common.{sym, subst, ◌∙◌}
+use Rattle.std.proofs.Common.{refl, sym, subst, ◌∙◌}
 use Rattle.std.proofs.lemmas.Bool.{false≢true}
+use Rattle.gdag.proofs.Growing.{grows_none}
 use Rattle.gfetchreply.specs.Views.{head_in}
 use Rattle.gsession.specs.steps.Calls.{FitsHead}
 use Rattle.gsession.specs.TakingReplies.{reading_for}
@@ -34,3 +35,23 @@ returns-in-Ok-clause-accepts g c = λ asked lines reply waits holds says.
 
 pub returns-then-not-fits_open-clause-keeps : goal.returns-then-not-fits_open-clause-keeps
 returns-then-not-fits_open-clause-keeps g c = keeps_none (g.K.KeepingIndexer.keeps c.args.indexer.now) c.args.repo.now.graph.entries
+
+pub returns-then-not-fits_open-clause-grows : goal.returns-then-not-fits_open-clause-grows
+returns-then-not-fits_open-clause-grows g c = grows_none c.args.repo.now.graph.entries c.args.repo.now.graph.entries refl
+
+pub returns-in-Err-clause-grows : goal.returns-in-Err-clause-grows
+returns-in-Err-clause-grows g c = c.in-Err.ensures.grows
+
+pub returns-in-Ok-clause-grows : goal.returns-in-Ok-clause-grows
+returns-in-Ok-clause-grows g c = c.in-Ok.ensures.grows
+
+pub returns-in-Err-clause-errs : goal.returns-in-Err-clause-errs
+returns-in-Err-clause-errs g c = c.in-Err.ensures.errs
+
+pub returns-in-Err-clause-closed : goal.returns-in-Err-clause-closed
+returns-in-Err-clause-closed g c = λ not.
+    let fit = c.fits_open.ensures.fits c.if-not-fits_open.false in absurd (not (fit.0, fit.1))
+
+pub returns-in-Ok-clause-closed : goal.returns-in-Ok-clause-closed
+returns-in-Ok-clause-closed g c = λ not.
+    let fit = c.fits_open.ensures.fits c.if-not-fits_open.false in absurd (not (fit.0, fit.1))

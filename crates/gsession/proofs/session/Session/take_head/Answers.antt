@@ -1,8 +1,9 @@
-use Rattle.std.proofs.Common.{sym, ap, ◌∙◌}
+use Rattle.std.proofs.Common.{refl, sym, ap, ◌∙◌}
+use Rattle.gdag.proofs.Growing.{grows_none}
 use Rattle.gfetchreply.specs.FetchReplies.{Acks}
 use Rattle.gfetchreply.specs.Views.{head_in}
 use Rattle.gsession.proofs.KeepingLemmas.{keeps_none}
-use Rattle.gsession.proofs.ReplyLemmas.{acks_answer, acks_reply}
+use Rattle.gsession.proofs.ReplyLemmas.{acks_answer, acks_reply, any_err}
 use Rattle.gsession.proofs.session.Session.take_head.Goals as goal
 
 pub returns-in-Acks-clause-answers : goal.returns-in-Acks-clause-answers
@@ -15,3 +16,9 @@ returns-in-Acks-clause-answers g c = λ asked reply waits same fed.
 
 pub returns-in-Acks-clause-keeps : goal.returns-in-Acks-clause-keeps
 returns-in-Acks-clause-keeps g c = keeps_none (g.K.KeepingIndexer.keeps c.args.indexer.now) c.args.repo.now.graph.entries
+
+pub returns-in-Acks-clause-errs : goal.returns-in-Acks-clause-errs
+returns-in-Acks-clause-errs g c = any_err c.take_acks.result refl
+
+pub returns-in-Acks-clause-grows : goal.returns-in-Acks-clause-grows
+returns-in-Acks-clause-grows g c = grows_none c.args.repo.now.graph.entries c.args.repo.now.graph.entries refl

@@ -3,6 +3,7 @@ use Rattle.std.specs.Option.{option_map}
 use Rattle.std.proofs.lemmas.Result.{err_from_is_err_and}
 use Rattle.grequest.specs.RequestValues.{asked_by_request}
 use Rattle.gdag.specs.Levels.{distinct_of}
+use Rattle.gdag.proofs.Growing.{grows_none}
 use Rattle.gfetchreply.specs.FetchHeads.{pack_of}
 use Rattle.gsession.specs.Sessions.{AreCommons, SessionState}
 use Rattle.gsession.specs.steps.Fields.{session_of}
@@ -134,3 +135,35 @@ returns-clause-goes g c = record {
   stage = refl;
   rounds = ap (λ (s : SessionState g.row.A.Denot). s.rounds) c.self.view_is;
 }
+
+pub returns-in_err-check_acks-clause-errs : goal.returns-in_err-check_acks-clause-errs
+returns-in_err-check_acks-clause-errs g c =
+    let p = err_from_is_err_and c.from_residual.result c.from_residual.ensures.1 in rw p.1 refl
+
+pub returns-in_err-entries-clause-errs : goal.returns-in_err-entries-clause-errs
+returns-in_err-entries-clause-errs g c =
+    let p = err_from_is_err_and c.from_residual-in_err-entries.result c.from_residual-in_err-entries.ensures.1 in rw p.1 refl
+
+pub returns-in_err-commons-clause-errs : goal.returns-in_err-commons-clause-errs
+returns-in_err-commons-clause-errs g c =
+    let p = err_from_is_err_and c.from_residual-in_err-commons.result c.from_residual-in_err-commons.ensures.1 in rw p.1 refl
+
+pub returns-in_err-added-clause-errs : goal.returns-in_err-added-clause-errs
+returns-in_err-added-clause-errs g c =
+    let p = err_from_is_err_and c.from_residual-in_err-added.result c.from_residual-in_err-added.ensures.1 in
+    rw p.1 (same_repo c.insert_all.new.self c.args.repo.now c.in_err-added.ensures.adds.0 c.in_err-added.ensures.refs c.in_err-added.ensures.known)
+
+pub returns-in_err-check_acks-clause-grows : goal.returns-in_err-check_acks-clause-grows
+returns-in_err-check_acks-clause-grows g c = grows_none c.args.repo.now.graph.entries c.args.repo.now.graph.entries refl
+
+pub returns-in_err-entries-clause-grows : goal.returns-in_err-entries-clause-grows
+returns-in_err-entries-clause-grows g c = grows_none c.args.repo.now.graph.entries c.args.repo.now.graph.entries refl
+
+pub returns-in_err-commons-clause-grows : goal.returns-in_err-commons-clause-grows
+returns-in_err-commons-clause-grows g c = grows_none c.args.repo.now.graph.entries c.args.repo.now.graph.entries refl
+
+pub returns-in_err-added-clause-grows : goal.returns-in_err-added-clause-grows
+returns-in_err-added-clause-grows g c = c.in_err-added.ensures.grows
+
+pub returns-clause-grows : goal.returns-clause-grows
+returns-clause-grows g c = c.in_ok-added.ensures.grows
